@@ -1,0 +1,89 @@
+use Rattle.std.proofs.Common.{◌≡◌, ℕ, ◌+◌, ◌*◌, ◌/◌, ◌%◌, ◌^◌, ◌<◌, ◌≤◌, zero, suc, List, [], ◌∷◌, ◌++◌, length, length-append, pow-suc, take, get_or, refl, sym, ◌∙◌, ap, subst, arith}
+use Rattle.std.proofs.Math.Nat.{div-div-eq-div-mul}
+use Rattle.std.proofs.lemmas.List.{take_all}
+use Rattle.std.proofs.lemmas.List.Elements.{All-from_get_or}
+use Rattle.std.proofs.lemmas.Bool.Decides.{nat_tests}
+use Rattle.std.specs.Ordering.{nat_cmp, ordering_then}
+use Rattle.std.specs.Cmp.Lexicographic.{slice_cmp}
+use Rattle.std.specs.declared.cmp.Ordering.{Ordering}
+use Rattle.std.specs.declared.cmp.Ordering.TheVariants.{Less, Equal, Greater}
+use Rattle.std.specs.Int.{to_be_bytes, w64}
+use Rattle.svid_replay.specs.declared.token_use.Use.{Use}
+use Rattle.svid_replay.specs.Use.{IsBytes, IsUse, text_of, use_cmp, bytes_cmp, OrderIsTextOrder}
+
+-- a list of that length whose elements are below 256 is a row of so many bytes
+pub IsBytes-from_index : (count : ℕ) (bytes : List ℕ) → length bytes ≡ count → ((i : ℕ) → get_or bytes i 0 < 256) → IsBytes count bytes
+IsBytes-from_index count bytes size each = record { size = size; each = All-from_get_or (λ b. b < 256) bytes 0 (λ i _. each i) }
+
+-- four pieces put one behind the other fill a text of 64 bytes
+pub pieces_fill : (t1 t2 t3 t4 a b c d : List ℕ) (u : Use) → a ≡ to_be_bytes w64 u.exp → b ≡ u.key → c ≡ u.place → d ≡ to_be_bytes w64 u.at → length b ≡ 32 → length c ≡ 16 → take (0 + length a) t1 ≡ a → take (8 + length b) t2 ≡ take 8 t1 ++ b → take (40 + length c) t3 ≡ take 40 t2 ++ c → take (56 + length d) t4 ≡ take 56 t3 ++ d → length t4 ≡ 64 → t4 ≡ text_of u
+unfolding text_of
+pieces_fill t1 t2 t3 t4 a b c d u ea eb ec ed lb lc p1 p2 p3 p4 l4 =
+    let e1 : take 8 t1 ≡ a = subst (λ (n : ℕ). take (0 + n) t1 ≡ a) (ap length ea) p1 in
+    let e2 : take 40 t2 ≡ a ++ b = subst (λ (n : ℕ). take (8 + n) t2 ≡ take 8 t1 ++ b) lb p2 ∙ ap (λ x. x ++ b) e1 in
+    let e3 : take 56 t3 ≡ a ++ b ++ c = subst (λ (n : ℕ). take (40 + n) t3 ≡ take 40 t2 ++ c) lc p3 ∙ ap (λ x. x ++ c) e2 in
+    let e4 : take 64 t4 ≡ a ++ b ++ c ++ d = subst (λ (n : ℕ). take (56 + n) t4 ≡ take 56 t3 ++ d) (ap length ed) p4 ∙ ap (λ x. x ++ d) e3 in
+    sym (take_all 64 t4 (omega arith)) ∙ e4 ∙ rw (ea, eb, ec, ed)
+
+ordering_then-assoc : (a b c : Ordering) → ordering_then (ordering_then a b) c ≡ ordering_then a (ordering_then b c)
+ordering_then-assoc Less b c = refl
+ordering_then-assoc Equal b c = refl
+ordering_then-assoc Greater b c = refl
+
+ordering_then-Equal : (a : Ordering) → ordering_then a Equal ≡ a
+ordering_then-Equal Less = refl
+ordering_then-Equal Equal = refl
+ordering_then-Equal Greater = refl
+
+-- rows that begin with parts of one length are compared by these parts, and then by the rest
+pub bytes_cmp-append : (a b c d : List ℕ) → length a ≡ length b → bytes_cmp (a ++ c) (b ++ d) ≡ ordering_then (bytes_cmp a b) (bytes_cmp c d)
+bytes_cmp-append [] [] c d e = refl
+bytes_cmp-append [] (y ∷ ys) c d e = absurd (omega arith)
+bytes_cmp-append (x ∷ xs) [] c d e = absurd (omega arith)
+bytes_cmp-append (x ∷ xs) (y ∷ ys) c d e = ap (ordering_then (nat_cmp x y)) (bytes_cmp-append xs ys c d (omega arith)) ∙ sym (ordering_then-assoc (nat_cmp x y) (bytes_cmp xs ys) (bytes_cmp c d))
+
+-- numbers are compared by their quotients by 256, and then by their remainders
+nat_cmp-div : (x y : ℕ) → nat_cmp x y ≡ ordering_then (nat_cmp (x / 256) (y / 256)) (nat_cmp (x % 256) (y % 256))
+nat_cmp-div x y = grind (arith, nat_tests)
+
+-- the last k base-256 digits of a number, the greatest first
+digits : ℕ → ℕ → List ℕ
+digits zero n = []
+digits (suc k) n = digits k (n / 256) ++ n % 256 ∷ []
+
+length-digits : (k n : ℕ) → length (digits k n) ≡ k
+unfolding digits
+length-digits zero n = refl
+length-digits (suc k) n = omega (arith, length-append (digits k (n / 256)) (n % 256 ∷ []), length-digits k (n / 256))
+
+-- numbers of so many digits are compared as their digits are
+nat_cmp-digits : (k x y : ℕ) → x < 256 ^ k → y < 256 ^ k → nat_cmp x y ≡ bytes_cmp (digits k x) (digits k y)
+unfolding digits
+nat_cmp-digits zero x y h g = let a : x ≡ 0 = omega arith in let b : y ≡ 0 = omega arith in rw (a, b)
+nat_cmp-digits (suc k) x y h g =
+    let below : (n : ℕ) → n < 256 ^ suc k → n / 256 < 256 ^ k = λ n l. omega (arith, pow-suc 256 k) in
+    nat_cmp-div x y ∙ rw (nat_cmp-digits k (x / 256) (y / 256) (below x h) (below y g), bytes_cmp-append (digits k (x / 256)) (digits k (y / 256)) (x % 256 ∷ []) (y % 256 ∷ []) (length-digits k (x / 256) ∙ sym (length-digits k (y / 256))), ordering_then-Equal (nat_cmp (x % 256) (y % 256)))
+
+to_be_bytes-digits : (n : ℕ) → to_be_bytes w64 n ≡ digits 8 n
+unfolding digits
+to_be_bytes-digits n = simp div-div-eq-div-mul
+
+-- numbers of 64 bits are compared as their eight bytes are
+nat_cmp-to_be_bytes : (x y : ℕ) → x < 2 ^ 64 → y < 2 ^ 64 → nat_cmp x y ≡ bytes_cmp (to_be_bytes w64 x) (to_be_bytes w64 y)
+nat_cmp-to_be_bytes x y h g =
+    nat_cmp-digits 8 x y h g ∙ sym (ap (λ (a : List ℕ). bytes_cmp a (to_be_bytes w64 y)) (to_be_bytes-digits x) ∙ ap (bytes_cmp (digits 8 x)) (to_be_bytes-digits y))
+
+-- rows of four parts of like lengths are compared part by part
+bytes_cmp-parts : (e f k l p q a b : List ℕ) → length e ≡ length f → length k ≡ length l → length p ≡ length q → bytes_cmp (e ++ k ++ p ++ a) (f ++ l ++ q ++ b) ≡ ordering_then (bytes_cmp e f) (ordering_then (bytes_cmp k l) (ordering_then (bytes_cmp p q) (bytes_cmp a b)))
+bytes_cmp-parts e f k l p q a b le lk lp =
+    let two : length (e ++ k) ≡ length (f ++ l) = omega (arith, length-append e k, length-append f l) in
+    let three : length (e ++ k ++ p) ≡ length (f ++ l ++ q) = omega (arith, length-append (e ++ k) p, length-append (f ++ l) q) in
+    rw (bytes_cmp-append (e ++ k ++ p) (f ++ l ++ q) a b three, bytes_cmp-append (e ++ k) (f ++ l) p q two, bytes_cmp-append e f k l le)
+      (ordering_then-assoc _ (bytes_cmp p q) (bytes_cmp a b) ∙ ordering_then-assoc (bytes_cmp e f) (bytes_cmp k l) _)
+
+pub order_is_text_order : OrderIsTextOrder
+unfolding text_of
+order_is_text_order u v a b =
+    sym (bytes_cmp-parts (to_be_bytes w64 u.exp) (to_be_bytes w64 v.exp) u.key v.key u.place v.place (to_be_bytes w64 u.at) (to_be_bytes w64 v.at) refl (a.key.size ∙ sym b.key.size) (a.place.size ∙ sym b.place.size)
+      ∙ sym (ap (λ (o : Ordering). ordering_then o (ordering_then (bytes_cmp u.key v.key) (ordering_then (bytes_cmp u.place v.place) (nat_cmp u.at v.at)))) (nat_cmp-to_be_bytes u.exp v.exp a.exp b.exp)
+      ∙ ap (λ (o : Ordering). ordering_then (bytes_cmp (to_be_bytes w64 u.exp) (to_be_bytes w64 v.exp)) (ordering_then (bytes_cmp u.key v.key) (ordering_then (bytes_cmp u.place v.place) o))) (nat_cmp-to_be_bytes u.at v.at a.at b.at)))

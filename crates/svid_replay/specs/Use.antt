@@ -1,0 +1,34 @@
+use Rattle.std.specs.Prelude.{◌≡◌, ℕ, ◌<◌, ◌^◌, List, ◌++◌, length, All}
+use Rattle.std.specs.Ordering.{nat_cmp, ordering_then}
+use Rattle.std.specs.Cmp.Lexicographic.{slice_cmp}
+use Rattle.std.specs.declared.cmp.Ordering.{Ordering}
+use Rattle.std.specs.Int.{to_be_bytes, w64}
+use Rattle.svid_replay.specs.declared.token_use.Use.{Use}
+
+-- a row of so many bytes
+pub record IsBytes (count : ℕ) (bytes : List ℕ) : Type 0 where
+  pub size : length bytes ≡ count
+  pub each : All (λ b. b < 256) bytes
+
+-- the numbers and byte rows of a use have the ranges and lengths of their fields
+pub record IsUse (u : Use) : Type 0 where
+  pub exp : u.exp < 2 ^ 64
+  pub key : IsBytes 32 u.key
+  pub place : IsBytes 16 u.place
+  pub at : u.at < 2 ^ 64
+
+-- the 64 bytes of a use: exp, key, place, at, each number with its greatest byte first
+unfoldable pub text_of : Use → List ℕ
+text_of u = to_be_bytes w64 u.exp ++ u.key ++ u.place ++ to_be_bytes w64 u.at
+
+-- the order of uses: by exp, then by key, then by place, then by at
+abbrev pub use_cmp : Use → Use → Ordering
+use_cmp u v = ordering_then (nat_cmp u.exp v.exp) (ordering_then (slice_cmp nat_cmp u.key v.key) (ordering_then (slice_cmp nat_cmp u.place v.place) (nat_cmp u.at v.at)))
+
+-- byte rows in the order of a dictionary
+abbrev pub bytes_cmp : List ℕ → List ℕ → Ordering
+bytes_cmp = slice_cmp nat_cmp
+
+-- the order of uses is the order of their texts
+abbrev pub OrderIsTextOrder : Type 0
+OrderIsTextOrder = (u v : Use) → IsUse u → IsUse v → use_cmp u v ≡ bytes_cmp (text_of u) (text_of v)

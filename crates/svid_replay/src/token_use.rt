@@ -1,0 +1,40 @@
+ghost use Rattle.std.specs.Prelude.{◌≡◌, ◌+◌, ◌≤◌, ◌++◌, length, take};
+ghost use Rattle.svid_replay.specs.Use.{text_of, IsUse};
+
+/// One use of a token.
+#[derive(Clone, Copy, Debug, PartialEq, Eq, PartialOrd, Ord)]
+pub struct Use {
+    pub exp: u64,
+    pub key: [u8; 32],
+    pub place: [u8; 16],
+    pub at: u64,
+}
+
+fn put_piece(text: &mut [u8; 64], at: usize, piece: &[u8])
+    requires { at + length piece.now ≤ 64 }
+    ensures { take (at + length piece.now) text.new ≡ take at text.old ++ piece.now }
+{
+    text[at..at + piece.len()].copy_from_slice(piece);
+}
+
+fn known(used: Use) -> Use
+    ensures same { result ≡ used }
+    ensures ranges { IsUse used }
+{
+    used
+}
+
+impl Use {
+    /// The 64 bytes of this use.
+    pub fn text(&self) -> [u8; 64]
+        ensures { result ≡ text_of self.now }
+    {
+        let Use { exp, key, place, at } = *self;
+        let mut text = [0; 64];
+        put_piece(&mut text, 0, &exp.to_be_bytes());
+        put_piece(&mut text, 8, &key);
+        put_piece(&mut text, 40, &place);
+        put_piece(&mut text, 56, &at.to_be_bytes());
+        text
+    }
+}
