@@ -1,1 +1,2 @@
+pub mod BatchesLemmas
 pub mod UseLemmas

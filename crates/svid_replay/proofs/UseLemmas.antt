@@ -11,9 +11,11 @@ use Rattle.std.specs.Int.{to_be_bytes, w64}
 use Rattle.svid_replay.specs.declared.token_use.Use.{Use}
 use Rattle.svid_replay.specs.Use.{IsBytes, IsUse, text_of, use_cmp, bytes_cmp, OrderIsTextOrder}
 
--- a list of that length whose elements are below 256 is a row of so many bytes
-pub IsBytes-from_index : (count : ℕ) (bytes : List ℕ) → length bytes ≡ count → ((i : ℕ) → get_or bytes i 0 < 256) → IsBytes count bytes
-IsBytes-from_index count bytes size each = record { size = size; each = All-from_get_or (λ b. b < 256) bytes 0 (λ i _. each i) }
+-- a use whose fields have their types' ranges, by index, is within them
+pub use_of_fields : (u : Use) → u.exp < 2 ^ 64 → length u.key ≡ 32 → ((i : ℕ) → get_or u.key i 0 < 256) → length u.place ≡ 16 → ((i : ℕ) → get_or u.place i 0 < 256) → u.at < 2 ^ 64 → IsUse u
+use_of_fields u exp long_key key long_place place at =
+    let bytes = λ (n : ℕ) (bs : List ℕ) (long : length bs ≡ n) (each : (i : ℕ) → get_or bs i 0 < 256). let found : IsBytes n bs = record { size = long; each = All-from_get_or (λ b. b < 256) bs 0 (λ i _. each i) } in found in
+    record { exp = exp; key = bytes 32 u.key long_key key; place = bytes 16 u.place long_place place; at = at }
 
 -- four pieces put one behind the other fill a text of 64 bytes
 pub pieces_fill : (t1 t2 t3 t4 a b c d : List ℕ) (u : Use) → a ≡ to_be_bytes w64 u.exp → b ≡ u.key → c ≡ u.place → d ≡ to_be_bytes w64 u.at → length b ≡ 32 → length c ≡ 16 → take (0 + length a) t1 ≡ a → take (8 + length b) t2 ≡ take 8 t1 ++ b → take (40 + length c) t3 ≡ take 40 t2 ++ c → take (56 + length d) t4 ≡ take 56 t3 ++ d → length t4 ≡ 64 → t4 ≡ text_of u
@@ -79,11 +81,11 @@ bytes_cmp-parts e f k l p q a b le lk lp =
     let two : length (e ++ k) ≡ length (f ++ l) = omega (arith, length-append e k, length-append f l) in
     let three : length (e ++ k ++ p) ≡ length (f ++ l ++ q) = omega (arith, length-append (e ++ k) p, length-append (f ++ l) q) in
     rw (bytes_cmp-append (e ++ k ++ p) (f ++ l ++ q) a b three, bytes_cmp-append (e ++ k) (f ++ l) p q two, bytes_cmp-append e f k l le)
-      (ordering_then-assoc _ (bytes_cmp p q) (bytes_cmp a b) ∙ ordering_then-assoc (bytes_cmp e f) (bytes_cmp k l) _)
+    (ordering_then-assoc _ (bytes_cmp p q) (bytes_cmp a b) ∙ ordering_then-assoc (bytes_cmp e f) (bytes_cmp k l) _)
 
 pub order_is_text_order : OrderIsTextOrder
 unfolding text_of
 order_is_text_order u v a b =
     sym (bytes_cmp-parts (to_be_bytes w64 u.exp) (to_be_bytes w64 v.exp) u.key v.key u.place v.place (to_be_bytes w64 u.at) (to_be_bytes w64 v.at) refl (a.key.size ∙ sym b.key.size) (a.place.size ∙ sym b.place.size)
-      ∙ sym (ap (λ (o : Ordering). ordering_then o (ordering_then (bytes_cmp u.key v.key) (ordering_then (bytes_cmp u.place v.place) (nat_cmp u.at v.at)))) (nat_cmp-to_be_bytes u.exp v.exp a.exp b.exp)
-      ∙ ap (λ (o : Ordering). ordering_then (bytes_cmp (to_be_bytes w64 u.exp) (to_be_bytes w64 v.exp)) (ordering_then (bytes_cmp u.key v.key) (ordering_then (bytes_cmp u.place v.place) o))) (nat_cmp-to_be_bytes u.at v.at a.at b.at)))
+    ∙ sym (ap (λ (o : Ordering). ordering_then o (ordering_then (bytes_cmp u.key v.key) (ordering_then (bytes_cmp u.place v.place) (nat_cmp u.at v.at)))) (nat_cmp-to_be_bytes u.exp v.exp a.exp b.exp)
+    ∙ ap (λ (o : Ordering). ordering_then (bytes_cmp (to_be_bytes w64 u.exp) (to_be_bytes w64 v.exp)) (ordering_then (bytes_cmp u.key v.key) (ordering_then (bytes_cmp u.place v.place) o))) (nat_cmp-to_be_bytes u.at v.at a.at b.at)))

@@ -6,5 +6,4 @@ ghost use Rattle.svid_replay.specs.Use.{OrderIsTextOrder};
 /// Uses are ordered as their texts of 64 bytes are.
 pub fn use_order_is_text_order()
     ensures { OrderIsTextOrder }
-{
-}
+{}

@@ -1,6 +1,12 @@
 #![tactic(auto)]
 
+mod batch;
+mod batch_fault;
+mod flaw;
 pub mod laws;
 mod token_use;
 
+pub use batch::{Batch, MOST_USES};
+pub use batch_fault::BatchFault;
+pub use flaw::{Flaw, flaw_of};
 pub use token_use::Use;

@@ -1,4 +1,4 @@
-ghost use Rattle.std.specs.Prelude.{◌≡◌, ◌+◌, ◌≤◌, ◌++◌, length, take};
+ghost use Rattle.std.specs.Prelude.{◌≡◌, ◌+◌, ◌≤◌, ◌++◌, length, take, nat_lt};
 ghost use Rattle.svid_replay.specs.Use.{text_of, IsUse};
 
 /// One use of a token.
@@ -17,19 +17,25 @@ fn put_piece(text: &mut [u8; 64], at: usize, piece: &[u8])
     text[at..at + piece.len()].copy_from_slice(piece);
 }
 
-fn known(used: Use) -> Use
-    ensures same { result ≡ used }
-    ensures ranges { IsUse used }
-{
-    used
-}
-
 impl Use {
+    /// Whether this use is live at a moment (in seconds): it expires after it.
+    pub fn is_live(self, moment: u64) -> bool
+        ensures live { result ≡ nat_lt moment self.exp }
+        ensures fields { IsUse self }
+    {
+        self.exp > moment
+    }
+
     /// The 64 bytes of this use.
     pub fn text(&self) -> [u8; 64]
         ensures { result ≡ text_of self.now }
     {
-        let Use { exp, key, place, at } = *self;
+        let Use {
+            exp,
+            key,
+            place,
+            at,
+        } = *self;
         let mut text = [0; 64];
         put_piece(&mut text, 0, &exp.to_be_bytes());
         put_piece(&mut text, 8, &key);
