@@ -25,7 +25,7 @@ pub AllGood-at : (m : ℕ) (before : Option Use) (xs : List Use) (y : Use) (zs :
 AllGood-at m before [] y zs good = good.0
 AllGood-at m before (x ∷ xs) y zs good = AllGood-at m (Some x) xs y zs good.1
 
-AllByRecursion-push : {X : Type 0} (P : X → Type 0) (xs : List X) (y : X) → AllByRecursion P xs → P y → AllByRecursion P (xs ++ y ∷ [])
+pub AllByRecursion-push : {X : Type 0} (P : X → Type 0) (xs : List X) (y : X) → AllByRecursion P xs → P y → AllByRecursion P (xs ++ y ∷ [])
 AllByRecursion-push P [] y all holds = (holds, tt)
 AllByRecursion-push P (x ∷ xs) y all holds = (all.0, AllByRecursion-push P xs y all.1 holds)
 

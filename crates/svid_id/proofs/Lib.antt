@@ -1,0 +1,4 @@
+pub mod DomainLemmas
+pub mod IdLemmas
+pub mod PathLemmas
+pub mod PieceLemmas

@@ -1,0 +1,5 @@
+pub mod ClaimsLemmas
+pub mod CompactLemmas
+pub mod JsonLemmas
+pub mod PartLemmas
+pub mod RowsLemmas

@@ -1,0 +1,53 @@
+-- The compact form of a token (RFC 7515, section 7.1).
+use Rattle.std.specs.Prelude.{◌≡◌, ◌≢◌, ℕ, ◌+◌, ◌==◌, nat_lt, is_none, Bool, List, [], ◌∷◌, ◌++◌, length, All, Option, Some, None}
+use Rattle.std.specs.List.{slice_split}
+use Rattle.svid_token.specs.Rows.{Row}
+use Rattle.svid_token.specs.declared.refusal.Refusal.TheVariants.{TooLong, NotThreeParts}
+use Rattle.svid_token.specs.declared.compact.Compact.{Compact}
+use Rattle.svid_token.specs.declared.compact.TheConstants.{PERIOD, MAX_TOKEN_LEN}
+
+-- bytes in which no period stands
+abbrev pub HasNoPeriod : List ℕ → Type 0
+HasNoPeriod = All (λ b. b ≢ PERIOD)
+
+-- a token is its header, payload and signature, joined by periods
+pub record IsCompact (token header payload signature : List ℕ) : Type 0 where
+  pub joined : token ≡ header ++ PERIOD ∷ (payload ++ PERIOD ∷ signature)
+  pub header_whole : HasNoPeriod header
+  pub payload_whole : HasNoPeriod payload
+  pub signature_whole : HasNoPeriod signature
+
+-- the three parts of a token
+pub record Parts : Type 0 where
+  pub header : List ℕ
+  pub payload : List ℕ
+  pub signature : List ℕ
+
+-- the parts of a list that has three
+abbrev pub three : List (List ℕ) → Option Parts
+three (header ∷ payload ∷ signature ∷ []) = Some (record { header = header; payload = payload; signature = signature })
+three _ = None
+
+-- the parts of a token, cut at each period, if there are three
+unfoldable pub parts_of : List ℕ → Option Parts
+parts_of token = three (slice_split (λ b. b == PERIOD) token)
+
+-- these are the parts of a token, by both definitions
+abbrev pub AreParts : List ℕ → List ℕ → List ℕ → List ℕ → Type 0
+AreParts token header payload signature = IsCompact token header payload signature
+    × (parts_of token ≡ Some (record { header = header; payload = payload; signature = signature }))
+
+-- what contracts see of a token that was split
+abbrev pub compact_view : Compact → Option Parts
+compact_view c = Some (record { header = c.header.now; payload = c.payload.now; signature = c.signature.now })
+
+-- what a signature is made over (RFC 7515, section 5.1)
+abbrev pub signing_input : Parts → List ℕ
+signing_input parts = parts.header ++ PERIOD ∷ parts.payload
+
+-- the refusals of a token by its form
+abbrev pub compact_rows : List ℕ → List Row
+compact_rows token =
+    (TooLong, nat_lt MAX_TOKEN_LEN (length token))
+    ∷ (NotThreeParts, is_none (parts_of token))
+    ∷ []

@@ -1,0 +1,10 @@
+pub mod Alg
+pub mod Claims
+pub mod Compact
+pub mod Header
+pub mod Json
+pub mod Part
+pub mod Payload
+pub mod Rows
+pub mod Signature
+pub mod TokenKey

@@ -1,0 +1,76 @@
+ghost use Rattle.std.specs.Prelude.{◌≡◌, Some, codes, not};
+
+ghost use Rattle.serde_json.specs.Find.{get};
+ghost use Rattle.serde_json.specs.View.{view};
+ghost use Rattle.svid_token.specs.Header.{is_svid_type};
+ghost use Rattle.svid_token.specs.Rows.{holds_of};
+
+use crate::alg::Alg;
+use crate::object::{ObjectFault, copy_text, has_other_than_text, read_object};
+use crate::refusal::Refusal;
+use serde_json::Value;
+use std::alloc::Global;
+
+/// The header of a token (RFC 7515, section 4), as far as a JWT-SVID is checked by it.
+#[derive(Debug, Drop, PartialEq, Eq)]
+pub struct Header {
+    /// The algorithm of the signature.
+    pub alg: Alg,
+    /// The name of the signing key, where the header has one.
+    pub kid: Option<String>,
+}
+
+impl Header {
+    ghost use Rattle.svid_token.specs.Header.{header_object_rows, header_rows, header_said, header_view};
+    ghost use Rattle.svid_token.specs.Part.{part_object};
+    ghost use Rattle.svid_token.specs.Rows.{Answers, first_row, judged};
+    ghost use Rattle.serde_json.specs.View.{view};
+
+    /// The header that the first part of a token spells.
+    ///
+    /// Of the refusals `HeaderSpelling`, `HeaderNotObject`, `Crit`, `Alg`, `Typ` and `Kid` it
+    /// answers the first that holds, or `OutOfMemory` where an allocation was refused. Of a member
+    /// that is written twice the last stands, and members of other names are passed over.
+    pub fn read(alloc: Global, part: &[u8]) -> Result<Header, Refusal>
+        ensures { Answers header_view result
+            (judged (first_row (header_rows part.now)) (header_said (part_object part.now))) }
+    {
+        match read_object(alloc, part) {
+            Ok(object) => Header::from_object(alloc, &object),
+            Err(ObjectFault::Spelling) => Err(Refusal::HeaderSpelling),
+            Err(ObjectFault::NotObject) => Err(Refusal::HeaderNotObject),
+            Err(ObjectFault::OutOfMemory) => Err(Refusal::OutOfMemory),
+        }
+    }
+
+    // The header that a JSON object is.
+    fn from_object(alloc: Global, object: &Value) -> Result<Header, Refusal>
+        ensures { Answers header_view result
+            (judged (first_row (header_object_rows (Some (view object.now)))) (header_said (Some (view object.now)))) }
+    {
+        if object.get("crit").is_some() {
+            return Err(Refusal::Crit);
+        }
+        let Some(alg) = object.get("alg").and_then(Value::as_str).and_then(Alg::of) else {
+            return Err(Refusal::Alg);
+        };
+        if has_other_type(object) {
+            return Err(Refusal::Typ);
+        }
+        if has_other_than_text(object, "kid") {
+            return Err(Refusal::Kid);
+        }
+        let kid = copy_text(alloc, object, "kid")?;
+        Ok(Header { alg, kid })
+    }
+}
+
+// Whether `typ` is there and is neither `JWT` nor `JOSE`.
+fn has_other_type(object: &Value) -> bool
+    ensures { result ≡ holds_of (get (codes "typ") (view object.now)) (λ d. not (is_svid_type d)) }
+{
+    match object.get("typ") {
+        None => false,
+        Some(typ) => !matches!(typ.as_str(), Some("JWT" | "JOSE")),
+    }
+}

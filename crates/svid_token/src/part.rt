@@ -1,0 +1,36 @@
+ghost use Rattle.std.specs.Prelude.{◌≡◌, ◌≤◌, Some, IfOk, IfErr, length, vec_len};
+ghost use Rattle.svid_token.specs.Part.{IsPartFault, Spells, part_bytes};
+
+use base64::DecodeAllocError;
+use base64::engine::general_purpose::URL_SAFE_NO_PAD;
+use std::alloc::Global;
+use thiserror::Error;
+
+/// Why a part was not decoded.
+#[derive(Clone, Copy, Debug, Drop, PartialEq, Eq, Error)]
+pub enum PartFault {
+    /// The part is not the base64url of any bytes.
+    #[error("not base64url")]
+    Spelling,
+    /// An allocation was refused.
+    #[error("out of memory")]
+    OutOfMemory,
+}
+
+/// The bytes that a part spells in base64url without padding (RFC 7515, section 2; RFC 4648,
+/// section 5).
+///
+/// It refuses, as `Spelling`, padding, blanks and every other byte outside the alphabet, a length
+/// that no bytes have, and bits left over that are not zero.
+pub fn decode_part(alloc: Global, part: &[u8]) -> Result<Vec<u8>, PartFault>
+    ensures accepted { IfOk result (λ v. Spells part.now v.items) }
+    ensures value { IfOk result (λ v. part_bytes part.now ≡ Some v.items) }
+    ensures refused { IfErr result (IsPartFault part.now) }
+    ensures len { IfOk result (λ v. vec_len v ≤ length part.now) }
+{
+    match URL_SAFE_NO_PAD.decode(alloc, part) {
+        Ok(bytes) => Ok(bytes),
+        Err(DecodeAllocError::OutOfMemory) => Err(PartFault::OutOfMemory),
+        Err(DecodeAllocError::DecodeError(_)) => Err(PartFault::Spelling),
+    }
+}

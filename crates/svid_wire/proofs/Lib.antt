@@ -1,0 +1,3 @@
+pub mod FirstBatch
+pub mod StageLemmas
+pub mod WireFaultLemmas

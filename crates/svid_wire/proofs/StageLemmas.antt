@@ -1,0 +1,64 @@
+use Rattle.std.proofs.Common.{◌≡◌, ℕ, ◌+◌, ◌-◌, ◌*◌, ◌^◌, ◌<◌, List, [], ◌∷◌, ◌++◌, length, refl, sym, subst, ap, ◌∙◌, arith, Option, None, Some, append_assoc, append-nil}
+use Rattle.std.specs.List.{flat_map, slice_get}
+use Rattle.std.proofs.lemmas.List.{nil_from_length}
+use Rattle.svid_replay.specs.declared.token_use.Use.{Use}
+use Rattle.svid_replay.specs.declared.flaw.Flaw.{Flaw}
+use Rattle.svid_replay.specs.declared.flaw.Flaw.TheVariants.{Expired, Future, Order}
+use Rattle.svid_replay.specs.Use.{IsUse, text_of}
+use Rattle.svid_replay.specs.Batches.{flaw, last_of}
+use Rattle.svid_wire.specs.BatchText.{magic, batch_kind, numbers_text, head_text}
+use Rattle.svid_wire.specs.Stage.{IsStage, stage_text, field_len}
+use Rattle.svid_wire.specs.declared.stage.Stage.{Stage}
+use Rattle.svid_wire.specs.declared.stage.Stage.TheVariants.{Magic, Kind, Numbers, Uses}
+use Rattle.svid_wire.specs.WireFault.{IsCut, in_magic, in_kind, in_numbers, in_uses, IsBegun, IsFieldFault, IsUseFault, IsCountFault, flaw_reason}
+
+pub last_of-read : (before : Option Use) (u : Use) (us : List Use) → last_of before (u ∷ us) ≡ slice_get (u ∷ us) (length us)
+last_of-read before u [] = refl
+last_of-read before u (v ∷ us) = last_of-read (Some u) v us
+
+-- the last of some uses, read by its index
+pub last_of-None : (us : List Use) → slice_get us (length us - 1) ≡ last_of None us
+last_of-None [] = refl
+last_of-None (u ∷ us) =
+    let last : length (u ∷ us) - 1 ≡ length us = omega arith in
+    ap (slice_get (u ∷ us)) last ∙ sym (last_of-read None u us)
+
+-- a use behind the good ones that something is wrong with
+pub IsUseFault-last : (m c : ℕ) (us : List Use) (bad : Use) (place : ℕ) (f : Flaw) → IsBegun m c us → IsUse bad → flaw m (last_of None us) bad ≡ Some f → place ≡ 17 + 64 * length us → IsUseFault (head_text m c ++ flat_map text_of us ++ text_of bad) place f
+IsUseFault-last m c us bad place f begun fits found at = record {
+  moment = m;
+  count = c;
+  uses = us;
+  bad = bad;
+  after = [];
+  parts = append_assoc (head_text m c) (flat_map text_of us) (text_of bad) ∙ ap (λ x. head_text m c ++ (flat_map text_of us ++ x)) (sym (append-nil (text_of bad)));
+  begun = begun;
+  fields = fits;
+  flawed = found;
+  at = at;
+}
+
+-- the reason of a use's fault names what is wrong with it
+pub IsFieldFault-use : (bytes : List ℕ) (place : ℕ) (f : Flaw) → IsUseFault bytes place f → IsFieldFault bytes (record { place = place; reason = flaw_reason f })
+IsFieldFault-use bytes place Expired h = (h, λ e. cc)
+IsFieldFault-use bytes place Future h = (h, λ e. cc)
+IsFieldFault-use bytes place Order h = (h, λ e. cc)
+
+-- a count that is too great
+pub IsCountFault-last : (m c : ℕ) (field : List ℕ) → numbers_text m c ≡ field → m < 2 ^ 64 → c < 2 ^ 32 → 4096 < c → IsCountFault (magic ++ batch_kind ∷ [] ++ field)
+IsCountFault-last m c field e mf cf many = record {
+  moment = m;
+  count = c;
+  after = [];
+  parts = ap (λ x. magic ++ batch_kind ∷ [] ++ x) (sym e) ∙ sym (append-nil (head_text m c));
+  moment_fits = mf;
+  count_fits = cf;
+  many = many;
+}
+
+-- a stage whose next field is not whole
+pub IsCut-stage : (stage : Stage) (rest bytes : List ℕ) → IsStage stage → bytes ≡ stage_text stage ++ rest → length rest < field_len stage → IsCut bytes
+IsCut-stage Magic rest bytes good parts short = in_magic (subst (λ (x : List ℕ). length x < 4) (sym parts) short)
+IsCut-stage Kind rest bytes good parts short = in_kind (parts ∙ ap (λ x. magic ++ x) (nil_from_length rest (omega arith)) ∙ append-nil magic)
+IsCut-stage Numbers rest bytes good parts short = in_numbers rest parts short
+IsCut-stage (Uses m c us) rest bytes good parts short = in_uses m c us.items rest good (parts ∙ append_assoc (head_text m c) (flat_map text_of us.items) rest) short

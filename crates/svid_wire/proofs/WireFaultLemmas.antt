@@ -1,0 +1,69 @@
+use Rattle.std.proofs.Common.{◌≡◌, ◌≢◌, ℕ, List, ◌++◌, refl, sym, ap, ◌∙◌, subst, arith, append_assoc, length-append, ◌⊎◌, inl, inr}
+use Rattle.std.proofs.lemmas.List.{take-append-le}
+use Rattle.std.specs.List.{flat_map}
+use Rattle.svid_replay.specs.declared.flaw.Flaw.{Flaw}
+use Rattle.svid_replay.specs.Use.{text_of}
+use Rattle.svid_wire.specs.BatchText.{magic, head_text}
+use Rattle.svid_wire.specs.WireFault.{IsFaultFor, IsFault, IsFieldFault, IsRefusal, no_memory, IsUseFault, IsKindFault, IsCountFault}
+use Rattle.svid_wire.specs.declared.reason.Reason.{Reason}
+use Rattle.svid_wire.specs.declared.reason.Reason.TheVariants as reason
+use Rattle.svid_wire.specs.declared.wire_fault.WireFault.{WireFault}
+
+-- a list in parts stays so when more follows its last part
+grown : (bytes front last more : List ℕ) → bytes ≡ front ++ last → bytes ++ more ≡ front ++ (last ++ more)
+grown bytes front last more parts = ap (λ x. x ++ more) parts ∙ append_assoc front last more
+
+IsUseFault-append : (bytes more : List ℕ) (place : ℕ) (f : Flaw) → IsUseFault bytes place f → IsUseFault (bytes ++ more) place f
+IsUseFault-append bytes more place f h = record {
+  moment = h.moment;
+  count = h.count;
+  uses = h.uses;
+  bad = h.bad;
+  begun = h.begun;
+  fields = h.fields;
+  flawed = h.flawed;
+  at = h.at;
+  after = h.after ++ more;
+  parts = grown bytes (head_text h.moment h.count) _ more h.parts ∙ ap (λ x. head_text h.moment h.count ++ x) (append_assoc (flat_map text_of h.uses) _ more ∙ ap (λ x. flat_map text_of h.uses ++ x) (append_assoc (text_of h.bad) h.after more));
+}
+
+IsKindFault-append : (bytes more : List ℕ) → IsKindFault bytes → IsKindFault (bytes ++ more)
+IsKindFault-append bytes more h = record {
+  kind = h.kind;
+  unknown = h.unknown;
+  after = h.after ++ more;
+  parts = grown bytes magic _ more h.parts;
+}
+
+IsCountFault-append : (bytes more : List ℕ) → IsCountFault bytes → IsCountFault (bytes ++ more)
+IsCountFault-append bytes more h = record {
+  moment = h.moment;
+  count = h.count;
+  moment_fits = h.moment_fits;
+  count_fits = h.count_fits;
+  many = h.many;
+  after = h.after ++ more;
+  parts = grown bytes (head_text h.moment h.count) _ more h.parts;
+}
+
+IsFaultFor-append : (r : Reason) (bytes more : List ℕ) (place : ℕ) → IsFaultFor r bytes place → r ≢ reason.Truncated → IsFaultFor r (bytes ++ more) place
+IsFaultFor-append reason.Magic bytes more place (at, long, bad) _ =
+    (at, omega (arith, length-append bytes more), subst (λ (x : List ℕ). x ≢ magic) (sym (take-append-le 4 bytes more long)) bad)
+IsFaultFor-append reason.Kind bytes more place (at, h) _ = (at, IsKindFault-append bytes more h)
+IsFaultFor-append reason.Count bytes more place (at, h) _ = (at, IsCountFault-append bytes more h)
+IsFaultFor-append reason.UseExpired bytes more place h _ = IsUseFault-append bytes more place _ h
+IsFaultFor-append reason.UseFuture bytes more place h _ = IsUseFault-append bytes more place _ h
+IsFaultFor-append reason.UseOrder bytes more place h _ = IsUseFault-append bytes more place _ h
+IsFaultFor-append reason.Truncated bytes more place h ne = absurd (ne refl)
+IsFaultFor-append reason.OutOfMemory bytes more place h _ = h
+IsFaultFor-append reason.Failed bytes more place h _ = h
+
+-- a bad field stays bad when bytes follow
+pub IsFieldFault-append : (bytes more : List ℕ) (fault : WireFault) → IsFieldFault bytes fault → IsFieldFault (bytes ++ more) fault
+IsFieldFault-append bytes more fault (h, early) = (IsFaultFor-append fault.reason bytes more fault.place h early, early)
+
+-- a bad field behind the good ones is bad for all the bytes
+pub IsRefusal-append : (bytes front more : List ℕ) (fault : WireFault) → bytes ≡ front ++ more → IsFieldFault front fault ⊎ (fault ≡ no_memory) → IsRefusal bytes fault
+IsRefusal-append bytes front more fault parts (inl bad) =
+    inl (subst (λ (x : List ℕ). IsFault x fault) (sym parts) (IsFieldFault-append front more fault bad).0)
+IsRefusal-append bytes front more fault parts (inr none) = inr none

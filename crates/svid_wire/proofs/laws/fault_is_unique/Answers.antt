@@ -1,0 +1,5 @@
+use Rattle.svid_wire.proofs.FirstBatch.{fault_is_unique}
+use Rattle.svid_wire.proofs.laws.fault_is_unique.Goals as goal
+
+pub returns : goal.returns
+returns c = fault_is_unique

@@ -1,0 +1,5 @@
+use Rattle.svid_wire.proofs.FirstBatch.{no_text_is_longer}
+use Rattle.svid_wire.proofs.laws.no_text_is_longer.Goals as goal
+
+pub returns : goal.returns
+returns c = no_text_is_longer

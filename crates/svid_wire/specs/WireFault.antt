@@ -1,0 +1,103 @@
+-- What is wrong with bytes that begin with no batch.
+use Rattle.std.specs.Prelude.{◌≡◌, ◌≢◌, ℕ, ◌+◌, ◌*◌, ◌^◌, ◌<◌, ◌≤◌, ◌⊎◌, List, ◌∷◌, ◌++◌, length, take, None, Some}
+use Rattle.std.specs.List.{AllByRecursion, flat_map}
+use Rattle.svid_replay.specs.declared.token_use.Use.{Use}
+use Rattle.svid_replay.specs.declared.flaw.Flaw.{Flaw}
+use Rattle.svid_replay.specs.declared.flaw.Flaw.TheVariants.{Expired, Future, Order}
+use Rattle.svid_replay.specs.Use.{text_of, IsUse}
+use Rattle.svid_replay.specs.Batches.{BatchData, IsBatch, AllGood, last_of, flaw}
+use Rattle.svid_wire.specs.BatchText.{magic, batch_kind, head_text, batch_text}
+use Rattle.svid_wire.specs.declared.reason.Reason.{Reason}
+use Rattle.svid_wire.specs.declared.reason.Reason.TheVariants as reason
+use Rattle.svid_wire.specs.declared.wire_fault.WireFault.{WireFault}
+
+-- these are the first uses of a batch of this moment and count, all good, and at least one is to come
+pub record IsBegun (moment count : ℕ) (uses : List Use) : Type 0 where
+  pub moment_fits : moment < 2 ^ 64
+  pub few : count ≤ 4096
+  pub more : length uses < count
+  pub fields : AllByRecursion IsUse uses
+  pub good : AllGood moment None uses
+
+-- something is wrong with the use behind the good ones
+pub record IsUseFault (bytes : List ℕ) (place : ℕ) (found : Flaw) : Type 0 where
+  pub moment : ℕ
+  pub count : ℕ
+  pub uses : List Use
+  pub bad : Use
+  pub after : List ℕ
+  pub parts : bytes ≡ head_text moment count ++ (flat_map text_of uses ++ (text_of bad ++ after))
+  pub begun : IsBegun moment count uses
+  pub fields : IsUse bad
+  pub flawed : flaw moment (last_of None uses) bad ≡ Some found
+  pub at : place ≡ 17 + 64 * length uses
+
+-- the kind is not that of a batch
+pub record IsKindFault (bytes : List ℕ) : Type 0 where
+  pub kind : ℕ
+  pub after : List ℕ
+  pub parts : bytes ≡ magic ++ kind ∷ after
+  pub unknown : kind ≢ batch_kind
+
+-- the batch tells of too many uses
+pub record IsCountFault (bytes : List ℕ) : Type 0 where
+  pub moment : ℕ
+  pub count : ℕ
+  pub after : List ℕ
+  pub parts : bytes ≡ head_text moment count ++ after
+  pub moment_fits : moment < 2 ^ 64
+  pub count_fits : count < 2 ^ 32
+  pub many : 4096 < count
+
+-- Each field that lies whole in the bytes is good, and another one is to come.
+pub data IsCut (bytes : List ℕ) : Type 0 where
+  in_magic : length bytes < 4 → IsCut bytes
+  in_kind : bytes ≡ magic → IsCut bytes
+  in_numbers : (part : List ℕ) → bytes ≡ magic ++ batch_kind ∷ part → length part < 12 → IsCut bytes
+  in_uses : (moment count : ℕ) (uses : List Use) (part : List ℕ) → IsBegun moment count uses → bytes ≡ head_text moment count ++ (flat_map text_of uses ++ part) → length part < 64 → IsCut bytes
+
+-- the first field that lies whole in the bytes and is bad is bad for this reason, and begins at this place; or
+-- no such field is bad, and the bytes end before a batch does
+abbrev pub IsFaultFor : Reason → List ℕ → ℕ → Type 0
+IsFaultFor reason.Magic bytes place = (place ≡ 0) × (4 ≤ length bytes) × (take 4 bytes ≢ magic)
+IsFaultFor reason.Kind bytes place = (place ≡ 4) × IsKindFault bytes
+IsFaultFor reason.Count bytes place = (place ≡ 13) × IsCountFault bytes
+IsFaultFor reason.UseExpired bytes place = IsUseFault bytes place Expired
+IsFaultFor reason.UseFuture bytes place = IsUseFault bytes place Future
+IsFaultFor reason.UseOrder bytes place = IsUseFault bytes place Order
+IsFaultFor reason.Truncated bytes place = (place ≡ length bytes) × (0 < length bytes) × IsCut bytes
+IsFaultFor reason.OutOfMemory bytes place = ⊥
+IsFaultFor reason.Failed bytes place = ⊥
+
+abbrev pub IsFault : List ℕ → WireFault → Type 0
+IsFault bytes fault = IsFaultFor fault.reason bytes fault.place
+
+-- a bad field, however many bytes follow it
+abbrev pub IsFieldFault : List ℕ → WireFault → Type 0
+IsFieldFault bytes fault = IsFault bytes fault × (fault.reason ≢ reason.Truncated)
+
+-- the reason that names what is wrong with a use
+abbrev pub flaw_reason : Flaw → Reason
+flaw_reason Expired = reason.UseExpired
+flaw_reason Future = reason.UseFuture
+flaw_reason Order = reason.UseOrder
+
+-- want of memory
+abbrev pub no_memory : WireFault
+no_memory = record { place = 0; reason = reason.OutOfMemory }
+
+-- what a reader of such bytes may refuse them for
+abbrev pub IsRefusal : List ℕ → WireFault → Type 0
+IsRefusal bytes fault = IsFault bytes fault ⊎ (fault ≡ no_memory)
+
+-- bytes that begin with the text of a batch have no fault
+abbrev pub TextHasNoFault : Type 0
+TextHasNoFault = (b : BatchData) (rest : List ℕ) (fault : WireFault) → IsBatch b → ¬ IsFault (batch_text b ++ rest) fault
+
+-- bytes have at most one fault
+abbrev pub FaultIsUnique : Type 0
+FaultIsUnique = (bytes : List ℕ) (x y : WireFault) → IsFault bytes x → IsFault bytes y → x ≡ y
+
+-- a bad field stays the fault when bytes follow
+abbrev pub FieldFaultStays : Type 0
+FieldFaultStays = (bytes more : List ℕ) (fault : WireFault) → IsFieldFault bytes fault → IsFieldFault (bytes ++ more) fault

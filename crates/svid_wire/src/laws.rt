@@ -1,0 +1,30 @@
+//! Laws of the definitions that this crate's contracts cite. Each is the contract of a function with
+//! nothing in it, so that the check proves it like any other promise.
+
+ghost use Rattle.svid_wire.specs.BatchText.{BeginsOneBatch, NoTextIsLonger};
+ghost use Rattle.svid_wire.specs.WireFault.{FaultIsUnique, FieldFaultStays, TextHasNoFault};
+
+/// Bytes begin with the text of at most one batch.
+pub fn begins_one_batch()
+    ensures { BeginsOneBatch }
+{}
+
+/// No batch's text is a proper prefix of another's.
+pub fn no_text_is_longer()
+    ensures { NoTextIsLonger }
+{}
+
+/// Bytes that begin with a batch's text have no fault, whatever follows.
+pub fn text_has_no_fault()
+    ensures { TextHasNoFault }
+{}
+
+/// Bytes have at most one fault: one reason at one place.
+pub fn fault_is_unique()
+    ensures { FaultIsUnique }
+{}
+
+/// A bad field stays the fault, at its place, when bytes follow.
+pub fn field_fault_stays()
+    ensures { FieldFaultStays }
+{}

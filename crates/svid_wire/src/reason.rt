@@ -1,0 +1,22 @@
+/// What is wrong with the bytes of a message.
+#[derive(Clone, Copy, Debug, PartialEq, Eq)]
+pub enum Reason {
+    /// The first four bytes are not those of version 1.
+    Magic,
+    /// The fifth byte is that of no kind of message.
+    Kind,
+    /// A batch tells of more than 4,096 uses.
+    Count,
+    /// A use expires at its batch's moment or before it.
+    UseExpired,
+    /// A use was made after its batch's moment.
+    UseFuture,
+    /// A use is not greater than the one before it.
+    UseOrder,
+    /// The bytes end before the message does, and no field that is whole is bad.
+    Truncated,
+    /// There was no memory for the message.
+    OutOfMemory,
+    /// The reader refused bytes before, and reads no more.
+    Failed,
+}

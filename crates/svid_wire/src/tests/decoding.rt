@@ -1,0 +1,106 @@
+use super::TWO_USES;
+use crate::{Reason, WireFault, decode_batch};
+use std::test::Fail;
+use svid_replay::Use;
+
+fn fault(place: usize, reason: Reason) -> Option<WireFault> {
+    Some(WireFault { place, reason })
+}
+
+#[test]
+fn decodes_a_batch_and_leaves_what_follows(rt: HostRuntime) -> Result<(), Fail> {
+    for more in 0..3usize {
+        let mut bytes = TWO_USES.to_vec(rt.alloc())?;
+        for _ in 0..more {
+            bytes.push(7)?;
+        }
+        assert!(rt; !bytes.is_empty());
+        let (batch, rest) = decode_batch(rt.alloc(), &bytes)?;
+        assert_eq!(rt; batch.moment(), 100);
+        let first = Use {
+            exp: 101,
+            key: [0x11; 32],
+            place: [0x22; 16],
+            at: 99,
+        };
+        let second = Use {
+            place: [0x33; 16],
+            at: 100,
+            ..first
+        };
+        assert_eq!(rt; batch.uses(), [first, second].as_slice());
+        assert_eq!(rt; rest.len(), more);
+    }
+    Ok(())
+}
+
+#[test]
+fn decodes_a_batch_of_no_uses(rt: HostRuntime) -> Result<(), Fail> {
+    let bytes = b"JSR\x01\x01\x00\x00\x00\x00\x00\x00\x00\x05\x00\x00\x00\x00";
+    let (batch, rest) = decode_batch(rt.alloc(), bytes)?;
+    assert_eq!(rt; batch.moment(), 5);
+    assert_eq!(rt; batch.uses().len(), 0);
+    assert_eq!(rt; rest.len(), 0);
+    Ok(())
+}
+
+#[test]
+fn refuses_each_proper_prefix_at_its_end(rt: HostRuntime) {
+    for n in 1..145usize {
+        let found = decode_batch(rt.alloc(), TWO_USES.split_at(n).0).err();
+        assert_eq!(rt; found, fault(n, Reason::Truncated), "{n} bytes");
+    }
+}
+
+#[test]
+fn waits_for_the_uses_of_a_count_that_memory_may_not_hold(rt: HostRuntime) {
+    let head = b"JSR\x01\x01\x00\x00\x00\x00\x00\x00\x00\x00\x00\x00\x10\x00";
+    assert_eq!(rt;
+        decode_batch(rt.alloc(), head).err(),
+        fault(17, Reason::Truncated)
+    );
+}
+
+#[test]
+fn refuses_the_first_bad_field_at_its_place(rt: HostRuntime) {
+    // the byte that is changed, what it becomes, and the fault
+    for (at, byte, place, reason) in [
+        (0, 0x00, 0, Reason::Magic),
+        (3, 0x02, 0, Reason::Magic),
+        (4, 0x03, 4, Reason::Kind),
+        (4, 0x02, 4, Reason::Kind),
+        (15, 0x10, 13, Reason::Count),
+        (24, 100, 17, Reason::UseExpired),
+        (80, 101, 17, Reason::UseFuture),
+        (88, 100, 81, Reason::UseExpired),
+        (144, 101, 81, Reason::UseFuture),
+        (121, 0x21, 81, Reason::UseOrder),
+    ] {
+        let mut bytes = *TWO_USES;
+        assert!(rt; at < 145);
+        bytes[at] = byte;
+        let found = decode_batch(rt.alloc(), &bytes).err();
+        assert_eq!(rt; found, fault(place, reason), "byte {at}");
+    }
+}
+
+#[test]
+fn refuses_a_use_equal_to_the_one_before_it(rt: HostRuntime) {
+    let mut bytes = *TWO_USES;
+    bytes[81..].copy_from_slice(TWO_USES.split_at(81).0.split_at(17).1);
+    assert_eq!(rt;
+        decode_batch(rt.alloc(), &bytes).err(),
+        fault(81, Reason::UseOrder)
+    );
+}
+
+#[test]
+fn judges_a_use_as_expired_before_it_is_from_the_future(rt: HostRuntime) {
+    let mut bytes = *TWO_USES;
+    bytes[24] = 100;
+    bytes[80] = 101;
+    assert_eq!(rt;
+        decode_batch(rt.alloc(), &bytes).err(),
+        fault(17, Reason::UseExpired)
+    );
+}

@@ -1,0 +1,98 @@
+// Each growth of each call that takes memory is refused in turn, where `tools/failmalloc.c` is loaded.
+// Without it no growth is refused, and each loop ends with its first round, the happy one.
+ghost use Rattle.std.specs.Prelude.{◌<◌, ◌≤◌, ◌^◌};
+
+use super::TWO_USES;
+use crate::{MemSink, MemSource, ReadFault, Reason, Sink, WireFault, decode_batch, read_up_to};
+use std::alloc::Global;
+use std::test::Fail;
+
+// Sizes that no allocator can give: commands for that library.
+const ARM: usize = 1 << 62;
+
+const ASK: usize = ARM + (1 << 61);
+
+// Has the nth growth from here on refused, or none at 0.
+fn refuse(alloc: Global, nth: usize)
+    requires { nth < 2 ^ 32 }
+{
+    let _ = Vec::<u8>::with_capacity(alloc, ARM + nth);
+}
+
+fn was_refused(alloc: Global) -> bool {
+    Vec::<u8>::with_capacity(alloc, ASK).is_ok()
+}
+
+#[test]
+fn decoding_answers_want_of_memory(rt: HostRuntime) -> Result<(), Fail> {
+    for nth in 1..100usize {
+        refuse(rt.alloc(), nth);
+        let found = decode_batch(rt.alloc(), TWO_USES);
+        let refused = was_refused(rt.alloc());
+        refuse(rt.alloc(), 0);
+        if !refused {
+            let (batch, rest) = found?;
+            assert_eq!(rt; (batch.uses().len(), rest.len()), (2, 0));
+            return Ok(());
+        }
+        let want = WireFault {
+            place: 0,
+            reason: Reason::OutOfMemory,
+        };
+        assert_eq!(rt; found.err(), Some(want), "growth {nth}");
+        assert_eq!(rt; decode_batch(rt.alloc(), TWO_USES).is_ok(), true);
+    }
+    Ok(())
+}
+
+#[test]
+fn reading_answers_want_of_memory(rt: HostRuntime) -> Result<(), Fail> {
+    for nth in 1..100usize {
+        let mut source = MemSource::new(TWO_USES.to_vec(rt.alloc())?, 1, None);
+        refuse(rt.alloc(), nth);
+        let read = read_up_to(rt.alloc(), &mut source, 145);
+        let refused = was_refused(rt.alloc());
+        refuse(rt.alloc(), 0);
+        if !refused {
+            assert_eq!(rt; read?.as_slice(), TWO_USES.as_slice());
+            return Ok(());
+        }
+        assert_eq!(rt; read.err(), Some(ReadFault::OutOfMemory), "growth {nth}");
+        let mut again = MemSource::new(TWO_USES.to_vec(rt.alloc())?, 1, None);
+        assert_eq!(rt;
+            read_up_to(rt.alloc(), &mut again, 145)?.as_slice(),
+            TWO_USES.as_slice()
+        );
+    }
+    Ok(())
+}
+
+// Puts byte after byte, and answers how many were taken before one was refused.
+fn taken_one_by_one(sink: &mut MemSink) -> usize
+    ensures { result ≤ 145 }
+{
+    for at in 0..145 {
+        if sink.put(TWO_USES.split_at(at).1) != Ok(1) {
+            return at;
+        }
+    }
+    145
+}
+
+#[test]
+fn a_sink_without_memory_stops_and_keeps_what_it_has(rt: HostRuntime) {
+    for nth in 1..100usize {
+        let mut sink = MemSink::new(rt.alloc(), 1, None);
+        refuse(rt.alloc(), nth);
+        let taken = taken_one_by_one(&mut sink);
+        let refused = was_refused(rt.alloc());
+        refuse(rt.alloc(), 0);
+        assert_eq!(rt; sink.bytes(), TWO_USES.split_at(taken).0);
+        if !refused {
+            assert_eq!(rt; taken, 145);
+            return;
+        }
+        assert_eq!(rt; sink.faults(), 1, "growth {nth}");
+        assert_eq!(rt; sink.put(TWO_USES.split_at(taken).1), Ok(1));
+    }
+}
