@@ -1,5 +1,5 @@
 -- Lemmas about specs/Domain.antt.
-use Rattle.std.proofs.Common.{◌≡◌, ℕ, ◌+◌, ◌<◌, ◌==◌, ◌&&◌, not, nat_lt, if◌then◌else◌, List, length, get_or, Option, Some, None, Result, Ok, Err, is_ok, true, IsTrue, ◌↔◌, ◌∙◌, refl, sym, arith}
+use Rattle.std.proofs.Common.{◌≡◌, ℕ, ◌+◌, ◌<◌, ◌==◌, ◌&&◌, not, nat_lt, if◌then◌else◌, List, length, get_or, Some, None, Result, Ok, Err, is_ok, true, IsTrue, ◌↔◌, ◌∙◌, refl, sym, arith}
 use Rattle.std.specs.List.{before_first, position_or_len, prefix_len}
 use Rattle.std.proofs.lemmas.Bool.Decides.{nat_tests}
 use Rattle.std.proofs.lemmas.List.Sums.{prefix_len-le-length, prefix_len_passes, prefix_len_is}
@@ -44,7 +44,7 @@ IsDomain-from_fault at name none =
     record {
       not_empty = grind (arith, nat_tests);
       not_long = grind (arith, nat_tests);
-      bytes = λ k d h. prefix_len_passes is_domain_byte name k d (omega arith)
+      bytes = λ k d h. prefix_len_passes is_domain_byte name k d (omega arith);
     }
 
 -- bytes of a name are ASCII

@@ -1,6 +1,6 @@
 -- Lemmas about specs/Id.antt.
-use Rattle.std.proofs.Common.{◌≡◌, ℕ, ◌+◌, ◌<◌, ◌≤◌, ◌≢◌, cond, Bool, true, false, not, nat_eq, nat_lt, List, [], ◌∷◌, ◌++◌, length, get_or, take, drop, codes, Option, Some, None, is_none, unwrap_or, refl, sym, ap, subst, ◌∙◌, if◌then◌else◌, eqb-true, length-drop, length-append, arith}
-use Rattle.std.specs.List.{All, AllByRecursion, AllPass, before_first, position_or_len, prefix_len, slice_split, starts_with}
+use Rattle.std.proofs.Common.{◌≡◌, ℕ, ◌+◌, ◌<◌, ◌≢◌, cond, Bool, true, false, not, nat_eq, nat_lt, List, [], ◌∷◌, ◌++◌, length, get_or, take, drop, Option, Some, None, is_none, unwrap_or, refl, sym, ap, subst, ◌∙◌, if◌then◌else◌, eqb-true, length-drop, length-append, arith}
+use Rattle.std.specs.List.{AllByRecursion, AllPass, position_or_len, prefix_len, slice_split, starts_with}
 use Rattle.std.specs.Option.{option_or}
 use Rattle.std.specs.Str.{IsAscii, IsCharBoundary, IsUtf8}
 use Rattle.std.proofs.lemmas.Bool.{le-ltb, ltb-false, ltb-true}
@@ -13,7 +13,7 @@ use Rattle.std.proofs.lemmas.Str.{IsAscii-append, IsCharBoundary-from_ascii, IsU
 use Rattle.std.proofs.lemmas.Str.Ascii.{IsAscii-cons, IsAscii-from_all, IsAscii-nil}
 use Rattle.svid_id.specs.Domain.{IsDomain, domain_fault, is_domain_byte}
 use Rattle.svid_id.specs.Path.{IsPath, IsSegment, is_segment_byte, is_slash, path_fault, segment_fault, segments_fault, slashed}
-use Rattle.svid_id.specs.Id.{IdParts, IsId, id_fault, id_parts, id_text, is_id, parts_of, scheme}
+use Rattle.svid_id.specs.Id.{IdParts, IsId, id_fault, id_parts, parts_of, scheme}
 use Rattle.svid_id.specs.declared.id_fault.IdFault.{IdFault}
 use Rattle.svid_id.specs.declared.id_fault.IdFault.TheVariants.{TooLong, Scheme, DomainEmpty, DomainByte, DomainLong, SegmentEmpty, SegmentDots, PathByte, OutOfMemory}
 use Rattle.svid_id.proofs.DomainLemmas.{domain_byte_ascii, domain_fault-IsDomain, IsDomain-from_fault}
@@ -56,7 +56,7 @@ id_fault-IsId text id is =
     let short : nat_lt 2048 (length text) ≡ false = le-ltb 2048 (length text) is.not_long in
     let starts : starts_with nat_eq text scheme ≡ true = (starts_is Decides-eqb text scheme _ refl).1 (id.domain ++ id.path) is.spelled in
     let at_id : HasNone id =
-      rw (short, starts, domain_fault-IsDomain 9 id.domain is.domain) (path_fault-IsPath (9 + length id.domain) id.path is.path) in
+    rw (short, starts, domain_fault-IsDomain 9 id.domain is.domain) (path_fault-IsPath (9 + length id.domain) id.path is.path) in
     subst HasNone (sym (parts_of-IsId text id is)) at_id
 
 -- no fault of three means that none of them is there
@@ -83,7 +83,7 @@ IsId-from_fault text none =
       spelled = spelled ∙ ap (λ s. scheme ++ s) (sym (take-append-drop cut rest));
       not_long = ltb-false 2048 (length text) three.0;
       domain = IsDomain-from_fault 9 (take cut rest) parts.0;
-      path = IsPath-from_fault (9 + length (take cut rest)) (drop cut rest) (λ some. slash_at cut rest some (passes_at_first is_slash rest 0)) parts.1
+      path = IsPath-from_fault (9 + length (take cut rest)) (drop cut rest) (λ some. slash_at cut rest some (passes_at_first is_slash rest 0)) parts.1;
     }
 
 -- what stands where there is no fault
@@ -102,13 +102,17 @@ IsId-from_parts text id read =
     let known = some_if (id_fault text) (parts_of text) id read in
     subst HasParts known.1 (IsId-from_fault text known.0)
 
-none_unless : (first : Option IdFault) (x : IdParts) (fault : IdFault) → fault ≡ unwrap_or first OutOfMemory → fault ≢ OutOfMemory → (if is_none first then Some x else None) ≡ None
-none_unless None x fault found other = absurd (other found)
-none_unless (Some first) x fault found other = refl
+some_unless : (first : Option IdFault) (fault : IdFault) → fault ≡ unwrap_or first OutOfMemory → fault ≢ OutOfMemory → first ≡ Some fault
+some_unless None fault answered other = absurd (other answered)
+some_unless (Some first) fault answered other = cc
 
--- a text that is refused for another fault than want of memory has no parts
-pub id_parts-refused : (text : List ℕ) (fault : IdFault) → fault ≡ unwrap_or (id_fault text) OutOfMemory → fault ≢ OutOfMemory → id_parts text ≡ None
-id_parts-refused text fault found other = none_unless (id_fault text) (parts_of text) fault found other
+-- a text that is refused for another fault than want of memory has that fault
+pub refused_fault : (text : List ℕ) (fault : IdFault) → fault ≡ unwrap_or (id_fault text) OutOfMemory → fault ≢ OutOfMemory → id_fault text ≡ Some fault
+refused_fault text fault answered other = some_unless (id_fault text) fault answered other
+
+-- so it has no parts
+pub refused_parts : (text : List ℕ) (fault : IdFault) → fault ≡ unwrap_or (id_fault text) OutOfMemory → fault ≢ OutOfMemory → id_parts text ≡ None
+refused_parts text fault answered other = rw (refused_fault text fault answered other) refl
 
 -- want of memory is neither of two faults, so not the one that is chosen
 either-memory : (b : Bool) (one other : Option IdFault) → one ≢ Some OutOfMemory → other ≢ Some OutOfMemory → cond b one other ≢ Some OutOfMemory

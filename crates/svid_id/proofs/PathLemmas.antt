@@ -1,5 +1,5 @@
 -- Lemmas about specs/Path.antt.
-use Rattle.std.proofs.Common.{◌≡◌, ℕ, ◌+◌, ◌<◌, ◌==◌, ◌&&◌, Bool, true, false, not, nat_lt, if◌then◌else◌, List, [], ◌∷◌, ◌++◌, length, get_or, take, drop, codes, Option, Some, None, refl, sym, ap, subst, ◌∙◌, inl, inr, ◌⊎◌, append-nil, eqb-true, arith}
+use Rattle.std.proofs.Common.{◌≡◌, ℕ, ◌+◌, ◌<◌, ◌==◌, ◌&&◌, true, false, not, nat_lt, if◌then◌else◌, List, [], ◌∷◌, ◌++◌, length, get_or, take, drop, codes, Option, Some, None, refl, sym, ap, subst, ◌∙◌, inl, inr, ◌⊎◌, append-nil, eqb-true, arith}
 use Rattle.std.specs.List.{All, AllByRecursion, after_first, before_first, onto_first, position_or_len, prefix_len, slice_split}
 use Rattle.std.specs.Option.{option_or}
 use Rattle.std.specs.Str.{bytes_eq}
@@ -19,8 +19,8 @@ use Rattle.svid_id.proofs.PieceLemmas.{is_slash-class, run-piece, length-piece, 
 pub is_dots_cases : (s : List ℕ) → is_dots s ≡ true → (s ≡ codes ".") ⊎ (s ≡ codes "..")
 is_dots_cases s is =
     elim (or_cases (bytes_eq s (codes ".")) (bytes_eq s (codes "..")) is) [
-      inl one ↦ inl ((bytes_eq-Decides s (codes ".")).0 one)
-    | inr two ↦ inr ((bytes_eq-Decides s (codes "..")).0 two)
+      | inl one ↦ inl ((bytes_eq-Decides s (codes ".")).0 one)
+      | inr two ↦ inr ((bytes_eq-Decides s (codes "..")).0 two)
     ]
 
 -- "." and ".." have only bytes of a segment
@@ -44,13 +44,13 @@ pub path_fault-step : (at slash : ℕ) (s : List ℕ) → path_fault at (slash �
 path_fault-step at slash s =
     let p = position_or_len is_slash s in
     elim (cases_lt p (length s)) [
-      inl more ↦
-        let places : at + 1 + length (before_first is_slash s) + 1 ≡ at + (1 + p) + 1 = omega (arith, length-piece s) in
-        rw (slice_split_first is_slash s 0 more, drop_more s p 0 more)
-        (ap (λ (n : ℕ). option_or (segment_fault (at + 1) (before_first is_slash s)) (segments_fault n (slice_split is_slash (after_first is_slash s)))) places)
-    | inr done ↦
-        let none : All (λ b. is_slash b ≡ false) s = λ k d h. fails_before_first is_slash s k d (omega arith) in
-        rw (slice_split_none is_slash s none, drop_all p s done, take_all p s done) refl
+      | inl more ↦
+          let places : at + 1 + length (before_first is_slash s) + 1 ≡ at + (1 + p) + 1 = omega (arith, length-piece s) in
+          rw (slice_split_first is_slash s 0 more, drop_more s p 0 more)
+          (ap (λ (n : ℕ). option_or (segment_fault (at + 1) (before_first is_slash s)) (segments_fault n (slice_split is_slash (after_first is_slash s)))) places)
+      | inr done ↦
+          let none : All (λ b. is_slash b ≡ false) s = λ k d h. fails_before_first is_slash s k d (omega arith) in
+          rw (slice_split_none is_slash s none, drop_all p s done, take_all p s done) refl
     ]
 
 -- a faulty first segment is the path's fault
@@ -74,8 +74,8 @@ pub ruleset segment_runs = (segment_fault-run, segment_stops, nat_tests)
 pub is_dots-IsSegment : (s : List ℕ) → IsSegment s → is_dots s ≡ false
 is_dots-IsSegment s is =
     elim (cases_Bool (is_dots s)) [
-      inl dots ↦ elim (is_dots_cases s dots) [ inl one ↦ absurd (is.not_dot one) | inr two ↦ absurd (is.not_dots two) ]
-    | inr none ↦ none
+      | inl dots ↦ elim (is_dots_cases s dots) [ inl one ↦ absurd (is.not_dot one) | inr two ↦ absurd (is.not_dots two) ]
+      | inr none ↦ none
     ]
 
 -- a segment has no fault
@@ -96,7 +96,7 @@ IsSegment-from_fault at s none =
       not_empty = grind (arith, nat_tests);
       not_dot = λ dot. let fault = subst NoFault dot none in cc;
       not_dots = λ dots. let fault = subst NoFault dots none in cc;
-      bytes = λ k d h. prefix_len_passes is_segment_byte s k d (omega arith)
+      bytes = λ k d h. prefix_len_passes is_segment_byte s k d (omega arith);
     }
 
 -- segments have no fault
@@ -137,8 +137,8 @@ pub slashed-slice_split : (s : List ℕ) → slashed (slice_split is_slash s) �
 slashed-slice_split [] = refl
 slashed-slice_split (x ∷ s) =
     elim (cases_Bool (is_slash x)) [
-      inl cut ↦ rw (slice_split-cons_yes is_slash x s cut, slashed-slice_split s, eqb-true x 47 cut) refl
-    | inr none ↦ rw (slice_split-cons_no is_slash x s none) (slashed-onto_first x (slice_split is_slash s) s (slashed-slice_split s))
+      | inl cut ↦ rw (slice_split-cons_yes is_slash x s cut, slashed-slice_split s, eqb-true x 47 cut) refl
+      | inr none ↦ rw (slice_split-cons_no is_slash x s none) (slashed-onto_first x (slice_split is_slash s) s (slashed-slice_split s))
     ]
 
 -- the text of a row of segments has no fault

@@ -1,4 +1,4 @@
--- Trust domain names (SPIFFE-ID, section 2.1).
+-- Trust domain names (SPIFFE-ID, section 2.1; their length: section 2.3).
 use Rattle.std.specs.Prelude.{ℕ, ◌+◌, ◌<◌, ◌≤◌, Bool, ◌==◌, ◌||◌, nat_lt, if◌then◌else◌, List, length, Option, Some, None, is_none}
 use Rattle.std.specs.Int.{is_in_range}
 use Rattle.std.specs.List.{AllPass, prefix_len}

@@ -18,10 +18,12 @@ fn is_domain_byte(byte: u8) -> bool
 }
 
 // How many bytes from the front may stand in a trust domain name.
-pub(crate) fn domain_run(text: &[u8]) -> usize
+fn domain_run(text: &[u8]) -> usize
     ensures { result ≡ prefix_len is_domain_byte text.now }
 {
-    text.iter().take_while(|byte| is_domain_byte(**byte)).count()
+    text.iter()
+        .take_while(|byte| is_domain_byte(**byte))
+        .count()
 }
 
 // Checks a trust domain name.

@@ -1,6 +1,6 @@
 // The rules of paths, over bytes.
 
-ghost use Rattle.std.specs.Prelude.{◌≡◌, ◌+◌, ◌^◌, ◌<◌, ◌||◌, IfOk, length, drop};
+ghost use Rattle.std.specs.Prelude.{◌≡◌, ◌+◌, ◌^◌, ◌<◌, IfOk, length};
 ghost use Rattle.std.specs.List.{before_first, position_or_len, prefix_len};
 ghost use Rattle.std.specs.Result.{result_err};
 ghost use Rattle.svid_id.specs.Path.{is_dots, is_segment_byte, is_slash, path_fault, segment_fault};
@@ -17,7 +17,9 @@ fn is_segment_byte(byte: u8) -> bool
 fn segment_run(text: &[u8]) -> usize
     ensures { result ≡ prefix_len is_segment_byte text.now }
 {
-    text.iter().take_while(|byte| is_segment_byte(**byte)).count()
+    text.iter()
+        .take_while(|byte| is_segment_byte(**byte))
+        .count()
 }
 
 fn is_dots(segment: &[u8]) -> bool

@@ -1,16 +1,15 @@
-ghost use Rattle.std.specs.Prelude.{◌≡◌, ◌+◌, ◌^◌, ◌<◌, ◌≤◌, IfOk, IfErr, IsOkUnless, Some, length, unwrap_or};
+ghost use Rattle.std.specs.Prelude.{◌≡◌, ◌<◌, ◌≤◌, IfOk, IfErr, IsOkUnless, length, unwrap_or};
 ghost use Rattle.std.specs.Result.{result_err};
 ghost use Rattle.svid_id.specs.Domain.{IsDomain};
 ghost use Rattle.svid_id.specs.Path.{IsPath};
 ghost use Rattle.svid_id.specs.Id.{IdParts, IsId, id_fault, id_parts, id_text, parts_of};
 
-use std::alloc::Global;
-use std::marker::Model;
-
 use crate::domain::domain_len;
 use crate::id_fault::IdFault;
 use crate::path::check_path;
 use crate::text::to_text;
+use std::alloc::Global;
+use std::marker::Model;
 
 // The most bytes of an ID that are read.
 const MAX_ID: usize = 2048;
@@ -36,7 +35,10 @@ impl Model for SpiffeId {
 
     ghost view = { λ id. parts_of (string_bytes id.text) };
 
-    ghost invariant = { λ id. IsId (string_bytes id.text) (parts_of (string_bytes id.text)) × (id.domain_len ≡ length (parts_of (string_bytes id.text)).domain) };
+    ghost invariant = {
+        λ id. IsId (string_bytes id.text) (parts_of (string_bytes id.text))
+            × (id.domain_len ≡ length (parts_of (string_bytes id.text)).domain)
+    };
 }
 
 impl SpiffeId {
@@ -48,7 +50,8 @@ impl SpiffeId {
     pub fn parse(alloc: Global, text: &[u8]) -> Result<SpiffeId, IdFault>
         ensures ok { IfOk result (λ id. IsId text.now id) }
         ensures value { IfOk result (λ id. id_parts text.now ≡ Some id) }
-        ensures fault { IfErr result (λ fault. fault ≡ unwrap_or (id_fault text.now) IdFault.OutOfMemory) }
+        ensures fault { IfErr result
+            (λ fault. fault ≡ unwrap_or (id_fault text.now) IdFault.OutOfMemory) }
         ensures only { (id : IdParts) → IsId text.now id → IsOkUnless result IdFault.OutOfMemory }
     {
         let domain_len = check_id(text)?;

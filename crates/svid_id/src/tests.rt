@@ -19,7 +19,11 @@ fn reads_the_parts_of_an_id(rt: HostRuntime) -> Result<(), Fail> {
         ("spiffe://a", "a", ""),
         ("spiffe://a/...", "a", "/..."),
         ("spiffe://a/b", "a", "/b"),
-        ("spiffe://td.example-1_0/Web/v2.1/x-y_z", "td.example-1_0", "/Web/v2.1/x-y_z"),
+        (
+            "spiffe://td.example-1_0/Web/v2.1/x-y_z",
+            "td.example-1_0",
+            "/Web/v2.1/x-y_z",
+        ),
         ("spiffe://.../.a/..b/c.", "...", "/.a/..b/c."),
     ] {
         let id = SpiffeId::parse(rt.alloc(), text.as_bytes())?;
@@ -68,11 +72,31 @@ fn refuses_an_id_with_its_first_fault(rt: HostRuntime) {
 fn bounds_the_lengths_of_an_id(rt: HostRuntime) -> Result<(), Fail> {
     for (front, byte, count, fault) in [
         (b"spiffe://".as_slice(), b'a', 255, None),
-        (b"spiffe://".as_slice(), b'a', 256, Some(IdFault::DomainLong)),
-        (b"spiffe://A".as_slice(), b'a', 256, Some(IdFault::DomainByte(9))),
+        (
+            b"spiffe://".as_slice(),
+            b'a',
+            256,
+            Some(IdFault::DomainLong),
+        ),
+        (
+            b"spiffe://A".as_slice(),
+            b'a',
+            256,
+            Some(IdFault::DomainByte(9)),
+        ),
         (b"spiffe://a/".as_slice(), b'b', 2037, None),
-        (b"spiffe://a/".as_slice(), b'b', 2038, Some(IdFault::TooLong)),
-        (b"SPIFFE://a/".as_slice(), b'b', 2038, Some(IdFault::TooLong)),
+        (
+            b"spiffe://a/".as_slice(),
+            b'b',
+            2038,
+            Some(IdFault::TooLong),
+        ),
+        (
+            b"SPIFFE://a/".as_slice(),
+            b'b',
+            2038,
+            Some(IdFault::TooLong),
+        ),
     ] {
         let text = with_run(rt.alloc(), front, byte, count)?;
         let read = SpiffeId::parse(rt.alloc(), &text);
@@ -116,7 +140,9 @@ fn refuses_trust_domain_names_with_their_first_fault(rt: HostRuntime) -> Result<
 #[test]
 fn reads_a_hundred_thousand_ids(rt: HostRuntime) -> Result<(), Fail> {
     for number in 0..100_000u32 {
-        let text = format!(in rt.alloc(); "spiffe://prod.example.org/ns/payments/sa/billing-{number}")?;
+        let text = format!(in rt.alloc();
+            "spiffe://prod.example.org/ns/payments/sa/billing-{number}"
+        )?;
         let id = SpiffeId::parse(rt.alloc(), text.as_bytes())?;
         assert_eq!(rt; id.domain().len() + id.path().len() + 9, text.len());
     }
@@ -129,11 +155,23 @@ fn tells_each_fault(rt: HostRuntime) -> Result<(), Fail> {
         (IdFault::TooLong, "longer than 2048 bytes"),
         (IdFault::Scheme, "does not begin with spiffe://"),
         (IdFault::DomainEmpty, "empty trust domain name"),
-        (IdFault::DomainByte(9), "byte 9 may not stand in a trust domain name"),
-        (IdFault::DomainLong, "trust domain name longer than 255 bytes"),
+        (
+            IdFault::DomainByte(9),
+            "byte 9 may not stand in a trust domain name",
+        ),
+        (
+            IdFault::DomainLong,
+            "trust domain name longer than 255 bytes",
+        ),
         (IdFault::SegmentEmpty(11), "empty path segment at byte 11"),
-        (IdFault::SegmentDots(11), "path segment at byte 11 is . or .."),
-        (IdFault::PathByte(12), "byte 12 may not stand in a path segment"),
+        (
+            IdFault::SegmentDots(11),
+            "path segment at byte 11 is . or ..",
+        ),
+        (
+            IdFault::PathByte(12),
+            "byte 12 may not stand in a path segment",
+        ),
         (IdFault::OutOfMemory, "out of memory"),
     ] {
         assert_eq!(rt; format!(in rt.alloc(); "{fault}")?.as_str(), words);

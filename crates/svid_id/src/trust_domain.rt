@@ -1,12 +1,11 @@
 ghost use Rattle.std.specs.Prelude.{◌≡◌, IfOk, IfErr, IsOkUnless, unwrap_or};
 ghost use Rattle.svid_id.specs.Domain.{IsDomain, domain_fault};
 
-use std::alloc::Global;
-use std::marker::Model;
-
 use crate::domain::check_domain;
 use crate::id_fault::IdFault;
 use crate::text::to_text;
+use std::alloc::Global;
+use std::marker::Model;
 
 /// A trust domain name (SPIFFE-ID, section 2.1): one to 255 bytes, each a small letter, a digit,
 /// `.`, `-` or `_`.
@@ -38,7 +37,8 @@ impl TrustDomain {
     pub fn parse(alloc: Global, text: &[u8]) -> Result<TrustDomain, IdFault>
         ensures ok { IfOk result (λ _. IsDomain text.now) }
         ensures value { IfOk result (λ domain. domain ≡ text.now) }
-        ensures fault { IfErr result (λ fault. fault ≡ unwrap_or (domain_fault 0 text.now) IdFault.OutOfMemory) }
+        ensures fault { IfErr result
+            (λ fault. fault ≡ unwrap_or (domain_fault 0 text.now) IdFault.OutOfMemory) }
         ensures only { IsDomain text.now → IsOkUnless result IdFault.OutOfMemory }
     {
         check_domain(text)?;

@@ -1,2 +1,4 @@
 pub mod BatchesLemmas
+pub mod SetsLemmas
+pub mod TwiceLemmas
 pub mod UseLemmas

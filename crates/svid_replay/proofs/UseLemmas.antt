@@ -3,6 +3,9 @@ use Rattle.std.proofs.Math.Nat.{div-div-eq-div-mul}
 use Rattle.std.proofs.lemmas.List.{take_all}
 use Rattle.std.proofs.lemmas.List.Elements.{All-from_get_or}
 use Rattle.std.proofs.lemmas.Bool.Decides.{nat_tests}
+use Rattle.std.specs.Cmp.{IsTotalOrder}
+use Rattle.std.specs.FinMap.{IsAntisymmetric, nat_cmp-IsAntisymmetric, slice_cmp-IsAntisymmetric}
+use Rattle.std.proofs.lemmas.Cmp.{then_total, on_total, nat_cmp_total, nat_list_cmp_total}
 use Rattle.std.specs.Ordering.{nat_cmp, ordering_then}
 use Rattle.std.specs.Cmp.Lexicographic.{slice_cmp}
 use Rattle.std.specs.declared.cmp.Ordering.{Ordering}
@@ -89,3 +92,24 @@ order_is_text_order u v a b =
     sym (bytes_cmp-parts (to_be_bytes w64 u.exp) (to_be_bytes w64 v.exp) u.key v.key u.place v.place (to_be_bytes w64 u.at) (to_be_bytes w64 v.at) refl (a.key.size ∙ sym b.key.size) (a.place.size ∙ sym b.place.size)
     ∙ sym (ap (λ (o : Ordering). ordering_then o (ordering_then (bytes_cmp u.key v.key) (ordering_then (bytes_cmp u.place v.place) (nat_cmp u.at v.at)))) (nat_cmp-to_be_bytes u.exp v.exp a.exp b.exp)
     ∙ ap (λ (o : Ordering). ordering_then (bytes_cmp (to_be_bytes w64 u.exp) (to_be_bytes w64 v.exp)) (ordering_then (bytes_cmp u.key v.key) (ordering_then (bytes_cmp u.place v.place) o))) (nat_cmp-to_be_bytes u.at v.at a.at b.at)))
+
+pub use_total : IsTotalOrder use_cmp
+use_total =
+    then_total (on_total (λ (u : Use). u.exp) nat_cmp_total) (then_total (on_total (λ (u : Use). u.key) nat_list_cmp_total) (then_total (on_total (λ (u : Use). u.place) nat_list_cmp_total) (on_total (λ (u : Use). u.at) nat_cmp_total)))
+
+both_equal : (a b : Ordering) → ordering_then a b ≡ Equal → (a ≡ Equal) × (b ≡ Equal)
+both_equal Less b e = cc
+both_equal Equal b e = (refl, e)
+both_equal Greater b e = cc
+
+-- uses that tie are the same
+pub use_exact : IsAntisymmetric use_cmp
+use_exact u v e =
+    let one = both_equal (nat_cmp u.exp v.exp) _ e in
+    let two = both_equal (bytes_cmp u.key v.key) _ one.1 in
+    let three = both_equal (bytes_cmp u.place v.place) _ two.1 in
+    let exp = nat_cmp-IsAntisymmetric u.exp v.exp one.0 in
+    let key = slice_cmp-IsAntisymmetric nat_cmp-IsAntisymmetric u.key v.key two.0 in
+    let place = slice_cmp-IsAntisymmetric nat_cmp-IsAntisymmetric u.place v.place three.0 in
+    let at = nat_cmp-IsAntisymmetric u.at v.at three.1 in
+    λ i. record { exp = exp i; key = key i; place = place i; at = at i }

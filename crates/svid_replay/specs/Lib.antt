@@ -1,2 +1,4 @@
-pub mod Use
 pub mod Batches
+pub mod Sets
+pub mod Twice
+pub mod Use

@@ -2,6 +2,7 @@ use Rattle.std.specs.Prelude.{◌≡◌, ℕ, ◌<◌, ◌^◌, List, ◌++◌, 
 use Rattle.std.specs.Ordering.{nat_cmp, ordering_then}
 use Rattle.std.specs.Cmp.Lexicographic.{slice_cmp}
 use Rattle.std.specs.declared.cmp.Ordering.{Ordering}
+use Rattle.std.specs.List.Sorted.{IsStrictlySortedBy}
 use Rattle.std.specs.Int.{to_be_bytes, w64}
 use Rattle.svid_replay.specs.declared.token_use.Use.{Use}
 
@@ -32,3 +33,7 @@ bytes_cmp = slice_cmp nat_cmp
 -- the order of uses is the order of their texts
 abbrev pub OrderIsTextOrder : Type 0
 OrderIsTextOrder = (u v : Use) → IsUse u → IsUse v → use_cmp u v ≡ bytes_cmp (text_of u) (text_of v)
+
+-- each use is less than those behind it
+abbrev pub IsRising : List Use → Type 0
+IsRising = IsStrictlySortedBy use_cmp

@@ -1,6 +1,8 @@
 -- What a part spells, by what the strict engine of `base64` answers.
-use Rattle.std.proofs.Common.{◌≡◌, ◌≤◌, ℕ, ◌+◌, ◌*◌, ◌/◌, List, Option, Some, None, Result, Ok, Err, length, sym, ap, ◌∙◌, arith, refl}
+use Rattle.std.proofs.Common.{◌≡◌, ◌≤◌, ◌↔◌, ℕ, ◌+◌, ◌*◌, ◌/◌, List, Option, Some, None, Result, Ok, Err, length, sym, ap, ◌∙◌, arith, refl}
 use Rattle.std.proofs.lemmas.List.{append-nil}
+use Rattle.std.specs.Result.{result_ok}
+use Rattle.base64.proofs.EngineFacts.{decode_of_iff}
 use Rattle.base64.proofs.RoundTrip.{length-encode_symbols}
 use Rattle.base64.specs.Engines.{url_safe_no_pad}
 use Rattle.base64.specs.GeneralPurpose.{IsBytes, decode_of, decoded_of, encode_of}
@@ -31,3 +33,13 @@ length-spelled part bytes e =
     let symbols : length part ≡ (4 * length bytes + 2) / 3 =
         ap length e ∙ (ap length (append-nil _) ∙ length-encode_symbols _ bytes) in
     omega arith
+
+ok_value : (r : Result (List ℕ) DecodeError) (bytes : List ℕ) → result_ok r ≡ Some bytes → r ≡ Ok bytes
+ok_value (Ok x) bytes e = cc
+ok_value (Err fault) bytes e = cc
+
+pub part_bytes-iff : (part bytes : List ℕ) → IsBytes part → IsBytes bytes → (part_bytes part ≡ Some bytes) ↔ Spells part bytes
+unfolding part_bytes decoded_of Spells
+part_bytes-iff part bytes of_part of_bytes =
+    let decodes = decode_of_iff url_safe_no_pad part bytes (refl, refl) of_part of_bytes in
+    (λ e. decodes.0 (ok_value _ bytes e), λ e. rw (decodes.1 e) refl)

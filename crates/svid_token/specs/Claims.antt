@@ -1,16 +1,16 @@
 -- The claims of a payload (RFC 7519, section 4.1; JWT-SVID, section 3).
-use Rattle.std.specs.Prelude.{ℕ, is_none, List, [], ◌∷◌, codes, map, Option, Some, None, option_map, option_and_then, string_bytes}
+use Rattle.std.specs.Prelude.{ℕ, List, [], ◌∷◌, codes, map, Option, Some, None, option_map, option_and_then, Result, string_bytes}
 use Rattle.std.specs.Option.{option_or}
 use Rattle.serde_json.specs.Data.{Data, Items, no_items, item}
-use Rattle.serde_json.specs.Find.{as_array, as_str}
-use Rattle.svid_id.specs.Id.{id_parts}
-use Rattle.svid_id.specs.Id.{IdParts}
-use Rattle.svid_token.specs.Json.{is_other_than_text, is_other_than_time, member, text_member, time_member}
-use Rattle.svid_token.specs.Rows.{Row, holds_of}
+use Rattle.serde_json.specs.Find.{as_array, as_str, get}
+use Rattle.svid_id.specs.Id.{IdParts, id_parts}
+use Rattle.svid_token.specs.Json.{as_time, member, text_at, time_at}
+use Rattle.svid_token.specs.Rows.{Row, fails, first_row, judged}
 use Rattle.svid_token.specs.declared.claims.Claims.{Claims}
+use Rattle.svid_token.specs.declared.refusal.Refusal.{Refusal}
 use Rattle.svid_token.specs.declared.refusal.Refusal.TheVariants.{Sub, Aud, Exp, Nbf, Jti}
 
--- what claims say: each is none where its member is not there, or is not as it must be
+-- what claims say: none for a member that is not there, or not as it must be
 pub record ClaimsSaid : Type 0 where
   pub sub : Option IdParts
   pub aud : Option (List (List ℕ))
@@ -19,8 +19,8 @@ pub record ClaimsSaid : Type 0 where
   pub jti : Option (List ℕ)
 
 -- the subject, a SPIFFE ID (RFC 7519, section 4.1.2; JWT-SVID, section 3.1)
-unfoldable pub subject : Option Data → Option IdParts
-subject object = option_and_then id_parts (text_member (codes "sub") object)
+unfoldable pub subject_at : Data → Option IdParts
+subject_at d = option_and_then id_parts (text_at (codes "sub") d)
 
 -- the texts of a list of texts, none where an item is no text
 abbrev pub texts : Items → Option (List (List ℕ))
@@ -32,34 +32,39 @@ abbrev pub one_or_more : List (List ℕ) → Option (List (List ℕ))
 one_or_more [] = None
 one_or_more (x ∷ xs) = Some (x ∷ xs)
 
--- audiences: a text, which is one, or a list of one or more texts (RFC 7519, section 4.1.3; JWT-SVID, section 3.2)
+-- audiences: a text, which is one, or a list of one or more texts
 abbrev pub as_audiences : Data → Option (List (List ℕ))
 as_audiences d = option_or (option_map (λ text. text ∷ []) (as_str d))
     (option_and_then one_or_more (option_and_then texts (as_array d)))
 
--- the audiences of a token
-unfoldable pub audiences : Option Data → Option (List (List ℕ))
-audiences object = option_and_then as_audiences (member (codes "aud") object)
+-- the audiences of a token (RFC 7519, section 4.1.3; JWT-SVID, section 3.2)
+unfoldable pub audiences_at : Data → Option (List (List ℕ))
+audiences_at d = option_and_then as_audiences (get (codes "aud") d)
+
+-- the refusals of claims: the expiry (RFC 7519, section 4.1.4; JWT-SVID, section 3.3) must be there too, while the first
+-- moment of validity (section 4.1.5) and the token's ID (section 4.1.7) may be left out
+abbrev pub claims_rows : Option Data → List Row
+claims_rows object =
+    (Sub, fails subject_at object)
+    ∷ (Aud, fails audiences_at object)
+    ∷ (Exp, fails (time_at (codes "exp")) object)
+    ∷ (Nbf, fails as_time (member (codes "nbf") object))
+    ∷ (Jti, fails as_str (member (codes "jti") object))
+    ∷ []
 
 -- what a payload's object says
 abbrev pub claims_said : Option Data → ClaimsSaid
 claims_said object = record {
-    sub = subject object;
-    aud = audiences object;
-    exp = time_member (codes "exp") object;
-    nbf = time_member (codes "nbf") object;
-    jti = text_member (codes "jti") object
+    sub = option_and_then subject_at object;
+    aud = option_and_then audiences_at object;
+    exp = option_and_then (time_at (codes "exp")) object;
+    nbf = option_and_then (time_at (codes "nbf")) object;
+    jti = option_and_then (text_at (codes "jti")) object
 }
 
--- the refusals of claims
-abbrev pub claims_rows : Option Data → List Row
-claims_rows object =
-    (Sub, holds_of object (λ _. is_none (subject object)))
-    ∷ (Aud, holds_of object (λ _. is_none (audiences object)))
-    ∷ (Exp, holds_of object (λ _. is_none (time_member (codes "exp") object)))
-    ∷ (Nbf, is_other_than_time (codes "nbf") object)
-    ∷ (Jti, is_other_than_text (codes "jti") object)
-    ∷ []
+-- the answer that is due to a payload's object
+abbrev pub claims_of : Option Data → Result ClaimsSaid Refusal
+claims_of object = judged (first_row (claims_rows object)) (claims_said object)
 
 -- what contracts see of claims
 abbrev pub claims_view : Claims → ClaimsSaid

@@ -1,7 +1,8 @@
 -- The compact form of a token (RFC 7515, section 7.1).
-use Rattle.std.specs.Prelude.{◌≡◌, ◌≢◌, ℕ, ◌+◌, ◌==◌, nat_lt, is_none, Bool, List, [], ◌∷◌, ◌++◌, length, All, Option, Some, None}
+use Rattle.std.specs.Prelude.{◌≡◌, ◌≢◌, ℕ, ◌+◌, ◌==◌, nat_lt, is_none, Bool, List, [], ◌∷◌, ◌++◌, length, All, Option, Some, None, Result}
 use Rattle.std.specs.List.{slice_split}
-use Rattle.svid_token.specs.Rows.{Row}
+use Rattle.svid_token.specs.Rows.{Row, first_row, judged}
+use Rattle.svid_token.specs.declared.refusal.Refusal.{Refusal}
 use Rattle.svid_token.specs.declared.refusal.Refusal.TheVariants.{TooLong, NotThreeParts}
 use Rattle.svid_token.specs.declared.compact.Compact.{Compact}
 use Rattle.svid_token.specs.declared.compact.TheConstants.{PERIOD, MAX_TOKEN_LEN}
@@ -37,13 +38,9 @@ abbrev pub AreParts : List ℕ → List ℕ → List ℕ → List ℕ → Type 0
 AreParts token header payload signature = IsCompact token header payload signature
     × (parts_of token ≡ Some (record { header = header; payload = payload; signature = signature }))
 
--- what contracts see of a token that was split
-abbrev pub compact_view : Compact → Option Parts
-compact_view c = Some (record { header = c.header.now; payload = c.payload.now; signature = c.signature.now })
-
 -- what a signature is made over (RFC 7515, section 5.1)
-abbrev pub signing_input : Parts → List ℕ
-signing_input parts = parts.header ++ PERIOD ∷ parts.payload
+abbrev pub signing_input : List ℕ → List ℕ → List ℕ
+signing_input header payload = header ++ PERIOD ∷ payload
 
 -- the refusals of a token by its form
 abbrev pub compact_rows : List ℕ → List Row
@@ -51,3 +48,11 @@ compact_rows token =
     (TooLong, nat_lt MAX_TOKEN_LEN (length token))
     ∷ (NotThreeParts, is_none (parts_of token))
     ∷ []
+
+-- the answer that is due to a token
+abbrev pub compact_of : List ℕ → Result (Option Parts) Refusal
+compact_of token = judged (first_row (compact_rows token)) (parts_of token)
+
+-- what contracts see of a token that was split
+abbrev pub compact_view : Compact → Option Parts
+compact_view c = Some (record { header = c.header.now; payload = c.payload.now; signature = c.signature.now })

@@ -3,6 +3,7 @@ pub mod Claims
 pub mod Compact
 pub mod Header
 pub mod Json
+pub mod Object
 pub mod Part
 pub mod Payload
 pub mod Rows

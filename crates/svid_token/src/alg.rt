@@ -1,5 +1,3 @@
-ghost use Rattle.std.specs.Prelude.{◌≡◌, ◌↔◌, Some};
-
 use crate::kty::Kty;
 
 /// A signature algorithm of a JWT-SVID (RFC 7518, section 3.1; JWT-SVID, section 2.1).
@@ -17,11 +15,14 @@ pub enum Alg {
 }
 
 impl Alg {
+    ghost use Rattle.std.specs.Prelude.{◌≡◌, ◌≢◌, IfSome, IsNone};
     ghost use Rattle.svid_token.specs.Alg.{alg_named, kty_of, name_of};
 
     /// The algorithm of this name, in capitals as RFC 7518 writes it. No memory is taken.
     pub fn of(name: &str) -> Option<Alg>
         ensures value { result ≡ alg_named name.now }
+        ensures named { IfSome result (λ alg. name_of alg ≡ name.now) }
+        ensures unnamed { IsNone result → (alg : Alg) → name_of alg ≢ name.now }
     {
         match name {
             "RS256" => Some(Alg::Rs256),

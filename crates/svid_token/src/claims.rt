@@ -1,16 +1,16 @@
-ghost use Rattle.std.specs.Prelude.{◌≡◌, Some, IfOk, [], ◌∷◌, map, option_and_then, option_map, string_bytes};
+ghost use Rattle.std.specs.Prelude.{◌≡◌, IfOk, [], ◌∷◌, map, option_and_then, option_map, string_bytes};
 ghost use Rattle.serde_json.specs.View.{items_view, view};
 ghost use Rattle.svid_id.specs.Id.{id_parts};
-ghost use Rattle.svid_token.specs.Claims.{audiences, one_or_more, subject, texts};
+ghost use Rattle.svid_token.specs.Claims.{audiences_at, one_or_more, subject_at, texts};
 
-use crate::object::{as_time, copy_text, has_other_than_text, has_other_than_time};
+use crate::member::{as_time, optional_text, optional_time, owned};
 use crate::refusal::Refusal;
 use serde_json::Value;
 use std::alloc::{AllocError, Global};
 use svid_id::{IdFault, SpiffeId};
 
 /// The claims of a JWT-SVID that a validator looks at (RFC 7519, section 4.1).
-#[derive(Drop)]
+#[derive(Debug, Drop)]
 pub struct Claims {
     /// The subject: the SPIFFE ID of the workload that the token speaks for.
     pub sub: SpiffeId,
@@ -27,13 +27,12 @@ pub struct Claims {
 impl Claims {
     ghost use Rattle.std.specs.Prelude.{Some};
     ghost use Rattle.serde_json.specs.View.{view};
-    ghost use Rattle.svid_token.specs.Claims.{claims_rows, claims_said, claims_view};
-    ghost use Rattle.svid_token.specs.Rows.{Answers, first_row, judged};
+    ghost use Rattle.svid_token.specs.Claims.{claims_of, claims_view};
+    ghost use Rattle.svid_token.specs.Rows.{Answers};
 
-    // The claims of a JSON object.
+    // The claims of a payload's object.
     pub(crate) fn from_object(alloc: Global, object: &Value) -> Result<Claims, Refusal>
-        ensures { Answers claims_view result
-            (judged (first_row (claims_rows (Some (view object.now)))) (claims_said (Some (view object.now)))) }
+        ensures { Answers claims_view result (claims_of (Some (view object.now))) }
     {
         let Some(sub) = read_subject(alloc, object)? else {
             return Err(Refusal::Sub);
@@ -44,14 +43,13 @@ impl Claims {
         let Some(exp) = object.get("exp").and_then(as_time) else {
             return Err(Refusal::Exp);
         };
-        if has_other_than_time(object, "nbf") {
+        let Some(nbf) = optional_time(object, "nbf") else {
             return Err(Refusal::Nbf);
-        }
-        if has_other_than_text(object, "jti") {
+        };
+        let Some(jti) = optional_text(object, "jti") else {
             return Err(Refusal::Jti);
-        }
-        let nbf = object.get("nbf").and_then(as_time);
-        let jti = copy_text(alloc, object, "jti")?;
+        };
+        let jti = owned(alloc, jti)?;
         Ok(Claims {
             sub,
             aud,
@@ -63,9 +61,9 @@ impl Claims {
 }
 
 // The SPIFFE ID that `sub` is, if it is one.
-#[tactic(auto, unfolding(crate::specs::Claims::subject))]
+#[tactic(auto, unfolding(crate::specs::Claims::subject_at))]
 fn read_subject(alloc: Global, object: &Value) -> Result<Option<SpiffeId>, AllocError>
-    ensures { IfOk result (λ o. o ≡ subject (Some (view object.now))) }
+    ensures { IfOk result (λ o. o ≡ subject_at (view object.now)) }
 {
     match object.get("sub").and_then(Value::as_str) {
         Some(sub) => read_id(alloc, sub.as_bytes()),
@@ -80,18 +78,16 @@ fn read_id(alloc: Global, text: &[u8]) -> Result<Option<SpiffeId>, AllocError>
 {
     match SpiffeId::parse(alloc, text) {
         Ok(id) => Ok(Some(id)),
-        Err(fault) => match fault {
-            IdFault::OutOfMemory => Err(AllocError),
-            _ => Ok(None),
-        },
+        Err(IdFault::OutOfMemory) => Err(AllocError),
+        Err(_) => Ok(None),
     }
 }
 
 // The audiences that `aud` is, if it is a text or a list of one or more texts.
-#[tactic(auto, unfolding(crate::specs::Claims::audiences))]
+#[tactic(auto, unfolding(crate::specs::Claims::audiences_at))]
 fn read_audiences(alloc: Global, object: &Value) -> Result<Option<Vec<String>>, AllocError>
     ensures { IfOk result
-        (λ o. option_map (λ v. map string_bytes v.items) o ≡ audiences (Some (view object.now))) }
+        (λ o. option_map (λ v. map string_bytes v.items) o ≡ audiences_at (view object.now)) }
 {
     match object.get("aud") {
         Some(Value::String(text)) => Ok(Some(one_text(alloc, text.as_str())?)),

@@ -21,9 +21,9 @@ pub struct Compact<'a> {
 }
 
 impl<'a> Compact<'a> {
-    ghost use Rattle.std.specs.Prelude.{◌≡◌, ◌++◌, ◌∷◌, ℕ, List, Err, IfOk};
-    ghost use Rattle.svid_token.specs.Compact.{IsCompact, compact_rows, compact_view, parts_of};
-    ghost use Rattle.svid_token.specs.Rows.{first_row, judged, seen};
+    ghost use Rattle.std.specs.Prelude.{◌≡◌, ◌≤◌, ℕ, List, length, Err, IfOk, OnOk};
+    ghost use Rattle.svid_token.specs.Compact.{IsCompact, compact_of, compact_view, signing_input};
+    ghost use Rattle.svid_token.specs.Rows.{seen};
 
     /// Splits a token at its two periods. No memory is taken.
     ///
@@ -33,11 +33,11 @@ impl<'a> Compact<'a> {
         ensures parts { IfOk result
             (λ c. IsCompact token.now c.header.now c.payload.now c.signature.now) }
         ensures input { IfOk result
-            (λ c. c.input.now ≡ c.header.now ++ PERIOD ∷ c.payload.now) }
+            (λ c. c.input.now ≡ signing_input c.header.now c.payload.now) }
+        ensures len { OnOk result (length token.now ≤ MAX_TOKEN_LEN) }
         ensures not_three { result ≡ Err Refusal.NotThreeParts
             → (header payload signature : List ℕ) → ¬ IsCompact token.now header payload signature }
-        ensures value { seen compact_view result
-            ≡ judged (first_row (compact_rows token.now)) (parts_of token.now) }
+        ensures value { seen compact_view result ≡ compact_of token.now }
     {
         if token.len() > MAX_TOKEN_LEN {
             return Err(Refusal::TooLong);

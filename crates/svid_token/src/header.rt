@@ -1,12 +1,12 @@
-ghost use Rattle.std.specs.Prelude.{◌≡◌, Some, codes, not};
-
-ghost use Rattle.serde_json.specs.Find.{get};
+ghost use Rattle.std.specs.Prelude.{◌≡◌, Some, codes};
 ghost use Rattle.serde_json.specs.View.{view};
-ghost use Rattle.svid_token.specs.Header.{is_svid_type};
-ghost use Rattle.svid_token.specs.Rows.{holds_of};
+ghost use Rattle.svid_token.specs.Header.{as_type};
+ghost use Rattle.svid_token.specs.Json.{member};
+ghost use Rattle.svid_token.specs.Rows.{fails};
 
 use crate::alg::Alg;
-use crate::object::{ObjectFault, copy_text, has_other_than_text, read_object};
+use crate::member::{optional_text, owned};
+use crate::object::{ObjectFault, read_object};
 use crate::refusal::Refusal;
 use serde_json::Value;
 use std::alloc::Global;
@@ -21,10 +21,10 @@ pub struct Header {
 }
 
 impl Header {
-    ghost use Rattle.svid_token.specs.Header.{header_object_rows, header_rows, header_said, header_view};
-    ghost use Rattle.svid_token.specs.Part.{part_object};
-    ghost use Rattle.svid_token.specs.Rows.{Answers, first_row, judged};
+    ghost use Rattle.std.specs.Prelude.{Some};
     ghost use Rattle.serde_json.specs.View.{view};
+    ghost use Rattle.svid_token.specs.Header.{header_from, header_of, header_view};
+    ghost use Rattle.svid_token.specs.Rows.{Answers};
 
     /// The header that the first part of a token spells.
     ///
@@ -32,8 +32,7 @@ impl Header {
     /// answers the first that holds, or `OutOfMemory` where an allocation was refused. Of a member
     /// that is written twice the last stands, and members of other names are passed over.
     pub fn read(alloc: Global, part: &[u8]) -> Result<Header, Refusal>
-        ensures { Answers header_view result
-            (judged (first_row (header_rows part.now)) (header_said (part_object part.now))) }
+        ensures { Answers header_view result (header_of part.now) }
     {
         match read_object(alloc, part) {
             Ok(object) => Header::from_object(alloc, &object),
@@ -45,8 +44,7 @@ impl Header {
 
     // The header that a JSON object is.
     fn from_object(alloc: Global, object: &Value) -> Result<Header, Refusal>
-        ensures { Answers header_view result
-            (judged (first_row (header_object_rows (Some (view object.now)))) (header_said (Some (view object.now)))) }
+        ensures { Answers header_view result (header_from (Some (view object.now))) }
     {
         if object.get("crit").is_some() {
             return Err(Refusal::Crit);
@@ -57,20 +55,20 @@ impl Header {
         if has_other_type(object) {
             return Err(Refusal::Typ);
         }
-        if has_other_than_text(object, "kid") {
+        let Some(kid) = optional_text(object, "kid") else {
             return Err(Refusal::Kid);
-        }
-        let kid = copy_text(alloc, object, "kid")?;
+        };
+        let kid = owned(alloc, kid)?;
         Ok(Header { alg, kid })
     }
 }
 
 // Whether `typ` is there and is neither `JWT` nor `JOSE`.
 fn has_other_type(object: &Value) -> bool
-    ensures { result ≡ holds_of (get (codes "typ") (view object.now)) (λ d. not (is_svid_type d)) }
+    ensures { result ≡ fails as_type (member (codes "typ") (Some (view object.now))) }
 {
     match object.get("typ") {
-        None => false,
         Some(typ) => !matches!(typ.as_str(), Some("JWT" | "JOSE")),
+        None => false,
     }
 }

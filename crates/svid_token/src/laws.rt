@@ -1,13 +1,21 @@
-//! The law of the tables of refusals, carried by a function that computes nothing.
+//! Laws of the definitions that the contracts cite, carried by functions that compute nothing.
 
-ghost use Rattle.std.specs.Prelude.{◌≡◌, List, ◌++◌};
+ghost use Rattle.std.specs.Prelude.{◌≡◌, List, ◌++◌, ◌↔◌, ℕ, Some};
 ghost use Rattle.std.specs.Option.{option_or};
+ghost use Rattle.base64.specs.GeneralPurpose.{IsBytes};
+ghost use Rattle.svid_token.specs.Part.{Spells, part_bytes};
 ghost use Rattle.svid_token.specs.Rows.{Row, first_row};
 
 /// Two tables, one after the other, refuse as the first does, and where it does not, as the second.
-#[tactic(auto, using(crate::proofs::RowsLemmas::first_row_append))]
 pub fn appended_tables()
     ensures { (first second : List Row)
         → first_row (first ++ second) ≡ option_or (first_row first) (first_row second) }
+{
+}
+
+/// The bytes that a part is decoded to are exactly those that it spells.
+pub fn decoded_parts()
+    ensures { (part bytes : List ℕ) → IsBytes part → IsBytes bytes
+        → (part_bytes part ≡ Some bytes) ↔ Spells part bytes }
 {
 }

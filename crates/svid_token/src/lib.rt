@@ -9,6 +9,9 @@ mod json;
 mod key;
 mod kty;
 pub mod laws;
+mod member;
+#[cfg(test)]
+mod memory_tests;
 mod object;
 mod part;
 mod payload;

@@ -1,30 +1,28 @@
-ghost use Rattle.std.specs.Prelude.{Some};
-
 use crate::claims::Claims;
 use crate::object::{ObjectFault, read_object};
 use crate::refusal::Refusal;
 use serde_json::Value;
 use std::alloc::Global;
 
-/// The payload of a token: a JSON object, of which the claims are read.
+/// The payload of a token: a JSON object (RFC 7519, section 7.2), of which the claims are read.
 #[derive(Debug, Drop)]
 pub struct Payload {
     object: Value,
 }
 
 impl Payload {
-    ghost use Rattle.svid_token.specs.Claims.{claims_rows, claims_said, claims_view};
-    ghost use Rattle.svid_token.specs.Payload.{payload_object, payload_rows};
-    ghost use Rattle.svid_token.specs.Part.{part_object};
-    ghost use Rattle.svid_token.specs.Rows.{Answers, first_row, judged};
+    ghost use Rattle.std.specs.Prelude.{Some};
+    ghost use Rattle.svid_token.specs.Claims.{claims_of, claims_view};
+    ghost use Rattle.svid_token.specs.Payload.{payload_object, payload_of};
+    ghost use Rattle.svid_token.specs.Rows.{Answers};
 
     /// The JSON object that the second part of a token spells.
     ///
     /// Of the refusals `PayloadSpelling` and `PayloadNotObject` it answers the first that holds,
-    /// or `OutOfMemory` where an allocation was refused.
+    /// or `OutOfMemory` where an allocation was refused. Of a member that is written twice the last
+    /// stands.
     pub fn read(alloc: Global, part: &[u8]) -> Result<Payload, Refusal>
-        ensures { Answers (λ p. Some (payload_object p)) result
-            (judged (first_row (payload_rows part.now)) (part_object part.now)) }
+        ensures { Answers (λ payload. Some (payload_object payload)) result (payload_of part.now) }
     {
         match read_object(alloc, part) {
             Ok(object) => Ok(Payload { object }),
@@ -39,9 +37,7 @@ impl Payload {
     /// Of the refusals `Sub`, `Aud`, `Exp`, `Nbf` and `Jti` it answers the first that holds, or
     /// `OutOfMemory` where an allocation was refused. Claims of other names are passed over.
     pub fn claims(&self, alloc: Global) -> Result<Claims, Refusal>
-        ensures { Answers claims_view result
-            (judged (first_row (claims_rows (Some (payload_object self.now))))
-            (claims_said (Some (payload_object self.now)))) }
+        ensures { Answers claims_view result (claims_of (Some (payload_object self.now))) }
     {
         Claims::from_object(alloc, &self.object)
     }

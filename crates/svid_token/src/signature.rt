@@ -1,7 +1,6 @@
 ghost use Rattle.std.specs.Prelude.{◌≤◌, IfOk, Some, length, vec_len};
-ghost use Rattle.svid_token.specs.Part.{part_bytes};
-ghost use Rattle.svid_token.specs.Rows.{Answers, first_row, judged};
-ghost use Rattle.svid_token.specs.Signature.{signature_rows};
+ghost use Rattle.svid_token.specs.Rows.{Answers};
+ghost use Rattle.svid_token.specs.Signature.{signature_of};
 
 use crate::part::{PartFault, decode_part};
 use crate::refusal::Refusal;
@@ -13,8 +12,7 @@ use std::alloc::Global;
 /// It answers `SignatureSpelling` where the part is empty or not base64url, or `OutOfMemory` where
 /// an allocation was refused.
 pub fn read_signature(alloc: Global, part: &[u8]) -> Result<Vec<u8>, Refusal>
-    ensures value { Answers (λ v. Some v.items) result
-        (judged (first_row (signature_rows part.now)) (part_bytes part.now)) }
+    ensures value { Answers (λ v. Some v.items) result (signature_of part.now) }
     ensures len { IfOk result (λ v. vec_len v ≤ length part.now) }
 {
     if part.is_empty() {

@@ -9,8 +9,8 @@ use std::test::Fail;
 use svid_id::SpiffeId;
 
 // The header and payload of one token, spelled by another encoder.
-const HEADER: &str = "eyJhbGciOiJFUzI1NiIsImtpZCI6ImswMSIsInR5cCI6IkpXVCJ9";
-const PAYLOAD: &str = "eyJzdWIiOiJzcGlmZmU6Ly9hL2IiLCJhdWQiOiJzIiwiZXhwIjoxMDAxLCJqdGkiOiJqMSJ9";
+pub(crate) const HEADER: &str = "eyJhbGciOiJFUzI1NiIsImtpZCI6ImswMSIsInR5cCI6IkpXVCJ9";
+pub(crate) const PAYLOAD: &str = "eyJzdWIiOiJzcGlmZmU6Ly9hL2IiLCJhdWQiOiJzIiwiZXhwIjoxMDAxLCJqdGkiOiJqMSJ9";
 
 fn spell(alloc: Global, bytes: &[u8]) -> Result<String, AllocError> {
     URL_SAFE_NO_PAD.encode(alloc, bytes)

@@ -2,6 +2,7 @@
 
 use crate::ToolFault;
 use crate::id::run_id;
+use crate::report::run_report;
 use crate::words::{bytes_of_text, words};
 use clap::error::ErrorKind;
 use clap::{Arg, ArgMatches, Command, Error};
@@ -52,10 +53,17 @@ fn id(rt: &HostRuntime, matches: &ArgMatches<'_>) -> Result<u8, ToolFault> {
     Ok(status_of(run_id(alloc, &text, &mut out)?))
 }
 
+fn report(rt: &HostRuntime) -> Result<u8, ToolFault> {
+    let mut inputs = [Counted::new(rt.stdin())];
+    let mut out = Counted::new(io::writer(rt));
+    run_report(rt.alloc(), &mut inputs, None, &mut out)?;
+    Ok(0)
+}
+
 fn dispatch(rt: &HostRuntime, matches: &ArgMatches<'_>) -> Result<u8, ToolFault> {
     match matches.subcommand() {
         Some(("id", inner)) => id(rt, inner),
-        Some(("report", _)) => Ok(0),
+        Some(("report", _)) => report(rt),
         _ => Ok(2),
     }
 }

@@ -4,6 +4,8 @@
 mod cli;
 mod id;
 mod output;
+mod report;
+mod report_text;
 mod tool_fault;
 mod words;
 

@@ -14,7 +14,7 @@ use Rattle.svid_replay.specs.Use.{IsUse, text_of}
 use Rattle.svid_replay.specs.Batches.{BatchData, IsBatch, AllGood, flaw, last_of}
 use Rattle.svid_replay.proofs.BatchesLemmas.{last_of-push}
 use Rattle.svid_wire.specs.BatchText.{magic, batch_kind, numbers_text, head_text, batch_text, BeginsOneBatch, NoTextIsLonger}
-use Rattle.svid_wire.specs.WireFault.{IsCut, in_magic, in_kind, in_numbers, in_uses, IsBegun, IsFault, IsFaultFor, TextHasNoFault, FaultIsUnique, IsUseFault, IsKindFault, IsCountFault, flaw_reason}
+use Rattle.svid_wire.specs.WireFault.{IsCut, in_magic, in_kind, in_numbers, in_uses, IsBegun, IsFaultFor, TextHasNoFault, FaultIsUnique, IsUseFault, IsKindFault, IsCountFault, flaw_reason}
 use Rattle.svid_wire.specs.declared.wire_fault.WireFault.{WireFault}
 use Rattle.svid_wire.specs.declared.reason.Reason.{Reason}
 use Rattle.svid_wire.specs.declared.reason.Reason.TheVariants as reason

@@ -56,8 +56,9 @@ pub data IsCut (bytes : List ℕ) : Type 0 where
   in_numbers : (part : List ℕ) → bytes ≡ magic ++ batch_kind ∷ part → length part < 12 → IsCut bytes
   in_uses : (moment count : ℕ) (uses : List Use) (part : List ℕ) → IsBegun moment count uses → bytes ≡ head_text moment count ++ (flat_map text_of uses ++ part) → length part < 64 → IsCut bytes
 
--- the first field that lies whole in the bytes and is bad is bad for this reason, and begins at this place; or
--- no such field is bad, and the bytes end before a batch does
+-- The first field that lies whole in the bytes and is bad begins at this place, and is bad for this reason; or no
+-- such field is bad, and the bytes, of which there are so many, end before a batch does. Want of memory and an
+-- earlier refusal are no faults of bytes.
 abbrev pub IsFaultFor : Reason → List ℕ → ℕ → Type 0
 IsFaultFor reason.Magic bytes place = (place ≡ 0) × (4 ≤ length bytes) × (take 4 bytes ≢ magic)
 IsFaultFor reason.Kind bytes place = (place ≡ 4) × IsKindFault bytes
@@ -69,6 +70,7 @@ IsFaultFor reason.Truncated bytes place = (place ≡ length bytes) × (0 < lengt
 IsFaultFor reason.OutOfMemory bytes place = ⊥
 IsFaultFor reason.Failed bytes place = ⊥
 
+-- such a place and reason, together
 abbrev pub IsFault : List ℕ → WireFault → Type 0
 IsFault bytes fault = IsFaultFor fault.reason bytes fault.place
 

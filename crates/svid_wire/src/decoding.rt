@@ -3,7 +3,7 @@ ghost use Rattle.svid_replay.specs.Batches.{IsBatch};
 ghost use Rattle.svid_wire.specs.BatchText.{batch_text};
 ghost use Rattle.svid_wire.specs.WireFault.{IsRefusal};
 
-use crate::field::judge;
+use crate::judging::judge;
 use crate::stage::{Progress, Stage};
 use crate::{Reason, WireFault};
 use std::alloc::Global;

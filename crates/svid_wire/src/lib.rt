@@ -3,6 +3,7 @@
 mod counted;
 mod decoding;
 mod field;
+mod judging;
 pub mod laws;
 mod mem_sink;
 mod mem_source;

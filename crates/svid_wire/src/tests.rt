@@ -2,6 +2,9 @@ mod decoding;
 mod streams;
 mod sweep;
 
+use std::alloc::{AllocError, Global};
+use svid_replay::Use;
+
 // A batch of moment 100 with two uses of one key, both of exp 101: the first at 99, the second at 100.
 pub(crate) const TWO_USES: &[u8; 145] = b"JSR\x01\x01\
 \x00\x00\x00\x00\x00\x00\x00\x64\x00\x00\x00\x02\
@@ -15,3 +18,19 @@ pub(crate) const TWO_USES: &[u8; 145] = b"JSR\x01\x01\
 \x11\x11\x11\x11\x11\x11\x11\x11\x11\x11\x11\x11\x11\x11\x11\x11\
 \x33\x33\x33\x33\x33\x33\x33\x33\x33\x33\x33\x33\x33\x33\x33\x33\
 \x00\x00\x00\x00\x00\x00\x00\x64";
+
+// The bytes of a batch of moment 5000 with this many uses, or of what would be one.
+pub(crate) fn many_uses(alloc: Global, count: u32) -> Result<Vec<u8>, AllocError> {
+    let mut bytes = b"JSR\x01\x01\x00\x00\x00\x00\x00\x00\x13\x88".to_vec(alloc)?;
+    bytes.extend_from_slice(&count.to_be_bytes())?;
+    for at in 0..count {
+        let used = Use {
+            exp: 5001,
+            key: [0x11; 32],
+            place: [0x22; 16],
+            at: u64::from(at),
+        };
+        bytes.extend_from_slice(&used.text())?;
+    }
+    Ok(bytes)
+}

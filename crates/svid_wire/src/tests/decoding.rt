@@ -1,4 +1,4 @@
-use super::TWO_USES;
+use super::{TWO_USES, many_uses};
 use crate::{Reason, WireFault, decode_batch};
 use std::test::Fail;
 use svid_replay::Use;
@@ -103,4 +103,19 @@ fn judges_a_use_as_expired_before_it_is_from_the_future(rt: HostRuntime) {
         decode_batch(rt.alloc(), &bytes).err(),
         fault(17, Reason::UseExpired)
     );
+}
+
+#[test]
+fn takes_4096_uses_and_no_more(rt: HostRuntime) -> Result<(), Fail> {
+    let full = many_uses(rt.alloc(), 4096)?;
+    assert_eq!(rt; full.len(), 262161);
+    let (batch, rest) = decode_batch(rt.alloc(), &full)?;
+    assert_eq!(rt; (batch.uses().len(), rest.len()), (4096, 0));
+    let more = many_uses(rt.alloc(), 4097)?;
+    assert_eq!(rt; more.len(), 262225);
+    assert_eq!(rt;
+        decode_batch(rt.alloc(), &more).err(),
+        fault(13, Reason::Count)
+    );
+    Ok(())
 }

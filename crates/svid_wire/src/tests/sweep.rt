@@ -2,7 +2,7 @@
 // Without it no growth is refused, and each loop ends with its first round, the happy one.
 ghost use Rattle.std.specs.Prelude.{◌<◌, ◌≤◌, ◌^◌};
 
-use super::TWO_USES;
+use super::{TWO_USES, many_uses};
 use crate::{MemSink, MemSource, ReadFault, Reason, Sink, WireFault, decode_batch, read_up_to};
 use std::alloc::Global;
 use std::test::Fail;
@@ -25,14 +25,16 @@ fn was_refused(alloc: Global) -> bool {
 
 #[test]
 fn decoding_answers_want_of_memory(rt: HostRuntime) -> Result<(), Fail> {
+    let bytes = many_uses(rt.alloc(), 100)?;
+    assert!(rt; !bytes.is_empty());
     for nth in 1..100usize {
         refuse(rt.alloc(), nth);
-        let found = decode_batch(rt.alloc(), TWO_USES);
+        let found = decode_batch(rt.alloc(), &bytes);
         let refused = was_refused(rt.alloc());
         refuse(rt.alloc(), 0);
         if !refused {
             let (batch, rest) = found?;
-            assert_eq!(rt; (batch.uses().len(), rest.len()), (2, 0));
+            assert_eq!(rt; (batch.uses().len(), rest.len()), (100, 0));
             return Ok(());
         }
         let want = WireFault {
@@ -40,7 +42,7 @@ fn decoding_answers_want_of_memory(rt: HostRuntime) -> Result<(), Fail> {
             reason: Reason::OutOfMemory,
         };
         assert_eq!(rt; found.err(), Some(want), "growth {nth}");
-        assert_eq!(rt; decode_batch(rt.alloc(), TWO_USES).is_ok(), true);
+        assert_eq!(rt; decode_batch(rt.alloc(), &bytes).is_ok(), true);
     }
     Ok(())
 }

@@ -14,5 +14,5 @@ loop-text-preserved c =
     let passed = path_fault-passed c.loop-text.at _ _ _ _ c.in-Some.ensures.cases.0 c.in_ok-len.ensures.fault c.in_ok-len.ensures.len in
     record {
       same = rw c.split_at.ensures.back (c.loop-text.invariant.same ∙ passed);
-      within = omega (arith, c.in-Some.ensures.cases.1)
+      within = omega (arith, c.in-Some.ensures.cases.1);
     }

@@ -1,6 +1,6 @@
 use Rattle.std.proofs.Common.{inl, refl, arith, rules}
 use Rattle.svid_wire.proofs.StageLemmas.{IsCountFault-last}
-use Rattle.svid_wire.proofs.field.judge_numbers.Goals as goal
+use Rattle.svid_wire.proofs.judging.judge_numbers.Goals as goal
 
 pub returns-then-count-gt-MOST_USES : goal.returns-then-count-gt-MOST_USES
 returns-then-count-gt-MOST_USES c =

@@ -3,7 +3,7 @@ use Rattle.svid_replay.specs.declared.token_use.Use.{Use}
 use Rattle.svid_replay.specs.Batches.{AllGood, flaw, last_of}
 use Rattle.svid_replay.proofs.BatchesLemmas.{AllGood-push}
 use Rattle.svid_wire.proofs.StageLemmas.{IsUseFault-last, IsFieldFault-use}
-use Rattle.svid_wire.proofs.field.judge_use.Goals as goal
+use Rattle.svid_wire.proofs.judging.judge_use.Goals as goal
 
 pub returns-in-Some : goal.returns-in-Some
 returns-in-Some c =

@@ -1,0 +1,74 @@
+ghost use Rattle.std.specs.Prelude.{◌≡◌, ℕ, List, IfOk, take, drop};
+ghost use Rattle.std.specs.List.{prefix_len};
+ghost use Rattle.svid_replay.specs.Use.{IsRising};
+ghost use Rattle.svid_replay.specs.Twice.{IsKeySorted, IsTwice, has_key, twice_of, uses_of};
+
+use crate::{Use, UseList};
+use std::alloc::{AllocError, Global};
+
+/// A key that two or more different uses have, with all its uses in rising order.
+#[derive(Debug, Drop)]
+pub struct Twice {
+    pub key: [u8; 32],
+    pub uses: UseList,
+}
+
+fn has_key(key: &[u8; 32], used: &Use) -> bool
+    ensures { result ≡ has_key key.now used.now }
+{
+    key.cmp(&used.key).is_eq()
+}
+
+// The uses in front that have this key, and the rest.
+fn split_key<'a>(key: &[u8; 32], uses: &'a [Use]) -> (&'a [Use], &'a [Use])
+    ensures front { result.0.now ≡ take (prefix_len (has_key key.now) uses.now) uses.now }
+    ensures rest { result.1.now ≡ drop (prefix_len (has_key key.now) uses.now) uses.now }
+{
+    let count = uses.iter().take_while(|used| has_key(key, used)).count();
+    uses.split_at(count)
+}
+
+fn sorted_by_key(alloc: Global, uses: &[Use]) -> Result<Vec<Use>, AllocError>
+    ensures sorted { IfOk result (λ sorted. IsKeySorted sorted.items) }
+    ensures stable { IfOk result (λ sorted. (key : List ℕ) → uses_of key sorted.items ≡ uses_of key uses.now) }
+{
+    let mut sorted = uses.to_vec(alloc)?;
+    sorted.sort_by_key(
+        |used: &Use| -> [u8; 32]
+            ensures { result ≡ used.now.key }
+        { used.key },
+    )?;
+    Ok(sorted)
+}
+
+fn list_groups(alloc: Global, sorted: &[Use]) -> Result<Vec<Twice>, AllocError>
+    requires { IsKeySorted sorted.now }
+    ensures { IfOk result (λ listed. listed.items ≡ twice_of sorted.now) }
+{
+    let mut listed = Vec::new(alloc);
+    let mut rest = sorted;
+    while let Some(first) = rest.first() {
+        let (group, others) = split_key(&first.key, rest);
+        if group.len() > 1 {
+            let uses = UseList::from_vec(group.to_vec(alloc)?);
+            listed.push(Twice {
+                key: first.key,
+                uses,
+            })?;
+        }
+        rest = others;
+    }
+    Ok(listed)
+}
+
+/// The keys that two or more of these uses have, rising, each with all its uses in their order.
+///
+/// Takes about n log n steps for n uses.
+pub fn twice_in(alloc: Global, uses: &[Use]) -> Result<Vec<Twice>, AllocError>
+    requires { IsRising uses.now }
+    ensures value { IfOk result (λ listed. listed.items ≡ twice_of uses.now) }
+    ensures relation { IfOk result (λ listed. IsTwice uses.now listed.items) }
+{
+    let sorted = sorted_by_key(alloc, uses)?;
+    list_groups(alloc, &sorted)
+}

@@ -1,0 +1,109 @@
+ghost use Rattle.std.specs.Prelude.{◌≤◌};
+
+// Each call that takes memory, with each of its allocations refused in turn.
+//
+// A preloaded library refuses them. It is told by requests that no allocator can meet: 2^62 + n
+// bytes refuse the nth allocation that follows, none for n = 0, and 2^62 + 2^61 bytes are given
+// exactly where one was refused since. Without the library each test runs its call with ample
+// memory.
+
+use crate::tests::{HEADER, PAYLOAD};
+use crate::{Header, PartFault, Payload, Refusal, decode_part, read_json, read_signature};
+use std::alloc::Global;
+use std::process::Abort;
+use std::test::Fail;
+
+const REFUSE: usize = 0x4000_0000_0000_0000;
+
+const WAS_REFUSED: usize = 0x6000_0000_0000_0000;
+
+const MOST_ALLOCATIONS: usize = 10000;
+
+fn refuse(alloc: Global, nth: usize)
+    requires { nth ≤ MOST_ALLOCATIONS }
+{
+    let _ = Vec::<u8>::with_capacity(alloc, REFUSE + nth);
+}
+
+fn was_refused(alloc: Global) -> bool {
+    Vec::<u8>::with_capacity(alloc, WAS_REFUSED).is_ok()
+}
+
+// Makes a call with each of its allocations refused in turn, and then with memory: it answers want
+// of memory exactly where one was refused, and else the refusal that is due, or none.
+fn sweep<F: Fn(Global) -> Option<Refusal>>(
+    rt: &impl Abort,
+    alloc: Global,
+    due: Option<Refusal>,
+    call: F,
+)
+    requires { F.IsAlwaysCallable call }
+{
+    for nth in 1..MOST_ALLOCATIONS {
+        refuse(alloc, nth);
+        let answer = call(alloc);
+        let refused = was_refused(alloc);
+        refuse(alloc, 0);
+        if !refused {
+            assert_eq!(rt; answer, due);
+            return;
+        }
+        assert_eq!(rt; answer, Some(Refusal::OutOfMemory), "allocation {nth}");
+        assert_eq!(rt; call(alloc), due, "after allocation {nth} was refused");
+    }
+    assert!(rt; false, "more than {MOST_ALLOCATIONS} allocations");
+}
+
+fn part_refusal(fault: PartFault) -> Refusal {
+    match fault {
+        PartFault::Spelling => Refusal::SignatureSpelling,
+        PartFault::OutOfMemory => Refusal::OutOfMemory,
+    }
+}
+
+#[test]
+fn decoding_answers_want_of_memory(rt: HostRuntime) {
+    sweep(&rt, rt.alloc(), None, |alloc| {
+        decode_part(alloc, HEADER.as_bytes()).err().map(part_refusal)
+    });
+    sweep(&rt, rt.alloc(), Some(Refusal::SignatureSpelling), |alloc| {
+        decode_part(alloc, b"QQ==").err().map(part_refusal)
+    });
+    sweep(&rt, rt.alloc(), None, |alloc| read_signature(alloc, b"c2ln").err());
+    sweep(&rt, rt.alloc(), Some(Refusal::SignatureSpelling), |alloc| {
+        read_signature(alloc, b"c2lo=").err()
+    });
+}
+
+#[test]
+fn reading_a_header_answers_want_of_memory(rt: HostRuntime) {
+    sweep(&rt, rt.alloc(), None, |alloc| Header::read(alloc, HEADER.as_bytes()).err());
+    // {"alg":"ES256","kid":1}
+    sweep(&rt, rt.alloc(), Some(Refusal::Kid), |alloc| {
+        Header::read(alloc, b"eyJhbGciOiJFUzI1NiIsImtpZCI6MX0").err()
+    });
+}
+
+#[test]
+fn reading_a_payload_answers_want_of_memory(rt: HostRuntime) {
+    sweep(&rt, rt.alloc(), None, |alloc| Payload::read(alloc, PAYLOAD.as_bytes()).err());
+    // {"aud":["s"]}x
+    sweep(&rt, rt.alloc(), Some(Refusal::PayloadNotObject), |alloc| {
+        Payload::read(alloc, b"eyJhdWQiOlsicyJdfXg").err()
+    });
+    sweep(&rt, rt.alloc(), None, |alloc| match read_json(alloc, b"[{\"a\":\"b\"}]") {
+        Ok(_) => None,
+        Err(_) => Some(Refusal::OutOfMemory),
+    });
+}
+
+#[test]
+fn reading_claims_answers_want_of_memory(rt: HostRuntime) -> Result<(), Fail> {
+    let payload = Payload::read(rt.alloc(), PAYLOAD.as_bytes())?;
+    sweep(&rt, rt.alloc(), None, |alloc| payload.claims(alloc).err());
+    // {"sub":"spiffe://a","aud":["t","u","s"],"exp":5,"jti":5}
+    let part = b"eyJzdWIiOiJzcGlmZmU6Ly9hIiwiYXVkIjpbInQiLCJ1IiwicyJdLCJleHAiOjUsImp0aSI6NX0";
+    let payload = Payload::read(rt.alloc(), part)?;
+    sweep(&rt, rt.alloc(), Some(Refusal::Jti), |alloc| payload.claims(alloc).err());
+    Ok(())
+}

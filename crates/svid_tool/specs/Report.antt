@@ -1,0 +1,22 @@
+use Rattle.std.specs.Prelude.{ℕ, List, [], ◌∷◌, ◌++◌, length, codes}
+use Rattle.std.specs.List.{flat_map}
+use Rattle.std.specs.Fmt.{decimal}
+use Rattle.hex.specs.Hex.{encode_lower}
+use Rattle.svid_replay.specs.declared.token_use.Use.{Use}
+use Rattle.svid_replay.specs.declared.twice.Twice.{Twice}
+
+-- a use in a report: exp, key, place and at, with one blank between
+abbrev pub use_line : Use → List ℕ
+use_line u = decimal u.exp ++ 32 ∷ [] ++ encode_lower u.key ++ 32 ∷ [] ++ encode_lower u.place ++ 32 ∷ [] ++ decimal u.at ++ 10 ∷ []
+
+-- a line that gives a number its name
+abbrev pub number_line : List ℕ → ℕ → List ℕ
+number_line name n = name ++ 32 ∷ [] ++ decimal n ++ 10 ∷ []
+
+-- a key that is used more than once, and how many uses have it
+abbrev pub twice_line : Twice → List ℕ
+twice_line t = encode_lower t.key ++ 32 ∷ [] ++ decimal (length t.uses) ++ 10 ∷ []
+
+-- a report: the moment, the uses in rising order, and the keys that are used more than once
+unfoldable pub report_text : ℕ → List Use → List Twice → List ℕ
+report_text moment uses twice = number_line (codes "moment") moment ++ number_line (codes "uses") (length uses) ++ flat_map use_line uses ++ number_line (codes "twice") (length twice) ++ flat_map twice_line twice

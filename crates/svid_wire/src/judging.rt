@@ -1,0 +1,142 @@
+ghost use Rattle.std.specs.Prelude.{◌≡◌, ◌≤◌, ◌++◌, [], ◌∷◌, length, None};
+ghost use Rattle.std.specs.List.{AllByRecursion, flat_map};
+ghost use Rattle.svid_replay.specs.Use.{text_of, IsUse};
+ghost use Rattle.svid_replay.specs.Batches.{AllGood, last_of};
+ghost use Rattle.svid_wire.specs.BatchText.{magic, batch_kind, head_text};
+ghost use Rattle.svid_wire.specs.WireFault.{IsBegun, flaw_reason};
+ghost use Rattle.svid_wire.specs.Stage.{IsStage, Judges, Reaches, field_len, stage_text};
+
+use crate::field::{numbers_of, use_of};
+use crate::stage::{Progress, Stage};
+use crate::{Reason, WireFault};
+use std::alloc::Global;
+use svid_replay::{Batch, Flaw, MOST_USES, Use, flaw_of};
+
+// What every message begins with: `JSR`, and 1 for the version.
+const MAGIC: [u8; 4] = [b'J', b'S', b'R', 1];
+
+// The next byte of a batch.
+const BATCH_KIND: u8 = 1;
+
+const NO_MEMORY: WireFault = WireFault {
+    place: 0,
+    reason: Reason::OutOfMemory,
+};
+
+fn reason_of(flaw: Flaw) -> Reason
+    ensures { result ≡ flaw_reason flaw }
+{
+    match flaw {
+        Flaw::Expired => Reason::UseExpired,
+        Flaw::Future => Reason::UseFuture,
+        Flaw::Order => Reason::UseOrder,
+    }
+}
+
+fn judge_magic(field: &[u8]) -> Result<Progress, WireFault>
+    requires { length field.now ≡ 4 }
+    ensures { Judges field.now result }
+{
+    if field == MAGIC.as_slice() {
+        Ok(Progress::More(Stage::Kind))
+    } else {
+        Err(WireFault {
+            place: 0,
+            reason: Reason::Magic,
+        })
+    }
+}
+
+fn judge_kind(field: &[u8]) -> Result<Progress, WireFault>
+    requires { length field.now ≡ 1 }
+    ensures { Judges (magic ++ field.now) result }
+{
+    if field[0] == BATCH_KIND {
+        Ok(Progress::More(Stage::Numbers))
+    } else {
+        Err(WireFault {
+            place: 4,
+            reason: Reason::Kind,
+        })
+    }
+}
+
+// What good uses of a batch lead to: the batch, where there are as many as it tells of.
+fn next(moment: u64, count: u32, uses: Vec<Use>) -> Progress
+    requires few { count ≤ 4096 }
+    requires within { length uses.items ≤ count }
+    requires fields { AllByRecursion IsUse uses.items }
+    requires good { AllGood moment None uses.items }
+    ensures { Reaches (head_text moment count ++ flat_map text_of uses.items) result }
+{
+    if uses.len() == count as usize {
+        Progress::Whole(Batch::from_good(moment, uses))
+    } else {
+        Progress::More(Stage::Uses {
+            moment,
+            count,
+            uses,
+        })
+    }
+}
+
+fn judge_numbers(alloc: Global, field: &[u8]) -> Result<Progress, WireFault>
+    requires { length field.now ≡ 12 }
+    ensures { Judges (magic ++ batch_kind ∷ [] ++ field.now) result }
+{
+    let (moment, count) = numbers_of(field);
+    if count as usize > MOST_USES {
+        return Err(WireFault {
+            place: 13,
+            reason: Reason::Count,
+        });
+    }
+    Ok(next(moment, count, Vec::new(alloc)))
+}
+
+fn last_use(uses: &[Use]) -> Option<Use>
+    ensures { result ≡ last_of None uses.now }
+{
+    uses.last().copied()
+}
+
+fn judge_use(
+    moment: u64,
+    count: u32,
+    mut uses: Vec<Use>,
+    field: &[u8],
+) -> Result<Progress, WireFault>
+    requires begun { IsBegun moment count uses.items }
+    requires whole { length field.now ≡ 64 }
+    ensures { Judges (head_text moment count ++ flat_map text_of uses.items ++ field.now) result }
+{
+    let used = use_of(field);
+    if let Some(flaw) = flaw_of(moment, last_use(&uses), used) {
+        return Err(WireFault {
+            place: 17 + 64 * uses.len(),
+            reason: reason_of(flaw),
+        });
+    }
+    match uses.push(used) {
+        Ok(()) => Ok(next(moment, count, uses)),
+        Err(_) => Err(NO_MEMORY),
+    }
+}
+
+/// Judges the field that comes next.
+pub(crate) fn judge(alloc: Global, stage: Stage, field: &[u8]) -> Result<Progress, WireFault>
+    requires good { IsStage stage }
+    requires whole { length field.now ≡ field_len stage }
+    ensures { Judges (stage_text stage ++ field.now) result }
+{
+    match stage {
+        Stage::Magic => judge_magic(field),
+        Stage::Kind => judge_kind(field),
+        Stage::Numbers => judge_numbers(alloc, field),
+        Stage::Uses {
+            moment,
+            count,
+            uses,
+        } => judge_use(moment, count, uses, field),
+    }
+}
