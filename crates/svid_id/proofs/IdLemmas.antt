@@ -29,7 +29,8 @@ pub path_slash : (path : List ℕ) → IsPath path → 0 < length path → is_sl
 path_slash path (ss, all, spelled) some = rw spelled (slashed_slash ss (rw spelled at some))
 
 -- the trust domain name ends where the path begins
-pub position-domain : (domain path : List ℕ) → IsDomain domain → IsPath path → position_or_len is_slash (domain ++ path) ≡ length domain
+pub position-domain : (domain path : List ℕ) → IsDomain domain → IsPath path
+    → position_or_len is_slash (domain ++ path) ≡ length domain
 position-domain domain path name is =
     let at_end : length domain + 0 ≡ length domain = omega arith in
     let IsCut : ℕ → Type 0 = λ n. is_slash (get_or (domain ++ path) n 0) ≡ true in
@@ -40,7 +41,10 @@ position-domain domain path name is =
 -- the parts of an ID are found in its text
 pub parts_of-IsId : (text : List ℕ) (id : IdParts) → IsId text id → parts_of text ≡ id
 parts_of-IsId text id is =
-    rw (is.spelled, position-domain id.domain id.path is.domain is.path, take_at id.domain id.path (length id.domain) refl, drop_at id.domain id.path (length id.domain) refl) refl
+    let cut = position-domain id.domain id.path is.domain is.path in
+    let front = take_at id.domain id.path (length id.domain) refl in
+    let back = drop_at id.domain id.path (length id.domain) refl in
+    rw (is.spelled, cut, front, back) refl
 
 -- the fault of a text that has these parts
 abbrev fault_with : List ℕ → IdParts → Option IdFault
@@ -60,13 +64,16 @@ id_fault-IsId text id is =
     subst HasNone (sym (parts_of-IsId text id is)) at_id
 
 -- no fault of three means that none of them is there
-pub none_of : (long starts : Bool) (rest : Option IdFault) → (if long then Some TooLong else if not starts then Some Scheme else rest) ≡ None → (long ≡ false) × (starts ≡ true) × (rest ≡ None)
+pub none_of : (long starts : Bool) (rest : Option IdFault)
+    → (if long then Some TooLong else if not starts then Some Scheme else rest) ≡ None
+    → (long ≡ false) × (starts ≡ true) × (rest ≡ None)
 none_of true starts rest none = absurd (cc)
 none_of false false rest none = absurd (cc)
 none_of false true rest none = (refl, refl, none)
 
 -- what is cut off at a '/' begins with it
-slash_at : (cut : ℕ) (rest : List ℕ) → 0 < length (drop cut rest) → (cut < length rest → is_slash (get_or rest cut 0) ≡ true) → get_or (drop cut rest) 0 0 ≡ 47
+slash_at : (cut : ℕ) (rest : List ℕ) → 0 < length (drop cut rest)
+    → (cut < length rest → is_slash (get_or rest cut 0) ≡ true) → get_or (drop cut rest) 0 0 ≡ 47
 slash_at cut rest some met =
     let at_start : cut + 0 ≡ cut = omega arith in
     rw (get_or-drop cut rest 0 0, at_start) (eqb-true (get_or rest cut 0) 47 (met (omega (arith, length-drop cut rest))))
@@ -77,17 +84,19 @@ IsId-from_fault text none =
     let rest = drop 9 text in
     let cut = position_or_len is_slash rest in
     let three = none_of (nat_lt 2048 (length text)) (starts_with nat_eq text scheme) _ none in
-    let parts = option_or-None (domain_fault 9 (take cut rest)) (path_fault (9 + length (take cut rest)) (drop cut rest)) three.2 in
+    let start = 9 + length (take cut rest) in
+    let parts = option_or-None (domain_fault 9 (take cut rest)) (path_fault start (drop cut rest)) three.2 in
     let spelled : text ≡ scheme ++ rest = (starts_is Decides-eqb text scheme _ refl).0 three.1 in
     record {
       spelled = spelled ∙ ap (λ s. scheme ++ s) (sym (take-append-drop cut rest));
       not_long = ltb-false 2048 (length text) three.0;
       domain = IsDomain-from_fault 9 (take cut rest) parts.0;
-      path = IsPath-from_fault (9 + length (take cut rest)) (drop cut rest) (λ some. slash_at cut rest some (passes_at_first is_slash rest 0)) parts.1;
+      path = IsPath-from_fault start (drop cut rest) (λ some. slash_at cut rest some (passes_at_first is_slash rest 0)) parts.1;
     }
 
 -- what stands where there is no fault
-some_if : (fault : Option IdFault) (x id : IdParts) → (if is_none fault then Some x else None) ≡ Some id → (fault ≡ None) × (x ≡ id)
+some_if : (fault : Option IdFault) (x id : IdParts) → (if is_none fault then Some x else None) ≡ Some id
+    → (fault ≡ None) × (x ≡ id)
 some_if None x id read = (refl, cc)
 some_if (Some fault) x id read = absurd (cc)
 
@@ -102,24 +111,29 @@ IsId-from_parts text id read =
     let known = some_if (id_fault text) (parts_of text) id read in
     subst HasParts known.1 (IsId-from_fault text known.0)
 
-some_unless : (first : Option IdFault) (fault : IdFault) → fault ≡ unwrap_or first OutOfMemory → fault ≢ OutOfMemory → first ≡ Some fault
+some_unless : (first : Option IdFault) (fault : IdFault) → fault ≡ unwrap_or first OutOfMemory → fault ≢ OutOfMemory
+    → first ≡ Some fault
 some_unless None fault answered other = absurd (other answered)
 some_unless (Some first) fault answered other = cc
 
 -- a text that is refused for another fault than want of memory has that fault
-pub refused_fault : (text : List ℕ) (fault : IdFault) → fault ≡ unwrap_or (id_fault text) OutOfMemory → fault ≢ OutOfMemory → id_fault text ≡ Some fault
+pub refused_fault : (text : List ℕ) (fault : IdFault) → fault ≡ unwrap_or (id_fault text) OutOfMemory
+    → fault ≢ OutOfMemory → id_fault text ≡ Some fault
 refused_fault text fault answered other = some_unless (id_fault text) fault answered other
 
 -- so it has no parts
-pub refused_parts : (text : List ℕ) (fault : IdFault) → fault ≡ unwrap_or (id_fault text) OutOfMemory → fault ≢ OutOfMemory → id_parts text ≡ None
+pub refused_parts : (text : List ℕ) (fault : IdFault) → fault ≡ unwrap_or (id_fault text) OutOfMemory
+    → fault ≢ OutOfMemory → id_parts text ≡ None
 refused_parts text fault answered other = rw (refused_fault text fault answered other) refl
 
 -- want of memory is neither of two faults, so not the one that is chosen
-either-memory : (b : Bool) (one other : Option IdFault) → one ≢ Some OutOfMemory → other ≢ Some OutOfMemory → cond b one other ≢ Some OutOfMemory
+either-memory : (b : Bool) (one other : Option IdFault) → one ≢ Some OutOfMemory → other ≢ Some OutOfMemory
+    → cond b one other ≢ Some OutOfMemory
 either-memory true one other is-not other-is-not = is-not
 either-memory false one other is-not other-is-not = other-is-not
 
-first-memory : (one other : Option IdFault) → one ≢ Some OutOfMemory → other ≢ Some OutOfMemory → option_or one other ≢ Some OutOfMemory
+first-memory : (one other : Option IdFault) → one ≢ Some OutOfMemory → other ≢ Some OutOfMemory
+    → option_or one other ≢ Some OutOfMemory
 first-memory None other is-not other-is-not = other-is-not
 first-memory (Some fault) other is-not other-is-not = is-not
 
@@ -150,11 +164,15 @@ path_fault-memory at (slash ∷ rest) = segments_fault-memory (at + 1) (slice_sp
 pub id_fault-memory : (text : List ℕ) → id_fault text ≢ Some OutOfMemory
 id_fault-memory text =
     let parts = parts_of text in
-    either-memory _ (Some TooLong) _ (λ e. cc)
-    (either-memory _ (Some Scheme) _ (λ e. cc) (first-memory (domain_fault 9 parts.domain) (path_fault (9 + length parts.domain) parts.path) (domain_fault-memory 9 parts.domain) (path_fault-memory (9 + length parts.domain) parts.path)))
+    let start = 9 + length parts.domain in
+    let rest =
+    first-memory (domain_fault 9 parts.domain) (path_fault start parts.path)
+    (domain_fault-memory 9 parts.domain) (path_fault-memory start parts.path) in
+    either-memory _ (Some TooLong) _ (λ e. cc) (either-memory _ (Some Scheme) _ (λ e. cc) rest)
 
 -- bytes of a class of ASCII are ASCII
-pub IsAscii-class : (class : ℕ → Bool) → ((b : ℕ) → class b ≡ true → b < 128) → (s : List ℕ) → AllPass class s → IsAscii s
+pub IsAscii-class : (class : ℕ → Bool) → ((b : ℕ) → class b ≡ true → b < 128) → (s : List ℕ) → AllPass class s
+    → IsAscii s
 IsAscii-class class small s all = IsAscii-from_all s (λ k d h. small _ (all k d h))
 
 -- so is the text of a row of segments
@@ -177,12 +195,14 @@ pub IsUtf8-IsId : (text : List ℕ) (id : IdParts) → IsId text id → IsUtf8 t
 IsUtf8-IsId text id is = IsUtf8-from_ascii text (IsAscii-IsId text id is)
 
 -- it may be cut where its trust domain name ends
-pub IsCharBoundary-domain_end : (text : List ℕ) (id : IdParts) (len : ℕ) → IsId text id → len ≡ length id.domain → IsCharBoundary text (9 + len)
+pub IsCharBoundary-domain_end : (text : List ℕ) (id : IdParts) (len : ℕ) → IsId text id → len ≡ length id.domain
+    → IsCharBoundary text (9 + len)
 IsCharBoundary-domain_end text id len is ends =
     IsCharBoundary-from_ascii text (9 + len) (IsAscii-IsId text id is)
     (omega (arith, ap length is.spelled, length-append id.domain id.path))
 
 -- its path begins there
-pub drop-domain_end : (text : List ℕ) (len : ℕ) → len ≡ length (parts_of text).domain → drop (9 + len) text ≡ (parts_of text).path
+pub drop-domain_end : (text : List ℕ) (len : ℕ) → len ≡ length (parts_of text).domain
+    → drop (9 + len) text ≡ (parts_of text).path
 drop-domain_end text len ends =
     rw (ends, length-piece (drop 9 text)) (sym (drop-drop (position_or_len is_slash (drop 9 text)) 9 text))

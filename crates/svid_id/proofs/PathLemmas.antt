@@ -8,12 +8,12 @@ use Rattle.std.proofs.lemmas.Bool.Decides.{nat_tests}
 use Rattle.std.proofs.lemmas.List.{drop_more, drop_all, take_all}
 use Rattle.std.proofs.lemmas.List.Elements.{All-from_recursion, recursion_from_All}
 use Rattle.std.proofs.lemmas.List.Splits.{slice_split-cons_yes, slice_split-cons_no, slice_split_at, slice_split_first, slice_split_none}
-use Rattle.std.proofs.lemmas.List.Sums.{fails_before_first, prefix_len-le-length, prefix_len_passes, prefix_len_is}
+use Rattle.std.proofs.lemmas.List.Sums.{fails_before_first, prefix_len-le-length, prefix_len_passes}
 use Rattle.std.proofs.lemmas.Slice.Eq.{bytes_eq-Decides}
 use Rattle.svid_id.specs.Path.{IsPath, IsSegment, is_dots, is_segment_byte, is_slash, path_fault, segment_fault, segments_fault, slashed}
 use Rattle.svid_id.specs.declared.id_fault.IdFault.{IdFault}
 use Rattle.svid_id.specs.declared.id_fault.IdFault.TheVariants.{SegmentEmpty, SegmentDots, PathByte}
-use Rattle.svid_id.proofs.PieceLemmas.{is_slash-class, run-piece, length-piece, piece_stops, piece_goes_on}
+use Rattle.svid_id.proofs.PieceLemmas.{is_slash-class, run-all, run-piece, length-piece, piece_stops, piece_goes_on}
 
 -- what `is_dots` tests
 pub is_dots_cases : (s : List ℕ) → is_dots s ≡ true → (s ≡ codes ".") ⊎ (s ≡ codes "..")
@@ -30,7 +30,14 @@ run-dots s is =
     elim (is_dots_cases s is) [ inl one ↦ subst AllGood (sym one) refl | inr two ↦ subst AllGood (sym two) refl ]
 
 -- the fault of the segment that a text begins with, by the bytes that it begins with
-pub segment_fault-run : (at : ℕ) (s : List ℕ) → segment_fault at (before_first is_slash s) ≡ (let run = prefix_len is_segment_byte s in if nat_lt run (length s) && not (is_slash (get_or s run 0)) then Some (PathByte (at + run)) else if run == 0 then Some (SegmentEmpty at) else if is_dots (take run s) then Some (SegmentDots at) else None)
+pub segment_fault-run : (at : ℕ) (s : List ℕ)
+    → segment_fault at (before_first is_slash s) ≡ (
+    let run = prefix_len is_segment_byte s in
+    if nat_lt run (length s) && not (is_slash (get_or s run 0)) then Some (PathByte (at + run))
+    else if run == 0 then Some (SegmentEmpty at)
+    else if is_dots (take run s) then Some (SegmentDots at)
+    else None
+    )
 segment_fault-run at s =
     let run = run-piece is_segment_byte refl s in
     let len = length-piece s in
@@ -40,32 +47,32 @@ segment_fault-run at s =
     grind (arith, nat_tests)
 
 -- a path's first segment, and the path after it
-pub path_fault-step : (at slash : ℕ) (s : List ℕ) → path_fault at (slash ∷ s) ≡ option_or (segment_fault (at + 1) (before_first is_slash s)) (path_fault (at + (1 + position_or_len is_slash s)) (drop (position_or_len is_slash s) s))
+path_fault-step : (at slash : ℕ) (s : List ℕ)
+    → let len = position_or_len is_slash s in
+    path_fault at (slash ∷ s) ≡ option_or (segment_fault (at + 1) (before_first is_slash s)) (path_fault (at + (1 + len)) (drop len s))
 path_fault-step at slash s =
     let p = position_or_len is_slash s in
+    let piece = before_first is_slash s in
     elim (cases_lt p (length s)) [
       | inl more ↦
-          let places : at + 1 + length (before_first is_slash s) + 1 ≡ at + (1 + p) + 1 = omega (arith, length-piece s) in
+          let places : at + 1 + length piece + 1 ≡ at + (1 + p) + 1 = omega (arith, length-piece s) in
           rw (slice_split_first is_slash s 0 more, drop_more s p 0 more)
-          (ap (λ (n : ℕ). option_or (segment_fault (at + 1) (before_first is_slash s)) (segments_fault n (slice_split is_slash (after_first is_slash s)))) places)
+          (ap (λ (n : ℕ). option_or (segment_fault (at + 1) piece) (segments_fault n (slice_split is_slash (after_first is_slash s)))) places)
       | inr done ↦
           let none : All (λ b. is_slash b ≡ false) s = λ k d h. fails_before_first is_slash s k d (omega arith) in
           rw (slice_split_none is_slash s none, drop_all p s done, take_all p s done) refl
     ]
 
--- a faulty first segment is the path's fault
-pub path_fault-found : (at slash : ℕ) (s path : List ℕ) (fault : IdFault) → path ≡ slash ∷ s → Some fault ≡ segment_fault (at + 1) (before_first is_slash s) → path_fault at path ≡ Some fault
-path_fault-found at slash s path fault is found =
-    ap (path_fault at) is ∙ path_fault-step at slash s ∙ ap (λ f. option_or f (path_fault (at + (1 + position_or_len is_slash s)) (drop (position_or_len is_slash s) s))) (sym found)
-
--- after a good first segment it is that of the rest
-pub path_fault-passed : (at slash len : ℕ) (s path : List ℕ) → path ≡ slash ∷ s → None ≡ segment_fault (at + 1) (before_first is_slash s) → len ≡ position_or_len is_slash s → path_fault at path ≡ path_fault (at + (1 + len)) (drop len s)
-path_fault-passed at slash len s path is good ends =
-    rw ends
-    (ap (path_fault at) is ∙ path_fault-step at slash s ∙ ap (λ f. option_or f (path_fault (at + (1 + position_or_len is_slash s)) (drop (position_or_len is_slash s) s))) (sym good))
+-- its fault, where it has one, is the path's, and else that of the path after it
+pub path_fault-first : (at slash : ℕ) (s path : List ℕ) (found : Option IdFault) → path ≡ slash ∷ s
+    → found ≡ segment_fault (at + 1) (before_first is_slash s)
+    → let len = position_or_len is_slash s in path_fault at path ≡ option_or found (path_fault (at + (1 + len)) (drop len s))
+path_fault-first at slash s path found is first = rw (is, first) (path_fault-step at slash s)
 
 -- where the bytes of a segment end at a '/' or at the text's end, the segment ends
-pub segment_stops : (s : List ℕ) → (prefix_len is_segment_byte s < length s → get_or s (prefix_len is_segment_byte s) 0 ≡ 47) → position_or_len is_slash s ≡ prefix_len is_segment_byte s
+pub segment_stops : (s : List ℕ)
+    → (prefix_len is_segment_byte s < length s → get_or s (prefix_len is_segment_byte s) 0 ≡ 47)
+    → position_or_len is_slash s ≡ prefix_len is_segment_byte s
 segment_stops = piece_stops is_segment_byte refl
 
 pub ruleset segment_runs = (segment_fault-run, segment_stops, nat_tests)
@@ -83,7 +90,7 @@ pub segment_fault-IsSegment : (at : ℕ) (s : List ℕ) → IsSegment s → segm
 segment_fault-IsSegment at s is =
     let some = is.not_empty in
     let dots = is_dots-IsSegment s is in
-    let all : prefix_len is_segment_byte s ≡ length s = prefix_len_is is_segment_byte s (length s) 0 (omega arith) (λ k h. is.bytes k 0 h) (λ h. absurd (omega arith)) in
+    let all : prefix_len is_segment_byte s ≡ length s = run-all is_segment_byte s is.bytes in
     grind (arith, nat_tests)
 
 -- what has none is one
@@ -122,13 +129,16 @@ pub IsSegment-slash : (s : List ℕ) → IsSegment s → All (λ b. is_slash b �
 IsSegment-slash s is = λ k d h. is_slash-class is_segment_byte refl _ (is.bytes k d h)
 
 -- the text of a row of segments splits into them
-pub slice_split-slashed : (s : List ℕ) (ss : List (List ℕ)) → IsSegment s → AllByRecursion IsSegment ss → slice_split is_slash (s ++ slashed ss) ≡ s ∷ ss
+pub slice_split-slashed : (s : List ℕ) (ss : List (List ℕ)) → IsSegment s → AllByRecursion IsSegment ss
+    → slice_split is_slash (s ++ slashed ss) ≡ s ∷ ss
 slice_split-slashed s [] is all = rw (append-nil s) (slice_split_none is_slash s (IsSegment-slash s is))
 slice_split-slashed s (t ∷ ts) is all =
-    slice_split_at is_slash s 47 (t ++ slashed ts) (IsSegment-slash s is) refl ∙ ap (λ ss. s ∷ ss) (slice_split-slashed t ts all.0 all.1)
+    slice_split_at is_slash s 47 (t ++ slashed ts) (IsSegment-slash s is) refl
+    ∙ ap (λ ss. s ∷ ss) (slice_split-slashed t ts all.0 all.1)
 
 -- a byte put before the first segment stands right after its '/'
-pub slashed-onto_first : (x : ℕ) (ss : List (List ℕ)) (s : List ℕ) → slashed ss ≡ 47 ∷ s → slashed (onto_first x ss) ≡ 47 ∷ x ∷ s
+pub slashed-onto_first : (x : ℕ) (ss : List (List ℕ)) (s : List ℕ) → slashed ss ≡ 47 ∷ s
+    → slashed (onto_first x ss) ≡ 47 ∷ x ∷ s
 slashed-onto_first x [] s spelled = absurd (cc)
 slashed-onto_first x (t ∷ ts) s spelled = cc
 
@@ -142,7 +152,8 @@ slashed-slice_split (x ∷ s) =
     ]
 
 -- the text of a row of segments has no fault
-pub path_fault-slashed : (at : ℕ) (ss : List (List ℕ)) → AllByRecursion IsSegment ss → path_fault at (slashed ss) ≡ None
+pub path_fault-slashed : (at : ℕ) (ss : List (List ℕ)) → AllByRecursion IsSegment ss
+    → path_fault at (slashed ss) ≡ None
 path_fault-slashed at [] all = refl
 path_fault-slashed at (s ∷ ss) all =
     rw (slice_split-slashed s ss all.0 all.1) (segments_fault-All (at + 1) (s ∷ ss) all)
@@ -152,8 +163,10 @@ pub path_fault-IsPath : (at : ℕ) (path : List ℕ) → IsPath path → path_fa
 path_fault-IsPath at path (ss, all, spelled) = rw spelled (path_fault-slashed at ss (recursion_from_All IsSegment ss all))
 
 -- what is empty or begins with '/', and has no fault, is one
-pub IsPath-from_fault : (at : ℕ) (path : List ℕ) → (0 < length path → get_or path 0 0 ≡ 47) → path_fault at path ≡ None → IsPath path
+pub IsPath-from_fault : (at : ℕ) (path : List ℕ) → (0 < length path → get_or path 0 0 ≡ 47)
+    → path_fault at path ≡ None → IsPath path
 IsPath-from_fault at [] slash none = ([], All-from_recursion IsSegment [] tt, refl)
 IsPath-from_fault at (x ∷ s) slash none =
     let segments = slice_split is_slash s in
-    (segments, All-from_recursion IsSegment segments (All-from_fault (at + 1) segments none), rw (slash (omega arith)) (sym (slashed-slice_split s)))
+    let all = All-from_recursion IsSegment segments (All-from_fault (at + 1) segments none) in
+    (segments, all, rw (slash (omega arith)) (sym (slashed-slice_split s)))

@@ -35,10 +35,8 @@ impl Model for SpiffeId {
 
     ghost view = { λ id. parts_of (string_bytes id.text) };
 
-    ghost invariant = {
-        λ id. IsId (string_bytes id.text) (parts_of (string_bytes id.text))
-            × (id.domain_len ≡ length (parts_of (string_bytes id.text)).domain)
-    };
+    ghost invariant = { λ id. IsId (string_bytes id.text) (parts_of (string_bytes id.text))
+        × (id.domain_len ≡ length (parts_of (string_bytes id.text)).domain) };
 }
 
 impl SpiffeId {

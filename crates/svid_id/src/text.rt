@@ -6,12 +6,11 @@ ghost use Rattle.std.specs.String.{string_bytes};
 
 use std::alloc::{AllocError, Global};
 
-// A copy of bytes that are known to be UTF-8, without a second pass that would test them.
+// A copy of bytes that are known to be UTF-8.
 pub(crate) fn to_text(alloc: Global, bytes: &[u8]) -> Result<String, AllocError>
     requires { IsUtf8 bytes.now }
     ensures { IfOk result (λ text. string_bytes text ≡ bytes.now) }
 {
     let bytes = bytes.to_vec(alloc)?;
-    // The `requires` above is what this call asks for, so the check proves that it is sound.
-    Ok(unsafe { String::from_utf8_unchecked(bytes) })
+    Ok(String::from_utf8(bytes).unwrap())
 }

@@ -1,5 +1,5 @@
 -- What `json_of` is where a read succeeded, and where it was refused.
-use Rattle.std.proofs.Common.{◌≡◌, ℕ, List, Option, Some, None, refl, true, false, inl, inr}
+use Rattle.std.proofs.Common.{◌≡◌, ℕ, List, Some, None, refl, inl, inr}
 use Rattle.std.specs.Str.{IsUtf8, is_utf8}
 use Rattle.std.proofs.lemmas.Str.{IsUtf8-from_is_utf8, is_utf8-from_IsUtf8}
 use Rattle.std.proofs.lemmas.Bool.{cases_Bool}

@@ -1,5 +1,5 @@
 -- What a part spells, by what the strict engine of `base64` answers.
-use Rattle.std.proofs.Common.{◌≡◌, ◌≤◌, ◌↔◌, ℕ, ◌+◌, ◌*◌, ◌/◌, List, Option, Some, None, Result, Ok, Err, length, sym, ap, ◌∙◌, arith, refl}
+use Rattle.std.proofs.Common.{◌≡◌, ◌≤◌, ◌↔◌, ℕ, ◌+◌, ◌*◌, ◌/◌, List, Some, None, Result, Ok, Err, length, sym, ap, ◌∙◌, arith, refl}
 use Rattle.std.proofs.lemmas.List.{append-nil}
 use Rattle.std.specs.Result.{result_ok}
 use Rattle.base64.proofs.EngineFacts.{decode_of_iff}
@@ -31,7 +31,7 @@ nothing_spelled part fault refused decodes bytes are e = let both = sym refused 
 pub length-spelled : (part bytes : List ℕ) → part ≡ encode_of url_safe_no_pad bytes → length bytes ≤ length part
 length-spelled part bytes e =
     let symbols : length part ≡ (4 * length bytes + 2) / 3 =
-        ap length e ∙ (ap length (append-nil _) ∙ length-encode_symbols _ bytes) in
+    ap length e ∙ (ap length (append-nil _) ∙ length-encode_symbols _ bytes) in
     omega arith
 
 ok_value : (r : Result (List ℕ) DecodeError) (bytes : List ℕ) → result_ok r ≡ Some bytes → r ≡ Ok bytes

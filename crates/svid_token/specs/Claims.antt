@@ -55,11 +55,11 @@ claims_rows object =
 -- what a payload's object says
 abbrev pub claims_said : Option Data → ClaimsSaid
 claims_said object = record {
-    sub = option_and_then subject_at object;
-    aud = option_and_then audiences_at object;
-    exp = option_and_then (time_at (codes "exp")) object;
-    nbf = option_and_then (time_at (codes "nbf")) object;
-    jti = option_and_then (text_at (codes "jti")) object
+  sub = option_and_then subject_at object;
+  aud = option_and_then audiences_at object;
+  exp = option_and_then (time_at (codes "exp")) object;
+  nbf = option_and_then (time_at (codes "nbf")) object;
+  jti = option_and_then (text_at (codes "jti")) object;
 }
 
 -- the answer that is due to a payload's object
@@ -69,9 +69,9 @@ claims_of object = judged (first_row (claims_rows object)) (claims_said object)
 -- what contracts see of claims
 abbrev pub claims_view : Claims → ClaimsSaid
 claims_view claims = record {
-    sub = Some claims.sub;
-    aud = Some (map string_bytes claims.aud.items);
-    exp = Some claims.exp;
-    nbf = claims.nbf;
-    jti = option_map string_bytes claims.jti
+  sub = Some claims.sub;
+  aud = Some (map string_bytes claims.aud.items);
+  exp = Some claims.exp;
+  nbf = claims.nbf;
+  jti = option_map string_bytes claims.jti;
 }

@@ -1,5 +1,5 @@
 -- The compact form of a token (RFC 7515, section 7.1).
-use Rattle.std.specs.Prelude.{◌≡◌, ◌≢◌, ℕ, ◌+◌, ◌==◌, nat_lt, is_none, Bool, List, [], ◌∷◌, ◌++◌, length, All, Option, Some, None, Result}
+use Rattle.std.specs.Prelude.{◌≡◌, ◌≢◌, ℕ, ◌==◌, nat_lt, is_none, List, [], ◌∷◌, ◌++◌, length, All, Option, Some, None, Result}
 use Rattle.std.specs.List.{slice_split}
 use Rattle.svid_token.specs.Rows.{Row, first_row, judged}
 use Rattle.svid_token.specs.declared.refusal.Refusal.{Refusal}

@@ -10,12 +10,10 @@ ghost use Rattle.svid_token.specs.Rows.{Row, first_row};
 pub fn appended_tables()
     ensures { (first second : List Row)
         → first_row (first ++ second) ≡ option_or (first_row first) (first_row second) }
-{
-}
+{}
 
 /// The bytes that a part is decoded to are exactly those that it spells.
 pub fn decoded_parts()
     ensures { (part bytes : List ℕ) → IsBytes part → IsBytes bytes
         → (part_bytes part ≡ Some bytes) ↔ Spells part bytes }
-{
-}
+{}

@@ -64,12 +64,19 @@ fn part_refusal(fault: PartFault) -> Refusal {
 #[test]
 fn decoding_answers_want_of_memory(rt: HostRuntime) {
     sweep(&rt, rt.alloc(), None, |alloc| {
-        decode_part(alloc, HEADER.as_bytes()).err().map(part_refusal)
+        decode_part(alloc, HEADER.as_bytes())
+            .err()
+            .map(part_refusal)
     });
     sweep(&rt, rt.alloc(), Some(Refusal::SignatureSpelling), |alloc| {
         decode_part(alloc, b"QQ==").err().map(part_refusal)
     });
-    sweep(&rt, rt.alloc(), None, |alloc| read_signature(alloc, b"c2ln").err());
+    sweep(
+        &rt,
+        rt.alloc(),
+        None,
+        |alloc| read_signature(alloc, b"c2ln").err(),
+    );
     sweep(&rt, rt.alloc(), Some(Refusal::SignatureSpelling), |alloc| {
         read_signature(alloc, b"c2lo=").err()
     });
@@ -77,7 +84,12 @@ fn decoding_answers_want_of_memory(rt: HostRuntime) {
 
 #[test]
 fn reading_a_header_answers_want_of_memory(rt: HostRuntime) {
-    sweep(&rt, rt.alloc(), None, |alloc| Header::read(alloc, HEADER.as_bytes()).err());
+    sweep(
+        &rt,
+        rt.alloc(),
+        None,
+        |alloc| Header::read(alloc, HEADER.as_bytes()).err(),
+    );
     // {"alg":"ES256","kid":1}
     sweep(&rt, rt.alloc(), Some(Refusal::Kid), |alloc| {
         Header::read(alloc, b"eyJhbGciOiJFUzI1NiIsImtpZCI6MX0").err()
@@ -86,15 +98,25 @@ fn reading_a_header_answers_want_of_memory(rt: HostRuntime) {
 
 #[test]
 fn reading_a_payload_answers_want_of_memory(rt: HostRuntime) {
-    sweep(&rt, rt.alloc(), None, |alloc| Payload::read(alloc, PAYLOAD.as_bytes()).err());
+    sweep(
+        &rt,
+        rt.alloc(),
+        None,
+        |alloc| Payload::read(alloc, PAYLOAD.as_bytes()).err(),
+    );
     // {"aud":["s"]}x
     sweep(&rt, rt.alloc(), Some(Refusal::PayloadNotObject), |alloc| {
         Payload::read(alloc, b"eyJhdWQiOlsicyJdfXg").err()
     });
-    sweep(&rt, rt.alloc(), None, |alloc| match read_json(alloc, b"[{\"a\":\"b\"}]") {
-        Ok(_) => None,
-        Err(_) => Some(Refusal::OutOfMemory),
-    });
+    sweep(
+        &rt,
+        rt.alloc(),
+        None,
+        |alloc| match read_json(alloc, b"[{\"a\":\"b\"}]") {
+            Ok(_) => None,
+            Err(_) => Some(Refusal::OutOfMemory),
+        },
+    );
 }
 
 #[test]
@@ -104,6 +126,11 @@ fn reading_claims_answers_want_of_memory(rt: HostRuntime) -> Result<(), Fail> {
     // {"sub":"spiffe://a","aud":["t","u","s"],"exp":5,"jti":5}
     let part = b"eyJzdWIiOiJzcGlmZmU6Ly9hIiwiYXVkIjpbInQiLCJ1IiwicyJdLCJleHAiOjUsImp0aSI6NX0";
     let payload = Payload::read(rt.alloc(), part)?;
-    sweep(&rt, rt.alloc(), Some(Refusal::Jti), |alloc| payload.claims(alloc).err());
+    sweep(
+        &rt,
+        rt.alloc(),
+        Some(Refusal::Jti),
+        |alloc| payload.claims(alloc).err(),
+    );
     Ok(())
 }

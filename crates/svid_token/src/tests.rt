@@ -10,7 +10,9 @@ use svid_id::SpiffeId;
 
 // The header and payload of one token, spelled by another encoder.
 pub(crate) const HEADER: &str = "eyJhbGciOiJFUzI1NiIsImtpZCI6ImswMSIsInR5cCI6IkpXVCJ9";
-pub(crate) const PAYLOAD: &str = "eyJzdWIiOiJzcGlmZmU6Ly9hL2IiLCJhdWQiOiJzIiwiZXhwIjoxMDAxLCJqdGkiOiJqMSJ9";
+
+pub(crate) const PAYLOAD: &str =
+    "eyJzdWIiOiJzcGlmZmU6Ly9hL2IiLCJhdWQiOiJzIiwiZXhwIjoxMDAxLCJqdGkiOiJqMSJ9";
 
 fn spell(alloc: Global, bytes: &[u8]) -> Result<String, AllocError> {
     URL_SAFE_NO_PAD.encode(alloc, bytes)
@@ -37,6 +39,33 @@ fn nested(alloc: Global, members: &str, depth: usize) -> Result<String, AllocErr
     }
     text.push('}')?;
     Ok(text)
+}
+
+// The token of the header and the payload above, with the signature `sig`.
+const TOKEN: &str =
+    "eyJhbGciOiJFUzI1NiIsImtpZCI6ImswMSIsInR5cCI6IkpXVCJ9.eyJzdWIiOiJzcGlmZmU6Ly9hL2IiLCJhdWQiOiJzIiwiZXhwIjoxMDAxLCJqdGkiOiJqMSJ9.c2ln";
+
+#[test]
+fn takes_a_token_apart(rt: HostRuntime) -> Result<(), Fail> {
+    let token = Compact::split(TOKEN.as_bytes())?;
+    assert_eq!(rt; token.header, HEADER.as_bytes());
+    assert_eq!(rt; token.payload, PAYLOAD.as_bytes());
+    assert_eq!(rt; token.input.len(), 125);
+    let header = Header::read(rt.alloc(), token.header)?;
+    assert_eq!(rt; header.alg, Alg::Es256);
+    assert_eq!(rt; header.kid.as_deref(), Some("k01"));
+    let claims = Payload::read(rt.alloc(), token.payload)?.claims(rt.alloc())?;
+    assert_eq!(rt; claims.sub.as_str(), "spiffe://a/b");
+    assert_eq!(rt; claims.aud.len(), 1);
+    assert_eq!(rt; claims.aud[0].as_str(), "s");
+    assert_eq!(rt; claims.exp, 1001);
+    assert_eq!(rt; claims.nbf, None);
+    assert_eq!(rt; claims.jti.as_deref(), Some("j1"));
+    let signature = read_signature(rt.alloc(), token.signature)?;
+    assert_eq!(rt; signature.as_slice(), b"sig".as_slice());
+    let key = token_key(&claims.sub, claims.jti.as_deref(), token.input);
+    assert_eq!(rt; key, Sha256::digest(b"\x01\x00\x00\x00\x01aj1"));
+    Ok(())
 }
 
 #[test]
@@ -71,7 +100,11 @@ fn refuses_other_spellings(rt: HostRuntime) -> Result<(), Fail> {
         b"QR", b"Zm9", b"Q", b"QQQQQ", b"QQ==", b"Zm8=", b"=", b"+/8", b"Z g", b"Zg\n", b"Zm\xff",
     ];
     for part in cases {
-        assert_eq!(rt; decode_part(rt.alloc(), part).err(), Some(PartFault::Spelling), "{part:?}");
+        assert_eq!(rt;
+            decode_part(rt.alloc(), part).err(),
+            Some(PartFault::Spelling),
+            "{part:?}"
+        );
     }
     Ok(())
 }
@@ -98,7 +131,11 @@ fn splits_a_token(rt: HostRuntime) -> Result<(), Fail> {
 fn refuses_other_than_three_parts(rt: HostRuntime) -> Result<(), Fail> {
     let cases: [&[u8]; 5] = [b"", b"a", b"a.b", b"a.b.c.d", b"..."];
     for token in cases {
-        assert_eq!(rt; Compact::split(token).err(), Some(Refusal::NotThreeParts), "{token:?}");
+        assert_eq!(rt;
+            Compact::split(token).err(),
+            Some(Refusal::NotThreeParts),
+            "{token:?}"
+        );
     }
     Ok(())
 }
@@ -106,7 +143,10 @@ fn refuses_other_than_three_parts(rt: HostRuntime) -> Result<(), Fail> {
 #[test]
 fn refuses_a_token_over_the_limit(rt: HostRuntime) -> Result<(), Fail> {
     let longest = vec![in rt.alloc(); b'a'; 65536]?;
-    assert_eq!(rt; Compact::split(&longest).err(), Some(Refusal::NotThreeParts));
+    assert_eq!(rt;
+        Compact::split(&longest).err(),
+        Some(Refusal::NotThreeParts)
+    );
     let over = vec![in rt.alloc(); b'a'; 65537]?;
     assert_eq!(rt; Compact::split(&over).err(), Some(Refusal::TooLong));
     let over = vec![in rt.alloc(); b'.'; 65537]?;
@@ -141,33 +181,43 @@ fn names_algorithms(rt: HostRuntime) {
 #[test]
 fn reads_headers(rt: HostRuntime) -> Result<(), Fail> {
     let cases: [(&[u8], Alg, Option<&str>); 10] = [
-        (b"{\"alg\":\"ES256\",\"kid\":\"k01\",\"typ\":\"JWT\"}", Alg::Es256, Some("k01")),
+        (
+            b"{\"alg\":\"ES256\",\"kid\":\"k01\",\"typ\":\"JWT\"}",
+            Alg::Es256,
+            Some("k01"),
+        ),
         (b"{\"alg\":\"ES256\",\"typ\":\"JOSE\"}", Alg::Es256, None),
         (b"{\"alg\":\"RS512\",\"kid\":\"\"}", Alg::Rs512, Some("")),
-        (b"{\"alg\":\"none\",\"alg\":\"RS256\",\"x5u\":\"u\"}", Alg::Rs256, None),
-        (b"{\"kid\":1,\"alg\":\"PS384\",\"kid\":\"b\"}", Alg::Ps384, Some("b")),
+        (
+            b"{\"alg\":\"none\",\"alg\":\"RS256\",\"x5u\":\"u\"}",
+            Alg::Rs256,
+            None,
+        ),
+        (
+            b"{\"kid\":1,\"alg\":\"PS384\",\"kid\":\"b\"}",
+            Alg::Ps384,
+            Some("b"),
+        ),
         (b"{\"\\u0061lg\":\"ES256\"}", Alg::Es256, None),
         (b"{\"alg\":\"\\u0045S256\"}", Alg::Es256, None),
-        (b"{\"alg\":\"ES256\",\"kid\":\"\\ud83d\\ude00\"}", Alg::Es256, Some("\u{1f600}")),
+        (
+            b"{\"alg\":\"ES256\",\"kid\":\"\\ud83d\\ude00\"}",
+            Alg::Es256,
+            Some("\u{1f600}"),
+        ),
         (b" \t\r\n{ \"alg\" : \"ES256\" } \n", Alg::Es256, None),
-        (b"{\"alg\":\"ES256\",\"Crit\":[],\"TYP\":1,\"b64\":false,\"jku\":\"j\"}", Alg::Es256, None),
+        (
+            b"{\"alg\":\"ES256\",\"Crit\":[],\"TYP\":1,\"b64\":false,\"jku\":\"j\"}",
+            Alg::Es256,
+            None,
+        ),
     ];
     for (json, alg, kid) in cases {
         let header = header(rt.alloc(), json)?;
         assert_eq!(rt; header.alg, alg);
-        assert_eq!(rt; text(&header.kid), kid);
+        assert_eq!(rt; header.kid.as_deref(), kid);
     }
-    let header = Header::read(rt.alloc(), HEADER.as_bytes())?;
-    assert_eq!(rt; header.alg, Alg::Es256);
-    assert_eq!(rt; text(&header.kid), Some("k01"));
     Ok(())
-}
-
-fn text(text: &Option<String>) -> Option<&str> {
-    match text {
-        Some(text) => Some(text.as_str()),
-        None => None,
-    }
 }
 
 #[test]
@@ -182,27 +232,48 @@ fn refuses_headers(rt: HostRuntime) -> Result<(), Fail> {
         (b"{\"alg\":\"ES256\"}{}", Refusal::HeaderNotObject),
         (b"{\"alg\":\"ES256\",}", Refusal::HeaderNotObject),
         (b"{alg:\"ES256\"}", Refusal::HeaderNotObject),
-        (b"{\"alg\":\"ES256\",\"kid\":\"\xff\"}", Refusal::HeaderNotObject),
-        (b"{\"alg\":\"ES256\",\"kid\":\"\\ud800\"}", Refusal::HeaderNotObject),
+        (
+            b"{\"alg\":\"ES256\",\"kid\":\"\xff\"}",
+            Refusal::HeaderNotObject,
+        ),
+        (
+            b"{\"alg\":\"ES256\",\"kid\":\"\\ud800\"}",
+            Refusal::HeaderNotObject,
+        ),
         (b"\xef\xbb\xbf{\"alg\":\"ES256\"}", Refusal::HeaderNotObject),
         (b"{\"alg\":\"none\",\"crit\":[]}", Refusal::Crit),
         (b"{\"alg\":\"ES256\",\"crit\":null}", Refusal::Crit),
-        (b"{\"alg\":\"ES256\",\"typ\":1,\"crit\":[\"exp\"]}", Refusal::Crit),
-        (b"{\"kid\":1,\"c\\u0072it\":[],\"alg\":\"ES256\"}", Refusal::Crit),
+        (
+            b"{\"alg\":\"ES256\",\"typ\":1,\"crit\":[\"exp\"]}",
+            Refusal::Crit,
+        ),
+        (
+            b"{\"kid\":1,\"c\\u0072it\":[],\"alg\":\"ES256\"}",
+            Refusal::Crit,
+        ),
         (b"{}", Refusal::Alg),
         (b"{\"alg\":\"none\"}", Refusal::Alg),
         (b"{\"alg\":\"HS256\"}", Refusal::Alg),
         (b"{\"alg\":\"es256\"}", Refusal::Alg),
         (b"{\"alg\":[\"ES256\"]}", Refusal::Alg),
         (b"{\"alg\":\"ES256\",\"alg\":null}", Refusal::Alg),
-        (b"{\"alg\":\"EdDSA\",\"typ\":\"jwt\",\"kid\":1}", Refusal::Alg),
+        (
+            b"{\"alg\":\"EdDSA\",\"typ\":\"jwt\",\"kid\":1}",
+            Refusal::Alg,
+        ),
         (b"{\"alg\":\"ES256\",\"typ\":\"jwt\"}", Refusal::Typ),
         (b"{\"alg\":\"ES256\",\"typ\":\"\"}", Refusal::Typ),
         (b"{\"alg\":\"ES256\",\"typ\":null}", Refusal::Typ),
-        (b"{\"alg\":\"ES256\",\"typ\":\"JWS\",\"kid\":1}", Refusal::Typ),
+        (
+            b"{\"alg\":\"ES256\",\"typ\":\"JWS\",\"kid\":1}",
+            Refusal::Typ,
+        ),
         (b"{\"alg\":\"ES256\",\"kid\":1}", Refusal::Kid),
         (b"{\"alg\":\"ES256\",\"kid\":null}", Refusal::Kid),
-        (b"{\"alg\":\"ES256\",\"typ\":\"JWT\",\"kid\":[\"k\"]}", Refusal::Kid),
+        (
+            b"{\"alg\":\"ES256\",\"typ\":\"JWT\",\"kid\":[\"k\"]}",
+            Refusal::Kid,
+        ),
     ];
     for (json, refusal) in cases {
         assert_eq!(rt; header(rt.alloc(), json).err(), Some(refusal), "{json:?}");
@@ -229,7 +300,10 @@ fn reads_to_a_nesting_limit(rt: HostRuntime) -> Result<(), Fail> {
 
 #[test]
 fn reads_signatures(rt: HostRuntime) -> Result<(), Fail> {
-    assert_eq!(rt; read_signature(rt.alloc(), b"c2ln")?.as_slice(), b"sig".as_slice());
+    assert_eq!(rt;
+        read_signature(rt.alloc(), b"c2ln")?.as_slice(),
+        b"sig".as_slice()
+    );
     let cases: [&[u8]; 4] = [b"", b"=", b"c2lo=", b"c2l"];
     for part in cases {
         let refused = read_signature(rt.alloc(), part);
@@ -249,22 +323,19 @@ fn refuses_payloads(rt: HostRuntime) -> Result<(), Fail> {
         (b"e30geA", Refusal::PayloadNotObject),
     ];
     for (part, refusal) in cases {
-        assert_eq!(rt; Payload::read(rt.alloc(), part).err(), Some(refusal), "{part:?}");
+        assert_eq!(rt;
+            Payload::read(rt.alloc(), part).err(),
+            Some(refusal),
+            "{part:?}"
+        );
     }
     Ok(())
 }
 
 #[test]
 fn reads_claims(rt: HostRuntime) -> Result<(), Fail> {
-    let read = Payload::read(rt.alloc(), PAYLOAD.as_bytes())?.claims(rt.alloc())?;
-    assert_eq!(rt; read.sub.as_str(), "spiffe://a/b");
-    assert_eq!(rt; read.sub.domain(), "a");
-    assert_eq!(rt; read.aud.len(), 1);
-    assert_eq!(rt; read.aud[0].as_str(), "s");
-    assert_eq!(rt; read.exp, 1001);
-    assert_eq!(rt; read.nbf, None);
-    assert_eq!(rt; text(&read.jti), Some("j1"));
-    let json = b"{\"iss\":1,\"sub\":\"x\",\"aud\":\"t\",\"exp\":-1,\"nbf\":\"x\",\"jti\":1,\"jti\":\"\",\"nbf\":3,\"exp\":5,\"aud\":[\"t\",\"\",\"s\"],\"sub\":\"spiffe://a\"}";
+    let json =
+        b"{\"iss\":1,\"sub\":\"x\",\"aud\":\"t\",\"exp\":-1,\"nbf\":\"x\",\"jti\":1,\"jti\":\"\",\"nbf\":3,\"exp\":5,\"aud\":[\"t\",\"\",\"s\"],\"sub\":\"spiffe://a\"}";
     let read = claims(rt.alloc(), json)?;
     assert_eq!(rt; read.sub.as_str(), "spiffe://a");
     assert_eq!(rt; read.aud.len(), 3);
@@ -273,7 +344,7 @@ fn reads_claims(rt: HostRuntime) -> Result<(), Fail> {
     }
     assert_eq!(rt; read.exp, 5);
     assert_eq!(rt; read.nbf, Some(3));
-    assert_eq!(rt; text(&read.jti), Some(""));
+    assert_eq!(rt; read.jti.as_deref(), Some(""));
     Ok(())
 }
 
@@ -283,25 +354,76 @@ fn refuses_claims(rt: HostRuntime) -> Result<(), Fail> {
         (b"{}", Refusal::Sub),
         (b"{\"sub\":5}", Refusal::Sub),
         (b"{\"sub\":\"spiffe://a/\",\"aud\":\"s\"}", Refusal::Sub),
-        (b"{\"sub\":\"SPIFFE://a\",\"aud\":[],\"exp\":5}", Refusal::Sub),
-        (b"{\"sub\":\"spiffe://a\",\"sub\":null,\"aud\":\"s\",\"exp\":5}", Refusal::Sub),
+        (
+            b"{\"sub\":\"SPIFFE://a\",\"aud\":[],\"exp\":5}",
+            Refusal::Sub,
+        ),
+        (
+            b"{\"sub\":\"spiffe://a\",\"sub\":null,\"aud\":\"s\",\"exp\":5}",
+            Refusal::Sub,
+        ),
         (b"{\"sub\":\"spiffe://a\"}", Refusal::Aud),
-        (b"{\"sub\":\"spiffe://a\",\"aud\":[],\"exp\":1001}", Refusal::Aud),
-        (b"{\"sub\":\"spiffe://a\",\"aud\":[\"s\",1],\"exp\":1001}", Refusal::Aud),
-        (b"{\"sub\":\"spiffe://a\",\"aud\":[[\"s\"]],\"exp\":1001}", Refusal::Aud),
-        (b"{\"sub\":\"spiffe://a\",\"aud\":null,\"exp\":1001}", Refusal::Aud),
-        (b"{\"sub\":\"spiffe://a\",\"aud\":{\"s\":1},\"exp\":\"x\"}", Refusal::Aud),
-        (b"{\"sub\":\"spiffe://a\",\"aud\":1,\"nbf\":\"x\"}", Refusal::Aud),
+        (
+            b"{\"sub\":\"spiffe://a\",\"aud\":[],\"exp\":1001}",
+            Refusal::Aud,
+        ),
+        (
+            b"{\"sub\":\"spiffe://a\",\"aud\":[\"s\",1],\"exp\":1001}",
+            Refusal::Aud,
+        ),
+        (
+            b"{\"sub\":\"spiffe://a\",\"aud\":[[\"s\"]],\"exp\":1001}",
+            Refusal::Aud,
+        ),
+        (
+            b"{\"sub\":\"spiffe://a\",\"aud\":null,\"exp\":1001}",
+            Refusal::Aud,
+        ),
+        (
+            b"{\"sub\":\"spiffe://a\",\"aud\":{\"s\":1},\"exp\":\"x\"}",
+            Refusal::Aud,
+        ),
+        (
+            b"{\"sub\":\"spiffe://a\",\"aud\":1,\"nbf\":\"x\"}",
+            Refusal::Aud,
+        ),
         (b"{\"sub\":\"spiffe://a\",\"aud\":\"s\"}", Refusal::Exp),
-        (b"{\"sub\":\"spiffe://a\",\"aud\":\"s\",\"jti\":5}", Refusal::Exp),
-        (b"{\"sub\":\"spiffe://a\",\"aud\":\"s\",\"exp\":null,\"nbf\":null}", Refusal::Exp),
-        (b"{\"sub\":\"spiffe://a\",\"aud\":\"s\",\"exp\":5,\"nbf\":\"x\"}", Refusal::Nbf),
-        (b"{\"sub\":\"spiffe://a\",\"aud\":\"s\",\"exp\":5,\"nbf\":null}", Refusal::Nbf),
-        (b"{\"sub\":\"spiffe://a\",\"aud\":\"s\",\"exp\":5,\"nbf\":[3],\"jti\":5}", Refusal::Nbf),
-        (b"{\"sub\":\"spiffe://a\",\"aud\":\"s\",\"exp\":5,\"nbf\":3,\"jti\":5}", Refusal::Jti),
-        (b"{\"sub\":\"spiffe://a\",\"aud\":\"s\",\"exp\":5,\"jti\":null}", Refusal::Jti),
-        (b"{\"sub\":\"spiffe://a\",\"aud\":\"s\",\"exp\":5,\"jti\":\"\\udc00\"}", Refusal::PayloadNotObject),
-        (b"{\"sub\":\"spiffe://a\",\"aud\":\"s\",\"exp\":5} x", Refusal::PayloadNotObject),
+        (
+            b"{\"sub\":\"spiffe://a\",\"aud\":\"s\",\"jti\":5}",
+            Refusal::Exp,
+        ),
+        (
+            b"{\"sub\":\"spiffe://a\",\"aud\":\"s\",\"exp\":null,\"nbf\":null}",
+            Refusal::Exp,
+        ),
+        (
+            b"{\"sub\":\"spiffe://a\",\"aud\":\"s\",\"exp\":5,\"nbf\":\"x\"}",
+            Refusal::Nbf,
+        ),
+        (
+            b"{\"sub\":\"spiffe://a\",\"aud\":\"s\",\"exp\":5,\"nbf\":null}",
+            Refusal::Nbf,
+        ),
+        (
+            b"{\"sub\":\"spiffe://a\",\"aud\":\"s\",\"exp\":5,\"nbf\":[3],\"jti\":5}",
+            Refusal::Nbf,
+        ),
+        (
+            b"{\"sub\":\"spiffe://a\",\"aud\":\"s\",\"exp\":5,\"nbf\":3,\"jti\":5}",
+            Refusal::Jti,
+        ),
+        (
+            b"{\"sub\":\"spiffe://a\",\"aud\":\"s\",\"exp\":5,\"jti\":null}",
+            Refusal::Jti,
+        ),
+        (
+            b"{\"sub\":\"spiffe://a\",\"aud\":\"s\",\"exp\":5,\"jti\":\"\\udc00\"}",
+            Refusal::PayloadNotObject,
+        ),
+        (
+            b"{\"sub\":\"spiffe://a\",\"aud\":\"s\",\"exp\":5} x",
+            Refusal::PayloadNotObject,
+        ),
     ];
     for (json, refusal) in cases {
         assert_eq!(rt; claims(rt.alloc(), json).err(), Some(refusal), "{json:?}");
@@ -311,7 +433,9 @@ fn refuses_claims(rt: HostRuntime) -> Result<(), Fail> {
 
 // The claims of a payload with this `exp` and this `nbf`, written as they stand.
 fn timed(alloc: Global, exp: &str, nbf: &str) -> Result<Claims, Refusal> {
-    let json = format!(in alloc; "{{\"sub\":\"spiffe://a/b\",\"aud\":\"s\",\"exp\":{exp},\"nbf\":{nbf}}}")?;
+    let json = format!(in alloc;
+        "{{\"sub\":\"spiffe://a/b\",\"aud\":\"s\",\"exp\":{exp},\"nbf\":{nbf}}}"
+    )?;
     claims(alloc, json.as_bytes())
 }
 
@@ -323,26 +447,47 @@ fn reads_times_of_digits_alone(rt: HostRuntime) -> Result<(), Fail> {
         assert_eq!(rt; timed(rt.alloc(), "7", written)?.nbf, Some(time));
     }
     let refused = [
-        "1.5", "1e9", "1E9", "-1", "-0", "1.0", "0.0", "\"1001\"", "18446744073709551616", "true",
+        "1.5",
+        "1e9",
+        "1E9",
+        "-1",
+        "-0",
+        "1.0",
+        "0.0",
+        "\"1001\"",
+        "18446744073709551616",
+        "true",
         "[1]",
     ];
     for written in refused {
-        assert_eq!(rt; timed(rt.alloc(), written, "7").err(), Some(Refusal::Exp), "{written}");
-        assert_eq!(rt; timed(rt.alloc(), "7", written).err(), Some(Refusal::Nbf), "{written}");
+        assert_eq!(rt;
+            timed(rt.alloc(), written, "7").err(),
+            Some(Refusal::Exp),
+            "{written}"
+        );
+        assert_eq!(rt;
+            timed(rt.alloc(), "7", written).err(),
+            Some(Refusal::Nbf),
+            "{written}"
+        );
     }
     Ok(())
 }
 
 #[test]
 fn keys_tokens(rt: HostRuntime) -> Result<(), Fail> {
-    let id = SpiffeId::parse(rt.alloc(), b"spiffe://a/b").ok().ok_or("an ID")?;
+    let id = SpiffeId::parse(rt.alloc(), b"spiffe://a/b")
+        .ok()
+        .ok_or("an ID")?;
     let by_jti = Sha256::digest(b"\x01\x00\x00\x00\x01aj1");
     assert_eq!(rt; token_key(&id, Some("j1"), b"."), by_jti);
     assert_eq!(rt; token_key(&id, Some("j1"), b"h.p"), by_jti);
     let by_input = Sha256::digest(b"\x00.");
     assert_eq!(rt; token_key(&id, None, b"."), by_input);
     assert_eq!(rt; token_key(&id, Some(""), b"."), by_input);
-    let other = SpiffeId::parse(rt.alloc(), b"spiffe://aj").ok().ok_or("an ID")?;
+    let other = SpiffeId::parse(rt.alloc(), b"spiffe://aj")
+        .ok()
+        .ok_or("an ID")?;
     assert_ne!(rt; token_key(&other, Some("1"), b"."), by_jti);
     assert_eq!(rt; token_key(&other, None, b"."), by_input);
     Ok(())

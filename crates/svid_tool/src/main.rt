@@ -6,6 +6,8 @@ mod id;
 mod output;
 mod report;
 mod report_text;
+#[cfg(test)]
+mod tests;
 mod tool_fault;
 mod words;
 

@@ -14,10 +14,10 @@ returns-in_err-payload c =
 pub returns-in-None : goal.returns-in-None
 returns-in-None c =
     let is : IsCompact c.args.token.now c.in_ok-header.header.now c.in_ok-payload.payload.now c.in_ok-payload.signature.now = record {
-        joined = c.in_ok-header.ensures.1 ∙ ap (λ rest. c.in_ok-header.header.now ++ PERIOD ∷ rest) c.in_ok-payload.ensures.1;
-        header_whole = c.in_ok-header.ensures.0;
-        payload_whole = c.in_ok-payload.ensures.0;
-        signature_whole = c.in-None.ensures
+      joined = c.in_ok-header.ensures.1 ∙ ap (λ rest. c.in_ok-header.header.now ++ PERIOD ∷ rest) c.in_ok-payload.ensures.1;
+      header_whole = c.in_ok-header.ensures.0;
+      payload_whole = c.in_ok-payload.ensures.0;
+      signature_whole = c.in-None.ensures;
     } in
     (is, parts_of-three _ _ _ _ is)
 

@@ -1,0 +1,205 @@
+ghost use Rattle.std.specs.Prelude.{◌≤◌, IfOk, length, None};
+ghost use Rattle.std.specs.Io.KnownBytes.{ReadConsumes};
+ghost use Rattle.svid_wire.specs.Faults.{CountsFault};
+
+use super::{EMPTY_REPORT, TWO_USES, TWO_USES_REPORT};
+use crate::ToolFault;
+use crate::report::run_report;
+use std::alloc::{AllocError, Global};
+use std::test::Fail;
+use svid_wire::{MemSink, MemSource, Reason, Sink, Source, Stopped};
+
+// The batch of two uses with one byte changed.
+fn with_byte(alloc: Global, place: usize, byte: u8) -> Result<Vec<u8>, AllocError> {
+    let mut bytes = TWO_USES.to_vec(alloc)?;
+    if let Some(at) = bytes.get_mut(place) {
+        *at = byte;
+    }
+    Ok(bytes)
+}
+
+fn report(alloc: Global, bytes: Vec<u8>, out: &mut MemSink) -> Result<(), ToolFault> {
+    let mut inputs = [MemSource::new(bytes, 1000, None)];
+    run_report(alloc, &mut inputs, None, out)
+}
+
+fn refusal(message: usize, place: usize, reason: Reason) -> Result<(), ToolFault> {
+    Err(ToolFault::Wire {
+        input: 1,
+        message,
+        place,
+        reason,
+    })
+}
+
+#[test]
+fn reports_two_uses_of_one_key(rt: HostRuntime) -> Result<(), Fail> {
+    let alloc = rt.alloc();
+    for step in [1, 7, 145, 1000] {
+        let mut inputs = [MemSource::new(TWO_USES.to_vec(alloc)?, step, None)];
+        let mut out = MemSink::new(alloc, 10, None);
+        assert_eq!(rt; run_report(alloc, &mut inputs, None, &mut out), Ok(()));
+        assert_eq!(rt; out.bytes(), TWO_USES_REPORT);
+    }
+    Ok(())
+}
+
+#[test]
+fn reports_nothing_of_an_empty_input(rt: HostRuntime) {
+    let mut out = MemSink::new(rt.alloc(), 1000, None);
+    assert_eq!(rt; report(rt.alloc(), Vec::new(rt.alloc()), &mut out), Ok(()));
+    assert_eq!(rt; out.bytes(), EMPTY_REPORT);
+}
+
+#[test]
+fn refuses_each_part_of_a_batch(rt: HostRuntime) -> Result<(), Fail> {
+    let alloc = rt.alloc();
+    for length in 1..145 {
+        let mut out = MemSink::new(alloc, 1000, None);
+        let part = TWO_USES.split_at(length).0.to_vec(alloc)?;
+        assert_eq!(rt;
+            report(alloc, part, &mut out),
+            refusal(1, length, Reason::Truncated)
+        );
+        assert!(rt; out.bytes().is_empty());
+    }
+    Ok(())
+}
+
+#[test]
+fn refuses_the_first_bad_field(rt: HostRuntime) -> Result<(), Fail> {
+    let alloc = rt.alloc();
+    for (place, byte, at, reason) in [
+        (0, 0, 0, Reason::Magic),
+        (4, 3, 4, Reason::Kind),
+        (4, 2, 4, Reason::Kind),
+        // a count of 4,097: its two bytes are changed one after the other
+        (24, 100, 17, Reason::UseExpired),
+        (80, 101, 17, Reason::UseFuture),
+        (88, 100, 81, Reason::UseExpired),
+        (144, 101, 81, Reason::UseFuture),
+        // the second use is less than the first
+        (121, 0, 81, Reason::UseOrder),
+    ] {
+        let mut out = MemSink::new(alloc, 1000, None);
+        assert_eq!(rt;
+            report(alloc, with_byte(alloc, place, byte)?, &mut out),
+            refusal(1, at, reason),
+            "byte {place}"
+        );
+        assert!(rt; out.bytes().is_empty());
+    }
+    Ok(())
+}
+
+#[test]
+fn refuses_a_count_over_the_limit(rt: HostRuntime) -> Result<(), Fail> {
+    let alloc = rt.alloc();
+    let mut bytes = with_byte(alloc, 15, 16)?;
+    if let Some(at) = bytes.get_mut(16) {
+        *at = 1;
+    }
+    let mut out = MemSink::new(alloc, 1000, None);
+    assert_eq!(rt;
+        report(alloc, bytes, &mut out),
+        refusal(1, 13, Reason::Count)
+    );
+    Ok(())
+}
+
+#[test]
+fn refuses_equal_uses(rt: HostRuntime) -> Result<(), Fail> {
+    let alloc = rt.alloc();
+    let mut bytes = TWO_USES.split_at(81).0.to_vec(alloc)?;
+    bytes.extend_from_slice(TWO_USES.split_at(17).1.split_at(64).0)?;
+    let mut out = MemSink::new(alloc, 1000, None);
+    assert_eq!(rt;
+        report(alloc, bytes, &mut out),
+        refusal(1, 81, Reason::UseOrder)
+    );
+    Ok(())
+}
+
+#[test]
+fn refuses_a_byte_behind_the_batch(rt: HostRuntime) -> Result<(), Fail> {
+    let alloc = rt.alloc();
+    let mut bytes = TWO_USES.to_vec(alloc)?;
+    bytes.push(0)?;
+    let mut out = MemSink::new(alloc, 1000, None);
+    assert_eq!(rt;
+        report(alloc, bytes, &mut out),
+        refusal(2, 0, Reason::Magic)
+    );
+    assert!(rt; out.bytes().is_empty());
+    Ok(())
+}
+
+#[test]
+fn tells_a_failed_read(rt: HostRuntime) -> Result<(), Fail> {
+    let alloc = rt.alloc();
+    for fail_at in [1, 2, 3] {
+        let mut inputs = [MemSource::new(TWO_USES.to_vec(alloc)?, 100, Some(fail_at))];
+        let mut out = MemSink::new(alloc, 1000, None);
+        assert_eq!(rt;
+            run_report(alloc, &mut inputs, None, &mut out),
+            Err(ToolFault::Read { input: 1 })
+        );
+        assert!(rt; out.bytes().is_empty());
+    }
+    Ok(())
+}
+
+#[test]
+fn tells_a_failed_write(rt: HostRuntime) -> Result<(), Fail> {
+    let alloc = rt.alloc();
+    for (fail_at, written) in [(1, 0), (2, 100), (3, 200)] {
+        let mut out = MemSink::new(alloc, 100, Some(fail_at));
+        assert_eq!(rt;
+            report(alloc, TWO_USES.to_vec(alloc)?, &mut out),
+            Err(ToolFault::Write)
+        );
+        assert_eq!(rt; out.bytes().len(), written);
+        assert!(rt; TWO_USES_REPORT.starts_with(out.bytes()));
+    }
+    Ok(())
+}
+
+// A source of so many bytes 0, which holds none.
+#[derive(Drop)]
+struct Zeros {
+    left: usize,
+}
+
+impl Source for Zeros {
+    ghost left = { λ _. None };
+
+    ghost stops = { λ _. 0 };
+
+    fn get(&mut self, room: &mut [u8]) -> Result<usize, Stopped>
+        ensures count { IfOk result (λ k. k ≤ length room.new) }
+        ensures bytes { ReadConsumes None None result room.new }
+        ensures faults { CountsFault 0 0 result }
+    {
+        let given = self.left.min(room.len());
+        room.split_at_mut(given).0.fill(0);
+        self.left -= given;
+        Ok(given)
+    }
+
+    fn faults(&self) -> u64 {
+        0
+    }
+}
+
+#[test]
+fn refuses_an_input_past_the_limit(rt: HostRuntime) {
+    for (left, fault) in [
+        (67_108_864, refusal(1, 0, Reason::Magic)),
+        (67_108_865, Err(ToolFault::TooMuch { input: 1 })),
+    ] {
+        let mut inputs = [Zeros { left }];
+        let mut out = MemSink::new(rt.alloc(), 1000, None);
+        assert_eq!(rt; run_report(rt.alloc(), &mut inputs, None, &mut out), fault);
+        assert!(rt; out.bytes().is_empty());
+    }
+}
