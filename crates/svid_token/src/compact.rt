@@ -5,7 +5,8 @@ use crate::refusal::Refusal;
 
 const PERIOD: u8 = b'.';
 
-const MAX_TOKEN_LEN: usize = 65536;
+/// The most bytes that a token may have.
+pub const MAX_TOKEN_LEN: usize = 65536;
 
 /// The three parts of a token in the compact form (RFC 7515, section 7.1), as slices of it.
 #[derive(Clone, Copy, Debug, PartialEq, Eq)]

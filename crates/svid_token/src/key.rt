@@ -5,9 +5,12 @@ ghost use Rattle.svid_token.specs.TokenKey.{token_text};
 use sha2::{Digest, Sha256};
 use svid_id::SpiffeId;
 
-/// The key by which two uses of one token are told: the SHA-256 digest of its `jti` within the
-/// trust domain of its subject, or of its signing input where it has no `jti` or an empty one. The
-/// signature is not part of it. No memory is taken.
+/// The key by which two uses of one token are told, a SHA-256 digest. No memory is taken.
+///
+/// It is the digest of byte 01, the length of the subject's trust domain name in four bytes with
+/// the greatest first, the name and the `jti`. Where there is no `jti`, or an empty one, it is the
+/// digest of byte 00 and the signing input. The signature is not part of it, since some signatures
+/// can be changed and stay good.
 pub fn token_key(sub: &SpiffeId, jti: Option<&str>, input: &[u8]) -> [u8; 32]
     ensures { result
         ≡ sha256 (token_text sub.now.domain (option_map (λ s. s.now) jti.entry) input.now) }

@@ -39,7 +39,7 @@ mod tests;
 
 pub use alg::Alg;
 pub use claims::Claims;
-pub use compact::Compact;
+pub use compact::{Compact, MAX_TOKEN_LEN};
 pub use header::Header;
 pub use json::read_json;
 pub use key::token_key;

@@ -1,11 +1,11 @@
-ghost use Rattle.std.specs.Prelude.{◌≤◌};
-
 // Each call that takes memory, with each of its allocations refused in turn.
 //
 // A preloaded library refuses them. It is told by requests that no allocator can meet: 2^62 + n
 // bytes refuse the nth allocation that follows, none for n = 0, and 2^62 + 2^61 bytes are given
 // exactly where one was refused since. Without the library each test runs its call with ample
 // memory.
+
+ghost use Rattle.std.specs.Prelude.{◌≤◌};
 
 use crate::tests::{HEADER, PAYLOAD};
 use crate::{Header, PartFault, Payload, Refusal, decode_part, read_json, read_signature};
@@ -63,74 +63,43 @@ fn part_refusal(fault: PartFault) -> Refusal {
 
 #[test]
 fn decoding_answers_want_of_memory(rt: HostRuntime) {
-    sweep(&rt, rt.alloc(), None, |alloc| {
-        decode_part(alloc, HEADER.as_bytes())
-            .err()
-            .map(part_refusal)
-    });
-    sweep(&rt, rt.alloc(), Some(Refusal::SignatureSpelling), |alloc| {
-        decode_part(alloc, b"QQ==").err().map(part_refusal)
-    });
-    sweep(
-        &rt,
-        rt.alloc(),
-        None,
-        |alloc| read_signature(alloc, b"c2ln").err(),
-    );
-    sweep(&rt, rt.alloc(), Some(Refusal::SignatureSpelling), |alloc| {
-        read_signature(alloc, b"c2lo=").err()
-    });
+    let call = |alloc: Global| decode_part(alloc, b"c2ln").err().map(part_refusal);
+    sweep(&rt, rt.alloc(), None, call);
+    let call = |alloc: Global| read_signature(alloc, b"c2ln").err();
+    sweep(&rt, rt.alloc(), None, call);
+    let call = |alloc: Global| read_signature(alloc, b"c2lo=").err();
+    sweep(&rt, rt.alloc(), Some(Refusal::SignatureSpelling), call);
 }
 
 #[test]
 fn reading_a_header_answers_want_of_memory(rt: HostRuntime) {
-    sweep(
-        &rt,
-        rt.alloc(),
-        None,
-        |alloc| Header::read(alloc, HEADER.as_bytes()).err(),
-    );
+    let call = |alloc: Global| Header::read(alloc, HEADER.as_bytes()).err();
+    sweep(&rt, rt.alloc(), None, call);
     // {"alg":"ES256","kid":1}
-    sweep(&rt, rt.alloc(), Some(Refusal::Kid), |alloc| {
-        Header::read(alloc, b"eyJhbGciOiJFUzI1NiIsImtpZCI6MX0").err()
-    });
+    let call = |alloc: Global| Header::read(alloc, b"eyJhbGciOiJFUzI1NiIsImtpZCI6MX0").err();
+    sweep(&rt, rt.alloc(), Some(Refusal::Kid), call);
 }
 
 #[test]
 fn reading_a_payload_answers_want_of_memory(rt: HostRuntime) {
-    sweep(
-        &rt,
-        rt.alloc(),
-        None,
-        |alloc| Payload::read(alloc, PAYLOAD.as_bytes()).err(),
-    );
+    let call = |alloc: Global| read_json(alloc, b"[{\"a\":1.5}]").err().map(Refusal::from);
+    sweep(&rt, rt.alloc(), None, call);
+    let call = |alloc: Global| Payload::read(alloc, PAYLOAD.as_bytes()).err();
+    sweep(&rt, rt.alloc(), None, call);
     // {"aud":["s"]}x
-    sweep(&rt, rt.alloc(), Some(Refusal::PayloadNotObject), |alloc| {
-        Payload::read(alloc, b"eyJhdWQiOlsicyJdfXg").err()
-    });
-    sweep(
-        &rt,
-        rt.alloc(),
-        None,
-        |alloc| match read_json(alloc, b"[{\"a\":\"b\"}]") {
-            Ok(_) => None,
-            Err(_) => Some(Refusal::OutOfMemory),
-        },
-    );
+    let call = |alloc: Global| Payload::read(alloc, b"eyJhdWQiOlsicyJdfXg").err();
+    sweep(&rt, rt.alloc(), Some(Refusal::PayloadNotObject), call);
 }
 
 #[test]
 fn reading_claims_answers_want_of_memory(rt: HostRuntime) -> Result<(), Fail> {
     let payload = Payload::read(rt.alloc(), PAYLOAD.as_bytes())?;
-    sweep(&rt, rt.alloc(), None, |alloc| payload.claims(alloc).err());
+    let call = |alloc: Global| payload.claims(alloc).err();
+    sweep(&rt, rt.alloc(), None, call);
     // {"sub":"spiffe://a","aud":["t","u","s"],"exp":5,"jti":5}
     let part = b"eyJzdWIiOiJzcGlmZmU6Ly9hIiwiYXVkIjpbInQiLCJ1IiwicyJdLCJleHAiOjUsImp0aSI6NX0";
-    let payload = Payload::read(rt.alloc(), part)?;
-    sweep(
-        &rt,
-        rt.alloc(),
-        Some(Refusal::Jti),
-        |alloc| payload.claims(alloc).err(),
-    );
+    let other = Payload::read(rt.alloc(), part)?;
+    let call = |alloc: Global| other.claims(alloc).err();
+    sweep(&rt, rt.alloc(), Some(Refusal::Jti), call);
     Ok(())
 }

@@ -21,7 +21,8 @@ pub enum PartFault {
 /// section 5).
 ///
 /// It refuses, as `Spelling`, padding, blanks and every other byte outside the alphabet, a length
-/// that no bytes have, and bits left over that are not zero.
+/// that no bytes have, and bits left over that are not zero. It answers `OutOfMemory` where an
+/// allocation was refused. There are no more bytes than the part has.
 pub fn decode_part(alloc: Global, part: &[u8]) -> Result<Vec<u8>, PartFault>
     ensures accepted { IfOk result (λ v. Spells part.now v.items) }
     ensures value { IfOk result (λ v. part_bytes part.now ≡ Some v.items) }

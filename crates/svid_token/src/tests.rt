@@ -8,7 +8,10 @@ use std::alloc::{AllocError, Global};
 use std::test::Fail;
 use svid_id::SpiffeId;
 
-// The header and payload of one token, spelled by another encoder.
+// A token with the signature `sig`, and the header and the payload of it, spelled by another encoder.
+const TOKEN: &str =
+    "eyJhbGciOiJFUzI1NiIsImtpZCI6ImswMSIsInR5cCI6IkpXVCJ9.eyJzdWIiOiJzcGlmZmU6Ly9hL2IiLCJhdWQiOiJzIiwiZXhwIjoxMDAxLCJqdGkiOiJqMSJ9.c2ln";
+
 pub(crate) const HEADER: &str = "eyJhbGciOiJFUzI1NiIsImtpZCI6ImswMSIsInR5cCI6IkpXVCJ9";
 
 pub(crate) const PAYLOAD: &str =
@@ -40,10 +43,6 @@ fn nested(alloc: Global, members: &str, depth: usize) -> Result<String, AllocErr
     text.push('}')?;
     Ok(text)
 }
-
-// The token of the header and the payload above, with the signature `sig`.
-const TOKEN: &str =
-    "eyJhbGciOiJFUzI1NiIsImtpZCI6ImswMSIsInR5cCI6IkpXVCJ9.eyJzdWIiOiJzcGlmZmU6Ly9hL2IiLCJhdWQiOiJzIiwiZXhwIjoxMDAxLCJqdGkiOiJqMSJ9.c2ln";
 
 #[test]
 fn takes_a_token_apart(rt: HostRuntime) -> Result<(), Fail> {
@@ -490,5 +489,17 @@ fn keys_tokens(rt: HostRuntime) -> Result<(), Fail> {
         .ok_or("an ID")?;
     assert_ne!(rt; token_key(&other, Some("1"), b"."), by_jti);
     assert_eq!(rt; token_key(&other, None, b"."), by_input);
+    Ok(())
+}
+
+#[test]
+fn shows_faults(rt: HostRuntime) -> Result<(), Fail> {
+    let refusal = format!(in rt.alloc(); "{} ({:?})", Refusal::Crit, Refusal::Crit)?;
+    assert_eq!(rt;
+        refusal.as_str(),
+        "the header has critical extensions (Crit)"
+    );
+    let fault = format!(in rt.alloc(); "{} ({:?})", PartFault::Spelling, PartFault::Spelling)?;
+    assert_eq!(rt; fault.as_str(), "not base64url (Spelling)");
     Ok(())
 }

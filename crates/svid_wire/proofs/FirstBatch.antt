@@ -20,16 +20,16 @@ use Rattle.svid_wire.specs.declared.reason.Reason.{Reason}
 use Rattle.svid_wire.specs.declared.reason.Reason.TheVariants as reason
 
 -- what bytes begin with: a batch, with the bytes behind it, a fault, or a batch that is cut
-data Found : Type 0 where
+pub data Found : Type 0 where
   batch : BatchData → List ℕ → Found
   fault : WireFault → Found
   cut : Found
 
-abbrev fault_at : ℕ → Reason → Found
+abbrev pub fault_at : ℕ → Reason → Found
 fault_at place reason = fault (record { place = place; reason = reason })
 
 -- the first n bytes, where there are as many, and those behind them
-split_field : ℕ → List ℕ → Option (List ℕ × List ℕ)
+unfoldable pub split_field : ℕ → List ℕ → Option (List ℕ × List ℕ)
 split_field zero x = Some ([], x)
 split_field (suc n) [] = None
 split_field (suc n) (b ∷ x) = option_map (λ p. (b ∷ p.0, p.1)) (split_field n x)
@@ -48,7 +48,7 @@ split_field-short (suc n) [] h = refl
 split_field-short (suc n) (b ∷ x) h = ap (option_map (λ p. (b ∷ p.0, p.1))) (split_field-short n x (omega arith))
 
 -- looks at the next field, where it is whole
-abbrev at_field : Option (List ℕ × List ℕ) → (List ℕ → List ℕ → Found) → Found
+abbrev pub at_field : Option (List ℕ × List ℕ) → (List ℕ → List ℕ → Found) → Found
 at_field None next = cut
 at_field (Some p) next = next p.0 p.1
 
@@ -59,11 +59,11 @@ at_short : (n : ℕ) (x : List ℕ) (next : List ℕ → List ℕ → Found) →
 at_short n x next h = ap (λ o. at_field o next) (split_field-short n x h)
 
 -- the use of these four pieces
-use_of_pieces : List ℕ → List ℕ → List ℕ → List ℕ → Use
+unfoldable pub use_of_pieces : List ℕ → List ℕ → List ℕ → List ℕ → Use
 use_of_pieces e k p a = record { exp = from_be_bytes w64 e; key = k; place = p; at = from_be_bytes w64 a }
 
 -- the use whose text these bytes are
-use_of : List ℕ → Use
+unfoldable pub use_of : List ℕ → Use
 use_of f = use_of_pieces (take 8 f) (take 32 (drop 8 f)) (take 16 (drop 40 f)) (drop 56 f)
 
 use_of-append : (e k p a : List ℕ) → length e ≡ 8 → length k ≡ 32 → length p ≡ 16 → use_of (e ++ k ++ p ++ a) ≡ use_of_pieces e k p a
@@ -94,35 +94,35 @@ length-text_of u h =
     length_pieces (to_be_bytes w64 u.exp) u.key u.place (to_be_bytes w64 u.at) refl h.key.size h.place.size refl
 
 -- goes on behind a good use
-abbrev judged : Option Flaw → List Use → Found → Found
+abbrev pub judged : Option Flaw → List Use → Found → Found
 judged None us next = next
 judged (Some f) us next = fault_at (17 + 64 * length us) (flaw_reason f)
 
 -- so many uses more, behind those that were found good
-find_uses : ℕ → ℕ → List Use → List ℕ → Found
+unfoldable pub find_uses : ℕ → ℕ → List Use → List ℕ → Found
 find_uses zero m us x = batch (record { moment = m; uses = us }) x
 find_uses (suc n) m us x = at_field (split_field 64 x) (λ f rest. judged (flaw m (last_of None us) (use_of f)) us (find_uses n m (us ++ use_of f ∷ []) rest))
 
-found_uses : ℕ → ℕ → List ℕ → Found
+unfoldable pub found_uses : ℕ → ℕ → List ℕ → Found
 found_uses m c rest = if nat_lt 4096 c then fault_at 13 reason.Count else find_uses c m [] rest
 
-find_numbers : List ℕ → Found
+unfoldable pub find_numbers : List ℕ → Found
 find_numbers x = at_field (split_field 12 x) (λ f rest. found_uses (from_be_bytes w64 (take 8 f)) (from_be_bytes w32 (drop 8 f)) rest)
 
-find_kind : List ℕ → Found
+unfoldable pub find_kind : List ℕ → Found
 find_kind x = at_field (split_field 1 x) (λ f rest. if bytes_eq f (batch_kind ∷ []) then find_numbers rest else fault_at 4 reason.Kind)
 
-find_magic : List ℕ → Found
+unfoldable pub find_magic : List ℕ → Found
 find_magic x = at_field (split_field 4 x) (λ f rest. if bytes_eq f magic then find_kind rest else fault_at 0 reason.Magic)
 
 -- bytes that end before a batch does have a fault at their end
-abbrev settled : List ℕ → Found → Found
+abbrev pub settled : List ℕ → Found → Found
 settled bytes (batch b rest) = batch b rest
 settled bytes (fault found) = fault found
 settled bytes cut = fault_at (length bytes) reason.Truncated
 
 -- what the bytes begin with
-first_batch : List ℕ → Found
+unfoldable pub first_batch : List ℕ → Found
 first_batch bytes = settled bytes (find_magic bytes)
 
 -- one use, good or not

@@ -1,3 +1,4 @@
 pub mod FirstBatch
+pub mod FirstBatchTells
 pub mod StageLemmas
 pub mod WireFaultLemmas

@@ -1,5 +1,5 @@
 -- What is wrong with bytes that begin with no batch.
-use Rattle.std.specs.Prelude.{◌≡◌, ◌≢◌, ℕ, ◌+◌, ◌*◌, ◌^◌, ◌<◌, ◌≤◌, ◌⊎◌, List, ◌∷◌, ◌++◌, length, take, None, Some}
+use Rattle.std.specs.Prelude.{◌≡◌, ◌≢◌, ℕ, ◌+◌, ◌*◌, ◌^◌, ◌<◌, ◌≤◌, ◌⊎◌, List, ◌∷◌, ◌++◌, length, take, None, Some, All}
 use Rattle.std.specs.List.{AllByRecursion, flat_map}
 use Rattle.svid_replay.specs.declared.token_use.Use.{Use}
 use Rattle.svid_replay.specs.declared.flaw.Flaw.{Flaw}
@@ -95,6 +95,17 @@ IsRefusal bytes fault = IsFault bytes fault ⊎ (fault ≡ no_memory)
 -- bytes that begin with the text of a batch have no fault
 abbrev pub TextHasNoFault : Type 0
 TextHasNoFault = (b : BatchData) (rest : List ℕ) (fault : WireFault) → IsBatch b → ¬ IsFault (batch_text b ++ rest) fault
+
+-- the bytes begin with a batch
+pub record BeginsBatch (bytes : List ℕ) : Type 0 where
+  pub batch : BatchData
+  pub rest : List ℕ
+  pub good : IsBatch batch
+  pub parts : bytes ≡ batch_text batch ++ rest
+
+-- bytes begin with a batch or have a fault, unless there are none
+abbrev pub BeginsOrFaults : Type 0
+BeginsOrFaults = (bytes : List ℕ) → All (λ b. b < 256) bytes → 0 < length bytes → BeginsBatch bytes ⊎ ((fault : WireFault) × IsFault bytes fault)
 
 -- bytes have at most one fault
 abbrev pub FaultIsUnique : Type 0

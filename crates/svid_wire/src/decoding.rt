@@ -11,6 +11,8 @@ use svid_replay::Batch;
 
 /// The batch that `bytes` begin with, and the bytes behind it.
 ///
+/// There is at least one byte: whether none is an end or a fault is the caller's to say.
+///
 /// The fields are judged in their order, each when it is whole. Refused with the first that is bad,
 /// and the place where it begins, or with `Truncated` and the number of bytes where they end before
 /// the batch does; or for want of memory.

@@ -2,7 +2,7 @@
 //! nothing in it, so that the check proves it like any other promise.
 
 ghost use Rattle.svid_wire.specs.BatchText.{BeginsOneBatch, NoTextIsLonger};
-ghost use Rattle.svid_wire.specs.WireFault.{FaultIsUnique, FieldFaultStays, TextHasNoFault};
+ghost use Rattle.svid_wire.specs.WireFault.{BeginsOrFaults, FaultIsUnique, FieldFaultStays, TextHasNoFault};
 
 /// Bytes begin with the text of at most one batch.
 pub fn begins_one_batch()
@@ -17,6 +17,11 @@ pub fn no_text_is_longer()
 /// Bytes that begin with a batch's text have no fault, whatever follows.
 pub fn text_has_no_fault()
     ensures { TextHasNoFault }
+{}
+
+/// Bytes, where there are any, begin with a batch's text or have a fault.
+pub fn begins_or_faults()
+    ensures { BeginsOrFaults }
 {}
 
 /// Bytes have at most one fault: one reason at one place.

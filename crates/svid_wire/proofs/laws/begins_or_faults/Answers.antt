@@ -1,0 +1,5 @@
+use Rattle.svid_wire.proofs.FirstBatchTells.{begins_or_faults}
+use Rattle.svid_wire.proofs.laws.begins_or_faults.Goals as goal
+
+pub returns : goal.returns
+returns c = begins_or_faults
