@@ -1,3 +1,7 @@
+ghost use Rattle.std.specs.Prelude.{◌≡◌};
+ghost use Rattle.svid_keys.specs.declared.bundle_fault.BundleFault.TheVariants.{OutOfMemory};
+
+use std::alloc::AllocError;
 use thiserror::Error;
 
 /// Why bytes are no trust bundles.
@@ -17,4 +21,12 @@ pub enum BundleFault {
     /// There was no memory for what the bytes say.
     #[error("out of memory")]
     OutOfMemory,
+}
+
+impl From<AllocError> for BundleFault {
+    ghost from_gives = { λ _ fault. fault ≡ OutOfMemory };
+
+    fn from(_error: AllocError) -> BundleFault {
+        BundleFault::OutOfMemory
+    }
 }

@@ -1,5 +1,5 @@
 use Rattle.std.proofs.Common.{◌≡◌, ℕ, ◌+◌, ◌<◌, ◌≤◌, List, [], ◌∷◌, ◌++◌, length, take, drop, get_or, refl, sym, subst, ◌∙◌, ap, arith, Option, None, Some, Bool, true, false, cond, not, nat_lt}
-use Rattle.std.proofs.Common.{add-one, drop-cons, suc}
+use Rattle.std.proofs.Common.{add-one, drop-cons, zero, suc}
 use Rattle.std.proofs.Math.Seq.{take-suc}
 use Rattle.std.proofs.lemmas.List.{length-take-le, take-append-drop}
 use Rattle.std.specs.List.{AllByRecursion}
@@ -14,7 +14,8 @@ use Rattle.std.specs.declared.cmp.Ordering.{Ordering}
 use Rattle.std.specs.declared.cmp.Ordering.TheVariants.{Less, Equal, Greater}
 use Rattle.svid_replay.specs.Use.{IsUse, use_cmp, IsRising}
 use Rattle.svid_replay.proofs.UseLemmas.{use_total}
-use Rattle.svid_replay.specs.Batches.{BatchData, flaw, AllGood, last_of, IsBatch, IsFirstFlaw, IsBatchFault, fault_of}
+use Rattle.std.proofs.lemmas.Bool.Decides.{nat_tests}
+use Rattle.svid_replay.specs.Batches.{is_after, flaw, AllGood, last_of, IsBatch, IsFirstFlaw, IsBatchFault, fault_of}
 
 -- one more good use behind good ones
 pub AllGood-push : (m : ℕ) (before : Option Use) (xs : List Use) (y : Use) → AllGood m before xs → flaw m (last_of before xs) y ≡ None → AllGood m before (xs ++ y ∷ [])
@@ -109,3 +110,17 @@ pub rising_from_good : (m : ℕ) (before : Option Use) (us : List Use) → AllGo
 unfolding IsStrictlySortedBy
 rising_from_good m before [] good = tt
 rising_from_good m before (u ∷ us) good = (above_rest m u us good.1, rising_from_good m (Some u) us good.1)
+
+no_flaw_made : (live future after : Bool) → cond live (Some Expired) (cond future (Some Future) (cond after None (Some Order))) ≡ None → future ≡ false
+no_flaw_made true future after e = cc
+no_flaw_made false true after e = cc
+no_flaw_made false false after e = refl
+
+-- good uses were made by the moment
+pub made_at : (m : ℕ) (before : Option Use) (us : List Use) (i : ℕ) (d : Use) → AllGood m before us → i < length us → (get_or us i d).at ≤ m
+unfolding flaw
+made_at m before [] i d good within = absurd (omega arith)
+made_at m before (u ∷ us) zero d good within =
+    let test : nat_lt m u.at ≡ false = no_flaw_made (not (nat_lt m u.exp)) (nat_lt m u.at) (is_after before u) good.0 in
+    grind (arith, nat_tests)
+made_at m before (u ∷ us) (suc i) d good within = made_at m (Some u) us i d good.1 (omega arith)

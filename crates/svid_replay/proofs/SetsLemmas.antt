@@ -1,11 +1,11 @@
-use Rattle.std.proofs.Common.{◌≡◌, Bool, true, false, cond, not, ◌&&◌, ◌||◌, List, [], ◌∷◌, map, is_some, Option, None, Some, refl, sym, ◌∙◌, ap, subst, T}
+use Rattle.std.proofs.Common.{◌≡◌, Bool, true, false, cond, ◌&&◌, ◌||◌, List, [], ◌∷◌, map, is_some, Option, None, Some, refl, sym, ◌∙◌, ap, subst, T}
 use Rattle.std.specs.FinMap as finmap
-use Rattle.std.specs.FinMap.Entries.{find, is_sorted, below_all, is_some-find}
-use Rattle.std.specs.FinMap.{IsAntisymmetric, same_map, get-empty, get-insert, get-retain_keys, get-from_sorted, entries-from_sorted, entries_sorted, get-entries, contains_key-keys}
+use Rattle.std.specs.FinMap.Entries.{is_sorted, below_all}
+use Rattle.std.specs.FinMap.{IsAntisymmetric, same_map, get-empty, get-insert, get-retain_keys, entries-from_sorted, entries_sorted, contains_key-keys}
 use Rattle.std.specs.Cmp.{IsTotalOrder}
 use Rattle.std.specs.List.{AllByRecursion, list_any}
 use Rattle.std.specs.List.Sorted.{IsStrictlySortedBy}
-use Rattle.std.specs.Ordering.{eq_by_cmp, is_lt, is_eq}
+use Rattle.std.specs.Ordering.{eq_by_cmp, is_lt}
 use Rattle.std.specs.declared.cmp.Ordering.{Ordering}
 use Rattle.std.specs.declared.cmp.Ordering.TheVariants.{Less, Equal, Greater}
 use Rattle.svid_replay.specs.Sets.{Set, empty, with, keep, holds, rising, with_all, set_of}
@@ -123,7 +123,7 @@ module _ {K : Type 0} {R : K → K → Ordering} (o : IsTotalOrder R) (same : Is
       let b = rising-set_of_rising ys up' in
       sym a ∙ ap rising (same_set (set_of_rising xs) (set_of_rising ys) (λ q. holds-rising R (set_of_rising xs) q ∙ ap (list_any (eq_by_cmp R q)) a ∙ is q ∙ sym (holds-rising R (set_of_rising ys) q ∙ ap (list_any (eq_by_cmp R q)) b))) ∙ b
 
-  holds-with_all : (s : Set R) (ks : List K) (q : K) → holds (with_all s ks) q ≡ (list_any (eq_by_cmp R q) ks || holds s q)
+  pub holds-with_all : (s : Set R) (ks : List K) (q : K) → holds (with_all s ks) q ≡ (list_any (eq_by_cmp R q) ks || holds s q)
   holds-with_all s [] q = refl
   holds-with_all s (k ∷ ks) q =
       holds-with_all (with s k) ks q ∙ ap (λ b. list_any (eq_by_cmp R q) ks || b) (holds-with s k q)

@@ -1,4 +1,4 @@
-use Rattle.std.proofs.Common.{◌≡◌, ℕ, ◌<◌, ◌≤◌, ◌+◌, zero, suc, Bool, true, false, cond, not, ◌&&◌, ◌||◌, List, [], ◌∷◌, ◌++◌, map, length, take, drop, get_or, refl, sym, ◌∙◌, ap, subst, T, arith, nat_lt, Option, Some, None, slice_get, All, Contains, ◌⊎◌, inl, inr, ⊎_elim, ◌≢◌}
+use Rattle.std.proofs.Common.{◌≡◌, ℕ, ◌<◌, ◌≤◌, ◌+◌, suc, Bool, true, false, cond, not, ◌&&◌, ◌||◌, List, [], ◌∷◌, ◌++◌, map, length, take, drop, refl, sym, ◌∙◌, ap, subst, T, arith, nat_lt, Some, None, slice_get, All, Contains}
 use Rattle.std.proofs.lemmas.Bool.Decides.{nat_tests}
 use Rattle.std.specs.FinMap.{IsAntisymmetric, slice_cmp-IsAntisymmetric, nat_cmp-IsAntisymmetric}
 use Rattle.std.specs.Cmp.{IsTotalOrder}
@@ -6,18 +6,19 @@ use Rattle.std.proofs.lemmas.Cmp.{nat_list_cmp_total, tied_itself, alike_right}
 use Rattle.std.specs.List.{AllByRecursion, list_any, filter, prefix_len}
 use Rattle.std.specs.List.Sorted.{IsStrictlySortedBy, IsSortedByKey, IsStableByKey, ties}
 use Rattle.std.proofs.lemmas.List.Sorted.{sorted_far, ranks_by}
-use Rattle.std.proofs.lemmas.List.Elements.{All-contains, All-contains_itself, filter_passes, All-filter, All-map, recursion_from_All, filter_agree, filter-append}
+use Rattle.std.proofs.lemmas.List.Elements.{All-contains_itself, All-filter, All-map, recursion_from_All, filter_agree, filter-append}
 use Rattle.std.proofs.lemmas.List.Kept.{IsStrictlySortedBy-filter}
 use Rattle.std.proofs.lemmas.List.{length-drop, append-nil, append_assoc, map-append, take-append-drop}
 use Rattle.std.proofs.lemmas.List.Folds.{list_any-append}
 use Rattle.std.specs.Ordering.{eq_by_cmp, is_lt, is_eq, ordering_reverse}
 use Rattle.std.specs.declared.cmp.Ordering.{Ordering}
 use Rattle.std.specs.declared.cmp.Ordering.TheVariants.{Less, Equal, Greater}
-use Rattle.svid_replay.specs.Sets.{rising, set_of}
+use Rattle.svid_replay.specs.Sets.{set_of}
 use Rattle.svid_replay.specs.Use.{bytes_cmp, use_cmp, IsRising}
 use Rattle.svid_replay.specs.Twice.{has_key, uses_of, keys_of, twice_of, IsKeySorted, IsTwice, HasTwo}
 use Rattle.svid_replay.specs.declared.token_use.Use.{Use}
 use Rattle.svid_replay.specs.declared.twice.Twice.{Twice}
+use Rattle.svid_replay.proofs.ListLemmas.{all_same, none_same, each_weaker, each_append, found, same_map, any_map, any_here, rises_push, or-true, each_drop, any-filter, each_true, has_first, has_later, kept_in, in_kept, any_in, many}
 use Rattle.svid_replay.proofs.UseLemmas.{use_total}
 use Rattle.svid_replay.proofs.SetsLemmas.{same_rising, rising_rises, holds-rising, holds-set_of, or-false}
 
@@ -68,54 +69,6 @@ ties-has_key key u = ap (λ r. not (is_lt (bytes_cmp key u.key)) && not (is_lt r
 pub uses_of-stable : (key : List ℕ) (us vs : List Use) → IsStableByKey (λ u. u.key) bytes_cmp us vs → uses_of key vs ≡ uses_of key us
 uses_of-stable key us vs stable = sym (filter_agree _ _ (ties-has_key key) vs) ∙ stable (used_by key) ∙ filter_agree _ _ (ties-has_key key) us
 
--- ---- lists and tests
-all_same : {X : Type 0} (p : X → Bool) (xs : List X) → AllByRecursion (λ x. p x ≡ true) xs → filter p xs ≡ xs
-all_same p [] h = refl
-all_same p (x ∷ xs) h = rw h.0 (ap (λ ys. x ∷ ys) (all_same p xs h.1))
-
-none_same : {X : Type 0} (p : X → Bool) (xs : List X) → AllByRecursion (λ x. p x ≡ false) xs → filter p xs ≡ []
-none_same p [] h = refl
-none_same p (x ∷ xs) h = rw h.0 (none_same p xs h.1)
-
-each_weaker : {X : Type 0} (P Q : X → Type 0) → ((x : X) → P x → Q x) → (xs : List X) → AllByRecursion P xs → AllByRecursion Q xs
-each_weaker P Q f [] h = tt
-each_weaker P Q f (x ∷ xs) h = (f x h.0, each_weaker P Q f xs h.1)
-
-each_append : {X : Type 0} (P : X → Type 0) (xs ys : List X) → AllByRecursion P xs → AllByRecursion P ys → AllByRecursion P (xs ++ ys)
-each_append P [] ys h k = k
-each_append P (x ∷ xs) ys h k = (h.0, each_append P xs ys h.1 k)
-
--- what holds of each that passes, where one passes
-found : {X : Type 0} (P : X → Type 0) (p : X → Bool) (G : Type 0) (xs : List X) → AllByRecursion P xs → list_any p xs ≡ true → ((x : X) → P x → p x ≡ true → G) → G
-found P p G [] h any f = absurd (subst T (sym any) tt)
-found P p G (x ∷ xs) h any f =
-    elim (p x) as (λ b. p x ≡ b → (b || list_any p xs) ≡ true → G) [
-      | true ↦ λ e _. f x h.0 e
-      | false ↦ λ e rest. found P p G xs h.1 rest f
-    ] refl any
-
-same_map : {X Y : Type 0} (f g : X → Y) (xs : List X) → AllByRecursion (λ x. f x ≡ g x) xs → map f xs ≡ map g xs
-same_map f g [] h = refl
-same_map f g (x ∷ xs) h = ap (λ y. y ∷ map f xs) h.0 ∙ ap (λ ys. g x ∷ ys) (same_map f g xs h.1)
-
-any_map : {X Y : Type 0} (p : Y → Bool) (f : X → Y) (xs : List X) → list_any p (map f xs) ≡ list_any (λ x. p (f x)) xs
-any_map p f [] = refl
-any_map p f (x ∷ xs) = ap (λ b. p (f x) || b) (any_map p f xs)
-
-any_here : {X : Type 0} (p : X → Bool) (b : Bool) (x : X) (xs : List X) → AllByRecursion (λ y. p y ≡ b) (x ∷ xs) → list_any p (x ∷ xs) ≡ b
-any_here p true x xs h = rw h.0
-any_here p false x [] h = rw h.0
-any_here p false x (y ∷ ys) h = rw h.0 (any_here p false y ys h.1)
-
-rises_push : {K : Type 0} (R : K → K → Ordering) (ks : List K) (x : K) → IsStrictlySortedBy R ks → AllByRecursion (λ k. R k x ≡ Less) ks → IsStrictlySortedBy R (ks ++ x ∷ [])
-unfolding IsStrictlySortedBy
-rises_push R [] x up below = (tt, tt)
-rises_push R (k ∷ ks) x up below = (each_append (λ y. R k y ≡ Less) ks (x ∷ []) up.0 (below.0, tt), rises_push R ks x up.1 below.1)
-
-or-true : (b : Bool) → (b || true) ≡ true
-or-true true = refl
-or-true false = refl
-
 -- ---- the keys of uses
 any-keys_of : (us : List Use) (q : List ℕ) → list_any (eq_by_cmp bytes_cmp q) (keys_of us) ≡ list_any (has_key q) us
 unfolding keys_of
@@ -140,11 +93,6 @@ each_key : (P : List ℕ → Type 0) (us : List Use) → AllByRecursion (λ u. P
 each_key P us h = from_any P (keys_of us) (λ q any. found (λ u. P u.key) (has_key q) (P q) us h (sym (any-keys_of us q) ∙ any) (λ u k e. subst P (sym (key_exact q u.key (equal _ e))) k))
 
 -- ---- the uses of the least key of sorted uses stand in front
-each_drop : {X : Type 0} (P : X → Type 0) (n : ℕ) (xs : List X) → AllByRecursion P xs → AllByRecursion P (drop n xs)
-each_drop P zero xs h = h
-each_drop P (suc n) [] h = tt
-each_drop P (suc n) (x ∷ xs) h = each_drop P n xs h.1
-
 first_is_less : (r : Ordering) → is_lt (ordering_reverse r) ≡ false → is_eq r ≡ false → r ≡ Less
 first_is_less Less h e = refl
 first_is_less Equal h e = cc
@@ -302,15 +250,6 @@ lists_nothing sorted left listed first group others h is few =
     let more = lists_more sorted left listed first group others h is in
     subst (HasListed sorted others) (append-nil listed) (rw test at more)
 
-any-filter : {X : Type 0} (p : X → Bool) (xs : List X) → list_any p xs ≡ nat_lt 0 (length (filter p xs))
-any-filter p [] = refl
-any-filter p (x ∷ xs) =
-    elim (p x) as (λ b. (b || list_any p xs) ≡ nat_lt 0 (length (cond b (x ∷ filter p xs) (filter p xs)))) [ true ↦ grind (arith, nat_tests) | false ↦ any-filter p xs ]
-
-each_true : {X : Type 0} (P : X → Type 0) → ((x : X) → P x) → (xs : List X) → AllByRecursion P xs
-each_true P f [] = tt
-each_true P f (x ∷ xs) = (f x, each_true P f xs)
-
 -- ---- the lists that two orders of the same uses give
 same-keys : (us vs : List Use) → ((key : List ℕ) → uses_of key us ≡ uses_of key vs) → keys_of us ≡ keys_of vs
 same-keys us vs is = same-keys_of us (keys_of vs) (keys_of_rises vs) (λ q. any-filter (has_key q) us ∙ ap (λ xs. nat_lt 0 (length xs)) (is q) ∙ sym (any-filter (has_key q) vs) ∙ sym (any-keys_of vs q))
@@ -319,48 +258,11 @@ pub same-twice_of : (us vs : List Use) → ((key : List ℕ) → uses_of key us 
 unfolding twice_of
 same-twice_of us vs is = ap (λ ks. filter two (map (entry us) ks)) (same-keys us vs is) ∙ ap (filter two) (same_map (entry us) (entry vs) (keys_of vs) (each_true (λ q. entry us q ≡ entry vs q) (λ q. ap (λ xs. record { key = q; uses = xs }) (is q)) (keys_of vs)))
 
--- ---- what a list has
-has_cases : {X : Type 0} (x : X) (xs : List X) (y : X) → Contains (x ∷ xs) y → (x ≡ y) ⊎ Contains xs y
-has_cases x xs y (zero, within, at) = inl at
-has_cases x xs y (suc k, within, at) = inr (k, omega arith, at)
-
-has_later : {X : Type 0} (x : X) (xs : List X) (y : X) → Contains xs y → Contains (x ∷ xs) y
-has_later x xs y (k, within, at) = (suc k, omega arith, at)
-
-has_first : {X : Type 0} (x : X) (xs : List X) → Contains (x ∷ xs) x
-has_first x xs = (0, omega arith, refl)
-
-has_none : {X : Type 0} {G : Type 0} (y : X) → Contains [] y → G
-has_none y (k, within, at) = absurd (omega arith)
-
-kept_in : {X : Type 0} (p : X → Bool) (xs : List X) (x : X) → Contains (filter p xs) x → Contains xs x × (p x ≡ true)
-kept_in p xs x has = (All-contains (Contains xs) (filter p xs) x (All-filter p (Contains xs) xs (All-contains_itself xs)) has, All-contains (λ y. p y ≡ true) (filter p xs) x (filter_passes p xs) has)
-
-in_kept : {X : Type 0} (p : X → Bool) (xs : List X) (x : X) → Contains xs x → p x ≡ true → Contains (filter p xs) x
-in_kept p [] x has e = has_none x has
-in_kept p (y ∷ ys) x has e =
-    ⊎_elim (λ same. let passes : p y ≡ true = ap p same ∙ e in rw passes (subst (λ z. Contains (y ∷ filter p ys) z) same (has_first y (filter p ys))))
-    (λ later. let rest = in_kept p ys x later e in elim (p y) as (λ b. Contains (cond b (y ∷ filter p ys) (filter p ys)) x) [ true ↦ has_later y (filter p ys) x rest | false ↦ rest ])
-    (has_cases y ys x has)
-
-any_in : {X : Type 0} (p : X → Bool) (xs : List X) (x : X) → Contains xs x → p x ≡ true → list_any p xs ≡ true
-any_in p [] x has e = has_none x has
-any_in p (y ∷ ys) x has e =
-    ⊎_elim (λ same. ap (λ b. b || list_any p ys) (ap p same ∙ e)) (λ later. ap (λ b. p y || b) (any_in p ys x later e) ∙ or-true (p y)) (has_cases y ys x has)
-
 key_in : (ks : List (List ℕ)) (key : List ℕ) → list_any (eq_by_cmp bytes_cmp key) ks ≡ true → Contains ks key
 key_in ks key any = found (Contains ks) (eq_by_cmp bytes_cmp key) (Contains ks key) ks (recursion_from_All (Contains ks) ks (All-contains_itself ks)) any (λ k has e. subst (Contains ks) (sym (key_exact key k (equal _ e))) has)
 
 own_key : (key : List ℕ) (u : Use) → u.key ≡ key → has_key key u ≡ true
 own_key key u e = ap (λ k. is_eq (bytes_cmp key k)) e ∙ ap is_eq (tied_itself key_total key)
-
--- two different things make a list of more than one
-many : {X : Type 0} (xs : List X) (a b : X) → a ≢ b → Contains xs a → Contains xs b → nat_lt 1 (length xs) ≡ true
-many [] a b differ has_a has_b = has_none a has_a
-many {X = X} (x ∷ []) a b differ has_a has_b =
-    let only = λ (y : X) (has : Contains (x ∷ []) y). let same : x ≡ y = ⊎_elim (λ e. e) (λ later. has_none y later) (has_cases x [] y has) in same in
-    absurd (differ (sym (only a has_a) ∙ only b has_b))
-many (x ∷ y ∷ xs) a b differ has_a has_b = grind (arith, nat_tests)
 
 -- of rising uses of one key that are more than one, the first two differ
 has_two : (key : List ℕ) (us vs : List Use) → IsRising vs → ((x : Use) → Contains vs x → Contains us x × (has_key key x ≡ true)) → nat_lt 1 (length vs) ≡ true → HasTwo key us

@@ -1,4 +1,7 @@
 pub mod Batches
+pub mod Parts
+pub mod Records
 pub mod Sets
 pub mod Twice
 pub mod Use
+pub mod Uses

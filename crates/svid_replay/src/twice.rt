@@ -13,7 +13,7 @@ pub struct Twice {
     pub uses: UseList,
 }
 
-fn has_key(key: &[u8; 32], used: &Use) -> bool
+pub(crate) fn has_key(key: &[u8; 32], used: &Use) -> bool
     ensures { result ≡ has_key key.now used.now }
 {
     key.cmp(&used.key).is_eq()

@@ -1,7 +1,7 @@
-ghost use Rattle.std.specs.Prelude.{◌≡◌, Some, codes};
+ghost use Rattle.std.specs.Prelude.{◌≡◌, codes};
+ghost use Rattle.serde_json.specs.Find.{get};
 ghost use Rattle.serde_json.specs.View.{view};
 ghost use Rattle.svid_token.specs.Header.{as_type};
-ghost use Rattle.svid_token.specs.Json.{member};
 ghost use Rattle.svid_token.specs.Rows.{fails};
 
 use crate::alg::Alg;
@@ -65,7 +65,7 @@ impl Header {
 
 // Whether `typ` is there and is neither `JWT` nor `JOSE`.
 fn has_other_type(object: &Value) -> bool
-    ensures { result ≡ fails as_type (member (codes "typ") (Some (view object.now))) }
+    ensures { result ≡ fails as_type (get (codes "typ") (view object.now)) }
 {
     match object.get("typ") {
         Some(typ) => !matches!(typ.as_str(), Some("JWT" | "JOSE")),

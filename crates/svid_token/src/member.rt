@@ -1,9 +1,9 @@
 // What is read of the members of a JSON object.
 
-ghost use Rattle.std.specs.Prelude.{◌≡◌, Some, true, false, IfOk, MatchOption, option_copied, option_map, string_bytes};
-ghost use Rattle.serde_json.specs.Find.{as_str};
+ghost use Rattle.std.specs.Prelude.{◌≡◌, IsTrue, IsFalse, IfOk, MatchOption, option_copied, option_map, string_bytes};
+ghost use Rattle.serde_json.specs.Find.{as_str, get};
 ghost use Rattle.serde_json.specs.View.{view};
-ghost use Rattle.svid_token.specs.Json.{as_time, member, text_at, time_at};
+ghost use Rattle.svid_token.specs.Json.{as_time, text_at, time_at};
 ghost use Rattle.svid_token.specs.Rows.{fails};
 
 use serde_json::Value;
@@ -18,8 +18,8 @@ pub(crate) fn as_time(value: &Value) -> Option<u64>
 
 // A time that may be left out: `None` where the member is there and is no time.
 pub(crate) fn optional_time(object: &Value, name: &str) -> Option<Option<u64>>
-    ensures { MatchOption result (fails as_time (member name.now (Some (view object.now))) ≡ true)
-        (λ o. (fails as_time (member name.now (Some (view object.now))) ≡ false)
+    ensures { MatchOption result (IsTrue (fails as_time (get name.now (view object.now))))
+        (λ o. IsFalse (fails as_time (get name.now (view object.now)))
         × (o ≡ time_at name.now (view object.now))) }
 {
     match object.get(name) {
@@ -30,8 +30,8 @@ pub(crate) fn optional_time(object: &Value, name: &str) -> Option<Option<u64>>
 
 // A text that may be left out: `None` where the member is there and is no text.
 pub(crate) fn optional_text<'a>(object: &'a Value, name: &str) -> Option<Option<&'a str>>
-    ensures { MatchOption result (fails as_str (member name.now (Some (view object.now))) ≡ true)
-        (λ o. (fails as_str (member name.now (Some (view object.now))) ≡ false)
+    ensures { MatchOption result (IsTrue (fails as_str (get name.now (view object.now))))
+        (λ o. IsFalse (fails as_str (get name.now (view object.now)))
         × (option_copied o ≡ text_at name.now (view object.now))) }
 {
     match object.get(name) {

@@ -68,6 +68,18 @@ fn takes_a_token_apart(rt: HostRuntime) -> Result<(), Fail> {
 }
 
 #[test]
+fn reads_a_hundred_thousand_tokens(rt: HostRuntime) -> Result<(), Fail> {
+    for _ in 0..100000 {
+        let token = Compact::split(TOKEN.as_bytes())?;
+        let header = Header::read(rt.alloc(), token.header)?;
+        let claims = Payload::read(rt.alloc(), token.payload)?.claims(rt.alloc())?;
+        assert_eq!(rt; header.alg, Alg::Es256);
+        assert_eq!(rt; claims.exp, 1001);
+    }
+    Ok(())
+}
+
+#[test]
 fn decodes_base64url(rt: HostRuntime) -> Result<(), Fail> {
     // RFC 4648, sections 5 and 10, without padding.
     let cases: [(&[u8], &[u8]); 9] = [

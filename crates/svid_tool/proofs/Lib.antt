@@ -1,2 +1,4 @@
 pub mod IdLemmas
-pub mod ReportEngineLemmas
+pub mod InputsLemmas
+pub mod JoinedLemmas
+pub mod ReportLemmas

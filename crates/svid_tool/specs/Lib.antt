@@ -1,5 +1,5 @@
 pub mod Id
 pub mod Inputs
+pub mod Joined
 pub mod Output
 pub mod Report
-pub mod ReportEngine

@@ -1,43 +1,63 @@
 //! The command line: which command is asked for, and what it reads.
 
 use crate::ToolFault;
+use crate::failure::Failure;
 use crate::id::run_id;
+use crate::input::Input;
 use crate::report::run_report;
 use crate::words::{bytes_of_text, words};
 use clap::error::ErrorKind;
-use clap::{Arg, ArgMatches, Command, Error};
+use clap::{Arg, ArgAction, ArgMatches, Command, Error};
 use std::alloc::{AllocError, Global};
-use std::io;
+use std::fs::File;
+use std::{io, str};
 use svid_wire::Counted;
 
-fn command<'a>(alloc: Global) -> Result<Command<'a>, AllocError> {
+fn id_command<'a>(alloc: Global) -> Result<Command<'a>, AllocError> {
     let text = Arg::new(alloc, "text")
         .value_name("TEXT")
         .required(true)
         .help("The text, as its bytes");
-    let id = Command::new(alloc, "id")
+    Command::new(alloc, "id")
         .about("Prints the trust domain and the path of a SPIFFE ID, or why a text is none")
-        .arg(text)?;
-    let report = Command::new(alloc, "report").about(
-        "Prints the uses of the batch on standard input, and the keys that are used twice",
-    );
+        .arg(text)
+}
+
+fn report_command<'a>(alloc: Global) -> Result<Command<'a>, AllocError> {
+    let now = Arg::new(alloc, "now")
+        .long("now")
+        .value_name("N")
+        .value_parser(clap::value_parser!(u64))
+        .help("A moment in seconds, to which the record is raised");
+    let file = Arg::new(alloc, "file")
+        .value_name("FILE")
+        .num_args(0..)
+        .action(ArgAction::Append)
+        .help("Files of messages; standard input where there is none");
+    Command::new(alloc, "report")
+        .about("Joins the batches of the inputs, and prints the uses and the keys used twice")
+        .arg(now)?
+        .arg(file)
+}
+
+fn command<'a>(alloc: Global) -> Result<Command<'a>, AllocError> {
     Command::new(alloc, "svid")
         .bin_name("svid")?
         .about("Checks SPIFFE JWT-SVIDs, and keeps the record of those that were used")
         .subcommand_required(true)
-        .subcommand(id)?
-        .subcommand(report)
+        .subcommand(id_command(alloc)?)?
+        .subcommand(report_command(alloc)?)
 }
 
 // A mistake on the command line is told on standard error, and a call for help on standard output.
-fn usage(rt: &HostRuntime, error: &Error) -> Result<u8, ToolFault> {
+fn usage(rt: &HostRuntime, error: &Error) -> Result<u8, Failure> {
     if error.kind() == ErrorKind::OutOfMemory {
-        return Err(ToolFault::OutOfMemory);
+        return Err(Failure::Tool(ToolFault::OutOfMemory));
     }
     match error.print(rt) {
         Ok(()) if error.use_stderr() => Ok(2),
         Ok(()) => Ok(0),
-        Err(_) => Err(ToolFault::Write),
+        Err(_) => Err(Failure::Tool(ToolFault::Write)),
     }
 }
 
@@ -46,30 +66,55 @@ fn status_of(accepted: bool) -> u8 {
     if accepted { 0 } else { 1 }
 }
 
-fn id(rt: &HostRuntime, matches: &ArgMatches<'_>) -> Result<u8, ToolFault> {
-    let alloc = rt.alloc();
-    let text = bytes_of_text(alloc, matches.get_str("text").unwrap_or(""))?;
-    let mut out = Counted::new(io::writer(rt));
-    Ok(status_of(run_id(alloc, &text, &mut out)?))
+// The file of this name. A name that is not UTF-8 is none that can be opened.
+fn open(rt: &HostRuntime, name: &str) -> Result<Input, Failure> {
+    let bytes = bytes_of_text(rt.alloc(), name)?;
+    let file = match str::from_utf8(&bytes) {
+        Ok(path) => File::open(rt, path).ok(),
+        Err(_) => None,
+    };
+    match file {
+        Some(file) => Ok(Input::File(file)),
+        None => Err(Failure::CannotOpen(bytes)),
+    }
 }
 
-fn report(rt: &HostRuntime) -> Result<u8, ToolFault> {
-    let mut inputs = [Counted::new(rt.stdin())];
+// The files of these names in their order, or standard input where there is none.
+fn open_all(rt: &HostRuntime, names: &[&str]) -> Result<Vec<Counted<Input>>, Failure> {
+    let mut inputs = Vec::new(rt.alloc());
+    if names.is_empty() {
+        inputs.push(Counted::new(Input::Stdin(rt.stdin())))?;
+    }
+    for name in names {
+        inputs.push(Counted::new(open(rt, name)?))?;
+    }
+    Ok(inputs)
+}
+
+fn id(rt: &HostRuntime, matches: &ArgMatches<'_>) -> Result<u8, Failure> {
+    let text = bytes_of_text(rt.alloc(), matches.get_str("text").unwrap_or(""))?;
     let mut out = Counted::new(io::writer(rt));
-    run_report(rt.alloc(), &mut inputs, None, &mut out)?;
+    Ok(status_of(run_id(rt.alloc(), &text, &mut out)?))
+}
+
+fn report(rt: &HostRuntime, matches: &ArgMatches<'_>) -> Result<u8, Failure> {
+    let now = matches.get_one::<u64>("now");
+    let mut inputs = open_all(rt, matches.get_strs("file").unwrap_or(&[]))?;
+    let mut out = Counted::new(io::writer(rt));
+    run_report(rt.alloc(), inputs.as_mut_slice(), now, &mut out)?;
     Ok(0)
 }
 
-fn dispatch(rt: &HostRuntime, matches: &ArgMatches<'_>) -> Result<u8, ToolFault> {
+fn dispatch(rt: &HostRuntime, matches: &ArgMatches<'_>) -> Result<u8, Failure> {
     match matches.subcommand() {
         Some(("id", inner)) => id(rt, inner),
-        Some(("report", _)) => report(rt),
+        Some(("report", inner)) => report(rt, inner),
         _ => Ok(2),
     }
 }
 
 /// Runs the command that the words of the command line ask for, and answers the exit status.
-pub fn run(rt: &HostRuntime) -> Result<u8, ToolFault> {
+pub fn run(rt: &HostRuntime) -> Result<u8, Failure> {
     let alloc = rt.alloc();
     let words = words(rt, alloc)?;
     match command(alloc)?.try_get_matches_from(words.as_slice()) {

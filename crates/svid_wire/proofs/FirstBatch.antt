@@ -13,7 +13,7 @@ use Rattle.svid_replay.specs.declared.flaw.Flaw.TheVariants.{Expired, Future, Or
 use Rattle.svid_replay.specs.Use.{IsUse, text_of}
 use Rattle.svid_replay.specs.Batches.{BatchData, IsBatch, AllGood, flaw, last_of}
 use Rattle.svid_replay.proofs.BatchesLemmas.{last_of-push}
-use Rattle.svid_wire.specs.BatchText.{magic, batch_kind, numbers_text, head_text, batch_text, BeginsOneBatch, NoTextIsLonger}
+use Rattle.svid_wire.specs.BatchText.{magic, batch_kind, numbers_text, head_text, batch_text, BeginsOneBatch}
 use Rattle.svid_wire.specs.WireFault.{IsCut, in_magic, in_kind, in_numbers, in_uses, IsBegun, IsFaultFor, TextHasNoFault, FaultIsUnique, IsUseFault, IsKindFault, IsCountFault, flaw_reason}
 use Rattle.svid_wire.specs.declared.wire_fault.WireFault.{WireFault}
 use Rattle.svid_wire.specs.declared.reason.Reason.{Reason}
@@ -254,10 +254,6 @@ pub begins_one_batch : BeginsOneBatch
 begins_one_batch a b x y good_a good_b same =
     let e : batch a x ≡ batch b y = sym (finds_batch a x good_a) ∙ ap first_batch same ∙ finds_batch b y good_b in
     (cc, cc)
-
-pub no_text_is_longer : NoTextIsLonger
-no_text_is_longer a b more good_a good_b same =
-    (begins_one_batch a b more [] good_a good_b (same ∙ sym (append-nil (batch_text b)))).1
 
 pub text_has_no_fault : TextHasNoFault
 text_has_no_fault b rest found good bad =

@@ -28,7 +28,3 @@ batch_text b = head_text b.moment (length b.uses) ++ flat_map text_of b.uses
 -- bytes begin with at most one batch
 abbrev pub BeginsOneBatch : Type 0
 BeginsOneBatch = (a b : BatchData) (x y : List ℕ) → IsBatch a → IsBatch b → batch_text a ++ x ≡ batch_text b ++ y → (a ≡ b) × (x ≡ y)
-
--- the text of a batch with bytes behind it is no batch's text
-abbrev pub NoTextIsLonger : Type 0
-NoTextIsLonger = (a b : BatchData) (more : List ℕ) → IsBatch a → IsBatch b → batch_text a ++ more ≡ batch_text b → more ≡ []

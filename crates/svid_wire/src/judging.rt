@@ -13,12 +13,12 @@ use std::alloc::Global;
 use svid_replay::{Batch, Flaw, MOST_USES, Use, flaw_of};
 
 // What every message begins with: `JSR`, and 1 for the version.
-const MAGIC: [u8; 4] = [b'J', b'S', b'R', 1];
+pub(crate) const MAGIC: [u8; 4] = [b'J', b'S', b'R', 1];
 
 // The next byte of a batch.
-const BATCH_KIND: u8 = 1;
+pub(crate) const BATCH_KIND: u8 = 1;
 
-const NO_MEMORY: WireFault = WireFault {
+pub(crate) const NO_MEMORY: WireFault = WireFault {
     place: 0,
     reason: Reason::OutOfMemory,
 };

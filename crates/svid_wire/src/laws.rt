@@ -1,17 +1,13 @@
 //! Laws of the definitions that this crate's contracts cite. Each is the contract of a function with
 //! nothing in it, so that the check proves it like any other promise.
 
-ghost use Rattle.svid_wire.specs.BatchText.{BeginsOneBatch, NoTextIsLonger};
+ghost use Rattle.svid_wire.specs.BatchText.{BeginsOneBatch};
+ghost use Rattle.svid_wire.specs.Messages.{EachParses, NoTextIsLonger, ParseEnds, ParsesOneWay};
 ghost use Rattle.svid_wire.specs.WireFault.{BeginsOrFaults, FaultIsUnique, FieldFaultStays, TextHasNoFault};
 
 /// Bytes begin with the text of at most one batch.
 pub fn begins_one_batch()
     ensures { BeginsOneBatch }
-{}
-
-/// No batch's text is a proper prefix of another's.
-pub fn no_text_is_longer()
-    ensures { NoTextIsLonger }
 {}
 
 /// Bytes that begin with a batch's text have no fault, whatever follows.
@@ -32,4 +28,27 @@ pub fn fault_is_unique()
 /// A bad field stays the fault, at its place, when bytes follow.
 pub fn field_fault_stays()
     ensures { FieldFaultStays }
+{}
+
+/// No message's text is a proper prefix of another's.
+pub fn no_text_is_longer()
+    ensures { NoTextIsLonger }
+{}
+
+/// Bytes are in at most one way the texts of some messages, one after the other, and a rest that
+/// begins with no message.
+pub fn parses_one_way()
+    ensures { ParsesOneWay }
+{}
+
+/// All bytes are the texts of some messages, one after the other, and a rest that begins with no
+/// message.
+pub fn each_parses()
+    ensures { EachParses }
+{}
+
+/// Messages up to the end of the bytes, or up to bytes that have a fault, are all that the bytes
+/// begin with.
+pub fn parse_ends()
+    ensures { ParseEnds }
 {}

@@ -4,17 +4,25 @@
 //! [`Counted`] makes them of the readers and writers of `std`, [`MemSource`] and [`MemSink`] keep
 //! their bytes in memory. [`read_up_to`] reads a source to its end, [`put_all`] puts a whole piece.
 //!
-//! [`decode_batch`] finds the batch that bytes begin with, or the first field that is bad and its
-//! place. The grammar is a definition of its own, in `specs/BatchText.antt` and
-//! `specs/WireFault.antt`; [`laws`] says that it leaves no doubt: bytes begin with one batch or have
+//! [`write_batch`] puts the text of a batch, and [`read_all`] reads the messages that bytes are the
+//! texts of, or finds the first that is bad, with its fault and its place. The grammar is a
+//! definition of its own, in `specs/BatchText.antt`, `specs/Messages.antt` and
+//! `specs/WireFault.antt`; [`laws`] says that it leaves no doubt: bytes are in exactly one way the
+//! texts of some messages and a rest that begins with none, and such a rest, unless it is empty, has
 //! one fault.
 //!
 //! ```rust
 //! let bytes = b"JSR\x01\x01\x00\x00\x00\x00\x00\x00\x00\x64\x00\x00\x00\x00";
 //! let mut source = Counted::new(bytes.as_slice());
 //! let read = read_up_to(alloc, &mut source, 67108864)?;
-//! let (batch, rest) = decode_batch(alloc, &read)?;
-//! assert_eq!(rt; (batch.moment(), batch.uses().len(), rest.len()), (100, 0, 0));
+//! let mut messages = Vec::new(alloc);
+//! read_all(alloc, &read, &mut messages)?;
+//! let mut sink = MemSink::new(alloc, 4096, None);
+//! for Message::Batch(batch) in &messages {
+//!     assert_eq!(rt; (batch.moment(), batch.uses().len()), (100, 0));
+//!     write_batch(batch, &mut sink)?;
+//! }
+//! assert_eq!(rt; sink.bytes(), bytes.as_slice());
 //! ```
 #![tactic(auto)]
 
@@ -25,6 +33,7 @@ mod judging;
 pub mod laws;
 mod mem_sink;
 mod mem_source;
+mod message;
 mod read_fault;
 mod reading;
 mod reason;
@@ -39,9 +48,10 @@ mod write_fault;
 mod writing;
 
 pub use counted::Counted;
-pub use decoding::decode_batch;
+pub use decoding::{decode_batch, read_all};
 pub use mem_sink::MemSink;
 pub use mem_source::MemSource;
+pub use message::Message;
 pub use read_fault::ReadFault;
 pub use reading::read_up_to;
 pub use reason::Reason;
@@ -50,4 +60,4 @@ pub use source::Source;
 pub use stopped::Stopped;
 pub use wire_fault::WireFault;
 pub use write_fault::WriteFault;
-pub use writing::put_all;
+pub use writing::{put_all, write_batch};

@@ -1,6 +1,8 @@
 mod decoding;
+mod messages;
 mod streams;
 mod sweep;
+mod writing;
 
 use std::alloc::{AllocError, Global};
 use svid_replay::Use;

@@ -1,8 +1,11 @@
-ghost use Rattle.std.specs.Prelude.{◌<◌, length, take, OnOk, IfErr};
+ghost use Rattle.std.specs.Prelude.{◌≡◌, ◌<◌, length, take, OnOk, IfErr};
 ghost use Rattle.std.specs.Io.KnownBytes.{Appends};
+ghost use Rattle.svid_wire.specs.BatchText.{batch_text, head_text};
 ghost use Rattle.svid_wire.specs.Faults.{CountsFault};
 
+use crate::judging::{BATCH_KIND, MAGIC};
 use crate::{Sink, Stopped, WriteFault};
+use svid_replay::Batch;
 
 /// Puts the whole of `piece`, by as many calls of `put` as that takes.
 ///
@@ -19,6 +22,42 @@ pub fn put_all<K: Sink>(sink: &mut K, piece: &[u8]) -> Result<(), WriteFault>
             Ok(taken) => written += taken,
             Err(Stopped) => return Err(WriteFault { written }),
         }
+    }
+    Ok(())
+}
+
+// What stands before the first use.
+fn head_of(batch: &Batch) -> [u8; 17]
+    ensures { result ≡ head_text batch.now.moment (length batch.now.uses) }
+{
+    let mut head = [0; 17];
+    head[..4].copy_from_slice(&MAGIC);
+    head[4] = BATCH_KIND;
+    head[5..13].copy_from_slice(&batch.moment().to_be_bytes());
+    head[13..].copy_from_slice(&(batch.uses().len() as u32).to_be_bytes());
+    head
+}
+
+/// Puts the text of a batch: its head as one piece, and then each use as a piece of its own.
+///
+/// Refused with the number of bytes that the sink took: it took exactly the first of them. Takes no
+/// memory.
+pub fn write_batch<K: Sink>(batch: &Batch, sink: &mut K) -> Result<(), WriteFault>
+    ensures ok { OnOk result (Appends (K.told sink.old) (K.told sink.new) (batch_text batch.now)) }
+    ensures err { IfErr result (λ e. (e.written < length (batch_text batch.now))
+        × Appends (K.told sink.old) (K.told sink.new) (take e.written (batch_text batch.now))) }
+    ensures faults { CountsFault (K.stops sink.old) (K.stops sink.new) result }
+{
+    let head = head_of(batch);
+    put_all(sink, &head)?;
+    let mut written = head.len();
+    for used in batch.uses() {
+        if let Err(fault) = put_all(sink, &used.text()) {
+            return Err(WriteFault {
+                written: written + fault.written,
+            });
+        }
+        written += 64;
     }
     Ok(())
 }

@@ -1,4 +1,4 @@
-ghost use Rattle.std.specs.Prelude.{◌≤◌, IfOk, length, None};
+ghost use Rattle.std.specs.Prelude.{◌+◌, ◌≤◌, IfOk, length, None};
 ghost use Rattle.std.specs.Io.KnownBytes.{ReadConsumes};
 ghost use Rattle.svid_wire.specs.Faults.{CountsFault};
 
@@ -120,46 +120,142 @@ fn refuses_equal_uses(rt: HostRuntime) -> Result<(), Fail> {
     Ok(())
 }
 
-#[test]
-fn refuses_a_byte_behind_the_batch(rt: HostRuntime) -> Result<(), Fail> {
-    let alloc = rt.alloc();
-    let mut bytes = TWO_USES.to_vec(alloc)?;
-    bytes.push(0)?;
-    let mut out = MemSink::new(alloc, 1000, None);
-    assert_eq!(rt;
-        report(alloc, bytes, &mut out),
-        refusal(2, 0, Reason::Magic)
-    );
-    assert!(rt; out.bytes().is_empty());
-    Ok(())
+// The batch of moment 100 with one of the two uses alone, which begins at this place.
+fn with_one_use(alloc: Global, place: usize) -> Result<Vec<u8>, AllocError>
+    requires { place + 64 ≤ 145 }
+{
+    let mut bytes = TWO_USES.split_at(13).0.to_vec(alloc)?;
+    bytes.extend_from_slice(&[0, 0, 0, 1])?;
+    bytes.extend_from_slice(TWO_USES.split_at(place).1.split_at(64).0)?;
+    Ok(bytes)
 }
 
 #[test]
-fn tells_a_failed_read(rt: HostRuntime) -> Result<(), Fail> {
+fn counts_messages_and_places_anew(rt: HostRuntime) -> Result<(), Fail> {
     let alloc = rt.alloc();
-    for fail_at in [1, 2, 3] {
-        let mut inputs = [MemSource::new(TWO_USES.to_vec(alloc)?, 100, Some(fail_at))];
+    for (behind, place, reason) in [
+        (b"\x00".as_slice(), 1, Reason::Truncated),
+        (b"JSR\x01".as_slice(), 4, Reason::Truncated),
+        (b"JSR\x02".as_slice(), 0, Reason::Magic),
+        (b"JSR\x01\x02".as_slice(), 4, Reason::Kind),
+    ] {
+        let mut bytes = with_one_use(alloc, 17)?;
+        bytes.extend_from_slice(&with_one_use(alloc, 17)?)?;
+        bytes.extend_from_slice(behind)?;
         let mut out = MemSink::new(alloc, 1000, None);
-        assert_eq!(rt;
-            run_report(alloc, &mut inputs, None, &mut out),
-            Err(ToolFault::Read { input: 1 })
-        );
+        assert_eq!(rt; report(alloc, bytes, &mut out), refusal(3, place, reason));
         assert!(rt; out.bytes().is_empty());
     }
     Ok(())
 }
 
 #[test]
-fn tells_a_failed_write(rt: HostRuntime) -> Result<(), Fail> {
+fn joins_inputs_in_any_order(rt: HostRuntime) -> Result<(), Fail> {
     let alloc = rt.alloc();
-    for (fail_at, written) in [(1, 0), (2, 100), (3, 200)] {
-        let mut out = MemSink::new(alloc, 100, Some(fail_at));
-        assert_eq!(rt;
-            report(alloc, TWO_USES.to_vec(alloc)?, &mut out),
-            Err(ToolFault::Write)
-        );
-        assert_eq!(rt; out.bytes().len(), written);
-        assert!(rt; TWO_USES_REPORT.starts_with(out.bytes()));
+    for (first, second) in [(17, 81), (81, 17)] {
+        let mut inputs = [
+            MemSource::new(with_one_use(alloc, first)?, 7, None),
+            MemSource::new(with_one_use(alloc, second)?, 100, None),
+            MemSource::new(with_one_use(alloc, first)?, 1, None),
+            MemSource::new(Vec::new(alloc), 1, None),
+        ];
+        let mut out = MemSink::new(alloc, 1, None);
+        assert_eq!(rt; run_report(alloc, &mut inputs, None, &mut out), Ok(()));
+        assert_eq!(rt; out.bytes(), TWO_USES_REPORT);
+    }
+    Ok(())
+}
+
+#[test]
+fn joins_the_batches_of_one_input(rt: HostRuntime) -> Result<(), Fail> {
+    let alloc = rt.alloc();
+    let mut bytes = with_one_use(alloc, 81)?;
+    bytes.extend_from_slice(TWO_USES)?;
+    bytes.extend_from_slice(&with_one_use(alloc, 17)?)?;
+    let mut out = MemSink::new(alloc, 1000, None);
+    assert_eq!(rt; report(alloc, bytes, &mut out), Ok(()));
+    assert_eq!(rt; out.bytes(), TWO_USES_REPORT);
+    Ok(())
+}
+
+#[test]
+fn reports_no_inputs(rt: HostRuntime) {
+    let mut inputs: [MemSource; 0] = [];
+    let mut out = MemSink::new(rt.alloc(), 1000, None);
+    assert_eq!(rt; run_report(rt.alloc(), &mut inputs, None, &mut out), Ok(()));
+    assert_eq!(rt; out.bytes(), EMPTY_REPORT);
+}
+
+#[test]
+fn raises_to_the_moment_that_is_given(rt: HostRuntime) -> Result<(), Fail> {
+    let alloc = rt.alloc();
+    for (now, whole) in [
+        (0, TWO_USES_REPORT),
+        (100, TWO_USES_REPORT),
+        (101, b"moment 101\nuses 0\ntwice 0\n".as_slice()),
+        (
+            18_446_744_073_709_551_615,
+            b"moment 18446744073709551615\nuses 0\ntwice 0\n".as_slice(),
+        ),
+    ] {
+        let mut inputs = [MemSource::new(TWO_USES.to_vec(alloc)?, 1000, None)];
+        let mut out = MemSink::new(alloc, 1000, None);
+        assert_eq!(rt; run_report(alloc, &mut inputs, Some(now), &mut out), Ok(()));
+        assert_eq!(rt; out.bytes(), whole);
+    }
+    Ok(())
+}
+
+#[test]
+fn tells_the_first_faulty_input(rt: HostRuntime) -> Result<(), Fail> {
+    let alloc = rt.alloc();
+    let mut inputs = [
+        MemSource::new(TWO_USES.to_vec(alloc)?, 1000, None),
+        MemSource::new(with_byte(alloc, 4, 3)?, 1000, None),
+        MemSource::new(with_byte(alloc, 0, 0)?, 1000, None),
+    ];
+    let mut out = MemSink::new(alloc, 1000, None);
+    let fault = ToolFault::Wire {
+        input: 2,
+        message: 1,
+        place: 4,
+        reason: Reason::Kind,
+    };
+    assert_eq!(rt; run_report(alloc, &mut inputs, None, &mut out), Err(fault));
+    assert!(rt; out.bytes().is_empty());
+    Ok(())
+}
+
+// Each `get` and each `put` fails in turn, in pieces of 1, 7 and 100 bytes, until a run has none left to fail.
+#[test]
+fn tells_each_failed_call(rt: HostRuntime) -> Result<(), Fail> {
+    let alloc = rt.alloc();
+    for step in [1, 7, 100] {
+        for fail_at in 1..1000u64 {
+            let mut inputs = [
+                MemSource::new(TWO_USES.to_vec(alloc)?, 100, None),
+                MemSource::new(TWO_USES.to_vec(alloc)?, step, Some(fail_at)),
+            ];
+            let mut out = MemSink::new(alloc, 1000, None);
+            match run_report(alloc, &mut inputs, None, &mut out) {
+                Ok(()) => break,
+                answer => {
+                    assert_eq!(rt; answer, Err(ToolFault::Read { input: 2 }));
+                    assert!(rt; out.bytes().is_empty());
+                }
+            }
+        }
+        for fail_at in 1..1000u64 {
+            let mut out = MemSink::new(alloc, step, Some(fail_at));
+            match report(alloc, TWO_USES.to_vec(alloc)?, &mut out) {
+                Ok(()) => break,
+                answer => {
+                    assert_eq!(rt; answer, Err(ToolFault::Write));
+                    assert!(rt; out.bytes().len() < TWO_USES_REPORT.len());
+                    assert!(rt; TWO_USES_REPORT.starts_with(out.bytes()));
+                }
+            }
+        }
     }
     Ok(())
 }

@@ -3,7 +3,10 @@
 ghost use Rattle.std.specs.Prelude.{◌<◌, ◌≤◌, ◌^◌};
 
 use super::{TWO_USES, many_uses};
-use crate::{MemSink, MemSource, ReadFault, Reason, Sink, WireFault, decode_batch, read_up_to};
+use crate::{
+    Counted, MemSink, MemSource, Message, ReadFault, Reason, Sink, WireFault, decode_batch,
+    read_all, read_up_to, write_batch,
+};
 use std::alloc::Global;
 use std::test::Fail;
 
@@ -66,6 +69,54 @@ fn reading_answers_want_of_memory(rt: HostRuntime) -> Result<(), Fail> {
             TWO_USES.as_slice()
         );
     }
+    Ok(())
+}
+
+#[test]
+fn reading_messages_answers_want_of_memory_and_keeps_the_first(
+    rt: HostRuntime,
+) -> Result<(), Fail> {
+    let mut bytes = many_uses(rt.alloc(), 10)?;
+    bytes.extend_from_slice(&many_uses(rt.alloc(), 20)?)?;
+    bytes.extend_from_slice(TWO_USES)?;
+    let want = [(5000, 10), (5000, 20), (100, 2)];
+    for nth in 1..100usize {
+        let mut out = Vec::new(rt.alloc());
+        refuse(rt.alloc(), nth);
+        let read = read_all(rt.alloc(), &bytes, &mut out);
+        let refused = was_refused(rt.alloc());
+        refuse(rt.alloc(), 0);
+        for (Message::Batch(batch), told) in out.iter().zip(&want) {
+            assert_eq!(rt; (batch.moment(), batch.uses().len()), *told, "growth {nth}");
+        }
+        if !refused {
+            assert_eq!(rt; (read, out.len()), (Ok(()), 3));
+            return Ok(());
+        }
+        let no_memory = WireFault {
+            place: 0,
+            reason: Reason::OutOfMemory,
+        };
+        assert_eq!(rt; read, Err(no_memory), "growth {nth}");
+        assert_eq!(rt; out.len() < 3, true, "growth {nth}");
+        let mut again = Vec::new(rt.alloc());
+        assert_eq!(rt; read_all(rt.alloc(), &bytes, &mut again), Ok(()));
+        assert_eq!(rt; again.len(), 3);
+    }
+    Ok(())
+}
+
+#[test]
+fn writing_takes_no_memory(rt: HostRuntime) -> Result<(), Fail> {
+    let (batch, _) = decode_batch(rt.alloc(), TWO_USES)?;
+    let mut room = [0; 145];
+    let mut sink = Counted::new(room.as_mut_slice());
+    refuse(rt.alloc(), 1);
+    let written = write_batch(&batch, &mut sink);
+    let refused = was_refused(rt.alloc());
+    refuse(rt.alloc(), 0);
+    assert_eq!(rt; (written, refused), (Ok(()), false));
+    assert_eq!(rt; room.as_slice(), TWO_USES.as_slice());
     Ok(())
 }
 

@@ -1,5 +1,4 @@
-use Rattle.std.proofs.Common.{rules, arith, subst, sym, ◌∙◌}
-use Rattle.svid_replay.specs.Batches.{IsBatchFault}
+use Rattle.std.proofs.Common.{sym}
 use Rattle.svid_replay.proofs.BatchesLemmas.{sees_more, finds_flaw, fault_of_first}
 use Rattle.svid_replay.proofs.batch.first_fault.Goals as goal
 

@@ -1,6 +1,6 @@
-use Rattle.std.proofs.Common.{rules, ◌≡◌, ◌∙◌, ap, subst, sym}
+use Rattle.std.proofs.Common.{◌∙◌, ap, subst, sym}
 use Rattle.std.proofs.lemmas.Result.{IfOk-weaker}
-use Rattle.svid_replay.specs.Twice.{twice_of, uses_of, IsTwice}
+use Rattle.svid_replay.specs.Twice.{uses_of, IsTwice}
 use Rattle.svid_replay.proofs.TwiceLemmas.{same-twice_of, is_twice}
 use Rattle.svid_replay.proofs.twice.twice_in.Goals as goal
 

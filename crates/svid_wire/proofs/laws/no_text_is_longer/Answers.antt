@@ -1,4 +1,4 @@
-use Rattle.svid_wire.proofs.FirstBatch.{no_text_is_longer}
+use Rattle.svid_wire.proofs.MessagesLemmas.{no_text_is_longer}
 use Rattle.svid_wire.proofs.laws.no_text_is_longer.Goals as goal
 
 pub returns : goal.returns

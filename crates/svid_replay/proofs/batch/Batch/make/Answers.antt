@@ -1,4 +1,3 @@
-use Rattle.std.proofs.Common.{rules, arith}
 use Rattle.svid_replay.proofs.BatchesLemmas.{no_batch_at_fault}
 use Rattle.svid_replay.proofs.batch.Batch.make.Goals as goal
 

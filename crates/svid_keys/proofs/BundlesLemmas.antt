@@ -1,0 +1,210 @@
+-- Bundles that are read one after the other, in rising order of their names.
+use Rattle.std.proofs.Common.{◌≡◌, ◌+◌, ℕ, cond, if◌then◌else◌, Bool, true, false, not, List, [], ◌∷◌, ◌++◌, map, filter_map, bytes_eq, length, string_bytes, string_cmp, String, Vec, Option, Some, None, IsSome, is_none, is_some, option_map, unwrap_or, refl, ap, sym, ◌∙◌, arith}
+use Rattle.std.proofs.lemmas.List.{append-nil, length-append}
+use Rattle.std.proofs.lemmas.Map.Keys.{sorted_head, sorted_tail}
+use Rattle.std.proofs.lemmas.Map.Text.{is_eq-slice_cmp}
+use Rattle.std.specs.declared.alloc.Global.{Global}
+use Rattle.std.specs.declared.cmp.Ordering.TheVariants.{Less, Greater}
+use Rattle.std.specs.BTreeMap.{insert_entry, is_at}
+use Rattle.std.specs.Cmp.Lexicographic.{nat_list_cmp_total, slice_cmp}
+use Rattle.std.specs.List.{AllByRecursion}
+use Rattle.std.specs.List.Sorted.{IsStrictlySortedBy}
+use Rattle.std.specs.Map.{lookup}
+use Rattle.std.specs.Ordering.{nat_cmp, ordering_reverse}
+use Rattle.serde_json.specs.View.{items_view, view}
+use Rattle.serde_json.specs.declared.value.Value.{Value}
+use Rattle.serde_json.specs.Data.{Data, Members, no_members, member}
+use Rattle.serde_json.specs.View.{members_view}
+use Rattle.svid_id.specs.Domain.{domain_fault, is_domain}
+use Rattle.svid_id.specs.declared.id_fault.IdFault.{IdFault}
+use Rattle.svid_id.proofs.DomainLemmas.{IsDomain-from_fault, domain_fault-IsDomain}
+use Rattle.svid_keys.specs.Bundles.{AreBundles, Bundle, IsBundle, IsBundles, IsRefusal, bundle_of, bundle_view, bundles_fault, bundles_in, bundles_of, entries_in, items_list, members_fault, members_in, object_fault}
+use Rattle.svid_keys.specs.Candidates.{bundle_at, keys_at}
+use Rattle.svid_keys.specs.Key.{KeyData, kept_key}
+use Rattle.svid_keys.specs.declared.bundle_fault.BundleFault.{BundleFault}
+use Rattle.svid_keys.specs.declared.bundle_fault.BundleFault.TheVariants.{NotObject, Domain, Keys, OutOfMemory}
+
+-- a JSON list of values, as the list of what they are
+pub items_list_view : (entries : List Value) → items_list (items_view entries) ≡ map view entries
+items_list_view [] = refl
+items_list_view (entry ∷ entries) = ap (λ more. view entry ∷ more) (items_list_view entries)
+
+-- names rise in byte order
+abbrev pub AreRising : List (List ℕ) → Type 0
+AreRising = IsStrictlySortedBy (slice_cmp nat_cmp)
+
+-- the names of a map's entries
+abbrev pub names_of : {X : Type 0} → List (String Global × X) → List (List ℕ)
+names_of entries = map (λ e. string_bytes e.0) entries
+
+less_names : {X : Type 0} (name : String Global) (entries : List (String Global × X))
+    → AllByRecursion (λ y. string_cmp name y ≡ Less) (map (λ e. e.0) entries)
+    → AllByRecursion (λ y. slice_cmp nat_cmp (string_bytes name) y ≡ Less) (names_of entries)
+less_names name [] below = tt
+less_names name (e ∷ entries) below = (below.0, less_names name entries below.1)
+
+-- the names of an ordered map rise
+pub rising_names : {X : Type 0} (entries : List (String Global × X))
+    → IsStrictlySortedBy string_cmp (map (λ e. e.0) entries) → AreRising (names_of entries)
+unfolding IsStrictlySortedBy
+rising_names [] up = tt
+rising_names (e ∷ entries) up = (less_names e.0 entries up.0, rising_names entries up.1)
+
+less_than_next : (name : List ℕ) (front : List (List ℕ)) (next : List ℕ) (rest : List (List ℕ))
+    → AllByRecursion (λ y. slice_cmp nat_cmp name y ≡ Less) (front ++ next ∷ rest) → slice_cmp nat_cmp name next ≡ Less
+less_than_next name [] next rest below = below.0
+less_than_next name (x ∷ front) next rest below = less_than_next name front next rest below.1
+
+greater : (a b : List ℕ) → slice_cmp nat_cmp a b ≡ Less → slice_cmp nat_cmp b a ≡ Greater
+greater a b less = nat_list_cmp_total.antisymm b a ∙ ap ordering_reverse less
+
+-- an entry whose name is greater than those before goes to the end
+pub insert_last : {X : Type 0} (entries : List (String Global × X)) (name : String Global) (x : X) (rest : List (List ℕ))
+    → AreRising (names_of entries ++ string_bytes name ∷ rest) → insert_entry string_cmp entries name x ≡ entries ++ (name, x) ∷ []
+insert_last [] name x rest up = refl
+insert_last (e ∷ entries) name x rest up =
+    let after : slice_cmp nat_cmp (string_bytes name) (string_bytes e.0) ≡ Greater =
+    greater (string_bytes e.0) (string_bytes name) (less_than_next _ (names_of entries) _ rest (sorted_head _ _ _ up)) in
+    rw after (ap (λ more. e ∷ more) (insert_last entries name x rest (sorted_tail _ _ _ up)))
+
+-- one more element before others
+map_more : {A B : Type 0} (f : A → B) (xs : List A) (x : A) (ys : List B) → map f (xs ++ x ∷ []) ++ ys ≡ map f xs ++ f x ∷ ys
+map_more f [] x ys = refl
+map_more f (first ∷ xs) x ys = ap (λ more. f first ∷ more) (map_more f xs x ys)
+
+-- of the members of an object these entries were read, and these members are left
+pub record IsReading (all : Members) (read : List (String Global × Vec KeyData Global)) (left : List (String Global × Value)) : Type 0 where
+  pub bundles : bundles_of all ≡ map bundle_view read ++ bundles_of (members_view left)
+  pub fault : members_fault 0 all ≡ members_fault (length read) (members_view left)
+  pub accepted : AreBundles (members_view left) → AreBundles all
+  pub rising : AreRising (names_of read ++ names_of left)
+
+-- nothing was read yet
+pub reading_none : (members : List (String Global × Value)) (read : List (String Global × Vec KeyData Global)) (left : List (String Global × Value))
+    → read ≡ [] → left ≡ members → IsStrictlySortedBy string_cmp (map (λ e. e.0) members) → IsReading (members_view members) read left
+reading_none members read left none all up = rw (none, all) (record {
+  bundles = refl;
+  fault = refl;
+  accepted = λ are. are;
+  rising = rising_names members up;
+})
+
+-- one more member was read
+pub reading_more : (all : Members) (old new : List (String Global × Vec KeyData Global)) (left rest : List (String Global × Value))
+    → (name copy : String Global) (set : Value) (keys : Vec KeyData Global) (said : List ℕ) (place : ℕ)
+    → IsReading all old left → left ≡ (name, set) ∷ rest → said ≡ string_bytes name → place ≡ length old → string_bytes copy ≡ said
+    → new ≡ insert_entry string_cmp old copy keys → IsBundle said (view set)
+    → keys.items ≡ filter_map (kept_key said) (unwrap_or (entries_in (view set)) [])
+    → ((ms : Members) → members_fault place (member said (view set) ms) ≡ members_fault (place + 1) ms)
+    → IsReading all new rest
+reading_more all old new left rest name copy set keys said place is before named at copied inserted good kept next =
+    let spelled : string_bytes copy ≡ string_bytes name = copied ∙ named in
+    let up : AreRising (names_of old ++ string_bytes copy ∷ names_of rest) = rw spelled (rw before at is.rising) in
+    let placed : new ≡ old ++ (copy, keys) ∷ [] = inserted ∙ insert_last old copy keys (names_of rest) up in
+    let same : bundle_view (copy, keys) ≡ bundle_of (string_bytes name) (unwrap_or (entries_in (view set)) []) =
+    rw (spelled, kept, named) refl in
+    let longer : length new ≡ length old + 1 = omega (arith, ap length placed, length-append old ((copy, keys) ∷ [])) in
+    record {
+      bundles = rw (placed, map_more bundle_view old (copy, keys) (bundles_of (members_view rest)), same) (rw before at is.bundles);
+      fault = rw longer (rw before at is.fault ∙ (rw (named, at) at (next (members_view rest))));
+      accepted = λ are. is.accepted (rw before (rw named at good, are));
+      rising = rw (placed, map_more (λ (e : String Global × Vec KeyData Global). string_bytes e.0) old (copy, keys) (names_of rest)) up;
+    }
+
+-- the fault of the next member is that of all
+pub fault_next : (all : Members) (old : List (String Global × Vec KeyData Global)) (left rest : List (String Global × Value))
+    → (name : String Global) (set : Value) (said : List ℕ) (place : ℕ) (fault : BundleFault)
+    → IsReading all old left → left ≡ (name, set) ∷ rest → said ≡ string_bytes name → place ≡ length old
+    → ((ms : Members) → IsRefusal (members_fault place (member said (view set) ms)) fault) → IsRefusal (members_fault 0 all) fault
+fault_next all old left rest name set said place fault is before named at refused =
+    rw (is.fault, before, ← named, ← at) (refused (members_view rest))
+
+-- all members were read
+pub reading_all : (all : Members) (read : List (String Global × Vec KeyData Global)) (left : List (String Global × Value))
+    → IsReading all read left → left ≡ [] → (map bundle_view read ≡ bundles_of all) × AreBundles all
+reading_all all read left is none =
+    (sym (rw none at is.bundles ∙ append-nil (map bundle_view read)), is.accepted (rw none tt))
+
+has_entries : (at : ℕ) (entries : Option (List Data)) (ms : Members) → IsSome entries → members_fault (at + 1) ms ≡ None
+    → (if is_none entries then Some (Keys at) else members_fault (at + 1) ms) ≡ None
+has_entries at None ms some rest = cc
+has_entries at (Some entries) ms some rest = rest
+
+-- bundles have no fault
+pub no_fault : (at : ℕ) (ms : Members) → AreBundles ms → members_fault at ms ≡ None
+no_fault at no_members are = refl
+no_fault at (member name set ms) are =
+    let named : domain_fault 0 name ≡ None = domain_fault-IsDomain 0 name are.0.domain in
+    rw named (has_entries at (entries_in set) ms are.0.entries (no_fault (at + 1) ms are.1))
+
+-- a text that is bundles has no fault
+pub bundles_fault-IsBundles : (text : List ℕ) → IsBundles text → bundles_fault text ≡ None
+bundles_fault-IsBundles text is = rw is.1 (no_fault 0 is.0 is.2)
+
+is_bundle : (named : Bool) (entries : Option (List Data)) (at : ℕ) (ms : Members)
+    → (if not named then Some (Domain at) else if is_none entries then Some (Keys at) else members_fault (at + 1) ms) ≡ None
+    → (named ≡ true) × IsSome entries × (members_fault (at + 1) ms ≡ None)
+is_bundle false entries at ms none = cc
+is_bundle true None at ms none = cc
+is_bundle true (Some entries) at ms none = (refl, refl, none)
+
+no_id_fault : (found : Option IdFault) → is_none found ≡ true → found ≡ None
+no_id_fault None is = refl
+no_id_fault (Some fault) is = cc
+
+-- members without a fault are bundles
+pub AreBundles-from_fault : (at : ℕ) (ms : Members) → members_fault at ms ≡ None → AreBundles ms
+AreBundles-from_fault at no_members none = tt
+AreBundles-from_fault at (member name set ms) none =
+    let good = is_bundle (is_domain name) (entries_in set) at ms none in
+    (record { domain = IsDomain-from_fault 0 name (no_id_fault _ good.0); entries = good.1 }, AreBundles-from_fault (at + 1) ms good.2)
+
+of_object : (text : List ℕ) (found : Option Members) → members_in text ≡ found → object_fault found ≡ None → IsBundles text
+of_object text None is none = absurd (cc)
+of_object text (Some ms) is none = (ms, is, AreBundles-from_fault 0 ms none)
+
+-- a text without a fault is bundles
+pub IsBundles-from_fault : (text : List ℕ) → bundles_fault text ≡ None → IsBundles text
+IsBundles-from_fault text none = of_object text (members_in text) refl none
+
+whole : (text : List ℕ) (fault : BundleFault) → bundles_fault text ≡ Some fault → IsBundles text → ⊥
+whole text fault found is =
+    let none = bundles_fault-IsBundles text is in cc
+
+-- bundles of which all members were read
+pub bundles_in-members : (text : List ℕ) (ms : Members) → members_in text ≡ Some ms → AreBundles ms → bundles_in text ≡ Some (bundles_of ms)
+bundles_in-members text ms found are = rw (found, no_fault 0 ms are) refl
+
+-- a text that is bundles is refused for want of memory alone
+pub memory_alone : (text : List ℕ) (fault : BundleFault) → IsRefusal (bundles_fault text) fault → IsBundles text → fault ≡ OutOfMemory
+memory_alone text NotObject refused is = absurd (whole text _ refused is)
+memory_alone text (Domain place) refused is = absurd (whole text _ refused is)
+memory_alone text (Keys place) refused is = absurd (whole text _ refused is)
+memory_alone text OutOfMemory refused is = refl
+
+-- a map's entry, by the name of its domain
+abbrev pub entry_at : List ℕ → List (String Global × Vec KeyData Global) → Option (Vec KeyData Global)
+entry_at domain entries = lookup (is_at (λ name. slice_cmp nat_cmp domain (string_bytes name))) entries
+
+-- what a look-up in a map finds is the bundle of the domain
+pub keys_at-entry : (domain : List ℕ) (entries : List (String Global × Vec KeyData Global))
+    → keys_at domain (map bundle_view entries) ≡ unwrap_or (option_map (λ keys. keys.items) (entry_at domain entries)) []
+keys_at-entry domain [] = refl
+keys_at-entry domain (e ∷ entries) = rw (is_eq-slice_cmp domain (string_bytes e.0))
+    (elim (bytes_eq domain (string_bytes e.0)) as
+    (λ b. unwrap_or (option_map (λ (bundle : Bundle). bundle.keys) (cond b (Some (bundle_view e)) (bundle_at domain (map bundle_view entries)))) []
+    ≡ unwrap_or (option_map (λ (keys : Vec KeyData Global). keys.items) (cond b (Some e.1) (entry_at domain entries))) []) [
+      | true ↦ refl
+      | false ↦ keys_at-entry domain entries
+    ])
+
+-- there is a bundle where a look-up finds one
+pub has_bundle-entry : (domain : List ℕ) (entries : List (String Global × Vec KeyData Global))
+    → is_some (bundle_at domain (map bundle_view entries)) ≡ is_some (entry_at domain entries)
+has_bundle-entry domain [] = refl
+has_bundle-entry domain (e ∷ entries) = rw (is_eq-slice_cmp domain (string_bytes e.0))
+    (elim (bytes_eq domain (string_bytes e.0)) as
+    (λ b. is_some (cond b (Some (bundle_view e)) (bundle_at domain (map bundle_view entries))) ≡ is_some (cond b (Some e.1) (entry_at domain entries))) [
+      | true ↦ refl
+      | false ↦ has_bundle-entry domain entries
+    ])

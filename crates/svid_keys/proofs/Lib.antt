@@ -1,0 +1,4 @@
+pub mod BundlesLemmas
+pub mod KeyLemmas
+pub mod LinesLemmas
+pub mod TableLemmas

@@ -1,0 +1,6 @@
+pub mod Bundles
+pub mod Candidates
+pub mod Key
+pub mod Lines
+pub mod Question
+pub mod Table

@@ -1,0 +1,29 @@
+-- The lines of an input.
+use Rattle.std.specs.Prelude.{◌≢◌, ℕ, ◌==◌, All, if◌then◌else◌, List, [], ◌∷◌, map, Option, Some, None}
+use Rattle.std.specs.Borrow.{Bor}
+use Rattle.std.specs.List.{slice_split}
+use Rattle.svid_keys.specs.declared.lines.Lines.{Lines}
+use Rattle.svid_keys.specs.declared.lines.TheConstants.{LINE_FEED, CARRIAGE_RETURN}
+
+-- bytes in which no line feed stands
+abbrev pub HasNoFeed : List ℕ → Type 0
+HasNoFeed = All (λ b. b ≢ LINE_FEED)
+
+-- a line without one carriage return at its end
+abbrev pub without_return : List ℕ → List ℕ
+without_return [] = []
+without_return (b ∷ []) = if b == CARRIAGE_RETURN then [] else b ∷ []
+without_return (a ∷ b ∷ bytes) = a ∷ without_return (b ∷ bytes)
+
+-- the lines of a text: each ends at a line feed or at the end, and a carriage return right before that is not part of it
+abbrev pub lines_of : List ℕ → List (List ℕ)
+lines_of text = map without_return (slice_split (λ b. b == LINE_FEED) text)
+
+-- the lines of what is left of a text, none after its end
+abbrev pub lines_of_rest : Option (Bor (List ℕ)) → List (List ℕ)
+lines_of_rest None = []
+lines_of_rest (Some rest) = lines_of rest.now
+
+-- the lines that an iterator has still to give
+abbrev pub lines_left : Lines → List (List ℕ)
+lines_left lines = lines_of_rest lines.rest

@@ -1,0 +1,132 @@
+use Rattle.std.proofs.Common.{◌≡◌, ℕ, ◌<◌, ◌≤◌, ◌-◌, ◌*◌, ◌/◌, ◌^◌, zero, suc, true, false, List, [], ◌∷◌, ◌++◌, length, take, drop, get_or, refl, sym, ◌∙◌, ap, arith, nat_lt, Option, None, Some}
+use Rattle.std.proofs.lemmas.Bool.Decides.{nat_tests}
+use Rattle.std.proofs.lemmas.List.{length-take-le, length-drop, take-append-drop, append_assoc, append-nil}
+use Rattle.std.proofs.lemmas.List.Elements.{All-nil, All-cons, recursion_from_All}
+use Rattle.std.specs.List.{AllByRecursion}
+use Rattle.std.specs.List.Sorted.{IsStrictlySortedBy}
+use Rattle.std.specs.Ordering.{is_lt}
+use Rattle.std.specs.declared.cmp.Ordering.TheVariants.{Less}
+use Rattle.svid_replay.specs.declared.token_use.Use.{Use}
+use Rattle.svid_replay.specs.Batches.{BatchData, AllGood, IsBatch, flaw, is_after}
+use Rattle.svid_replay.specs.Parts.{full_batches, cut, IsCut, CutIsCut}
+use Rattle.svid_replay.specs.Records.{State, IsRecord, IsHeldAt}
+use Rattle.svid_replay.specs.Sets.{rising}
+use Rattle.svid_replay.specs.Use.{use_cmp, IsRising, IsUse}
+use Rattle.svid_replay.proofs.ListLemmas.{each_take, each_drop, each_weaker}
+use Rattle.svid_replay.proofs.UsesLemmas.{held_in_rising}
+
+-- ---- rising uses that a record may hold are a batch
+rises_take : (n : ℕ) (us : List Use) → IsRising us → IsRising (take n us)
+unfolding IsStrictlySortedBy
+rises_take zero us up = tt
+rises_take (suc n) [] up = tt
+rises_take (suc n) (u ∷ us) up = (each_take _ n us up.0, rises_take n us up.1)
+
+rises_drop : (n : ℕ) (us : List Use) → IsRising us → IsRising (drop n us)
+unfolding IsStrictlySortedBy
+rises_drop zero us up = up
+rises_drop (suc n) [] up = tt
+rises_drop (suc n) (u ∷ us) up = rises_drop n us up.1
+
+no_flaw_held : (m : ℕ) (before : Option Use) (u : Use) → IsHeldAt m u → is_after before u ≡ true → flaw m before u ≡ None
+unfolding flaw
+no_flaw_held m before u held after =
+    let live : nat_lt m u.exp ≡ true = let later : m < u.exp = held.live in grind (arith, nat_tests) in
+    let made : nat_lt m u.at ≡ false = let by : u.at ≤ m = held.made in grind (arith, nat_tests) in
+    rw (live, made, after)
+
+good_behind : (m : ℕ) (before : Use) (us : List Use) → AllByRecursion (λ u. use_cmp before u ≡ Less) us → IsRising us → AllByRecursion (IsHeldAt m) us → AllGood m (Some before) us
+unfolding IsStrictlySortedBy
+good_behind m before [] above up held = tt
+good_behind m before (u ∷ us) above up held = (no_flaw_held m (Some before) u held.0 (ap is_lt above.0), good_behind m u us up.0 up.1 held.1)
+
+good : (m : ℕ) (us : List Use) → IsRising us → AllByRecursion (IsHeldAt m) us → AllGood m None us
+unfolding IsStrictlySortedBy
+good m [] up held = tt
+good m (u ∷ us) up held = (no_flaw_held m None u held.0 refl, good_behind m u us up.0 up.1 held.1)
+
+pub held_is_batch : (m : ℕ) (us : List Use) → m < 2 ^ 64 → length us ≤ 4096 → IsRising us → AllByRecursion (IsHeldAt m) us → IsBatch (record { moment = m; uses = us })
+held_is_batch m us fits few up held = record { few = few; moment = fits; fields = each_weaker (IsHeldAt m) IsUse (λ u h. h.fields) us held; good = good m us up held }
+
+-- ---- how uses are cut
+cut_few : (m : ℕ) (us : List Use) → length us ≤ 4096 → cut m us ≡ record { moment = m; uses = us } ∷ []
+unfolding cut full_batches
+cut_few m us few = let none : (length us - 1) / 4096 ≡ 0 = omega arith in ap (λ n. full_batches n m us) none
+
+cut_many : (m : ℕ) (us : List Use) → 4096 < length us → cut m us ≡ record { moment = m; uses = take 4096 us } ∷ cut m (drop 4096 us)
+unfolding cut full_batches
+cut_many m us many =
+    let one_less : (length us - 1) / 4096 ≡ suc ((length (drop 4096 us) - 1) / 4096) = omega (arith, length-drop 4096 us) in
+    ap (λ n. full_batches n m us) one_less
+
+-- what a loop has cut off when these uses are left
+pub record HasCut (m : ℕ) (us rest : List Use) (batches : List BatchData) : Type 0 where
+  pub up : IsRising rest
+  pub held : AllByRecursion (IsHeldAt m) rest
+  pub value : batches ++ cut m rest ≡ cut m us
+
+pub cuts_none : (m : ℕ) (us : List Use) → IsRising us → AllByRecursion (IsHeldAt m) us → HasCut m us us []
+cuts_none m us up held = record { up = up; held = held; value = refl }
+
+-- what a turn of the loop cuts off, and what it leaves
+pub record IsTurn (rest full others : List Use) : Type 0 where
+  pub many : 4096 < length rest
+  pub front : full ≡ take 4096 rest
+  pub left : others ≡ drop 4096 rest
+
+pub cuts_more : (m : ℕ) (us rest full others : List Use) (batches items : List BatchData) (b : BatchData) → HasCut m us rest batches → IsTurn rest full others → b ≡ record { moment = m; uses = full } → items ≡ batches ++ b ∷ [] → HasCut m us others items
+cuts_more m us rest full others batches items b so_far turn is pushed =
+    rw (pushed, is, turn.front, turn.left) (record {
+      up = rises_drop 4096 rest so_far.up;
+      held = each_drop (IsHeldAt m) 4096 rest so_far.held;
+      value = append_assoc batches (record { moment = m; uses = take 4096 rest } ∷ []) (cut m (drop 4096 rest)) ∙ ap (λ bs. batches ++ bs) (sym (cut_many m rest turn.many)) ∙ so_far.value;
+    })
+
+pub full_is_batch : (m : ℕ) (us rest full others : List Use) (batches : List BatchData) → m < 2 ^ 64 → HasCut m us rest batches → IsTurn rest full others → IsBatch (record { moment = m; uses = full })
+full_is_batch m us rest full others batches fits so_far turn =
+    let many : 4096 < length rest = turn.many in
+    rw turn.front (held_is_batch m (take 4096 rest) fits (omega (arith, length-take-le 4096 rest (omega arith))) (rises_take 4096 rest so_far.up) (each_take (IsHeldAt m) 4096 rest so_far.held))
+
+pub last_is_batch : (m : ℕ) (us rest last : List Use) (batches : List BatchData) → m < 2 ^ 64 → HasCut m us rest batches → length rest ≤ 4096 → last ≡ rest → IsBatch (record { moment = m; uses = last })
+last_is_batch m us rest last batches fits so_far few e = rw e (held_is_batch m rest fits few so_far.up so_far.held)
+
+pub cuts_last : (m : ℕ) (us rest last : List Use) (batches items : List BatchData) (b : BatchData) → HasCut m us rest batches → length rest ≤ 4096 → last ≡ rest → b ≡ record { moment = m; uses = last } → items ≡ batches ++ b ∷ [] → items ≡ cut m us
+cuts_last m us rest last batches items b so_far few e is pushed =
+    rw (pushed, is, e) (ap (λ bs. batches ++ bs) (sym (cut_few m rest few)) ∙ so_far.value)
+
+-- ---- the sizes of what is cut
+full_cut : (n m : ℕ) (us : List Use) → length us ≤ 4096 * suc n → (0 < n → 4096 * n < length us) → IsCut m us (full_batches n m us)
+unfolding full_batches
+full_cut zero m us few many = record {
+  full = [];
+  last = record { moment = m; uses = us };
+  parts = refl;
+  whole = append-nil us;
+  moments = All-cons (λ b. b.moment ≡ m) _ [] refl (All-nil _);
+  sizes = All-nil _;
+  few = omega arith;
+  some = λ h. h;
+}
+full_cut (suc n) m us few many =
+    let more : 4096 * suc n < length us = many (omega arith) in
+    let first : length (take 4096 us) ≡ 4096 = length-take-le 4096 us (omega arith) in
+    let rest : length (drop 4096 us) ≡ length us - 4096 = length-drop 4096 us in
+    let cut = full_cut n m (drop 4096 us) (omega arith) (λ _. omega arith) in
+    record {
+      full = record { moment = m; uses = take 4096 us } ∷ cut.full;
+      last = cut.last;
+      parts = ap (λ bs. record { moment = m; uses = take 4096 us } ∷ bs) cut.parts;
+      whole = ap (λ xs. take 4096 us ++ xs) cut.whole ∙ take-append-drop 4096 us;
+      moments = All-cons (λ b. b.moment ≡ m) _ _ refl cut.moments;
+      sizes = All-cons (λ b. length b.uses ≡ 4096) _ _ first cut.sizes;
+      few = cut.few;
+      some = λ _. cut.some (omega arith);
+    }
+
+pub cut_is_cut : CutIsCut
+unfolding cut
+cut_is_cut m us = full_cut ((length us - 1) / 4096) m us (omega arith) (λ some. omega arith)
+
+-- ---- a record's uses
+pub each_held : (r : State) → IsRecord r → AllByRecursion (IsHeldAt r.moment) (rising r.uses)
+each_held r is = recursion_from_All (IsHeldAt r.moment) (rising r.uses) (λ k d h. is.each (get_or (rising r.uses) k d) (held_in_rising r.uses k d h))

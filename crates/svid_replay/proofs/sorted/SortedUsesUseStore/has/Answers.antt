@@ -1,0 +1,9 @@
+use Rattle.std.proofs.Common.{◌∙◌, ap, sym}
+use Rattle.std.specs.List.{list_any}
+use Rattle.svid_replay.specs.Twice.{has_key}
+use Rattle.svid_replay.proofs.UsesLemmas.{stored}
+use Rattle.svid_replay.proofs.sorted.SortedUsesUseStore.has.Goals as goal
+
+pub returns : goal.returns
+returns c =
+    c.has_use_of.ensures ∙ ap (list_any (has_key c.args.key.now)) (c.deref.ensures.value ∙ sym (stored _ _ c.self.invariant c.self.view_is))

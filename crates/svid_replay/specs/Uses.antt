@@ -1,0 +1,52 @@
+use Rattle.std.specs.Prelude.{ℕ, Bool, List, Option, length, nat_lt, find, refl}
+use base.Stored.{coded_unit}
+use Rattle.std.specs.Coded.{Coded, code_by, coded×, coded_list, coded_ℕ}
+use Rattle.std.specs.FinMap as finmap
+use Rattle.std.specs.List.{list_any}
+use Rattle.svid_replay.specs.declared.token_use.Use.{Use}
+use Rattle.svid_replay.specs.Batches.{is_after}
+use Rattle.svid_replay.specs.Sets as sets
+use Rattle.svid_replay.specs.Sets.{Set, rising}
+use Rattle.svid_replay.specs.Twice.{has_key}
+use Rattle.svid_replay.specs.Use.{use_cmp}
+
+-- a finite set of uses
+abbrev pub Uses : Type 0
+Uses = Set use_cmp
+
+-- a use is stored as the tuple of its fields
+abbrev pub use_code : Coded Use
+use_code =
+    code_by (ℕ × (List ℕ × (List ℕ × ℕ))) (coded× coded_ℕ (coded× (coded_list coded_ℕ) (coded× (coded_list coded_ℕ) coded_ℕ))) (λ u. (u.exp, (u.key, (u.place, u.at)))) (λ p. record { exp = p.0; key = p.1.0; place = p.1.1.0; at = p.1.1.1 }) (λ _. refl)
+
+-- a set is stored as the list of its uses
+abbrev pub uses_code : Coded Uses
+uses_code = finmap.code use_code coded_unit
+
+-- the set of no uses
+abbrev pub no_uses : Uses
+no_uses = sets.empty use_cmp
+
+-- the set of a list's uses
+abbrev pub uses_in : List Use → Uses
+uses_in us = sets.set_of use_cmp us
+
+-- the uses of either set
+abbrev pub union : Uses → Uses → Uses
+union s t = sets.with_all s (rising t)
+
+-- the uses that expire after the moment
+abbrev pub live : Uses → ℕ → Uses
+live s moment = sets.keep (λ u. nat_lt moment u.exp) s
+
+-- some use of the set has this key
+abbrev pub has_use_of : Uses → List ℕ → Bool
+has_use_of s key = list_any (has_key key) (rising s)
+
+-- how many uses the set has
+abbrev pub count : Uses → ℕ
+count s = length (rising s)
+
+-- the least use of the set, or the least that is greater than the one given
+abbrev pub next_above : Uses → Option Use → Option Use
+next_above s after = find (is_after after) (rising s)

@@ -1,0 +1,177 @@
+ghost use Rattle.std.specs.Prelude.{◌≡◌, ◌+◌, ◌<◌, ◌≤◌, [], ◌∷◌, false, IsTrue, IsOk, IfOk, OnOk, OnErr};
+ghost use Rattle.svid_replay.specs.Parts.{cut};
+ghost use Rattle.svid_replay.specs.Records.{HasNoNew, IsPartlyJoined, IsRecord, batch_state, join, state_of};
+ghost use Rattle.svid_replay.specs.Sets.{holds, rising};
+ghost use Rattle.svid_replay.specs.Twice.{IsTwice, twice_of};
+ghost use Rattle.svid_replay.specs.Uses.{count, has_use_of, next_above, no_uses};
+
+use crate::parts::cut;
+use crate::store::{Raised, UseStore};
+use crate::twice::twice_in;
+use crate::{Batch, Twice, Use};
+use std::alloc::{AllocError, Global};
+use std::marker::Model;
+
+/// A moment, and a set of uses that were made by then and expire later. It only grows by joins: the
+/// greater moment, and of the uses of both sides those that expire after it.
+#[derive(Debug, Drop)]
+pub struct Record<S: UseStore> {
+    moment: u64,
+    store: S,
+}
+
+impl<S: UseStore> Model for Record<S> {
+    ghost use Rattle.svid_replay.specs.Records.{IsRecord, State, state_code};
+
+    ghost Value = { State };
+
+    ghost coded = { state_code };
+
+    ghost view = { λ r. record { moment = r.moment; uses = S.content r.store } };
+
+    ghost invariant = { λ r. IsRecord (record { moment = r.moment; uses = S.content r.store }) };
+}
+
+impl<S: UseStore> Record<S> {
+    /// The record of moment 0 with no uses, in an empty store.
+    pub fn new(store: S) -> Record<S>
+        requires { S.content store ≡ no_uses }
+        ensures { result ≡ state_of 0 [] }
+    {
+        Record { moment: 0, store }
+    }
+
+    /// The record's moment, in seconds.
+    pub fn moment(&self) -> u64
+        ensures value { result ≡ self.now.moment }
+        ensures is_record { IsRecord self.now }
+    {
+        self.moment
+    }
+
+    /// How many uses the record has.
+    pub fn len(&self) -> usize
+        ensures { result ≡ count self.now.uses }
+    {
+        self.store.len()
+    }
+
+    /// Whether a use of the record has this key.
+    pub fn has(&self, key: &[u8; 32]) -> bool
+        ensures { result ≡ has_use_of self.now.uses key.now }
+    {
+        self.store.has(key)
+    }
+
+    /// The least use of the record, or the least that is greater than the one given.
+    pub fn next_after(&self, after: Option<Use>) -> Option<Use>
+        ensures { result ≡ next_above self.now.uses after }
+    {
+        self.store.next_after(after)
+    }
+
+    /// Joins a moment (in seconds): the record's moment becomes the greater, and the uses that expire
+    /// by then go. Takes no memory.
+    pub fn raise(&mut self, now: u64) -> Raised
+        ensures joined { self.new ≡ join self.old (state_of now []) }
+        ensures dropped { result.dropped + count self.new.uses ≡ count self.old.uses }
+    {
+        self.moment = self.moment.max(now);
+        self.store.drop_expired(self.moment)
+    }
+
+    // joins one use that was made by the record's moment
+    fn take_in(&mut self, used: Use) -> Result<(), AllocError>
+        requires { used.at ≤ self.old.moment }
+        ensures ok { OnOk result (self.new ≡ join self.old (state_of self.old.moment (used ∷ []))) }
+        ensures err { OnErr result (self.new ≡ self.old) }
+        ensures refused { OnErr result ((self.old.moment < used.exp) × (holds self.old.uses used ≡ false)) }
+    {
+        if used.is_live(self.moment) {
+            self.store.insert(used)?;
+        }
+        Ok(())
+    }
+
+    /// Joins one use that was made by the record's moment and expires after it.
+    ///
+    /// Where memory is refused the record stays as it was. A use that the record has already always
+    /// succeeds.
+    pub fn add(&mut self, used: Use) -> Result<(), AllocError>
+        requires made { used.at ≤ self.old.moment }
+        requires live { self.old.moment < used.exp }
+        ensures ok { OnOk result (self.new ≡ join self.old (state_of self.old.moment (used ∷ []))) }
+        ensures err { OnErr result (self.new ≡ self.old) }
+        ensures held { IsTrue (holds self.old.uses used) → IsOk result }
+    {
+        self.take_in(used)
+    }
+
+    /// Joins a batch.
+    ///
+    /// Where memory is refused, the record is the old one joined with the batch's moment and the uses
+    /// in front of the first that was refused. Where no use of the batch is new and live, it succeeds.
+    pub fn absorb(&mut self, batch: &Batch) -> Result<(), AllocError>
+        ensures joined { OnOk result (self.new ≡ join self.old (batch_state batch.now)) }
+        ensures refused { OnErr result (IsPartlyJoined self.old self.new batch.now.moment batch.now.uses) }
+        ensures nothing_new { HasNoNew self.old batch.now.moment batch.now.uses → IsOk result }
+    {
+        self.raise(batch.moment());
+        for used in batch.uses() {
+            self.take_in(*used)?;
+        }
+        Ok(())
+    }
+
+    /// Joins another record, over whatever store.
+    ///
+    /// Where memory is refused, the record is the old one joined with the other's moment and those of
+    /// its uses that are less than the first that was refused. Where no use of the other is new and
+    /// live, it succeeds.
+    pub fn merge<T: UseStore>(&mut self, other: &Record<T>) -> Result<(), AllocError>
+        ensures joined { OnOk result (self.new ≡ join self.old other.now) }
+        ensures refused { OnErr result (IsPartlyJoined self.old self.new other.now.moment (rising other.now.uses)) }
+        ensures nothing_new { HasNoNew self.old other.now.moment (rising other.now.uses) → IsOk result }
+    {
+        self.raise(other.moment());
+        let mut after = None;
+        while let Some(used) = other.next_after(after) {
+            self.take_in(used)?;
+            after = Some(used);
+        }
+        Ok(())
+    }
+
+    /// The uses, rising.
+    pub fn uses(&self, alloc: Global) -> Result<Vec<Use>, AllocError>
+        ensures { IfOk result (λ uses. uses.items ≡ rising self.now.uses) }
+    {
+        let mut uses = Vec::with_capacity(alloc, self.len())?;
+        let mut after = None;
+        while let Some(used) = self.next_after(after) {
+            uses.push(used)?;
+            after = Some(used);
+        }
+        Ok(uses)
+    }
+
+    /// The keys that two or more of the record's uses have, rising, each with all its uses.
+    ///
+    /// Takes about n log n steps for n uses.
+    pub fn report(&self, alloc: Global) -> Result<Vec<Twice>, AllocError>
+        ensures value { IfOk result (λ listed. listed.items ≡ twice_of (rising self.now.uses)) }
+        ensures relation { IfOk result (λ listed. IsTwice (rising self.now.uses) listed.items) }
+    {
+        let uses = self.uses(alloc)?;
+        twice_in(alloc, &uses)
+    }
+
+    /// The record as batches of its moment, which hold its uses in rising order: 4,096 in each but the
+    /// last, which has 1 to 4,096. One batch with no use where the record has none.
+    pub fn parts(&self, alloc: Global) -> Result<Vec<Batch>, AllocError>
+        ensures { IfOk result (λ parts. parts.items ≡ cut self.now.moment (rising self.now.uses)) }
+    {
+        let uses = self.uses(alloc)?;
+        cut(alloc, self.moment(), &uses)
+    }
+}

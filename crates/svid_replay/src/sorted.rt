@@ -1,0 +1,126 @@
+ghost use Rattle.std.specs.Prelude.{◌≡◌, ◌≤◌, length, Some, drop, find, not, nat_lt, IsTrue, IsOk, OnOk, OnErr};
+ghost use Rattle.std.specs.List.{list_any, prefix_len};
+ghost use Rattle.svid_replay.specs.Batches.{is_after};
+ghost use Rattle.svid_replay.specs.Sets.{holds, with};
+ghost use Rattle.svid_replay.specs.Twice.{has_key};
+ghost use Rattle.svid_replay.specs.Use.{IsRising};
+ghost use Rattle.svid_replay.specs.Uses.{no_uses, uses_in};
+
+use crate::Use;
+use crate::store::{Raised, UseStore};
+use crate::twice::has_key;
+use std::alloc::{AllocError, Global};
+use std::marker::Model;
+
+/// A set of uses as a sorted vector: small, quick to walk, and `has` looks at each use.
+#[derive(Debug, Drop)]
+pub struct SortedUses {
+    uses: Vec<Use>,
+}
+
+impl Model for SortedUses {
+    ghost use Rattle.svid_replay.specs.Uses.{Uses, uses_code, uses_in};
+    ghost use Rattle.svid_replay.specs.Use.{IsRising};
+
+    ghost Value = { Uses };
+
+    ghost coded = { uses_code };
+
+    ghost view = { λ s. uses_in s.uses.items };
+
+    ghost invariant = { λ s. IsRising s.uses.items };
+}
+
+fn insert_use(uses: &mut Vec<Use>, new: Use) -> Result<(), AllocError>
+    requires { IsRising uses.old.items }
+    ensures rising { IsRising uses.new.items }
+    ensures ok { OnOk result (uses_in uses.new.items ≡ with (uses_in uses.old.items) new) }
+    ensures err { OnErr result (uses.new.items ≡ uses.old.items) }
+    ensures held { IsTrue (holds (uses_in uses.old.items) new) → IsOk result }
+{
+    match uses.binary_search(&new) {
+        Ok(_) => Ok(()),
+        Err(place) => {
+            uses.insert(place, new)?;
+            Ok(())
+        }
+    }
+}
+
+fn count_expired(uses: &[Use], moment: u64) -> usize
+    requires { IsRising uses.now }
+    ensures { result ≡ prefix_len (λ u. not (nat_lt moment u.exp)) uses.now }
+{
+    uses.partition_point(|used| !used.is_live(moment))
+}
+
+fn drop_front(uses: &mut Vec<Use>, count: usize)
+    requires { count ≤ length uses.old.items }
+    ensures { uses.new.items ≡ drop count uses.old.items }
+{
+    let left = uses.len() - count;
+    uses.rotate_left(count);
+    uses.truncate(left);
+}
+
+fn count_up_to(uses: &[Use], last: &Use) -> usize
+    requires { IsRising uses.now }
+    ensures value { result ≡ prefix_len (λ u. not (is_after (Some last.now) u)) uses.now }
+    ensures bound { result ≤ length uses.now }
+{
+    uses.partition_point(|used| !last.cmp(used).is_lt())
+}
+
+fn first_after(uses: &[Use], after: Option<Use>) -> Option<Use>
+    requires { IsRising uses.now }
+    ensures { result ≡ find (is_after after) uses.now }
+{
+    let rest = match after {
+        None => uses,
+        Some(last) => &uses[count_up_to(uses, &last)..],
+    };
+    rest.first().copied()
+}
+
+fn has_use_of(uses: &[Use], key: &[u8; 32]) -> bool
+    ensures { result ≡ list_any (has_key key.now) uses.now }
+{
+    uses.iter().any(|used| has_key(key, used))
+}
+
+impl SortedUses {
+    /// The empty set. Takes no memory.
+    pub fn new(alloc: Global) -> SortedUses
+        ensures { result ≡ no_uses }
+    {
+        SortedUses {
+            uses: Vec::new(alloc),
+        }
+    }
+}
+
+impl UseStore for SortedUses {
+    ghost content = { λ s. s };
+
+    fn insert(&mut self, new: Use) -> Result<(), AllocError> {
+        insert_use(&mut self.uses, new)
+    }
+
+    fn drop_expired(&mut self, moment: u64) -> Raised {
+        let dropped = count_expired(&self.uses, moment);
+        drop_front(&mut self.uses, dropped);
+        Raised { dropped }
+    }
+
+    fn has(&self, key: &[u8; 32]) -> bool {
+        has_use_of(&self.uses, key)
+    }
+
+    fn len(&self) -> usize {
+        self.uses.len()
+    }
+
+    fn next_after(&self, after: Option<Use>) -> Option<Use> {
+        first_after(&self.uses, after)
+    }
+}

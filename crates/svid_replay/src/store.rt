@@ -1,0 +1,42 @@
+ghost use Rattle.std.specs.Prelude.{◌≡◌, ◌+◌, IsTrue, IsOk, OnOk, OnErr};
+ghost use Rattle.svid_replay.specs.Sets.{holds, with};
+ghost use Rattle.svid_replay.specs.Uses.{Uses, count, has_use_of, live, next_above};
+
+use crate::Use;
+use std::alloc::AllocError;
+
+/// What a greater moment did to a set of uses.
+#[derive(Clone, Copy, Debug, PartialEq, Eq)]
+pub struct Raised {
+    /// How many uses expired by the moment and went.
+    pub dropped: usize,
+}
+
+/// A set of uses, which a record keeps.
+pub trait UseStore {
+    ghost content: { Self → Uses };
+
+    /// Puts a use into the set. The only call that takes memory; where it is refused the set stays as
+    /// it was. A use that is in the set already always succeeds.
+    fn insert(&mut self, new: Use) -> Result<(), AllocError>
+        ensures ok { OnOk result (content self.new ≡ with (content self.old) new) }
+        ensures err { OnErr result (content self.new ≡ content self.old) }
+        ensures held { IsTrue (holds (content self.old) new) → IsOk result };
+
+    /// Takes out the uses that expire at the moment (in seconds) or before it.
+    fn drop_expired(&mut self, moment: u64) -> Raised
+        ensures kept { content self.new ≡ live (content self.old) moment }
+        ensures dropped { result.dropped + count (content self.new) ≡ count (content self.old) };
+
+    /// Whether a use of the set has this key.
+    fn has(&self, key: &[u8; 32]) -> bool
+        ensures { result ≡ has_use_of (content self.now) key.now };
+
+    /// How many uses the set has.
+    fn len(&self) -> usize
+        ensures { result ≡ count (content self.now) };
+
+    /// The least use of the set, or the least that is greater than the one given.
+    fn next_after(&self, after: Option<Use>) -> Option<Use>
+        ensures { result ≡ next_above (content self.now) after };
+}

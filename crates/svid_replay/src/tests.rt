@@ -1,0 +1,61 @@
+mod batch;
+mod record;
+mod sweep;
+
+use crate::{Batch, Record, SortedUses, Use};
+use std::alloc::{AllocError, Global};
+use std::test::Fail;
+
+// Two uses of one key, as two validators make them.
+const FIRST: Use = Use {
+    exp: 101,
+    key: [0x11; 32],
+    place: [0x22; 16],
+    at: 99,
+};
+
+const SECOND: Use = Use {
+    exp: 101,
+    key: [0x11; 32],
+    place: [0x33; 16],
+    at: 100,
+};
+
+// The use of that key that expires at 5001 and was made at `at`.
+fn at(at: u64) -> Use {
+    Use {
+        exp: 5001,
+        key: [0x11; 32],
+        place: [0x22; 16],
+        at,
+    }
+}
+
+// These uses of rising `at`, as many as asked for.
+fn uses_to(alloc: Global, count: u64) -> Result<Vec<Use>, AllocError> {
+    let mut uses = Vec::new(alloc);
+    for made in 0..count {
+        uses.push(at(made))?;
+    }
+    Ok(uses)
+}
+
+fn empty(alloc: Global) -> Record<SortedUses> {
+    Record::new(SortedUses::new(alloc))
+}
+
+// A new record that has absorbed a batch of this moment and these uses.
+fn record_of(alloc: Global, moment: u64, uses: &[Use]) -> Result<Record<SortedUses>, Fail> {
+    let mut record = empty(alloc);
+    record.absorb(&Batch::make(moment, uses.to_vec(alloc)?)?)?;
+    Ok(record)
+}
+
+// Adds a use where the record may be asked to, and says whether it was.
+fn add(record: &mut Record<SortedUses>, used: Use) -> Result<bool, AllocError> {
+    if used.at > record.moment() || !used.is_live(record.moment()) {
+        return Ok(false);
+    }
+    record.add(used)?;
+    Ok(true)
+}

@@ -1,0 +1,5 @@
+use Rattle.svid_tool.proofs.InputsLemmas.{HasJoined}
+use Rattle.svid_tool.proofs.inputs.join_inputs.Given as goal
+
+abbrev pub invariant-loop-index : goal.invariant-loop-index
+invariant-loop-index g l = HasJoined g.S.Source.left l.index l.fn.inputs l.inputs l.fn.target l.target

@@ -1,0 +1,27 @@
+use Rattle.std.proofs.Common.{◌≡◌, ℕ, ◌+◌, ◌<◌, ◌++◌, ◌∷◌, List, length, take, drop, get_or, Option, sym, ap, ◌∙◌, subst, arith, add-one, drop-cons, append_assoc, length-append, take-append-drop}
+use Rattle.std.proofs.Math.Seq.{take-append-add}
+use Rattle.std.proofs.lemmas.List.{take-append-le}
+use Rattle.std.proofs.lemmas.Grind.{flat_map-append}
+use Rattle.std.specs.List.{flat_map}
+use Rattle.std.specs.Io.KnownBytes.{Appends}
+use Rattle.std.proofs.KnownBytes.{Appends-trans}
+
+-- what stands before the piece of the i-th item, that piece, and what stands behind it
+flat_map-at : {X : Type 0} (f : X → List ℕ) (front : List ℕ) (xs : List X) (i : ℕ) (d : X) → i < length xs → front ++ flat_map f xs ≡ (front ++ flat_map f (take i xs)) ++ (f (get_or xs i d) ++ flat_map f (drop (i + 1) xs))
+flat_map-at f front xs i d within =
+    ap (λ ys. front ++ flat_map f ys) (sym (take-append-drop i xs) ∙ ap (λ ys. take i xs ++ ys) (rw (add-one, drop-cons xs i d)))
+    ∙ ap (λ y. front ++ y) (flat_map-append f (take i xs) (get_or xs i d ∷ drop (i + 1) xs))
+    ∙ sym (append_assoc front (flat_map f (take i xs)) _)
+
+-- a piece of a text went out in part, and all before it went out whole
+cut_piece : (old mid new : Option (List ℕ)) (text front piece rest : List ℕ) (n k : ℕ) → text ≡ front ++ (piece ++ rest) → length front ≡ n → Appends old mid front → k < length piece → Appends mid new (take k piece) → (n + k < length text) × Appends old new (take (n + k) text)
+cut_piece old mid new text front piece rest n k parts long before short now = (
+  omega (arith, ap length parts, length-append front (piece ++ rest), length-append piece rest),
+  subst (Appends old new) (sym (ap (take (n + k)) parts ∙ ap (λ m. take (m + k) (front ++ (piece ++ rest))) (sym long) ∙ take-append-add front (piece ++ rest) k ∙ ap (λ x. front ++ x) (take-append-le k piece rest (omega arith)))) (Appends-trans old mid new front (take k piece) before now),
+)
+
+-- the piece of the i-th item went out in part, and all before it went out whole
+pub Appends-cut : {X : Type 0} (f : X → List ℕ) (old mid new : Option (List ℕ)) (front piece : List ℕ) (items xs : List X) (i : ℕ) (d : X) (n k : ℕ) → items ≡ xs → i < length items → piece ≡ f (get_or items i d) → length (front ++ flat_map f (take i xs)) ≡ n → Appends old mid (front ++ flat_map f (take i xs)) → (k < length piece) × Appends mid new (take k piece) → (n + k < length (front ++ flat_map f xs)) × Appends old new (take (n + k) (front ++ flat_map f xs))
+Appends-cut f old mid new front piece items xs i d n k same within is long before (short, now) =
+    let here : piece ≡ f (get_or xs i d) = is ∙ ap (λ ys. f (get_or ys i d)) same in
+    cut_piece old mid new _ (front ++ flat_map f (take i xs)) piece (flat_map f (drop (i + 1) xs)) n k (flat_map-at f front xs i d (omega (arith, ap length same)) ∙ ap (λ p. (front ++ flat_map f (take i xs)) ++ (p ++ flat_map f (drop (i + 1) xs))) (sym here)) long before short now

@@ -1,0 +1,104 @@
+use Rattle.std.proofs.Common.{◌≡◌, ℕ, zero, suc, ◌<◌, ◌≤◌, inl, inr, List, [], ◌∷◌, ◌++◌, length, drop, All, refl, sym, ap, ◌∙◌, subst, arith, append_assoc, append-nil, length-append}
+use Rattle.std.specs.List.{AllByRecursion, flat_map}
+use Rattle.std.proofs.lemmas.List.{drop_at}
+use Rattle.std.proofs.lemmas.List.Elements.{All-drop, All-same}
+use Rattle.svid_replay.specs.Batches.{IsBatch}
+use Rattle.svid_wire.specs.BatchText.{batch_text}
+use Rattle.svid_wire.specs.WireFault.{BeginsBatch, IsFault}
+use Rattle.svid_wire.specs.Messages.{message_text, IsMessage, batches_of, BeginsMessage, Parses, HasFault, NoTextIsLonger, ParsesOneWay, EachParses, ParseEnds}
+use Rattle.svid_wire.specs.declared.message.Message.{Message}
+use Rattle.svid_wire.specs.declared.message.Message.TheVariants.{Batch}
+use Rattle.svid_wire.proofs.FirstBatch.{begins_one_batch, text_has_no_fault}
+use Rattle.svid_wire.proofs.FirstBatchTells.{begins_or_faults}
+
+-- the texts of messages are those of their batches
+pub flat_map-batches_of : (ms : List Message) → flat_map message_text ms ≡ flat_map batch_text (batches_of ms)
+flat_map-batches_of [] = refl
+flat_map-batches_of (Batch b ∷ ms) = ap (λ x. batch_text b ++ x) (flat_map-batches_of ms)
+
+pub batches_of-append : (ms ns : List Message) → batches_of (ms ++ ns) ≡ batches_of ms ++ batches_of ns
+batches_of-append [] ns = refl
+batches_of-append (Batch b ∷ ms) ns = ap (λ x. b ∷ x) (batches_of-append ms ns)
+
+pub batches_of-all : (ms : List Message) → AllByRecursion IsMessage ms → AllByRecursion IsBatch (batches_of ms)
+batches_of-all [] good = tt
+batches_of-all (Batch b ∷ ms) (good, more) = (good, batches_of-all ms more)
+
+-- bytes begin with at most one message
+begins_one_message : (a b : Message) (x y : List ℕ) → IsMessage a → IsMessage b → message_text a ++ x ≡ message_text b ++ y → (a ≡ b) × (x ≡ y)
+begins_one_message (Batch a) (Batch b) x y good_a good_b same =
+    let (e, rest) = begins_one_batch a b x y good_a good_b same in
+    (ap Batch e, rest)
+
+pub no_text_is_longer : NoTextIsLonger
+no_text_is_longer a b more good_a good_b same =
+    (begins_one_message a b more [] good_a good_b (same ∙ sym (append-nil (message_text b)))).1
+
+no_bytes_begin : ¬ BeginsMessage []
+no_bytes_begin h = none h.message h.rest h.parts where
+  none : (m : Message) (rest : List ℕ) → [] ≡ message_text m ++ rest → ⊥
+  none (Batch b) rest e = cc
+
+-- what has a fault begins with no message
+fault_begins_none : (bytes : List ℕ) → HasFault bytes → ¬ BeginsMessage bytes
+fault_begins_none bytes (fault, bad) h = none h.message h.rest h.good h.parts where
+  none : (m : Message) (rest : List ℕ) → IsMessage m → bytes ≡ message_text m ++ rest → ⊥
+  none (Batch b) rest good parts = text_has_no_fault b rest fault good (subst (λ (x : List ℕ). IsFault x fault) parts bad)
+
+pub parse_ends : ParseEnds
+parse_ends bytes ms rest splits (inl none) = record { splits = splits; ends = subst (λ (x : List ℕ). ¬ BeginsMessage x) (sym none) no_bytes_begin }
+parse_ends bytes ms rest splits (inr faulty) = record { splits = splits; ends = fault_begins_none rest faulty }
+
+-- messages and a rest are one list of bytes in one way
+one_way : (ms ns : List Message) (x y : List ℕ) → AllByRecursion IsMessage ms → AllByRecursion IsMessage ns → ¬ BeginsMessage x → ¬ BeginsMessage y → flat_map message_text ms ++ x ≡ flat_map message_text ns ++ y → (ms ≡ ns) × (x ≡ y)
+one_way [] [] x y good_m good_n end_x end_y same = (refl, same)
+one_way [] (n ∷ ns) x y good_m good_n end_x end_y same =
+    absurd (end_x (record { message = n; rest = flat_map message_text ns ++ y; good = good_n.0; parts = same ∙ append_assoc (message_text n) (flat_map message_text ns) y }))
+one_way (m ∷ ms) [] x y good_m good_n end_x end_y same =
+    absurd (end_y (record { message = m; rest = flat_map message_text ms ++ x; good = good_m.0; parts = sym same ∙ append_assoc (message_text m) (flat_map message_text ms) x }))
+one_way (m ∷ ms) (n ∷ ns) x y good_m good_n end_x end_y same =
+    let (first, behind) = begins_one_message m n (flat_map message_text ms ++ x) (flat_map message_text ns ++ y) good_m.0 good_n.0 (sym (append_assoc (message_text m) (flat_map message_text ms) x) ∙ same ∙ append_assoc (message_text n) (flat_map message_text ns) y) in
+    let (others, rest) = one_way ms ns x y good_m.1 good_n.1 end_x end_y behind in
+    (ap (λ k. k ∷ ms) first ∙ ap (λ ks. n ∷ ks) others, rest)
+
+pub parses_one_way : ParsesOneWay
+parses_one_way bytes ms ns x y p q =
+    one_way ms ns x y p.splits.good q.splits.good p.ends q.ends (sym p.splits.parts ∙ q.splits.parts)
+
+-- bytes that do parse
+IsParsed : List ℕ → Type 0
+IsParsed bytes = (messages : List Message) × (rest : List ℕ) × Parses bytes messages rest
+
+-- one batch in front of bytes that parse
+parse_more : (bytes : List ℕ) (h : BeginsBatch bytes) → IsParsed h.rest → IsParsed bytes
+unfolding IsParsed
+parse_more bytes h (ms, rest, p) = (
+  Batch h.batch ∷ ms,
+  rest,
+  record {
+    splits = record {
+      good = (h.good, p.splits.good);
+      parts = h.parts ∙ ap (λ x. batch_text h.batch ++ x) p.splits.parts ∙ sym (append_assoc (batch_text h.batch) (flat_map message_text ms) rest);
+    };
+    ends = p.ends;
+  },
+)
+
+-- bytes behind others
+All-behind : (P : ℕ → Type 0) (bytes front rest : List ℕ) → bytes ≡ front ++ rest → All P bytes → All P rest
+All-behind P bytes front rest parts h =
+    All-same P rest (drop (length front) bytes) (sym (ap (drop (length front)) parts ∙ drop_at front rest (length front) refl)) (All-drop P (length front) bytes h)
+
+-- bytes of which there are at most so many parse
+parses_within : (n : ℕ) (bytes : List ℕ) → length bytes ≤ n → All (λ b. b < 256) bytes → IsParsed bytes
+unfolding IsParsed
+parses_within n [] few h = ([], [], record { splits = record { good = tt; parts = refl }; ends = no_bytes_begin })
+parses_within zero (b ∷ x) few h = absurd (omega arith)
+parses_within (suc n) (b ∷ x) few h = elim (begins_or_faults (b ∷ x) h (omega arith)) [
+  | inl begins ↦ parse_more (b ∷ x) begins (parses_within n begins.rest (omega (arith, ap length begins.parts, length-append (batch_text begins.batch) begins.rest)) (All-behind (λ k. k < 256) (b ∷ x) (batch_text begins.batch) begins.rest begins.parts h))
+  | inr faulty ↦ ([], b ∷ x, record { splits = record { good = tt; parts = refl }; ends = fault_begins_none (b ∷ x) faulty })
+]
+
+pub each_parses : EachParses
+unfolding IsParsed
+each_parses bytes h = parses_within (length bytes) bytes (omega arith) h
