@@ -1,3 +1,30 @@
+//! The record of used tokens that validators share: uses, the batches that carry them, stores, and
+//! the record itself.
+//!
+//! A [`Use`] says that a token, told by its key, was accepted at a place and a time, and when it
+//! expires. A [`Record`] is a moment and the set of the uses that were made by then and expire later,
+//! kept in a [`UseStore`]. Whatever happens to it is a join: the greater moment, and of the uses of
+//! both sides those that expire after it. So records may be merged in any order, any number of times,
+//! and come out the same ([`laws`]). Where memory is refused on the way, the record is the join with
+//! a part that the contract names.
+//!
+//! ```rust
+//! use svid_replay::{Batch, Record, SortedUses, Use};
+//!
+//! let first = Use { exp: 101, key: [0x11; 32], place: [0x22; 16], at: 99 };
+//! let second = Use { place: [0x33; 16], at: 100, ..first };
+//! let mut uses = Vec::new(alloc);
+//! uses.push(first)?;
+//! uses.push(second)?;
+//! let batch = Batch::make(100, uses)?;
+//!
+//! let mut record = Record::new(SortedUses::new(alloc));
+//! record.absorb(&batch)?;
+//! record.absorb(&batch)?;
+//! assert_eq!(rt; record.len(), 2);
+//! assert_eq!(rt; record.report(alloc)?.len(), 1);
+//! assert_eq!(rt; record.raise(101).dropped, 2);
+//! ```
 #![tactic(auto)]
 
 mod batch;

@@ -1,12 +1,16 @@
 ghost use Rattle.std.specs.Prelude.{◌≡◌, ◌+◌, ◌≤◌, ◌++◌, length, take, nat_lt};
 ghost use Rattle.svid_replay.specs.Use.{text_of, IsUse};
 
-/// One use of a token.
+/// One use of a token: a validator accepted it once. Uses are ordered as their texts are.
 #[derive(Clone, Copy, Debug, PartialEq, Eq, PartialOrd, Ord)]
 pub struct Use {
+    /// When the token expires, in seconds.
     pub exp: u64,
+    /// The key of the token: two uses of one token have the same.
     pub key: [u8; 32],
+    /// The place where it was used: each validator has one of its own.
     pub place: [u8; 16],
+    /// When it was used, in seconds.
     pub at: u64,
 }
 
@@ -26,7 +30,8 @@ impl Use {
         self.exp > moment
     }
 
-    /// The 64 bytes of this use.
+    /// The 64 bytes of this use: `exp`, `key`, `place` and `at`, each number with its greatest byte
+    /// first.
     pub fn text(&self) -> [u8; 64]
         ensures { result ≡ text_of self.now }
     {

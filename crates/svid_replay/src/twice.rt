@@ -9,7 +9,9 @@ use std::alloc::{AllocError, Global};
 /// A key that two or more different uses have, with all its uses in rising order.
 #[derive(Debug, Drop)]
 pub struct Twice {
+    /// The key that the uses have.
     pub key: [u8; 32],
+    /// All uses of the key, rising.
     pub uses: UseList,
 }
 
