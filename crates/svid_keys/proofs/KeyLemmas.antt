@@ -1,14 +1,14 @@
 -- An entry is kept as a key exactly where it is one.
-use Rattle.std.proofs.Common.{◌≡◌, ℕ, ◌&&◌, Bool, true, false, not, nat_le, if◌then◌else◌, IsSome, List, length, codes, bytes_eq, Option, Some, None, option_and_then, option_map, refl, ap, sym, ◌∙◌}
+use Rattle.std.proofs.Common.{◌≡◌, ℕ, ◌&&◌, Bool, true, false, not, nat_le, if◌then◌else◌, IsSome, List, length, codes, bytes_eq, Option, Some, None, option_and_then, option_map, refl, ap, sym}
 use Rattle.std.proofs.lemmas.Bool.{le-leb, leb-true}
 use Rattle.std.proofs.lemmas.Slice.Eq.{bytes_eq-Decides}
 use Rattle.std.specs.Option.{option_map_or}
-use Rattle.serde_json.specs.Data.{Data, null, boolean, number, string, array, object}
+use Rattle.serde_json.specs.Data.{Data, object}
 use Rattle.serde_json.specs.Find.{as_object}
 use Rattle.serde_json.specs.Written.{compact_text, has_float}
 use Rattle.svid_token.specs.Json.{text_at}
 use Rattle.svid_token.specs.declared.kty.Kty.{Kty}
-use Rattle.svid_keys.specs.Key.{IsKey, KeyData, is_for_svids, kept_key, kty_in}
+use Rattle.svid_keys.specs.Key.{IsKey, KeyData, kept_key, kty_in}
 use Rattle.svid_keys.specs.declared.jwt_key.TheConstants.{MAX_KEY_LEN}
 
 -- what an entry says of a key
@@ -61,7 +61,7 @@ is_object name entry text e = cc
 pub IsKey-from_kept : (name : List ℕ) (entry : Data) (key : KeyData) → kept_key name entry ≡ Some key → IsKey name entry key
 IsKey-from_kept name entry key kept =
     let said : Says (text_at (codes "use") entry) (text_at (codes "kid") entry) (kty_in entry) (has_float entry) (nat_le (length (compact_text entry)) MAX_KEY_LEN) name (compact_text entry) key =
-        from_made _ _ _ _ _ name (compact_text entry) key kept in
+    from_made _ _ _ _ _ name (compact_text entry) key kept in
     record {
       object = is_object (codes "use") entry _ said.is_purpose;
       purpose = said.is_purpose;

@@ -1,5 +1,5 @@
 -- Trust bundles: a JSON object of trust domain names and their JWK Sets (RFC 7517, section 5).
-use Rattle.std.specs.Prelude.{◌≡◌, ℕ, ◌+◌, not, is_none, if◌then◌else◌, IsSome, List, [], ◌∷◌, map, codes, bytes_eq, filter_map, find, Option, Some, None, option_and_then, option_map, unwrap_or, string_bytes, String, Vec}
+use Rattle.std.specs.Prelude.{◌≡◌, ℕ, ◌+◌, not, is_none, if◌then◌else◌, IsSome, List, [], ◌∷◌, codes, filter_map, Option, Some, None, option_and_then, option_map, unwrap_or, string_bytes, String, Vec}
 use Rattle.std.specs.declared.alloc.Global.{Global}
 use Rattle.std.specs.Option.{option_or}
 use Rattle.serde_json.specs.Data.{Data, Items, no_items, item, Members, no_members, member}

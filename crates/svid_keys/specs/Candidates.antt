@@ -1,5 +1,5 @@
 -- The keys that may have signed a token (RFC 7518, section 3.1; RFC 7515, section 4.1.4).
-use Rattle.std.specs.Prelude.{ℕ, ◌&&◌, Bool, true, false, List, [], bytes_eq, filter, find, is_some, Option, Some, None, option_map, unwrap_or}
+use Rattle.std.specs.Prelude.{ℕ, ◌&&◌, Bool, true, false, List, [], bytes_eq, filter, find, Option, Some, None, option_map, unwrap_or}
 use Rattle.svid_token.specs.Alg.{kty_of}
 use Rattle.svid_token.specs.declared.alg.Alg.{Alg}
 use Rattle.svid_token.specs.declared.kty.Kty.{Kty}

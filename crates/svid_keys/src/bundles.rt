@@ -73,6 +73,7 @@ impl Bundles {
         Candidates::among(self.keys_at(domain), alg.kty(), kid)
     }
 
+    // The keys of a trust domain, none where it has no bundle.
     fn keys_at(&self, domain: &str) -> &[JwtKey]
         ensures { result.now ≡ keys_at domain.now self.now }
     {
@@ -83,6 +84,7 @@ impl Bundles {
     }
 }
 
+// The bundles that the members of an object are, by their names.
 fn read_members(
     alloc: Global,
     members: &Map<String, Value>,
@@ -100,6 +102,7 @@ fn read_members(
     Ok(domains)
 }
 
+// Puts the keys of a trust domain to the others.
 fn insert(
     domains: &mut BTreeMap<String, Vec<JwtKey>>,
     name: String,
@@ -157,6 +160,7 @@ fn read_keys(alloc: Global, domain: &str, entries: &[Value]) -> Result<Vec<JwtKe
     Ok(keys)
 }
 
+// Puts a key, if there is one, to the others.
 fn push_kept(keys: &mut Vec<JwtKey>, key: Option<JwtKey>) -> Result<(), AllocError>
     ensures { OnOk result (keys.new.items ≡ keys.old.items ++ option_to_list key) }
 {

@@ -108,6 +108,7 @@ fn text_at<'v>(entry: &'v Value, name: &str) -> Option<&'v str>
     entry.get(name).and_then(Value::as_str)
 }
 
+// The family that an entry names.
 fn kty_in(entry: &Value) -> Option<Kty>
     ensures { result ≡ kty_in (view entry.now) }
 {
@@ -118,6 +119,7 @@ fn kty_in(entry: &Value) -> Option<Kty>
     }
 }
 
+// Whether an entry is for JWT-SVIDs.
 fn is_for_svids(entry: &Value) -> bool
     ensures { result ≡ is_for_svids (view entry.now) }
 {

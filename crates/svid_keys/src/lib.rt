@@ -1,4 +1,22 @@
-//! Trust bundles, and the keys of a trust domain that may have signed a token.
+//! Trust bundles, the keys of a trust domain that may have signed a token, and what knows whether a
+//! signature is good.
+//!
+//! [`Bundles::read`] reads one JSON object of trust domain names and their JWK Sets (RFC 7517,
+//! section 5; SPIFFE Trust Domain and Bundle, section 4). [`Bundles::candidates`] lends the keys that
+//! may have signed a token, and a [`Verifier`] answers for each of them whether the signature is good.
+//! No signature is verified here: a [`TableVerifier`] says yes to the [`question`]s of a table that an
+//! outside program wrote.
+//!
+//! ```rust
+//! use svid_keys::{Bundles, TableVerifier, Verifier};
+//!
+//! let bundles = Bundles::read(alloc, bundles_json)?;
+//! let table = TableVerifier::read(alloc, table_text)?;
+//! let mut is_good = false;
+//! for key in bundles.candidates(claims.sub.domain(), header.alg, kid) {
+//!     is_good |= table.verify(key, header.alg, token.input, &signature);
+//! }
+//! ```
 #![tactic(auto)]
 
 mod bundle_fault;

@@ -60,6 +60,7 @@ fn split_feed(bytes: &[u8]) -> Option<(&[u8], &[u8])>
     Some((before, after))
 }
 
+// A line without one carriage return at its end.
 #[tactic(auto, using(crate::proofs::LinesLemmas::returns))]
 fn without_return(line: &[u8]) -> &[u8]
     ensures { result.now ≡ without_return line.now }

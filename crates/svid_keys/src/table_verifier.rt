@@ -56,6 +56,7 @@ impl Verifier for TableVerifier {
     }
 }
 
+// The questions of all lines of a table.
 fn read_lines(alloc: Global, text: &[u8]) -> Result<BTreeSet<[u8; 32]>, TableFault>
     ensures value { IfOk result (λ set. (question : List ℕ) → is_among question set.keys ≡ is_among question (questions_in text.now)) }
     ensures accepted { OnOk result (table_fault text.now ≡ None) }
@@ -91,6 +92,7 @@ fn add_line(
     Ok(())
 }
 
+// Adds a question, which may be there already.
 fn add_question(questions: &mut BTreeSet<[u8; 32]>, question: [u8; 32]) -> Result<(), AllocError>
     ensures { OnOk result ((q : List ℕ) → is_among q questions.new.keys
         ≡ (is_among q questions.old.keys || bytes_eq q question)) }

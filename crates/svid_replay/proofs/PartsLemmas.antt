@@ -1,19 +1,22 @@
-use Rattle.std.proofs.Common.{◌≡◌, ℕ, ◌<◌, ◌≤◌, ◌-◌, ◌*◌, ◌/◌, ◌^◌, zero, suc, true, false, List, [], ◌∷◌, ◌++◌, length, take, drop, get_or, refl, sym, ◌∙◌, ap, arith, nat_lt, Option, None, Some}
+use Rattle.std.proofs.Common.{◌≡◌, ℕ, ◌<◌, ◌≤◌, ◌-◌, ◌*◌, ◌/◌, ◌^◌, zero, suc, true, false, List, [], ◌∷◌, ◌++◌, length, take, drop, get_or, refl, sym, ◌∙◌, ap, arith, nat_lt, Option, None, Some, subst, All}
 use Rattle.std.proofs.lemmas.Bool.Decides.{nat_tests}
-use Rattle.std.proofs.lemmas.List.{length-take-le, length-drop, take-append-drop, append_assoc, append-nil}
-use Rattle.std.proofs.lemmas.List.Elements.{All-nil, All-cons, recursion_from_All}
-use Rattle.std.specs.List.{AllByRecursion}
+use Rattle.std.proofs.lemmas.List.{length-take-le, length-drop, take-append-drop, append_assoc, append-nil, length-take}
+use Rattle.std.proofs.lemmas.List.Elements.{All-nil, All-cons, recursion_from_All, All-contains, Contains-push}
+use Rattle.std.specs.List.{AllByRecursion, flat_map}
 use Rattle.std.specs.List.Sorted.{IsStrictlySortedBy}
 use Rattle.std.specs.Ordering.{is_lt}
 use Rattle.std.specs.declared.cmp.Ordering.TheVariants.{Less}
+use Rattle.svid_replay.specs.Uses.{Uses, uses_in}
 use Rattle.svid_replay.specs.declared.token_use.Use.{Use}
 use Rattle.svid_replay.specs.Batches.{BatchData, AllGood, IsBatch, flaw, is_after}
-use Rattle.svid_replay.specs.Parts.{full_batches, cut, IsCut, CutIsCut}
-use Rattle.svid_replay.specs.Records.{State, IsRecord, IsHeldAt}
+use Rattle.svid_replay.specs.Parts.{full_batches, cut, IsCut, CutIsCut, parts_of, join_all, PartsAreBatches, SamePartsSameRecord, PartsGiveRecord}
+use Rattle.svid_replay.specs.Records.{State, IsRecord, IsHeldAt, join, state_of}
 use Rattle.svid_replay.specs.Sets.{rising}
 use Rattle.svid_replay.specs.Use.{use_cmp, IsRising, IsUse}
 use Rattle.svid_replay.proofs.ListLemmas.{each_take, each_drop, each_weaker}
-use Rattle.svid_replay.proofs.UsesLemmas.{held_in_rising}
+use Rattle.svid_replay.proofs.UsesLemmas.{held_in_rising, uses_in-rising}
+use Rattle.svid_replay.proofs.RecordsLemmas.{join_lists, join_new}
+use Rattle.svid_replay.proofs.SetsLemmas.{rising_rises}
 
 -- ---- rising uses that a record may hold are a batch
 rises_take : (n : ℕ) (us : List Use) → IsRising us → IsRising (take n us)
@@ -130,3 +133,60 @@ cut_is_cut m us = full_cut ((length us - 1) / 4096) m us (omega arith) (λ some.
 -- ---- a record's uses
 pub each_held : (r : State) → IsRecord r → AllByRecursion (IsHeldAt r.moment) (rising r.uses)
 each_held r is = recursion_from_All (IsHeldAt r.moment) (rising r.uses) (λ k d h. is.each (get_or (rising r.uses) k d) (held_in_rising r.uses k d h))
+
+full_batches_are : (n m : ℕ) (us : List Use) → m < 2 ^ 64 → length us ≤ 4096 * suc n → IsRising us → AllByRecursion (IsHeldAt m) us → AllByRecursion IsBatch (full_batches n m us)
+unfolding full_batches
+full_batches_are zero m us fits few up held = (held_is_batch m us fits (omega arith) up held, tt)
+full_batches_are (suc n) m us fits few up held = (
+  held_is_batch m (take 4096 us) fits (omega (arith, length-take 4096 us)) (rises_take 4096 us up) (each_take (IsHeldAt m) 4096 us held),
+  full_batches_are n m (drop 4096 us) fits (omega (arith, length-drop 4096 us)) (rises_drop 4096 us up) (each_drop (IsHeldAt m) 4096 us held),
+)
+
+-- each part of a record is a batch
+pub parts_are_batches : PartsAreBatches
+unfolding cut
+parts_are_batches r is = full_batches_are ((length (rising r.uses) - 1) / 4096) r.moment (rising r.uses) is.moment (omega arith) (rising_rises use_cmp r.uses) (each_held r is)
+
+-- what the parts tell
+moment_told : (m n : ℕ) (us vs : List Use) → cut m us ≡ cut n vs → m ≡ n
+moment_told m n us vs e =
+    let a = cut_is_cut m us in
+    let b = cut_is_cut n vs in
+    let in_a : All (λ c. c.moment ≡ m) (a.full ++ a.last ∷ []) = subst (All (λ c. c.moment ≡ m)) a.parts a.moments in
+    let in_b : All (λ c. c.moment ≡ n) (a.full ++ a.last ∷ []) = subst (All (λ c. c.moment ≡ n)) (sym e ∙ a.parts) b.moments in
+    sym (All-contains (λ c. c.moment ≡ m) (a.full ++ a.last ∷ []) a.last in_a (Contains-push a.full a.last)) ∙ All-contains (λ c. c.moment ≡ n) (a.full ++ a.last ∷ []) a.last in_b (Contains-push a.full a.last)
+
+uses_told : (m n : ℕ) (us vs : List Use) → cut m us ≡ cut n vs → us ≡ vs
+uses_told m n us vs e = sym (cut_is_cut m us).whole ∙ ap (flat_map (λ (b : BatchData). b.uses)) e ∙ (cut_is_cut n vs).whole
+
+-- records with the same parts are the same
+pub same_parts_same_record : SamePartsSameRecord
+same_parts_same_record a b e =
+    let moment = moment_told a.moment b.moment (rising a.uses) (rising b.uses) e in
+    let uses = sym (uses_in-rising a.uses) ∙ ap uses_in (uses_told a.moment b.moment (rising a.uses) (rising b.uses) e) ∙ uses_in-rising b.uses in
+    λ i. record { moment = moment i; uses = uses i }
+
+-- ---- a record joined with batches of one moment
+pub join_all-lists : (old : State) (m : ℕ) (front : List Use) (bs : List BatchData) → AllByRecursion (λ b. b.moment ≡ m) bs → join_all (join old (state_of m front)) bs ≡ join old (state_of m (front ++ flat_map (λ b. b.uses) bs))
+join_all-lists old m front [] all = ap (λ us. join old (state_of m us)) (sym (append-nil front))
+join_all-lists old m front (b ∷ bs) all =
+    ap (λ n. join_all (join (join old (state_of m front)) (state_of n b.uses)) bs) all.0
+    ∙ ap (λ r. join_all r bs) (join_lists old m front b.uses)
+    ∙ join_all-lists old m (front ++ b.uses) bs all.1
+    ∙ ap (λ us. join old (state_of m us)) (append_assoc front b.uses (flat_map (λ b. b.uses) bs))
+
+no_end : {X : Type 0} (xs : List X) (x : X) → [] ≡ xs ++ x ∷ [] → ⊥
+no_end [] x e = cc
+no_end (y ∷ ys) x e = cc
+
+pub join_all-one : (old : State) (m : ℕ) (bs : List BatchData) (us : List Use) → IsCut m us bs → join_all old bs ≡ join old (state_of m us)
+join_all-one old m [] us is = absurd (no_end is.full is.last is.parts)
+join_all-one old m (b ∷ bs) us is =
+    let all = recursion_from_All (λ (c : BatchData). c.moment ≡ m) (b ∷ bs) is.moments in
+    ap (λ n. join_all (join old (state_of n b.uses)) bs) all.0 ∙ join_all-lists old m b.uses bs all.1 ∙ ap (λ xs. join old (state_of m xs)) is.whole
+
+-- a new record joined with all parts of a record is that record
+pub parts_give_record : PartsGiveRecord
+parts_give_record r is =
+    join_all-one (state_of 0 []) r.moment (parts_of r) (rising r.uses) (cut_is_cut r.moment (rising r.uses))
+    ∙ ap (λ (s : Uses). join (state_of 0 []) (record { moment = r.moment; uses = s })) (uses_in-rising r.uses) ∙ join_new r is

@@ -272,3 +272,36 @@ made_in_batch old self b us i d is e within so_far =
 
 pub absorbed : (old self : State) (b : BatchData) (us : List Use) (i : ℕ) → us ≡ b.uses → length us ≤ i → self ≡ join old (state_of b.moment (take i us)) → self ≡ join old (batch_state b)
 absorbed old self b us i e all so_far = so_far ∙ ap (λ xs. join old (state_of b.moment xs)) (take_all i us all ∙ e)
+
+-- ---- lists of uses, one behind the other
+behind : (l front t h : Bool) → (l && (t || (l && (front || h)))) ≡ (l && ((front || t) || h))
+behind false front t h = refl
+behind true true true h = refl
+behind true true false h = refl
+behind true false true h = refl
+behind true false false h = refl
+
+-- joining uses of one moment one list after the other is joining them at once
+pub join_lists : (old : State) (moment : ℕ) (front us : List Use) → join (join old (state_of moment front)) (state_of moment us) ≡ join old (state_of moment (front ++ us))
+join_lists old moment front us =
+    let self = join old (state_of moment front) in
+    let k = max old.moment moment in
+    let here : self.moment ≡ k = moment-join old (state_of moment front) in
+    let twice : max self.moment moment ≡ k = omega (arith, here) in
+    is_join old (state_of moment (front ++ us)) (join self (state_of moment us)) (moment-join self (state_of moment us) ∙ twice) (λ v.
+    let tied = eq_by_cmp use_cmp v in
+    holds-join self (state_of moment us) v ∙ ap (λ n. nat_lt n v.exp && (holds (state_of moment us).uses v || holds self.uses v)) twice
+    ∙ ap (λ h. nat_lt k v.exp && (h || holds self.uses v)) (holds-state_of moment us v)
+    ∙ ap (λ h. nat_lt k v.exp && (list_any tied us || h)) (holds-join old (state_of moment front) v ∙ ap (λ h. nat_lt k v.exp && (h || holds old.uses v)) (holds-state_of moment front v))
+    ∙ behind (nat_lt k v.exp) (list_any tied front) (list_any tied us) (holds old.uses v)
+    ∙ ap (λ h. nat_lt k v.exp && (h || holds old.uses v)) (sym (holds-state_of moment (front ++ us) v ∙ list_any-append tied front us)))
+
+none_before : (r : State) (u : Use) → IsRecord r → (h : Bool) → holds r.uses u ≡ h → h ≡ (nat_lt r.moment u.exp && (h || false))
+none_before r u is true e = let later : r.moment < u.exp = (is.each u e).live in let test : nat_lt r.moment u.exp ≡ true = grind (arith, nat_tests) in sym (ap (λ l. l && true) test)
+none_before r u is false e = sym (and-false (nat_lt r.moment u.exp))
+
+-- a new record joined with a record is that record
+pub join_new : (r : State) → IsRecord r → join (state_of 0 []) r ≡ r
+join_new r is =
+    let same : r.moment ≡ max 0 r.moment = omega arith in
+    sym (is_join (state_of 0 []) r r same (λ u. none_before r u is (holds r.uses u) refl ∙ ap (λ n. nat_lt n u.exp && (holds r.uses u || false)) same ∙ ap (λ h. nat_lt (max 0 r.moment) u.exp && (holds r.uses u || h)) (sym (holds-state_of 0 [] u))))

@@ -1,6 +1,9 @@
 use Rattle.std.specs.Prelude.{◌≡◌, ℕ, zero, suc, ◌-◌, ◌/◌, ◌<◌, ◌≤◌, List, [], ◌∷◌, ◌++◌, length, take, drop, flat_map, All}
 use Rattle.svid_replay.specs.declared.token_use.Use.{Use}
-use Rattle.svid_replay.specs.Batches.{BatchData}
+use Rattle.std.specs.List.{AllByRecursion}
+use Rattle.svid_replay.specs.Batches.{BatchData, IsBatch}
+use Rattle.svid_replay.specs.Records.{State, IsRecord, join, state_of, batch_state}
+use Rattle.svid_replay.specs.Sets.{rising}
 
 -- so many batches of 4,096 uses, and one of the rest
 unfoldable pub full_batches : ℕ → ℕ → List Use → List BatchData
@@ -21,6 +24,27 @@ pub record IsCut (moment : ℕ) (us : List Use) (batches : List BatchData) : Typ
   pub sizes : All (λ b. length b.uses ≡ 4096) full
   pub few : length last.uses ≤ 4096
   pub some : 0 < length us → 0 < length last.uses
+
+-- the parts of a record: its uses, rising, as batches of its moment
+abbrev pub parts_of : State → List BatchData
+parts_of r = cut r.moment (rising r.uses)
+
+-- a record joined with one batch after the other
+abbrev pub join_all : State → List BatchData → State
+join_all r [] = r
+join_all r (b ∷ bs) = join_all (join r (batch_state b)) bs
+
+-- each part of a record is a batch
+abbrev pub PartsAreBatches : Type 0
+PartsAreBatches = (r : State) → IsRecord r → AllByRecursion IsBatch (parts_of r)
+
+-- records with the same parts are the same
+abbrev pub SamePartsSameRecord : Type 0
+SamePartsSameRecord = (a b : State) → parts_of a ≡ parts_of b → a ≡ b
+
+-- a new record joined with all parts of a record is that record
+abbrev pub PartsGiveRecord : Type 0
+PartsGiveRecord = (r : State) → IsRecord r → join_all (state_of 0 []) (parts_of r) ≡ r
 
 -- uses are cut so
 abbrev pub CutIsCut : Type 0

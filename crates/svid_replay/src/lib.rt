@@ -48,5 +48,5 @@ pub use record::Record;
 pub use sorted::SortedUses;
 pub use store::{Raised, UseStore};
 pub use token_use::Use;
-pub use twice::{Twice, twice_in};
+pub use twice::Twice;
 pub use use_list::UseList;

@@ -97,14 +97,14 @@ impl<S: UseStore> Record<S> {
     ///
     /// Where memory is refused the record stays as it was. A use that the record has already always
     /// succeeds.
-    pub fn add(&mut self, used: Use) -> Result<(), AllocError>
-        requires made { used.at ≤ self.old.moment }
-        requires live { self.old.moment < used.exp }
-        ensures ok { OnOk result (self.new ≡ join self.old (state_of self.old.moment (used ∷ []))) }
+    pub fn add(&mut self, new: Use) -> Result<(), AllocError>
+        requires made { new.at ≤ self.old.moment }
+        requires live { self.old.moment < new.exp }
+        ensures ok { OnOk result (self.new ≡ join self.old (state_of self.old.moment (new ∷ []))) }
         ensures err { OnErr result (self.new ≡ self.old) }
-        ensures held { IsTrue (holds self.old.uses used) → IsOk result }
+        ensures held { IsTrue (holds self.old.uses new) → IsOk result }
     {
-        self.take_in(used)
+        self.take_in(new)
     }
 
     /// Joins a batch.

@@ -63,10 +63,8 @@ fn list_groups(alloc: Global, sorted: &[Use]) -> Result<Vec<Twice>, AllocError>
     Ok(listed)
 }
 
-/// The keys that two or more of these uses have, rising, each with all its uses in their order.
-///
-/// Takes about n log n steps for n uses.
-pub fn twice_in(alloc: Global, uses: &[Use]) -> Result<Vec<Twice>, AllocError>
+// The keys that two or more of these uses have, rising, each with all its uses in their order.
+pub(crate) fn twice_in(alloc: Global, uses: &[Use]) -> Result<Vec<Twice>, AllocError>
     requires { IsRising uses.now }
     ensures value { IfOk result (λ listed. listed.items ≡ twice_of uses.now) }
     ensures relation { IfOk result (λ listed. IsTwice uses.now listed.items) }

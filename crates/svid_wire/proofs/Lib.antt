@@ -2,5 +2,6 @@ pub mod BatchTextLemmas
 pub mod FirstBatch
 pub mod FirstBatchTells
 pub mod MessagesLemmas
+pub mod RecordTextLemmas
 pub mod StageLemmas
 pub mod WireFaultLemmas

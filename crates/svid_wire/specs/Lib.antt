@@ -4,5 +4,6 @@ pub mod Faults
 pub mod Memory
 pub mod Messages
 pub mod Reads
+pub mod RecordText
 pub mod Stage
 pub mod WireFault

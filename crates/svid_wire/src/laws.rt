@@ -3,6 +3,7 @@
 
 ghost use Rattle.svid_wire.specs.BatchText.{BeginsOneBatch};
 ghost use Rattle.svid_wire.specs.Messages.{EachParses, NoTextIsLonger, ParseEnds, ParsesOneWay};
+ghost use Rattle.svid_wire.specs.RecordText.{PartsTellRecord, TextTellsRecord};
 ghost use Rattle.svid_wire.specs.WireFault.{BeginsOrFaults, FaultIsUnique, FieldFaultStays, TextHasNoFault};
 
 /// Bytes begin with the text of at most one batch.
@@ -51,4 +52,14 @@ pub fn each_parses()
 /// begin with.
 pub fn parse_ends()
     ensures { ParseEnds }
+{}
+
+/// Two records are equal exactly if the texts of their parts, one after the other, are equal.
+pub fn text_tells_record()
+    ensures { TextTellsRecord }
+{}
+
+/// A new record that absorbed all parts of a record is equal to it.
+pub fn parts_tell_record()
+    ensures { PartsTellRecord }
 {}

@@ -1,4 +1,4 @@
-use Rattle.std.proofs.Common.{refl, ap, ◌∙◌}
+use Rattle.std.proofs.Common.{ap, ◌∙◌}
 use Rattle.std.proofs.lemmas.Result.{err_from_is_err_and}
 use Rattle.svid_keys.specs.Lines.{lines_left}
 use Rattle.svid_keys.proofs.TableLemmas.{fault_next, lines_all, lines_more, lines_none}
