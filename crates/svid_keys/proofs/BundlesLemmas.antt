@@ -1,15 +1,13 @@
 -- Bundles that are read one after the other, in rising order of their names.
-use Rattle.std.proofs.Common.{◌≡◌, ◌+◌, ℕ, cond, if◌then◌else◌, Bool, true, false, not, List, [], ◌∷◌, ◌++◌, map, filter_map, bytes_eq, length, string_bytes, string_cmp, String, Vec, Option, Some, None, IsSome, is_none, is_some, option_map, unwrap_or, refl, ap, sym, ◌∙◌, arith}
+use Rattle.std.proofs.Common.{◌≡◌, ◌+◌, ℕ, if◌then◌else◌, Bool, true, false, not, List, [], ◌∷◌, ◌++◌, map, filter_map, length, string_bytes, string_cmp, String, Vec, Option, Some, None, IsSome, is_none, unwrap_or, refl, ap, sym, ◌∙◌, arith}
 use Rattle.std.proofs.lemmas.List.{append-nil, length-append}
 use Rattle.std.proofs.lemmas.Map.Keys.{sorted_head, sorted_tail}
-use Rattle.std.proofs.lemmas.Map.Text.{is_eq-slice_cmp}
 use Rattle.std.specs.declared.alloc.Global.{Global}
 use Rattle.std.specs.declared.cmp.Ordering.TheVariants.{Less, Greater}
-use Rattle.std.specs.BTreeMap.{insert_entry, is_at}
+use Rattle.std.specs.BTreeMap.{insert_entry}
 use Rattle.std.specs.Cmp.Lexicographic.{nat_list_cmp_total, slice_cmp}
 use Rattle.std.specs.List.{AllByRecursion}
 use Rattle.std.specs.List.Sorted.{IsStrictlySortedBy}
-use Rattle.std.specs.Map.{lookup}
 use Rattle.std.specs.Ordering.{nat_cmp, ordering_reverse}
 use Rattle.serde_json.specs.View.{items_view, view}
 use Rattle.serde_json.specs.declared.value.Value.{Value}
@@ -18,8 +16,7 @@ use Rattle.serde_json.specs.View.{members_view}
 use Rattle.svid_id.specs.Domain.{domain_fault, is_domain}
 use Rattle.svid_id.specs.declared.id_fault.IdFault.{IdFault}
 use Rattle.svid_id.proofs.DomainLemmas.{IsDomain-from_fault, domain_fault-IsDomain}
-use Rattle.svid_keys.specs.Bundles.{AreBundles, Bundle, IsBundle, IsBundles, IsRefusal, bundle_of, bundle_view, bundles_fault, bundles_in, bundles_of, entries_in, items_list, members_fault, members_in, object_fault}
-use Rattle.svid_keys.specs.Candidates.{bundle_at, keys_at}
+use Rattle.svid_keys.specs.Bundles.{AreBundles, IsBundle, IsBundles, IsRefusal, bundle_of, bundle_view, bundles_fault, bundles_in, bundles_of, entries_in, items_list, members_fault, members_in, object_fault}
 use Rattle.svid_keys.specs.Key.{KeyData, kept_key}
 use Rattle.svid_keys.specs.declared.bundle_fault.BundleFault.{BundleFault}
 use Rattle.svid_keys.specs.declared.bundle_fault.BundleFault.TheVariants.{NotObject, Domain, Keys, OutOfMemory}
@@ -181,30 +178,3 @@ memory_alone text NotObject refused is = absurd (whole text _ refused is)
 memory_alone text (Domain place) refused is = absurd (whole text _ refused is)
 memory_alone text (Keys place) refused is = absurd (whole text _ refused is)
 memory_alone text OutOfMemory refused is = refl
-
--- a map's entry, by the name of its domain
-abbrev pub entry_at : List ℕ → List (String Global × Vec KeyData Global) → Option (Vec KeyData Global)
-entry_at domain entries = lookup (is_at (λ name. slice_cmp nat_cmp domain (string_bytes name))) entries
-
--- what a look-up in a map finds is the bundle of the domain
-pub keys_at-entry : (domain : List ℕ) (entries : List (String Global × Vec KeyData Global))
-    → keys_at domain (map bundle_view entries) ≡ unwrap_or (option_map (λ keys. keys.items) (entry_at domain entries)) []
-keys_at-entry domain [] = refl
-keys_at-entry domain (e ∷ entries) = rw (is_eq-slice_cmp domain (string_bytes e.0))
-    (elim (bytes_eq domain (string_bytes e.0)) as
-    (λ b. unwrap_or (option_map (λ (bundle : Bundle). bundle.keys) (cond b (Some (bundle_view e)) (bundle_at domain (map bundle_view entries)))) []
-    ≡ unwrap_or (option_map (λ (keys : Vec KeyData Global). keys.items) (cond b (Some e.1) (entry_at domain entries))) []) [
-      | true ↦ refl
-      | false ↦ keys_at-entry domain entries
-    ])
-
--- there is a bundle where a look-up finds one
-pub has_bundle-entry : (domain : List ℕ) (entries : List (String Global × Vec KeyData Global))
-    → is_some (bundle_at domain (map bundle_view entries)) ≡ is_some (entry_at domain entries)
-has_bundle-entry domain [] = refl
-has_bundle-entry domain (e ∷ entries) = rw (is_eq-slice_cmp domain (string_bytes e.0))
-    (elim (bytes_eq domain (string_bytes e.0)) as
-    (λ b. is_some (cond b (Some (bundle_view e)) (bundle_at domain (map bundle_view entries))) ≡ is_some (cond b (Some e.1) (entry_at domain entries))) [
-      | true ↦ refl
-      | false ↦ has_bundle-entry domain entries
-    ])

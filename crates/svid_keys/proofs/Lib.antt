@@ -1,4 +1,5 @@
 pub mod BundlesLemmas
+pub mod CandidatesLemmas
 pub mod KeyLemmas
 pub mod LinesLemmas
 pub mod TableLemmas

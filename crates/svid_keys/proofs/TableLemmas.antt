@@ -12,7 +12,6 @@ use Rattle.std.specs.Ordering.{is_eq, nat_cmp, ordering_reverse}
 use Rattle.svid_keys.specs.Lines.{lines_of, without_return}
 use Rattle.svid_keys.specs.Table.{IsTableRefusal, is_among, lines_fault, question_in, questions_in, table_fault}
 use Rattle.svid_keys.specs.declared.table_fault.TableFault.{TableFault}
-use Rattle.svid_keys.specs.declared.table_fault.TableFault.TheVariants.{Line, OutOfMemory}
 use Rattle.svid_keys.specs.declared.lines.TheConstants.{LINE_FEED}
 
 -- the order of a set tells its questions as their bytes do
@@ -102,8 +101,3 @@ pub lines_all : (text : List ℕ) (number : ℕ) (read left : List (List ℕ)) �
     → (table_fault text ≡ None) × ((question : List ℕ) → is_among question read ≡ is_among question (questions_in text))
 lines_all text number read left is none =
     (rw none at is.fault, λ question. sym (rw none at (is.held question) ∙ or_false (is_among question read)))
-
--- a table is refused for want of memory alone
-pub memory_alone : (text : List ℕ) (fault : TableFault) → IsTableRefusal (table_fault text) fault → table_fault text ≡ None → fault ≡ OutOfMemory
-memory_alone text (Line number) refused none = absurd (cc)
-memory_alone text OutOfMemory refused none = refl
