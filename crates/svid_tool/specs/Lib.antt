@@ -3,3 +3,4 @@ pub mod Inputs
 pub mod Joined
 pub mod Output
 pub mod Report
+pub mod Status

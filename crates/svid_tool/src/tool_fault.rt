@@ -44,8 +44,12 @@ pub enum ToolFault {
 }
 
 impl ToolFault {
+    ghost use Rattle.svid_tool.specs.Status.{status_of};
+
     /// The exit status of the program: 1 where an input was refused, 2 where something else went wrong.
-    pub fn status(&self) -> u8 {
+    pub fn status(&self) -> u8
+        ensures { result ≡ status_of self.now }
+    {
         match self {
             ToolFault::Wire { .. }
             | ToolFault::NotSummary
