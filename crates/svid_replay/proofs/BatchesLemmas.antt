@@ -8,12 +8,7 @@ use Rattle.svid_replay.specs.declared.batch_fault.BatchFault.TheVariants as faul
 use Rattle.svid_replay.specs.declared.token_use.Use.{Use}
 use Rattle.svid_replay.specs.declared.flaw.Flaw.{Flaw}
 use Rattle.svid_replay.specs.declared.flaw.Flaw.TheVariants.{Expired, Future, Order}
-use Rattle.std.specs.List.Sorted.{IsStrictlySortedBy}
-use Rattle.std.specs.Ordering.{is_lt}
-use Rattle.std.specs.declared.cmp.Ordering.{Ordering}
-use Rattle.std.specs.declared.cmp.Ordering.TheVariants.{Less, Equal, Greater}
-use Rattle.svid_replay.specs.Use.{IsUse, use_cmp, IsRising}
-use Rattle.svid_replay.proofs.UseLemmas.{use_total}
+use Rattle.svid_replay.specs.Use.{IsUse}
 use Rattle.std.proofs.lemmas.Bool.Decides.{nat_tests}
 use Rattle.svid_replay.specs.Batches.{is_after, flaw, AllGood, last_of, IsBatch, IsFirstFlaw, IsBatchFault, fault_of}
 
@@ -78,38 +73,6 @@ no_batch_at_fault m us fault.TooMany many b = let few : length us ≤ 4096 = b.f
 no_batch_at_fault m us (fault.Expired j) found b = no_batch_at_flaw m us j Expired found.1 b.good
 no_batch_at_fault m us (fault.Future j) found b = no_batch_at_flaw m us j Future found.1 b.good
 no_batch_at_fault m us (fault.Order j) found b = no_batch_at_flaw m us j Order found.1 b.good
-
-no_flaw : (live future after : Bool) → cond live (Some Expired) (cond future (Some Future) (cond after None (Some Order))) ≡ None → after ≡ true
-no_flaw true future after e = cc
-no_flaw false true after e = cc
-no_flaw false false true e = refl
-no_flaw false false false e = cc
-
-less : (o : Ordering) → is_lt o ≡ true → o ≡ Less
-less Less e = refl
-less Equal e = cc
-less Greater e = cc
-
--- a good use is greater than the one before it
-after_good : (m : ℕ) (before u : Use) → flaw m (Some before) u ≡ None → use_cmp before u ≡ Less
-unfolding flaw
-after_good m before u fine = less (use_cmp before u) (no_flaw (not (nat_lt m u.exp)) (nat_lt m u.at) (is_lt (use_cmp before u)) fine)
-
-each_later : (m : ℕ) (before u : Use) (us : List Use) → use_cmp before u ≡ Less → AllByRecursion (λ v. use_cmp u v ≡ Less) us → AllByRecursion (λ v. use_cmp before v ≡ Less) us
-each_later m before u [] less above = tt
-each_later m before u (v ∷ vs) less above = (use_total.trans before u v less above.0, each_later m before u vs less above.1)
-
-above_rest : (m : ℕ) (before : Use) (us : List Use) → AllGood m (Some before) us → AllByRecursion (λ u. use_cmp before u ≡ Less) us
-above_rest m before [] good = tt
-above_rest m before (u ∷ us) good =
-    let less = after_good m before u good.0 in
-    (less, each_later m before u us less (above_rest m u us good.1))
-
--- good uses rise
-pub rising_from_good : (m : ℕ) (before : Option Use) (us : List Use) → AllGood m before us → IsRising us
-unfolding IsStrictlySortedBy
-rising_from_good m before [] good = tt
-rising_from_good m before (u ∷ us) good = (above_rest m u us good.1, rising_from_good m (Some u) us good.1)
 
 no_flaw_made : (live future after : Bool) → cond live (Some Expired) (cond future (Some Future) (cond after None (Some Order))) ≡ None → future ≡ false
 no_flaw_made true future after e = cc
