@@ -1,9 +1,10 @@
 //! Laws of the definitions that this crate's contracts cite. Each is the contract of a function with
 //! nothing in it, so that the check proves it like any other promise.
 
+ghost use Rattle.svid_replay.specs.Parts.{PartsGiveRecord};
 ghost use Rattle.svid_wire.specs.BatchText.{BeginsOneBatch};
 ghost use Rattle.svid_wire.specs.Messages.{EachParses, NoTextIsLonger, ParseEnds, ParsesOneWay};
-ghost use Rattle.svid_wire.specs.RecordText.{PartsTellRecord, TextTellsRecord};
+ghost use Rattle.svid_wire.specs.RecordText.{TextTellsRecord};
 ghost use Rattle.svid_wire.specs.WireFault.{BeginsOrFaults, FaultIsUnique, FieldFaultStays, TextHasNoFault};
 
 /// Bytes begin with the text of at most one batch.
@@ -61,5 +62,5 @@ pub fn text_tells_record()
 
 /// A new record that absorbed all parts of a record is equal to it.
 pub fn parts_tell_record()
-    ensures { PartsTellRecord }
+    ensures { PartsGiveRecord }
 {}
