@@ -1,3 +1,4 @@
+pub mod CandidatesLemmas
 pub mod IdLemmas
 pub mod InputsLemmas
 pub mod JoinedLemmas

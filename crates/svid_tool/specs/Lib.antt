@@ -1,6 +1,9 @@
+pub mod Candidates
 pub mod Id
 pub mod Inputs
 pub mod Joined
 pub mod Output
+pub mod Reading
+pub mod Refused
 pub mod Report
 pub mod Status

@@ -1,6 +1,7 @@
 //! The command line: which command is asked for, and what it reads.
 
 use crate::ToolFault;
+use crate::candidates::run_candidates;
 use crate::failure::Failure;
 use crate::id::run_id;
 use crate::input::Input;
@@ -40,13 +41,27 @@ fn report_command<'a>(alloc: Global) -> Result<Command<'a>, AllocError> {
         .arg(file)
 }
 
+fn candidates_command<'a>(alloc: Global) -> Result<Command<'a>, AllocError> {
+    let bundles = Arg::new(alloc, "bundles")
+        .long("bundles")
+        .value_name("FILE")
+        .required(true)
+        .help("A file of trust bundles");
+    Command::new(alloc, "candidates")
+        .about(
+            "Prints for each key that may have signed the token of standard input the question whether it did",
+        )
+        .arg(bundles)
+}
+
 fn command<'a>(alloc: Global) -> Result<Command<'a>, AllocError> {
     Command::new(alloc, "svid")
         .bin_name("svid")?
         .about("Checks SPIFFE JWT-SVIDs, and keeps the record of those that were used")
         .subcommand_required(true)
         .subcommand(id_command(alloc)?)?
-        .subcommand(report_command(alloc)?)
+        .subcommand(report_command(alloc)?)?
+        .subcommand(candidates_command(alloc)?)
 }
 
 // A mistake on the command line is told on standard error, and a call for help on standard output.
@@ -105,10 +120,19 @@ fn report(rt: &HostRuntime, matches: &ArgMatches<'_>) -> Result<u8, Failure> {
     Ok(0)
 }
 
+fn candidates(rt: &HostRuntime, matches: &ArgMatches<'_>) -> Result<u8, Failure> {
+    let mut bundles = Counted::new(open(rt, matches.get_str("bundles").unwrap_or(""))?);
+    let mut tokens = Counted::new(Input::Stdin(rt.stdin()));
+    let mut out = Counted::new(io::writer(rt));
+    let accepted = run_candidates(rt.alloc(), &mut bundles, &mut tokens, &mut out)?;
+    Ok(status_of(accepted))
+}
+
 fn dispatch(rt: &HostRuntime, matches: &ArgMatches<'_>) -> Result<u8, Failure> {
     match matches.subcommand() {
         Some(("id", inner)) => id(rt, inner),
         Some(("report", inner)) => report(rt, inner),
+        Some(("candidates", inner)) => candidates(rt, inner),
         _ => Ok(2),
     }
 }

@@ -2,6 +2,7 @@ ghost use Rattle.std.specs.Prelude.{◌≡◌, ◌++◌, ◌∷◌, [], List, ma
 ghost use Rattle.svid_replay.specs.Batches.{BatchData};
 ghost use Rattle.svid_wire.specs.Messages.{batches_of};
 ghost use Rattle.svid_tool.specs.Inputs.{IsInputFault, IsRead, IsRefused, read_fault_of, wire_fault_at};
+ghost use Rattle.svid_tool.specs.Reading.{IsReadFault};
 ghost use Rattle.svid_tool.specs.Joined.{Joins, JoinsAll, joined};
 
 use crate::ToolFault;
@@ -44,6 +45,7 @@ pub fn read_input<S: Source>(
 ) -> Result<Vec<u8>, ToolFault>
     ensures ok { IfOk result (λ bytes. IsRead (S.left source.old) (S.left source.new) bytes.items) }
     ensures fault { IfErr result (λ fault. IsInputFault input fault (S.left source.old) (S.left source.new) (S.stops source.old) (S.stops source.new)) }
+    ensures reading { IfErr result (λ fault. IsReadFault input fault (S.left source.old) (S.left source.new) (S.stops source.old) (S.stops source.new)) }
 {
     match read_up_to(alloc, source, MOST_BYTES) {
         Ok(bytes) => Ok(bytes),

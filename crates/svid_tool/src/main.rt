@@ -3,12 +3,14 @@
 //! write of what they read.
 #![tactic(auto)]
 
+mod candidates;
 mod cli;
 mod failure;
 mod id;
 mod input;
 mod inputs;
 mod output;
+mod refused;
 mod report;
 mod report_text;
 #[cfg(test)]

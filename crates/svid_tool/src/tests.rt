@@ -1,3 +1,4 @@
+mod candidates;
 mod faults;
 mod id;
 mod report;
@@ -28,3 +29,15 @@ twice 1\n\
 
 // What is reported of nothing.
 const EMPTY_REPORT: &[u8] = b"moment 0\nuses 0\ntwice 0\n";
+
+// Bundles of one trust domain with one key.
+const ONE_KEY: &[u8] =
+    b"{\"a\":{\"keys\":[{\"kty\":\"EC\",\"use\":\"jwt-svid\",\"kid\":\"k01\",\"crv\":\"P-256\",\"x\":\"AA\",\"y\":\"AA\"}]}}";
+
+// A token that names this key.
+const TOKEN: &[u8] =
+    b"eyJhbGciOiJFUzI1NiIsImtpZCI6ImswMSIsInR5cCI6IkpXVCJ9.eyJzdWIiOiJzcGlmZmU6Ly9hL2IiLCJhdWQiOiJzIiwiZXhwIjoxMDAxLCJqdGkiOiJqMSJ9.c2ln";
+
+// What is printed of both.
+const ONE_QUESTION: &[u8] =
+    b"bc905fb9ff409ccd144f0ea328f043d7d765a8e7d61f27505a41839950f6ed1e \"k01\"\n";

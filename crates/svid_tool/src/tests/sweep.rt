@@ -1,8 +1,9 @@
 // Each growth of an engine is refused in turn, where tools/failmalloc.c is loaded; else the happy path runs alone.
 ghost use Rattle.std.specs.Prelude.{◌<◌};
 
-use super::{TWO_USES, TWO_USES_REPORT};
+use super::{ONE_KEY, ONE_QUESTION, TOKEN, TWO_USES, TWO_USES_REPORT};
 use crate::ToolFault;
+use crate::candidates::run_candidates;
 use crate::id::run_id;
 use crate::report::run_report;
 use std::alloc::Global;
@@ -80,6 +81,32 @@ fn id_tells_want_of_memory(rt: HostRuntime) -> Result<(), Fail> {
                 break;
             }
             assert_refused(&rt, answer.map(|_| ()), &out, whole.as_bytes());
+        }
+    }
+    Ok(())
+}
+
+#[test]
+fn candidates_tell_want_of_memory(rt: HostRuntime) -> Result<(), Fail> {
+    let alloc = rt.alloc();
+    for (token, whole) in [
+        (TOKEN, ONE_QUESTION),
+        (b"a.b".as_slice(), b"refused NotThreeParts\n".as_slice()),
+    ] {
+        for nth in 1..10000usize {
+            let mut bundles = MemSource::new(ONE_KEY.to_vec(alloc)?, 1000, None);
+            let mut tokens = MemSource::new(token.to_vec(alloc)?, 1000, None);
+            let mut out = MemSink::new(alloc, 1000, None);
+            refuse(alloc, nth);
+            let answer = run_candidates(alloc, &mut bundles, &mut tokens, &mut out);
+            let refused = was_refused(alloc);
+            refuse(alloc, 0);
+            if !refused {
+                assert_eq!(rt; answer, Ok(whole == ONE_QUESTION));
+                assert_eq!(rt; out.bytes(), whole);
+                break;
+            }
+            assert_refused(&rt, answer.map(|_| ()), &out, whole);
         }
     }
     Ok(())
