@@ -72,7 +72,7 @@ fn read_subject(alloc: Global, object: &Value) -> Result<Option<SpiffeId>, Alloc
 }
 
 // The SPIFFE ID that a text is, if it is one.
-#[tactic(auto, using(svid_id::proofs::IdLemmas::refused_parts))]
+#[tactic(auto, using(crate::proofs::ClaimsLemmas::refused_parts))]
 fn read_id(alloc: Global, text: &[u8]) -> Result<Option<SpiffeId>, AllocError>
     ensures { IfOk result (λ o. o ≡ id_parts text.now) }
 {

@@ -1,4 +1,4 @@
-use Rattle.std.proofs.Common.{◌≡◌, ℕ, ◌+◌, ◌<◌, ◌≤◌, List, [], ◌∷◌, ◌++◌, length, take, drop, map, get_or, set, Option, None, inl, inr, ◌⊎◌, refl, sym, ◌∙◌, ap, arith, add-one, add-zero, append-nil, append_assoc}
+use Rattle.std.proofs.Common.{◌≡◌, ◌≢◌, ℕ, ◌+◌, ◌<◌, ◌≤◌, suc, List, [], ◌∷◌, ◌++◌, length, take, drop, map, get_or, set, Option, None, Some, inl, inr, ◌⊎◌, refl, sym, ◌∙◌, subst, ap, arith, add-one, add-zero, append-nil, append_assoc}
 use Rattle.std.proofs.Math.Seq.{take-suc}
 use Rattle.std.proofs.lemmas.List.{take-set, take_all, drop-set-lt, drop-drop, drop-map, get_or-drop, get_or-map, get_or-set_same, length-map, length-set, map-set}
 use Rattle.std.proofs.lemmas.Grind.{flat_map-append}
@@ -7,15 +7,15 @@ use Rattle.svid_replay.specs.Records.{State}
 use Rattle.svid_tool.specs.declared.tool_fault.ToolFault.{ToolFault}
 use Rattle.svid_tool.specs.Joined.{joined, Joins, JoinsAll}
 use Rattle.svid_wire.specs.Reads.{IsReadFault}
-use Rattle.svid_wire.specs.Messages.{Splits, StopsAt, batches_of}
-use Rattle.svid_wire.specs.WireFault.{IsFault}
+use Rattle.svid_wire.specs.Messages.{Splits, Appended, StopsAt, batches_of}
+use Rattle.svid_wire.specs.WireFault.{IsFault, IsRefusal, no_memory}
 use Rattle.svid_wire.specs.declared.message.Message.{Message}
 use Rattle.svid_wire.specs.declared.wire_fault.WireFault.{WireFault}
 use Rattle.svid_wire.specs.declared.read_fault.ReadFault.{ReadFault}
 use Rattle.svid_wire.specs.declared.read_fault.ReadFault.TheVariants as reading
 use Rattle.svid_wire.specs.declared.reason.Reason.{Reason}
 use Rattle.svid_wire.specs.declared.reason.Reason.TheVariants as wire
-use Rattle.svid_tool.specs.Inputs.{most_bytes, IsRead, IsWhole, AreWhole, all_of, IsInputFault, IsRefused, read_fault_of, wire_fault_at}
+use Rattle.svid_tool.specs.Inputs.{most_bytes, IsRead, HasStopped, GaveTooMuch, IsWhole, AreWhole, all_of, IsBroken, IsInputFault, IsRefused, read_fault_of, wire_fault_at}
 
 -- a failed read is a fault of the input
 pub fault-read : (number : ℕ) (e : ReadFault) (before after : Option (List ℕ)) (sb sa : ℕ) → IsReadFault e before after sb sa most_bytes → IsInputFault number (read_fault_of e number) before after sb sa

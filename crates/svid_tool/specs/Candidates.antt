@@ -1,5 +1,5 @@
 -- What `svid candidates` prints.
-use Rattle.std.specs.Prelude.{◌≡◌, ℕ, ◌==◌, nat_lt, Bool, false, true, is_none, List, [], ◌∷◌, ◌++◌, find, length, Option, None, Some, option_and_then, option_map, string_bytes, unwrap_or, Result, Ok, Err, ◌⊎◌}
+use Rattle.std.specs.Prelude.{◌≡◌, ℕ, ◌==◌, nat_lt, Bool, false, true, if◌then◌else◌, is_none, List, [], ◌∷◌, ◌++◌, codes, find, length, Option, None, Some, option_and_then, option_map, string_bytes, unwrap_or, Result, Ok, Err, ◌⊎◌}
 use Rattle.std.specs.List.{flat_map}
 use Rattle.std.specs.Io.KnownBytes.{Appends}
 use Rattle.hex.specs.Hex.{encode_lower}
@@ -12,7 +12,7 @@ use Rattle.svid_token.specs.Header.{header_rows, header_said}
 use Rattle.svid_token.specs.Object.{part_object}
 use Rattle.svid_token.specs.Part.{part_bytes}
 use Rattle.svid_token.specs.Payload.{payload_rows}
-use Rattle.svid_token.specs.Rows.{Row, first_row, judged}
+use Rattle.svid_token.specs.Rows.{Row, fails, first_row, holds_of, judged}
 use Rattle.svid_token.specs.Signature.{signature_rows}
 use Rattle.svid_token.specs.declared.alg.Alg.{Alg}
 use Rattle.svid_token.specs.declared.refusal.Refusal.{Refusal}

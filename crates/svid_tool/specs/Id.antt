@@ -1,7 +1,8 @@
 -- What `svid id` prints.
-use Rattle.std.specs.Prelude.{ℕ, List, [], ◌∷◌, ◌++◌, codes, length, ◌==◌, if◌then◌else◌, Option, None, Some}
+use Rattle.std.specs.Prelude.{◌≡◌, ℕ, List, [], ◌∷◌, ◌++◌, Bool, codes, length, ◌==◌, if◌then◌else◌, Option, None, Some}
+use Rattle.std.specs.Io.KnownBytes.{Appends}
 use Rattle.std.specs.Fmt.{decimal}
-use Rattle.svid_id.specs.Id.{IdParts, id_parts, id_fault}
+use Rattle.svid_id.specs.Id.{IdParts, id_parts, id_fault, is_id}
 use Rattle.svid_id.specs.declared.id_fault.IdFault.{IdFault}
 use Rattle.svid_id.specs.declared.id_fault.IdFault.TheVariants as fault
 use Rattle.svid_tool.specs.declared.tool_fault.ToolFault.{ToolFault}

@@ -1,4 +1,4 @@
-use Rattle.std.proofs.Common.{arith}
+use Rattle.std.proofs.Common.{rules, arith}
 use Rattle.svid_tool.proofs.InputsLemmas.{joined_none, joined_more, joined_all, refused_at}
 use Rattle.svid_tool.proofs.inputs.join_inputs.Goals as goal
 
