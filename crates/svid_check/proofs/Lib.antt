@@ -1,0 +1,3 @@
+pub mod RowsLemmas
+pub mod SaidLemmas
+pub mod VerdictLemmas

@@ -1,0 +1,50 @@
+-- The verdict, one table after the other.
+use Rattle.std.proofs.Common.{◌≡◌, ◌<◌, ℕ, Bool, true, false, List, [], ◌∷◌, ◌++◌, Option, Some, None, refl, sym, ap, ◌∙◌, if◌then◌else◌}
+use Rattle.std.specs.Prelude.{Result, Ok, Err, option_map, not, nat_lt}
+use Rattle.std.proofs.lemmas.Bool.{ltb-true}
+use Rattle.svid_token.specs.Rows.{Row, Refuses, first_row, judged}
+use Rattle.svid_token.specs.declared.refusal.Refusal.{Refusal}
+use Rattle.svid_replay.specs.Uses.{Uses}
+use Rattle.svid_check.specs.Said.{Said, reading_of, said_of, token_rows}
+use Rattle.svid_check.specs.Setting.{Setting}
+use Rattle.svid_check.specs.Verdict.{acceptance, rows_if_said, setting_rows, verdict, verdict_rows}
+use Rattle.svid_check.proofs.RowsLemmas.{judged-Err, judged-None, judged-Ok, judged-Some, passes, refused, refused_through, stops}
+
+module _ (s : Setting) (moment : ℕ) (uses : Uses) (token : List ℕ) where
+  abbrev later : Option Said → List Row
+  later said = rows_if_said (setting_rows s moment uses) said
+
+  -- a refusal of the token by itself is the verdict
+  pub refused_reading : (refusal : Refusal) → Refuses refusal (reading_of token) → Refuses refusal (verdict s moment uses token)
+  unfolding verdict
+  refused_reading refusal =
+      refused_through refusal (reading_of token) (verdict s moment uses token) (λ is. judged-Some _ (option_map (acceptance s moment) (said_of token)) refusal (stops (token_rows token) (later (said_of token)) refusal (judged-Err (first_row (token_rows token)) (said_of token) refusal is)))
+
+  -- of a good token, what it says is judged by the setting
+  found : (t : Said) → reading_of token ≡ Ok (Some t) → (first_row (verdict_rows s moment uses token) ≡ first_row (setting_rows s moment uses t)) × (said_of token ≡ Some t)
+  found t is =
+      let j = judged-Ok (first_row (token_rows token)) (said_of token) (Some t) is in
+      (passes (token_rows token) (later (said_of token)) j.0 ∙ ap (λ o. first_row (later o)) j.1, j.1)
+
+  -- a refusal of the setting is the verdict
+  pub refused_setting : (t : Said) (refusal : Refusal) → reading_of token ≡ Ok (Some t) → first_row (setting_rows s moment uses t) ≡ Some refusal → Refuses refusal (verdict s moment uses token)
+  unfolding verdict
+  refused_setting t refusal good is = refused refusal (verdict s moment uses token) (judged-Some _ (option_map (acceptance s moment) (said_of token)) refusal ((found t good).0 ∙ is))
+
+  -- what nothing refuses is accepted
+  pub accepted : (t : Said) → reading_of token ≡ Ok (Some t) → first_row (setting_rows s moment uses t) ≡ None → verdict s moment uses token ≡ Ok (Some (acceptance s moment t))
+  unfolding verdict
+  accepted t good none = judged-None _ (option_map (acceptance s moment) (said_of token)) _ ((found t good).0 ∙ none) (ap (λ o. option_map (acceptance s moment) o) (found t good).1)
+
+-- a row that does not hold leaves it to the others
+passed : (test : Bool) (refusal : Refusal) (others : Option Refusal) → (if test then Some refusal else others) ≡ None → (test ≡ false) × (others ≡ None)
+passed true refusal others none = cc
+passed false refusal others none = (refl, none)
+
+-- a use that nothing refuses expires after the moment
+pub lives : (s : Setting) (moment : ℕ) (uses : Uses) (t : Said) → first_row (setting_rows s moment uses t) ≡ None → moment < t.exp
+lives s moment uses t none = by_test (nat_lt moment t.exp) refl (passed _ _ _ (passed _ _ _ none).1).0
+  where
+    by_test : (test : Bool) → nat_lt moment t.exp ≡ test → not test ≡ false → moment < t.exp
+    by_test true later unheld = ltb-true moment t.exp later
+    by_test false later unheld = cc

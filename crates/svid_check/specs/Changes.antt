@@ -1,0 +1,18 @@
+-- What the calls of a validator leave of its record.
+use Rattle.std.specs.Prelude.{ℕ, ◌+◌, ◌-◌, ◌^◌, min, List, [], ◌∷◌, Result, Ok, Err}
+use Rattle.svid_token.specs.declared.refusal.Refusal.{Refusal}
+use Rattle.svid_replay.specs.Records.{State, join, state_of}
+use Rattle.svid_check.specs.declared.accepted.Accepted.{Accepted}
+
+-- a record raised to a moment
+abbrev pub raised : State → ℕ → State
+raised x now = join x (state_of now [])
+
+-- a record after a check: an acceptance adds its use, a refusal nothing
+abbrev pub settled : State → Result Accepted Refusal → State
+settled x (Ok accepted) = join x (state_of x.moment (accepted.used ∷ []))
+settled x (Err refusal) = x
+
+-- the moment up to which messages are taken: so many seconds ahead of now, held at the greatest moment
+abbrev pub horizon : ℕ → ℕ → ℕ
+horizon now ahead = min (now + ahead) (2 ^ 64 - 1)

@@ -1,0 +1,61 @@
+-- What a validator is given, and what it holds.
+use Rattle.std.specs.Prelude.{ℕ, Bool, List, map, string_bytes, refl}
+use Rattle.std.specs.Coded.{Coded, code_by, coded×, coded_ℕ, coded_list}
+use Rattle.svid_token.specs.declared.alg.Alg.{Alg}
+use Rattle.svid_token.specs.contracts.kty.Kty.{the_row}
+use Rattle.svid_token.specs.declared.kty.Kty.{Kty}
+use Rattle.svid_keys.specs.Bundles.{Bundle}
+use Rattle.svid_keys.specs.Key.{KeyData}
+use Rattle.svid_replay.specs.Records.{State, state_code}
+use Rattle.svid_check.specs.declared.given.Given.{Given}
+
+-- what a verifier says: whether a signature over an input is good for a key and an algorithm
+abbrev pub Says : Type 0
+Says = KeyData → Alg → List ℕ → List ℕ → Bool
+
+-- what a check depends on, beside the token, the moment and the uses
+pub record Setting : Type 0 where
+  pub own : List (List ℕ)
+  pub place : List ℕ
+  pub bundles : List Bundle
+  pub says : Says
+
+-- what a validator is to a contract; its verifier is a V
+pub record Held (V : Type 0) : Type 0 where
+  pub own : List (List ℕ)
+  pub place : List ℕ
+  pub ahead : ℕ
+  pub bundles : List Bundle
+  pub verifier : V
+  pub state : State
+
+-- the setting of a validator, where this is what verifiers say
+abbrev pub setting_of : {V : Type 0} → (V → Says) → Held V → Setting
+setting_of says held = record { own = held.own; place = held.place; bundles = held.bundles; says = says held.verifier }
+
+-- the setting of what a validator is given
+abbrev pub given_setting : {V : Type 0} → (V → Says) → Given V → Setting
+given_setting says given = record { own = map string_bytes given.own.items; place = given.place; bundles = given.bundles; says = says given.verifier }
+
+-- the same validator with another record
+abbrev pub with_state : {V : Type 0} → Held V → State → Held V
+with_state held state = record { own = held.own; place = held.place; ahead = held.ahead; bundles = held.bundles; verifier = held.verifier; state = state }
+
+-- how a key is stored
+abbrev pub key_code : Coded KeyData
+key_code =
+    code_by (List ℕ × (List ℕ × (Kty × List ℕ))) (coded× (coded_list coded_ℕ) (coded× (coded_list coded_ℕ) (coded× the_row.coded (coded_list coded_ℕ))))
+    (λ k. (k.domain, (k.kid, (k.kty, k.text)))) (λ p. record { domain = p.0; kid = p.1.0; kty = p.1.1.0; text = p.1.1.1 }) (λ _. refl)
+
+-- how the bundle of a trust domain is stored
+abbrev pub bundle_code : Coded Bundle
+bundle_code = code_by (List ℕ × List KeyData) (coded× (coded_list coded_ℕ) (coded_list key_code)) (λ b. (b.name, b.keys)) (λ p. record { name = p.0; keys = p.1 }) (λ _. refl)
+
+-- how a validator is stored, where this is how its verifier is
+abbrev pub held_code : {V : Type 0} → Coded V → Coded (Held V)
+held_code {V} verifier =
+    code_by (List (List ℕ) × (List ℕ × (ℕ × (List Bundle × (V × State)))))
+    (coded× (coded_list (coded_list coded_ℕ)) (coded× (coded_list coded_ℕ) (coded× coded_ℕ (coded× (coded_list bundle_code) (coded× verifier state_code)))))
+    (λ h. (h.own, (h.place, (h.ahead, (h.bundles, (h.verifier, h.state))))))
+    (λ p. record { own = p.0; place = p.1.0; ahead = p.1.1.0; bundles = p.1.1.1.0; verifier = p.1.1.1.1.0; state = p.1.1.1.1.1 })
+    (λ _. refl)

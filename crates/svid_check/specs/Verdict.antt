@@ -1,0 +1,81 @@
+-- The verdict on a token: a table of 23 refusals, and the acceptance where none of them holds.
+use Rattle.std.specs.Prelude.{ℕ, Bool, not, nat_lt, ◌==◌, List, [], ◌∷◌, ◌++◌, length, bytes_eq, Option, Some, None, is_none, option_map, Result}
+use Rattle.std.specs.List.{list_any}
+use Rattle.sha2.specs.Sha256.{sha256}
+use Rattle.svid_token.specs.declared.refusal.Refusal.{Refusal}
+use Rattle.svid_token.specs.declared.refusal.Refusal.TheVariants.{NotAudience, Expired, NotYet, UnknownDomain, NoKey, BadSignature, Replayed}
+use Rattle.svid_token.specs.Rows.{Row, first_row, holds_of, judged}
+use Rattle.svid_token.specs.TokenKey.{token_text}
+use Rattle.svid_keys.specs.Bundles.{Bundle}
+use Rattle.svid_keys.specs.Candidates.{bundle_at, candidates_of}
+use Rattle.svid_keys.specs.Key.{KeyData}
+use Rattle.svid_replay.specs.declared.token_use.Use.{Use}
+use Rattle.svid_replay.specs.Uses.{Uses, has_use_of}
+use Rattle.svid_check.specs.declared.accepted.Accepted.{Accepted}
+use Rattle.svid_check.specs.Said.{Said, said_of, token_rows}
+use Rattle.svid_check.specs.Setting.{Setting}
+
+-- the key by which the uses of a token are told
+abbrev pub key_of : Said → List ℕ
+key_of t = sha256 (token_text t.sub.domain t.jti t.input)
+
+-- an audience is one of the validator's own, byte for byte (RFC 7519, section 4.1.3)
+abbrev pub is_own : List (List ℕ) → List ℕ → Bool
+is_own own name = list_any (bytes_eq name) own
+
+-- the keys that may have signed a token
+abbrev pub keys_for : List Bundle → Said → List KeyData
+keys_for bundles t = candidates_of bundles t.sub.domain t.alg t.kid
+
+-- some candidate made the signature, as the verifier says
+abbrev pub is_signed : Setting → Said → Bool
+is_signed s t = list_any (λ key. s.says key t.alg t.input t.signature) (keys_for s.bundles t)
+
+-- the refusals of a token for its time (RFC 7519, sections 4.1.4 and 4.1.5)
+abbrev pub time_rows : ℕ → Said → List Row
+time_rows moment t =
+    (Expired, not (nat_lt moment t.exp))
+    ∷ (NotYet, holds_of t.nbf (λ nbf. nat_lt moment nbf))
+    ∷ []
+
+-- the refusals of a token for its keys (JWT-SVID, section 4.2)
+abbrev pub keys_rows : List Bundle → Said → List Row
+keys_rows bundles t =
+    (UnknownDomain, is_none (bundle_at t.sub.domain bundles))
+    ∷ (NoKey, length (keys_for bundles t) == 0)
+    ∷ []
+
+-- the answer that is due to a token for its keys
+abbrev pub keys_due : List Bundle → Said → Result (List KeyData) Refusal
+keys_due bundles t = judged (first_row (keys_rows bundles t)) (keys_for bundles t)
+
+-- the refusals of what a token says, by the setting, the moment and the uses
+abbrev pub setting_rows : Setting → ℕ → Uses → Said → List Row
+setting_rows s moment uses t =
+    (NotAudience, not (list_any (is_own s.own) t.aud))
+    ∷ (time_rows moment t
+    ++ (keys_rows s.bundles t
+    ++ ((BadSignature, not (is_signed s t))
+    ∷ (Replayed, has_use_of uses (key_of t))
+    ∷ [])))
+
+-- the refusals of what is said, where it is said
+abbrev pub rows_if_said : (Said → List Row) → Option Said → List Row
+rows_if_said rows None = []
+rows_if_said rows (Some t) = rows t
+
+-- the whole table
+abbrev pub verdict_rows : Setting → ℕ → Uses → List ℕ → List Row
+verdict_rows s moment uses token = token_rows token ++ rows_if_said (setting_rows s moment uses) (said_of token)
+
+-- the use that an acceptance adds
+abbrev pub use_of : Setting → ℕ → Said → Use
+use_of s moment t = record { exp = t.exp; key = key_of t; place = s.place; at = moment }
+
+-- an acceptance: the ID of the subject, and the use
+abbrev pub acceptance : Setting → ℕ → Said → Accepted
+acceptance s moment t = record { id = t.sub; used = use_of s moment t }
+
+-- the verdict: the first refusal that holds, and else the acceptance of what is said, which then is there
+unfoldable pub verdict : Setting → ℕ → Uses → List ℕ → Result (Option Accepted) Refusal
+verdict s moment uses token = judged (first_row (verdict_rows s moment uses token)) (option_map (acceptance s moment) (said_of token))

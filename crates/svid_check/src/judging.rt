@@ -1,0 +1,97 @@
+ghost use Rattle.std.specs.Prelude.{◌≡◌, ◌≤◌, length, map, nat_lt, string_bytes};
+ghost use Rattle.std.specs.List.{list_any};
+ghost use Rattle.svid_token.specs.Rows.{first_row, holds_of};
+ghost use Rattle.svid_check.specs.Said.{said_in};
+ghost use Rattle.svid_check.specs.Setting.{given_setting};
+ghost use Rattle.svid_check.specs.Verdict.{is_own, is_signed, key_of, setting_rows};
+
+use crate::given::Given;
+use crate::reading::Reading;
+use svid_keys::Verifier;
+use svid_replay::{Record, UseStore};
+use svid_token::Refusal;
+
+// Whether a name is one of the validator's own.
+fn is_own(own: &[String], name: &str) -> bool
+    ensures { result ≡ is_own (map string_bytes own.now) name.now }
+{
+    for mine in own {
+        if name == mine.as_str() {
+            return true;
+        }
+    }
+    false
+}
+
+// Whether an audience is one of the validator's own.
+fn is_for(own: &[String], aud: &[String]) -> bool
+    ensures { result ≡ list_any (is_own (map string_bytes own.now)) (map string_bytes aud.now) }
+{
+    for name in aud {
+        if is_own(own, name.as_str()) {
+            return true;
+        }
+    }
+    false
+}
+
+// Whether a token is not valid yet.
+fn is_early(moment: u64, nbf: Option<u64>) -> bool
+    ensures { result ≡ holds_of nbf (λ nbf. nat_lt moment nbf) }
+{
+    match nbf {
+        Some(nbf) => nbf > moment,
+        None => false,
+    }
+}
+
+// Whether a candidate made the signature, as the verifier says.
+fn is_signed<V: Verifier>(given: &Given<V>, reading: &Reading<'_>) -> bool
+    requires input_len { length reading.now.input.now ≤ 65536 }
+    requires signature_len { length reading.now.signature.items ≤ 65536 }
+    ensures { result ≡ is_signed (given_setting V.says given.now) (said_in reading.now) }
+{
+    for key in reading.keys(&given.bundles) {
+        if given
+            .verifier
+            .verify(key, reading.header.alg, reading.input, &reading.signature)
+        {
+            return true;
+        }
+    }
+    false
+}
+
+// Why the setting, the moment and the uses refuse what a token says.
+pub(crate) fn refusal<V: Verifier, S: UseStore>(
+    given: &Given<V>,
+    replay: &Record<S>,
+    reading: &Reading<'_>,
+    key: &[u8; 32],
+) -> Option<Refusal>
+    requires input_len { length reading.now.input.now ≤ 65536 }
+    requires signature_len { length reading.now.signature.items ≤ 65536 }
+    requires key { key.now ≡ key_of (said_in reading.now) }
+    ensures { result
+        ≡ first_row (setting_rows (given_setting V.says given.now) replay.now.moment replay.now.uses (said_in reading.now)) }
+{
+    if !is_for(&given.own, &reading.claims.aud) {
+        return Some(Refusal::NotAudience);
+    }
+    if reading.claims.exp <= replay.moment() {
+        return Some(Refusal::Expired);
+    }
+    if is_early(replay.moment(), reading.claims.nbf) {
+        return Some(Refusal::NotYet);
+    }
+    if let Some(refusal) = reading.keys_refusal(&given.bundles) {
+        return Some(refusal);
+    }
+    if !is_signed(given, reading) {
+        return Some(Refusal::BadSignature);
+    }
+    if replay.has(key) {
+        return Some(Refusal::Replayed);
+    }
+    None
+}

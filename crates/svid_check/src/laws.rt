@@ -1,0 +1,1 @@
+//! Laws of the verdicts, carried by functions that compute nothing.

@@ -1,0 +1,35 @@
+//! The validator of JWT-SVIDs: it accepts a token, or names the first of 23 refusals.
+//!
+//! A [`Validator`] is given its own audiences, its place, trust bundles, a verifier of signatures and
+//! the record of the tokens that were used. [`Validator::check`] answers for a token at a moment that
+//! is handed in: no clock is looked at. An accepted token is added to the record, so that it is
+//! refused as `Replayed` from then on, and the record can be told to other validators.
+//!
+//! ```rust
+//! use svid_check::Validator;
+//! use svid_keys::{Bundles, TableVerifier};
+//! use svid_replay::{Record, SortedUses};
+//!
+//! let bundles = Bundles::read(alloc, bundles_json)?;
+//! let verifier = TableVerifier::read(alloc, table_text)?;
+//! let record = Record::new(SortedUses::new(alloc));
+//! let mut validator = Validator::new(alloc, audiences, place, 10, bundles, verifier, record);
+//! match validator.check(now, token) {
+//!     Ok(accepted) => println!(rt; "{}", accepted.id.as_str())?,
+//!     Err(refusal) => println!(rt; "{refusal}")?,
+//! }
+//! ```
+#![tactic(auto)]
+
+mod accepted;
+mod given;
+mod judging;
+pub mod laws;
+mod reading;
+#[cfg(test)]
+mod tests;
+mod validator;
+
+pub use accepted::Accepted;
+pub use reading::Reading;
+pub use validator::Validator;

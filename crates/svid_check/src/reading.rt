@@ -1,0 +1,96 @@
+ghost use Rattle.std.specs.Prelude.{◌≡◌, ◌==◌, length};
+ghost use Rattle.svid_keys.specs.Candidates.{candidates_left};
+
+use std::alloc::Global;
+use svid_keys::{Bundles, Candidates};
+use svid_token::{Claims, Compact, Header, Payload, Refusal, read_signature, token_key};
+
+/// What a token says, with all that must be there.
+#[derive(Debug, Drop)]
+pub struct Reading<'a> {
+    /// The header, as far as a JWT-SVID is checked by it.
+    pub header: Header,
+    /// The claims.
+    pub claims: Claims,
+    /// The bytes of the signature.
+    pub signature: Vec<u8>,
+    /// What the signature is made over: a part of the token.
+    pub input: &'a [u8],
+}
+
+impl<'a> Reading<'a> {
+    ghost use Rattle.std.specs.Prelude.{◌≤◌, Err, Some, IfOk};
+    ghost use Rattle.svid_token.specs.Compact.{compact_rows};
+    ghost use Rattle.svid_token.specs.Rows.{Answers, first_row, seen};
+    ghost use Rattle.svid_check.specs.Said.{reading_of, reading_view, said_in};
+    ghost use Rattle.svid_check.specs.Verdict.{key_of, keys_due, keys_for, keys_rows};
+
+    /// Reads a token.
+    ///
+    /// It answers the first that holds of the refusals from `TooLong` to `Jti`, or `OutOfMemory` where
+    /// an allocation was refused. `TooLong` and `NotThreeParts` come before any memory is taken.
+    pub fn of(alloc: Global, token: &'a [u8]) -> Result<Reading<'a>, Refusal>
+        ensures value { Answers reading_view result (reading_of token.now) }
+        ensures early { (refusal : Refusal) → first_row (compact_rows token.now) ≡ Some refusal
+            → result ≡ Err refusal }
+        ensures len { IfOk result
+            (λ r. (length r.input.now ≤ 65536) × (length r.signature.items ≤ 65536)) }
+    {
+        let compact = Compact::split(token)?;
+        let header = Header::read(alloc, compact.header)?;
+        let payload = Payload::read(alloc, compact.payload)?;
+        let signature = read_signature(alloc, compact.signature)?;
+        let claims = payload.claims(alloc)?;
+        Ok(Reading {
+            header,
+            claims,
+            signature,
+            input: compact.input,
+        })
+    }
+
+    /// The key by which the uses of the token are told. No memory is taken.
+    pub fn key(&self) -> [u8; 32]
+        ensures { result ≡ key_of (said_in self.now) }
+    {
+        token_key(&self.claims.sub, self.claims.jti.as_deref(), self.input)
+    }
+
+    /// The keys that may have signed the token, in the order of the bundle's list; or why there are
+    /// none: `UnknownDomain`, and then `NoKey`. No memory is taken.
+    pub fn candidates<'b>(&'b self, bundles: &'b Bundles) -> Result<Candidates<'b>, Refusal>
+        ensures { seen candidates_left result ≡ keys_due bundles.now (said_in self.now) }
+    {
+        match self.keys_refusal(bundles) {
+            Some(refusal) => Err(refusal),
+            None => Ok(self.keys(bundles)),
+        }
+    }
+
+    // Why there are no candidates.
+    pub(crate) fn keys_refusal(&self, bundles: &Bundles) -> Option<Refusal>
+        ensures { result ≡ first_row (keys_rows bundles.now (said_in self.now)) }
+    {
+        if !bundles.has_domain(self.claims.sub.domain()) {
+            return Some(Refusal::UnknownDomain);
+        }
+        if is_empty(self.keys(bundles)) {
+            return Some(Refusal::NoKey);
+        }
+        None
+    }
+
+    // The keys that may have signed the token.
+    pub(crate) fn keys<'b>(&'b self, bundles: &'b Bundles) -> Candidates<'b>
+        ensures { candidates_left result ≡ keys_for bundles.now (said_in self.now) }
+    {
+        let kid = self.header.kid.as_deref();
+        bundles.candidates(self.claims.sub.domain(), self.header.alg, kid)
+    }
+}
+
+fn is_empty(mut candidates: Candidates<'_>) -> bool
+    ensures { result ≡ (length (candidates_left candidates.entry) == 0) }
+{
+    candidates.next().is_none()
+}

@@ -1,0 +1,153 @@
+ghost use Rattle.std.specs.Prelude.{◌≡◌, ◌<◌, ◌≤◌, Err, Some, IfOk, map, string_bytes};
+ghost use Rattle.svid_token.specs.Compact.{compact_rows};
+ghost use Rattle.svid_token.specs.Rows.{Answers, first_row};
+ghost use Rattle.svid_replay.specs.Records.{IsRecord};
+ghost use Rattle.svid_check.specs.Changes.{raised, settled};
+ghost use Rattle.svid_check.specs.Setting.{given_setting, setting_of, with_state};
+ghost use Rattle.svid_check.specs.Verdict.{verdict};
+
+use crate::accepted::Accepted;
+use crate::given::Given;
+use crate::judging::refusal;
+use crate::reading::Reading;
+use std::alloc::Global;
+use std::marker::Model;
+use svid_keys::{Bundles, Verifier};
+use svid_replay::{Record, Use, UseStore};
+use svid_token::{Claims, Refusal};
+
+/// What checks tokens: its own audiences, its place, trust bundles, a verifier of signatures, and the
+/// record of the tokens that it knows to have been used.
+///
+/// Contracts see it as these, with the record's moment and uses.
+#[derive(Drop)]
+pub struct Validator<V: Verifier, S: UseStore> {
+    alloc: Global,
+    given: Given<V>,
+    replay: Record<S>,
+}
+
+impl<V: Verifier, S: UseStore> Model for Validator<V, S> {
+    ghost use Rattle.std.specs.Prelude.{map, string_bytes};
+    ghost use Rattle.svid_check.specs.Setting.{Held, held_code};
+
+    ghost Value = { Held V };
+
+    ghost coded = { held_code V.code };
+
+    ghost view = { λ v. record {
+      own = map string_bytes v.given.own.items;
+      place = v.given.place;
+      ahead = v.given.ahead;
+      bundles = v.given.bundles;
+      verifier = v.given.verifier;
+      state = v.replay;
+    } };
+}
+
+impl<V: Verifier, S: UseStore> Validator<V, S> {
+    /// A validator that begins with a record. No memory is taken.
+    ///
+    /// `own` are the audiences that it answers to, `place` tells it from every other validator that
+    /// shares its record, and `ahead` is how many seconds the moment of a message may lie ahead of its
+    /// own. Later calls take their memory from `alloc`.
+    pub fn new(
+        alloc: Global,
+        own: Vec<String>,
+        place: [u8; 16],
+        ahead: u64,
+        bundles: Bundles,
+        verifier: V,
+        replay: Record<S>,
+    ) -> Self
+        ensures { result ≡ record { own = map string_bytes own.items; place = place; ahead = ahead; bundles = bundles; verifier = verifier; state = replay } }
+    {
+        Validator {
+            alloc,
+            given: Given {
+                own,
+                place,
+                ahead,
+                bundles,
+                verifier,
+            },
+            replay,
+        }
+    }
+
+    /// The record of used tokens. No memory is taken.
+    pub fn replay(&self) -> &Record<S>
+        ensures value { result.now ≡ self.now.state }
+        ensures is_record { IsRecord result.now }
+    {
+        let _moment = self.replay.moment();
+        &self.replay
+    }
+
+    /// Checks a token at a moment, in seconds.
+    ///
+    /// The record is raised to the moment first, whatever the answer is, and the token is judged at
+    /// the record's moment, which may be greater. An accepted token's use is added to the record; a
+    /// refused one adds nothing. It answers the first refusal that holds, in the order of [`Refusal`];
+    /// `OutOfMemory` may stand in place of an acceptance and of any refusal behind `NotThreeParts`.
+    pub fn check(&mut self, now: u64, token: &[u8]) -> Result<Accepted, Refusal>
+        ensures answer { let x = raised self.old.state now in
+            Answers Some result (verdict (setting_of V.says self.old) x.moment x.uses token.now) }
+        ensures early { (refusal : Refusal) → first_row (compact_rows token.now) ≡ Some refusal
+            → result ≡ Err refusal }
+        ensures state { self.new ≡ with_state self.old (settled (raised self.old.state now) result) }
+    {
+        self.replay.raise(now);
+        let accepted = match judge(self.alloc, &self.given, &self.replay, token) {
+            Ok(accepted) => accepted,
+            Err(refusal) => return Err(refusal),
+        };
+        match self.replay.add(accepted.used) {
+            Ok(()) => Ok(accepted),
+            Err(_) => Err(Refusal::OutOfMemory),
+        }
+    }
+}
+
+// The acceptance of a token, or why it is refused. The record stays as it is.
+fn judge<V: Verifier, S: UseStore>(
+    alloc: Global,
+    given: &Given<V>,
+    replay: &Record<S>,
+    token: &[u8],
+) -> Result<Accepted, Refusal>
+    ensures answer { Answers Some result (verdict (given_setting V.says given.now) replay.now.moment replay.now.uses token.now) }
+    ensures early { (refusal : Refusal) → first_row (compact_rows token.now) ≡ Some refusal
+        → result ≡ Err refusal }
+    ensures made { IfOk result (λ accepted. accepted.used.at ≤ replay.now.moment) }
+    ensures live { IfOk result (λ accepted. replay.now.moment < accepted.used.exp) }
+{
+    let reading = match Reading::of(alloc, token) {
+        Ok(reading) => reading,
+        Err(refusal) => return Err(refusal),
+    };
+    let key = reading.key();
+    if let Some(refusal) = refusal(given, replay, &reading, &key) {
+        return Err(refusal);
+    }
+    let used = Use {
+        exp: reading.claims.exp,
+        key,
+        place: given.place,
+        at: replay.moment(),
+    };
+    let Reading {
+        header: _,
+        claims,
+        signature: _,
+        input: _,
+    } = reading;
+    let Claims {
+        sub,
+        aud: _,
+        exp: _,
+        nbf: _,
+        jti: _,
+    } = claims;
+    Ok(Accepted { id: sub, used })
+}
