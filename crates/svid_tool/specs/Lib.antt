@@ -1,4 +1,5 @@
 pub mod Candidates
+pub mod Checks
 pub mod Id
 pub mod Inputs
 pub mod Joined

@@ -4,6 +4,7 @@
 #![tactic(auto)]
 
 mod candidates;
+mod checks;
 mod cli;
 mod failure;
 mod id;
