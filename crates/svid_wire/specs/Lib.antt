@@ -3,7 +3,7 @@ pub mod Counted
 pub mod Faults
 pub mod Memory
 pub mod Messages
-pub mod Reads
 pub mod RecordText
 pub mod Stage
+pub mod Streams
 pub mod WireFault

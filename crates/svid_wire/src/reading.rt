@@ -1,6 +1,5 @@
-ghost use Rattle.std.specs.Prelude.{◌≡◌, ℕ, ◌<◌, ◌≤◌, List, length, vec_len, OnOk, IfOk, IfErr, IfSome};
-ghost use Rattle.std.specs.Io.KnownBytes.{Consumes, IsAtEnd};
-ghost use Rattle.svid_wire.specs.Reads.{IsReadFault};
+ghost use Rattle.std.specs.Prelude.{IfOk, IfErr};
+ghost use Rattle.svid_wire.specs.Streams.{IsRead, IsReadFault, drawn};
 
 use crate::{ReadFault, Source, Stopped};
 use std::alloc::Global;
@@ -17,12 +16,8 @@ pub fn read_up_to<S: Source>(
     source: &mut S,
     limit: usize,
 ) -> Result<Vec<u8>, ReadFault>
-    ensures all { IfOk result (λ bytes. Consumes (S.left source.old) (S.left source.new) bytes.items) }
-    ensures end { OnOk result (IsAtEnd (S.left source.new)) }
-    ensures within { IfOk result (λ bytes. vec_len bytes ≤ limit) }
-    ensures unstopped { OnOk result (S.stops source.new ≡ S.stops source.old) }
-    ensures fault { IfErr result (λ e. IsReadFault e (S.left source.old) (S.left source.new)
-        (S.stops source.old) (S.stops source.new) limit) }
+    ensures ok { IfOk result (λ bytes. IsRead (drawn S.left S.stops source.old source.new) limit bytes.items) }
+    ensures fault { IfErr result (IsReadFault (drawn S.left S.stops source.old source.new) limit) }
 {
     let mut bytes = Vec::new(alloc);
     let mut room = [0; ROOM];

@@ -1,7 +1,6 @@
-ghost use Rattle.std.specs.Prelude.{◌≡◌, ◌<◌, length, take, OnOk, IfErr};
-ghost use Rattle.std.specs.Io.KnownBytes.{Appends};
+ghost use Rattle.std.specs.Prelude.{◌≡◌, length, OnOk, IfErr};
 ghost use Rattle.svid_wire.specs.BatchText.{batch_text, head_text};
-ghost use Rattle.svid_wire.specs.Faults.{CountsFault};
+ghost use Rattle.svid_wire.specs.Streams.{StoppedAfter, TookAll, taken};
 
 use crate::judging::{BATCH_KIND, MAGIC};
 use crate::{Sink, Stopped, WriteFault};
@@ -11,10 +10,8 @@ use svid_replay::Batch;
 ///
 /// Refused with the number of bytes that the sink took: it took exactly the first of them.
 pub fn put_all<K: Sink>(sink: &mut K, piece: &[u8]) -> Result<(), WriteFault>
-    ensures ok { OnOk result (Appends (K.told sink.old) (K.told sink.new) piece.now) }
-    ensures err { IfErr result (λ e. (e.written < length piece.now)
-        × Appends (K.told sink.old) (K.told sink.new) (take e.written piece.now)) }
-    ensures faults { CountsFault (K.stops sink.old) (K.stops sink.new) result }
+    ensures ok { OnOk result (TookAll (taken K.told K.stops sink.old sink.new) piece.now) }
+    ensures err { IfErr result (λ e. StoppedAfter (taken K.told K.stops sink.old sink.new) piece.now e.written) }
 {
     let mut written = 0;
     while written < piece.len() {
@@ -43,10 +40,8 @@ fn head_of(batch: &Batch) -> [u8; 17]
 /// Refused with the number of bytes that the sink took: it took exactly the first of them. Takes no
 /// memory.
 pub fn write_batch<K: Sink>(batch: &Batch, sink: &mut K) -> Result<(), WriteFault>
-    ensures ok { OnOk result (Appends (K.told sink.old) (K.told sink.new) (batch_text batch.now)) }
-    ensures err { IfErr result (λ e. (e.written < length (batch_text batch.now))
-        × Appends (K.told sink.old) (K.told sink.new) (take e.written (batch_text batch.now))) }
-    ensures faults { CountsFault (K.stops sink.old) (K.stops sink.new) result }
+    ensures ok { OnOk result (TookAll (taken K.told K.stops sink.old sink.new) (batch_text batch.now)) }
+    ensures err { IfErr result (λ e. StoppedAfter (taken K.told K.stops sink.old sink.new) (batch_text batch.now) e.written) }
 {
     let head = head_of(batch);
     put_all(sink, &head)?;
