@@ -2,8 +2,6 @@ pub mod Candidates
 pub mod Id
 pub mod Inputs
 pub mod Joined
-pub mod Output
-pub mod Reading
 pub mod Refused
 pub mod Report
 pub mod Status

@@ -4,6 +4,7 @@ use std::alloc::Global;
 
 // Sizes that no allocator can give, by which a test commands the library of ./test that refuses allocations.
 const ARM: usize = 4611686018427387904;
+
 const ASK: usize = 6917529027641081856;
 
 // Has the nth allocation from here refused; 0 refuses none.
