@@ -1,7 +1,7 @@
-"""Asks `svid candidates` about tokens of real keys, and verifies their signatures.
+"""Asks `svid candidates` about tokens of real keys, and verifies their signatures by openssl.
 
 Usage: verify.py SVID FOLDER. Leaves bundles.json, tokens.txt and table.txt in FOLDER, and exits
-with 1 where an answer is not the one that is due.
+with 1 where an answer is not the one that is due. The keys are new in each run, and are not kept.
 """
 
 import base64
@@ -11,12 +11,15 @@ import pathlib
 import struct
 import subprocess
 import sys
-
-from cryptography.exceptions import InvalidSignature
-from cryptography.hazmat.primitives import hashes
-from cryptography.hazmat.primitives.asymmetric import ec, padding, rsa, utils
+import tempfile
 
 DOMAIN = "example.org"
+
+# What stands before the 64 bytes of a point in the DER text of a public key on P-256 (RFC 5480).
+P256_HEAD = bytes.fromhex("3059301306072a8648ce3d020106082a8648ce3d03010703420004")
+
+# The algorithm of an RSA key, as DER (RFC 8017, appendix A.1).
+RSA_ALGORITHM = bytes.fromhex("300d06092a864886f70d0101010500")
 
 
 def base64url(data):
@@ -27,65 +30,102 @@ def unbase64url(text):
     return base64.urlsafe_b64decode(text + "=" * (-len(text) % 4))
 
 
-def compact(value):
-    """The compact JSON of a bundle's entry: names in rising order, no blanks, text as UTF-8."""
-    return json.dumps(value, ensure_ascii=False, separators=(",", ":"), sort_keys=True)
+def openssl(*words, given=b""):
+    ran = subprocess.run(["openssl", *words], input=given, stdout=subprocess.PIPE, stderr=subprocess.PIPE)
+    if ran.returncode != 0:
+        sys.exit(f"openssl {words[0]} failed: {ran.stderr.decode(errors='replace')}")
+    return ran.stdout
 
 
-def ec_entry(kid, public):
-    numbers = public.public_numbers()
-    return {
-        "kty": "EC",
-        "use": "jwt-svid",
-        "kid": kid,
-        "crv": "P-256",
-        "x": base64url(numbers.x.to_bytes(32, "big")),
-        "y": base64url(numbers.y.to_bytes(32, "big")),
-    }
+def der(tag, content):
+    """A field of DER: its tag, its length and its content."""
+    size = len(content)
+    if size < 128:
+        return bytes([tag, size]) + content
+    length = size.to_bytes((size.bit_length() + 7) // 8, "big")
+    return bytes([tag, 128 + len(length)]) + length + content
 
 
-def rsa_entry(kid, public):
-    numbers = public.public_numbers()
-    size = (numbers.n.bit_length() + 7) // 8
-    return {
-        "kty": "RSA",
-        "use": "jwt-svid",
-        "kid": kid,
-        "n": base64url(numbers.n.to_bytes(size, "big")),
-        "e": base64url(numbers.e.to_bytes(3, "big")),
-    }
+def der_integer(number):
+    return der(2, number.to_bytes(number.bit_length() // 8 + 1, "big"))
 
 
-def sign(private, message):
-    """A signature as RFC 7518 has it: section 3.4 for ES256, section 3.3 for RS256."""
-    if isinstance(private, rsa.RSAPrivateKey):
-        return private.sign(message, padding.PKCS1v15(), hashes.SHA256())
-    r, s = utils.decode_dss_signature(private.sign(message, ec.ECDSA(hashes.SHA256())))
-    return r.to_bytes(32, "big") + s.to_bytes(32, "big")
+def raw_of_der(signature):
+    """The 64 bytes of an ES256 signature (RFC 7518, section 3.4) that openssl gave as DER."""
+    at, numbers = 2, []
+    for _ in range(2):
+        size = signature[at + 1]
+        numbers.append(int.from_bytes(signature[at + 2 : at + 2 + size], "big"))
+        at += 2 + size
+    return b"".join(number.to_bytes(32, "big") for number in numbers)
 
 
-def token(private, header, claims):
+def der_of_raw(signature):
+    r, s = (int.from_bytes(signature[at : at + 32], "big") for at in (0, 32))
+    return der(48, der_integer(r) + der_integer(s))
+
+
+class Signer:
+    """A new private key, in a file of the folder."""
+
+    def __init__(self, kind, path):
+        self.kind = kind
+        self.path = str(path)
+        how = {"EC": ["EC", "-pkeyopt", "ec_paramgen_curve:P-256"], "RSA": ["RSA", "-pkeyopt", "rsa_keygen_bits:2048"]}
+        openssl("genpkey", "-algorithm", *how[kind], "-out", self.path)
+
+    def entry(self, kid):
+        """The entry of a bundle for this key."""
+        entry = {"kty": self.kind, "use": "jwt-svid", "kid": kid}
+        if self.kind == "EC":
+            point = openssl("pkey", "-in", self.path, "-pubout", "-outform", "DER")[-64:]
+            return dict(entry, crv="P-256", x=base64url(point[:32]), y=base64url(point[32:]))
+        modulus = openssl("rsa", "-in", self.path, "-noout", "-modulus").decode().strip().partition("=")[2]
+        return dict(entry, n=base64url(bytes.fromhex(modulus)), e="AQAB")
+
+    def sign(self, message):
+        """A signature as RFC 7518 has it: section 3.4 for ES256, section 3.3 for RS256."""
+        signature = openssl("dgst", "-sha256", "-sign", self.path, given=message)
+        return raw_of_der(signature) if self.kind == "EC" else signature
+
+
+def token(signer, header, claims):
     parts = [base64url(json.dumps(part).encode()) for part in (header, claims)]
     signing_input = ".".join(parts)
-    return signing_input + "." + base64url(sign(private, signing_input.encode()))
+    return signing_input + "." + base64url(signer.sign(signing_input.encode()))
+
+
+def public_key(entry):
+    """The public key of a bundle's entry, as PEM."""
+    field = {name: unbase64url(entry[name]) for name in "xyne" if name in entry}
+    if entry["kty"] == "EC":
+        text = P256_HEAD + field["x"] + field["y"]
+    else:
+        numbers = b"".join(der_integer(int.from_bytes(field[name], "big")) for name in "ne")
+        text = der(48, RSA_ALGORITHM + der(3, b"\0" + der(48, numbers)))
+    return b"-----BEGIN PUBLIC KEY-----\n" + base64.encodebytes(text) + b"-----END PUBLIC KEY-----\n"
 
 
 def is_good(entry, alg, signing_input, signature):
     """Whether a signature is good for the key of a bundle's entry."""
-    number = {name: int.from_bytes(unbase64url(entry[name]), "big") for name in "xyne" if name in entry}
-    try:
-        if alg == "ES256" and entry.get("crv") == "P-256" and len(signature) == 64:
-            public = ec.EllipticCurvePublicNumbers(number["x"], number["y"], ec.SECP256R1()).public_key()
-            r, s = (int.from_bytes(signature[at : at + 32], "big") for at in (0, 32))
-            public.verify(utils.encode_dss_signature(r, s), signing_input, ec.ECDSA(hashes.SHA256()))
-            return True
-        if alg == "RS256" and entry["kty"] == "RSA":
-            public = rsa.RSAPublicNumbers(number["e"], number["n"]).public_key()
-            public.verify(signature, signing_input, padding.PKCS1v15(), hashes.SHA256())
-            return True
-    except InvalidSignature:
-        pass
-    return False
+    if (alg, entry["kty"]) not in (("ES256", "EC"), ("RS256", "RSA")):
+        return False
+    if alg == "ES256":
+        if len(signature) != 64:
+            return False
+        signature = der_of_raw(signature)
+    with tempfile.TemporaryDirectory() as room:
+        room = pathlib.Path(room)
+        (room / "key").write_bytes(public_key(entry))
+        (room / "signature").write_bytes(signature)
+        words = ["openssl", "dgst", "-sha256", "-verify", room / "key", "-signature", room / "signature"]
+        ran = subprocess.run(words, input=signing_input, stdout=subprocess.PIPE, stderr=subprocess.PIPE)
+        return ran.returncode == 0 and ran.stdout.strip() == b"Verified OK"
+
+
+def compact(value):
+    """The compact JSON of a bundle's entry: names in rising order, no blanks, text as UTF-8."""
+    return json.dumps(value, ensure_ascii=False, separators=(",", ":"), sort_keys=True)
 
 
 def question(domain, entry, alg, signing_input, signature):
@@ -123,25 +163,26 @@ def good_questions(lines, entries, text):
 
 def main(svid, folder):
     folder = pathlib.Path(folder)
-    signers = {"ec-1": ec.generate_private_key(ec.SECP256R1()), "rsa-1": rsa.generate_private_key(65537, 2048)}
-    stranger = ec.generate_private_key(ec.SECP256R1())
-    entries = [ec_entry("ec-1", signers["ec-1"].public_key()), rsa_entry("rsa-1", signers["rsa-1"].public_key())]
-    bundles = folder / "bundles.json"
-    bundles.write_text(json.dumps({DOMAIN: {"keys": entries}}, indent=2) + "\n")
+    with tempfile.TemporaryDirectory() as keys:
+        keys = pathlib.Path(keys)
+        ec, rsa, stranger = (Signer(kind, keys / name) for kind, name in (("EC", "ec"), ("RSA", "rsa"), ("EC", "stranger")))
+        entries = [ec.entry("ec-1"), rsa.entry("rsa-1")]
+        bundles = folder / "bundles.json"
+        bundles.write_text(json.dumps({DOMAIN: {"keys": entries}}, indent=2) + "\n")
 
-    claims = {"sub": f"spiffe://{DOMAIN}/billing/api", "aud": ["ledger"], "exp": 4102444800}
-    cases = [
-        ("signed by the ES256 key", signers["ec-1"], {"alg": "ES256", "kid": "ec-1"}, dict(claims, jti="1"), ["ec-1"], 1),
-        ("signed by the RS256 key", signers["rsa-1"], {"alg": "RS256", "kid": "rsa-1"}, dict(claims, jti="2"), ["rsa-1"], 1),
-        ("without the name of a key", signers["ec-1"], {"alg": "ES256"}, dict(claims, jti="3"), ["ec-1"], 1),
-        ("signed by a stranger", stranger, {"alg": "ES256", "kid": "ec-1"}, dict(claims, jti="4"), ["ec-1"], 0),
-        ("of RS256 that names the EC key", signers["rsa-1"], {"alg": "RS256", "kid": "ec-1"}, claims, "refused NoKey", 0),
-        ("of another trust domain", signers["ec-1"], {"alg": "ES256"}, dict(claims, sub="spiffe://other.example/api"), "refused UnknownDomain", 0),
-    ]
-    table, tokens, failed = [], [], False
-    for said, private, header, body, due, due_good in cases:
-        text = token(private, header, body)
-        tokens.append(text)
+        claims = {"sub": f"spiffe://{DOMAIN}/billing/api", "aud": ["ledger"], "exp": 4102444800}
+        cases = [
+            ("signed by the ES256 key", ec, {"alg": "ES256", "kid": "ec-1"}, dict(claims, jti="1"), ["ec-1"], 1),
+            ("signed by the RS256 key", rsa, {"alg": "RS256", "kid": "rsa-1"}, dict(claims, jti="2"), ["rsa-1"], 1),
+            ("without the name of a key", ec, {"alg": "ES256"}, dict(claims, jti="3"), ["ec-1"], 1),
+            ("signed by a stranger", stranger, {"alg": "ES256", "kid": "ec-1"}, dict(claims, jti="4"), ["ec-1"], 0),
+            ("of RS256 that names the EC key", rsa, {"alg": "RS256", "kid": "ec-1"}, claims, "refused NoKey", 0),
+            ("of another trust domain", ec, {"alg": "ES256"}, dict(claims, sub="spiffe://other.example/api"), "refused UnknownDomain", 0),
+        ]
+        texts = [token(signer, header, body) for _, signer, header, body, _, _ in cases]
+
+    table, failed = [], False
+    for (said, _, _, _, due, due_good), text in zip(cases, texts):
         lines = candidates(svid, str(bundles), text)
         if isinstance(due, str):
             answer, good, right = ", ".join(lines), [], lines == [due]
@@ -153,7 +194,7 @@ def main(svid, folder):
         table += good
         failed = failed or not right
         print(f"a token {said}: {answer}{'' if right else '  <-- WRONG'}")
-    (folder / "tokens.txt").write_text("".join(text + "\n" for text in tokens))
+    (folder / "tokens.txt").write_text("".join(text + "\n" for text in texts))
     (folder / "table.txt").write_text("".join(asked + "\n" for asked in table))
     print(f"the table has {len(table)} questions")
     return 1 if failed else 0

@@ -1,4 +1,4 @@
-use Rattle.std.proofs.Common.{◌≡◌, ℕ, List, ◌++◌, Bool, Option, None, Some, inl, inr, refl, sym, ap, ◌∙◌}
+use Rattle.std.proofs.Common.{◌≡◌, ℕ, List, ◌++◌, Option, None, Some, inl, inr, refl, sym, ap, subst, arith, ◌∙◌}
 use Rattle.std.specs.Prelude.{Result, Ok, Err, option_and_then}
 use Rattle.std.specs.List.{flat_map}
 use Rattle.std.specs.Option.{option_or}
@@ -18,10 +18,14 @@ use Rattle.svid_token.specs.declared.refusal.Refusal.TheVariants as token
 use Rattle.svid_token.proofs.RowsLemmas.{first_row-append}
 use Rattle.svid_keys.specs.Bundles.{Bundle}
 use Rattle.svid_keys.specs.Key.{KeyData}
+use Rattle.svid_keys.specs.declared.bundle_fault.BundleFault.{BundleFault}
 use Rattle.svid_tool.specs.declared.tool_fault.ToolFault.{ToolFault}
 use Rattle.svid_tool.specs.declared.tool_fault.ToolFault.TheVariants as tool
-use Rattle.svid_tool.specs.Candidates.{AreBundlesRead, AreRefused, IsCandidatesFault, IsFirstFault, Signing, candidate_line, keys_due, keys_for, keys_rows, lines_due, lines_if_said, parts_rows, parts_signing, rows_if_said, rows_if_three, signing, signing_due, signing_of, token_rows}
-use Rattle.svid_tool.specs.Reading.{IsReadFault}
+use Rattle.svid_tool.specs.Candidates.{AreBundlesRead, AreRefused, Inputs, IsCandidatesFault, IsFirstFault, IsOfFirst, Signing, candidate_line, keys_due, keys_for, keys_rows, lines_due, lines_if_said, parts_rows, parts_signing, rows_if_said, rows_if_three, signing, signing_due, signing_of, token_rows}
+use Rattle.svid_tool.specs.Inputs.{IsUnread, read_fault_of}
+use Rattle.svid_wire.specs.Streams.{Drawn, Taken}
+use Rattle.svid_wire.specs.declared.read_fault.ReadFault.{ReadFault}
+use Rattle.svid_wire.specs.declared.read_fault.ReadFault.TheVariants as reading
 
 -- where a value is due, nothing is refused, and it is what is said
 judged-Ok : {A : Type 0} (found : Option Refusal) (said value : A) → judged found said ≡ Ok value → (found ≡ None) × (said ≡ value)
@@ -169,42 +173,42 @@ lines_found bundles token s keys text good found is =
     judged-None _ (lines_if_said bundles (signing_of token)) text (k.0 ∙ j.0) (ap (λ o. lines_if_said bundles o) k.1 ∙ ap (λ ks. flat_map (candidate_line s) ks) j.1 ∙ sym is)
 
 -- the engine is refused for its first input
-pub first_refused : (fault : ToolFault) (b_before b_after t_before t_after : Option (List ℕ)) (b_stops b_stops_after t_stops t_stops_after : ℕ) → IsFirstFault fault b_before b_after b_stops b_stops_after → t_after ≡ t_before
-    → AreRefused fault b_before b_after t_before t_after b_stops b_stops_after t_stops t_stops_after
-first_refused (tool.Wire input message place reason) _ _ _ _ _ _ _ _ why same = absurd why
-first_refused tool.NotSummary _ _ _ _ _ _ _ _ why same = absurd why
-first_refused (tool.Bundles fault) _ _ _ _ _ _ _ _ why same = (why, same)
-first_refused (tool.Table line) _ _ _ _ _ _ _ _ why same = absurd why
-first_refused (tool.Read input) _ _ _ _ _ _ _ _ why same = inl (why, same)
-first_refused (tool.TooMuch input) _ _ _ _ _ _ _ _ why same = inl (why, same)
-first_refused tool.Write _ _ _ _ _ _ _ _ why same = absurd why
-first_refused tool.OutOfMemory _ _ _ _ _ _ _ _ why same = tt
+pub first_refused : (inputs : Inputs) (fault : ToolFault) → IsFirstFault inputs.bundles fault → AreRefused inputs fault
+first_refused inputs (tool.Bundles fault) why = why
+first_refused inputs tool.OutOfMemory why = tt
+first_refused inputs given why = inl why
+
+not_bundles : (number : ℕ) (why : ReadFault) (fault : BundleFault) → tool.Bundles fault ≡ read_fault_of number why → ⊥
+not_bundles number reading.Stopped fault is = cc
+not_bundles number reading.TooMuch fault is = cc
+not_bundles number reading.OutOfMemory fault is = cc
 
 -- the engine is refused for its second input
-pub second_refused : (fault : ToolFault) (b_before b_after t_before t_after : Option (List ℕ)) (b_stops b_stops_after t_stops t_stops_after : ℕ) (bundles : List Bundle) → AreBundlesRead b_before b_after bundles → IsReadFault 2 fault t_before t_after t_stops t_stops_after
-    → AreRefused fault b_before b_after t_before t_after b_stops b_stops_after t_stops t_stops_after
-second_refused (tool.Wire input message place reason) _ _ _ _ _ _ _ _ bundles read why = absurd why
-second_refused tool.NotSummary _ _ _ _ _ _ _ _ bundles read why = absurd why
-second_refused (tool.Bundles fault) _ _ _ _ _ _ _ _ bundles read why = absurd why
-second_refused (tool.Table line) _ _ _ _ _ _ _ _ bundles read why = absurd why
-second_refused (tool.Read input) _ _ _ _ _ _ _ _ bundles read why = inr (record { bundles = bundles; bundles_read = read; why = why })
-second_refused (tool.TooMuch input) _ _ _ _ _ _ _ _ bundles read why = inr (record { bundles = bundles; bundles_read = read; why = why })
-second_refused tool.Write _ _ _ _ _ _ _ _ bundles read why = absurd why
-second_refused tool.OutOfMemory _ _ _ _ _ _ _ _ bundles read why = tt
+pub second_refused : (inputs : Inputs) (fault : ToolFault) (bundles : List Bundle) → AreBundlesRead inputs.bundles bundles → IsUnread 2 inputs.tokens fault → AreRefused inputs fault
+second_refused inputs (tool.Bundles fault) bundles read unread = absurd (not_bundles 2 unread.why fault unread.is)
+second_refused inputs tool.OutOfMemory bundles read unread = tt
+second_refused inputs given bundles read unread = inr (record { bundles = bundles; bundles_read = read; why = unread })
 
-not_write : (b_before b_after t_before t_after : Option (List ℕ)) (b_stops b_stops_after t_stops t_stops_after : ℕ) → AreRefused tool.Write b_before b_after t_before t_after b_stops b_stops_after t_stops t_stops_after → ⊥
-not_write _ _ _ _ _ _ _ _ (inl first) = first.0
-not_write _ _ _ _ _ _ _ _ (inr second) = second.why
+not_of_first : (why : ReadFault) → IsOfFirst (read_fault_of 2 why) → ⊥
+not_of_first reading.Stopped is = let no : ◌≡◌ {A = ℕ} 2 1 = is in omega arith
+not_of_first reading.TooMuch is = let no : ◌≡◌ {A = ℕ} 2 1 = is in omega arith
+not_of_first reading.OutOfMemory is = is
+
+-- a fault of the second input is none of the first
+pub second_not_first : (input : Drawn) (fault : ToolFault) → IsUnread 2 input fault → IsOfFirst fault → ⊥
+second_not_first input fault unread is = not_of_first unread.why (subst IsOfFirst unread.is is)
+
+not_write : (number : ℕ) (why : ReadFault) → tool.Write ≡ read_fault_of number why → ⊥
+not_write number reading.Stopped is = cc
+not_write number reading.TooMuch is = cc
+not_write number reading.OutOfMemory is = cc
+
+-- no input is refused as a write is
+no_write : (inputs : Inputs) → AreRefused inputs tool.Write → ⊥
+no_write inputs (inl first) = not_write 1 first.why first.is
+no_write inputs (inr second) = not_write 2 second.why.why second.why.is
 
 -- the engine gives up for its inputs
-pub inputs_refused : (fault : ToolFault) (b_before b_after t_before t_after : Option (List ℕ)) (b_stops b_stops_after t_stops t_stops_after : ℕ) (out_before out_after : Option (List ℕ)) (out_stops out_stops_after : ℕ)
-    → AreRefused fault b_before b_after t_before t_after b_stops b_stops_after t_stops t_stops_after
-    → IsCandidatesFault fault b_before b_after t_before t_after b_stops b_stops_after t_stops t_stops_after out_before out_after out_stops out_stops_after
-inputs_refused (tool.Wire input message place reason) _ _ _ _ _ _ _ _ _ _ _ _ why = why
-inputs_refused tool.NotSummary _ _ _ _ _ _ _ _ _ _ _ _ why = why
-inputs_refused (tool.Bundles fault) _ _ _ _ _ _ _ _ _ _ _ _ why = why
-inputs_refused (tool.Table line) _ _ _ _ _ _ _ _ _ _ _ _ why = why
-inputs_refused (tool.Read input) _ _ _ _ _ _ _ _ _ _ _ _ why = why
-inputs_refused (tool.TooMuch input) _ _ _ _ _ _ _ _ _ _ _ _ why = why
-inputs_refused tool.Write b_before b_after t_before t_after b_stops b_stops_after t_stops t_stops_after _ _ _ _ why = absurd (not_write b_before b_after t_before t_after b_stops b_stops_after t_stops t_stops_after why)
-inputs_refused tool.OutOfMemory _ _ _ _ _ _ _ _ _ _ _ _ why = tt
+pub inputs_refused : (inputs : Inputs) (out : Taken) (fault : ToolFault) → AreRefused inputs fault → IsCandidatesFault inputs out fault
+inputs_refused inputs out tool.Write why = absurd (no_write inputs why)
+inputs_refused inputs out given why = why

@@ -1,8 +1,7 @@
-use Rattle.std.proofs.Common.{◌≡◌, ◌≢◌, List, ℕ, true, false, Option, None, Some, refl, sym, subst, ◌∙◌}
-use Rattle.std.specs.Prelude.{unwrap_or, is_none, if◌then◌else◌}
-use Rattle.svid_id.specs.Id.{IdParts, IsId, is_id, id_parts, id_fault, parts_of}
+use Rattle.std.proofs.Common.{◌≡◌, List, ℕ, true, false, Option, None, Some, refl, sym, subst}
+use Rattle.std.specs.Prelude.{is_none, if◌then◌else◌}
+use Rattle.svid_id.specs.Id.{IdParts, IsId, is_id, id_fault, parts_of}
 use Rattle.svid_id.specs.declared.id_fault.IdFault.{IdFault}
-use Rattle.svid_id.specs.declared.id_fault.IdFault.TheVariants.{OutOfMemory}
 use Rattle.svid_id.proofs.IdLemmas.{id_fault-IsId, id_parts-IsId}
 use Rattle.svid_tool.specs.Id.{parts_lines, refused_line, answer_of, id_answer}
 
@@ -21,8 +20,3 @@ answer-fault text fault is = (
   sym (subst (λ (o : Option IdFault). is_none o ≡ false) (sym is) refl),
   sym (subst (λ (o : Option IdFault). answer_of (if is_none o then Some (parts_of text) else None) o ≡ refused_line fault) (sym is) refl),
 )
-
--- a fault that is not want of memory is the text's own
-pub fault_of_text : (found : Option IdFault) (fault : IdFault) → fault ≡ unwrap_or found OutOfMemory → fault ≢ OutOfMemory → found ≡ Some fault
-fault_of_text None fault is other = absurd (other is)
-fault_of_text (Some f) fault is other = cc

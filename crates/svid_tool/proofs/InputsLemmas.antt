@@ -1,119 +1,118 @@
-use Rattle.std.proofs.Common.{◌≡◌, ◌≢◌, ℕ, ◌+◌, ◌<◌, ◌≤◌, suc, List, [], ◌∷◌, ◌++◌, length, take, drop, map, get_or, set, Option, None, Some, inl, inr, ◌⊎◌, refl, sym, ◌∙◌, subst, ap, arith, add-one, add-zero, append-nil, append_assoc}
-use Rattle.std.proofs.Math.Seq.{take-suc}
-use Rattle.std.proofs.lemmas.List.{take-set, take_all, drop-set-lt, drop-drop, drop-map, get_or-drop, get_or-map, get_or-set_same, length-map, length-set, map-set}
+use Rattle.std.proofs.Common.{◌≡◌, ℕ, ◌+◌, ◌<◌, ◌≤◌, zero, suc, List, [], ◌∷◌, ◌++◌, length, take, drop, get_or, set, Option, refl, sym, ◌∙◌, ap, subst, arith, append-nil, append_assoc}
+use Rattle.std.proofs.Math.Seq.{take-append-add}
+use Rattle.std.proofs.lemmas.List.{take_all, drop-set-lt, drop-drop, length-take-le}
 use Rattle.std.proofs.lemmas.Grind.{flat_map-append}
 use Rattle.svid_replay.specs.Batches.{BatchData}
 use Rattle.svid_replay.specs.Records.{State}
-use Rattle.svid_tool.specs.declared.tool_fault.ToolFault.{ToolFault}
-use Rattle.svid_tool.specs.Joined.{joined, Joins, JoinsAll}
-use Rattle.svid_wire.specs.Reads.{IsReadFault}
-use Rattle.svid_wire.specs.Messages.{Splits, Appended, StopsAt, batches_of}
-use Rattle.svid_wire.specs.WireFault.{IsFault, IsRefusal, no_memory}
+use Rattle.svid_wire.specs.Messages.{batches_of}
+use Rattle.svid_wire.specs.Streams.{Drawn, drawn}
 use Rattle.svid_wire.specs.declared.message.Message.{Message}
-use Rattle.svid_wire.specs.declared.wire_fault.WireFault.{WireFault}
 use Rattle.svid_wire.specs.declared.read_fault.ReadFault.{ReadFault}
 use Rattle.svid_wire.specs.declared.read_fault.ReadFault.TheVariants as reading
 use Rattle.svid_wire.specs.declared.reason.Reason.{Reason}
-use Rattle.svid_wire.specs.declared.reason.Reason.TheVariants as wire
-use Rattle.svid_tool.specs.Inputs.{most_bytes, IsRead, HasStopped, GaveTooMuch, IsWhole, AreWhole, all_of, IsBroken, IsInputFault, IsRefused, read_fault_of, wire_fault_at}
+use Rattle.svid_tool.specs.declared.tool_fault.ToolFault.{ToolFault}
+use Rattle.svid_tool.specs.declared.tool_fault.ToolFault.TheVariants as fault
+use Rattle.svid_tool.specs.Inputs.{AreWhole, IsInputFault, IsRefused, IsUnread, IsWhole, Sources, all_of, each_drawn, inputs_of, read_fault_of, sources}
+use Rattle.svid_tool.specs.Joined.{Joins, JoinsAll, joined}
 
--- a failed read is a fault of the input
-pub fault-read : (number : ℕ) (e : ReadFault) (before after : Option (List ℕ)) (sb sa : ℕ) → IsReadFault e before after sb sa most_bytes → IsInputFault number (read_fault_of e number) before after sb sa
-fault-read number reading.Stopped before after sb sa ((bytes, given, within), stopped) = (refl, record { bytes = bytes; given = given; within = within; stopped = stopped })
-fault-read number reading.TooMuch before after sb sa ((bytes, given, beyond), stopped) = (refl, record { bytes = bytes; given = given; beyond = beyond })
-fault-read number reading.OutOfMemory before after sb sa h = tt
+not_wire : (number : ℕ) (why : ReadFault) (input message place : ℕ) (reason : Reason) → fault.Wire input message place reason ≡ read_fault_of number why → ⊥
+not_wire number reading.Stopped input message place reason is = cc
+not_wire number reading.TooMuch input message place reason is = cc
+not_wire number reading.OutOfMemory input message place reason is = cc
 
--- bytes that are refused behind some messages are a fault of the input
-fault-reason : (number : ℕ) (reason : Reason) (place : ℕ) (before after : Option (List ℕ)) (sb sa : ℕ) (bytes : List ℕ) (came : List Message) (rest : List ℕ) → IsRead before after bytes → Splits bytes came rest → IsFault rest (record { place = place; reason = reason }) ⊎ (reason ≡ wire.OutOfMemory) → IsInputFault number (wire_fault_at reason number (length came + 1) place) before after sb sa
-fault-reason number wire.OutOfMemory place before after sb sa bytes came rest read splits h = tt
-fault-reason number reason place before after sb sa bytes came rest read splits (inl why) = (refl, record { bytes = bytes; read = read; messages = came; rest = rest; splits = splits; number = refl; why = why })
-fault-reason number reason place before after sb sa bytes came rest read splits (inr none) = cc
+-- an input that could not be read is refused
+pub unread_refused : (number : ℕ) (input : Drawn) (given : ToolFault) → IsUnread number input given → IsInputFault number input given
+unread_refused number input (fault.Wire told message place reason) unread = absurd (not_wire number unread.why told message place reason unread.is)
+unread_refused number input fault.OutOfMemory unread = tt
+unread_refused number input given unread = unread
 
-pub fault-bytes : (number : ℕ) (f : WireFault) (before after : Option (List ℕ)) (sb sa : ℕ) (bytes : List ℕ) (new : List Message) → IsRead before after bytes → StopsAt bytes [] new f → IsInputFault number (wire_fault_at f.reason number (length new + 1) f.place) before after sb sa
-fault-bytes number f before after sb sa bytes new read stops =
-    let why : IsFault stops.rest (record { place = f.place; reason = f.reason }) ⊎ (f.reason ≡ wire.OutOfMemory) = elim stops.why [ inl h ↦ inl h | inr h ↦ inr (ap (λ (e : WireFault). e.reason) h) ] in
-    rw stops.read.grown (fault-reason number f.reason f.place before after sb sa bytes stops.read.came stops.rest read stops.read.splits why)
-
-AreWhole-push : (befores afters : List (Option (List ℕ))) (told : List (List Message)) (before after : Option (List ℕ)) (more : List Message) → AreWhole befores afters told → IsWhole before after more → AreWhole (befores ++ before ∷ []) (afters ++ after ∷ []) (told ++ more ∷ [])
-AreWhole-push [] [] [] before after more whole is = (is, tt)
-AreWhole-push (b ∷ befores) (a ∷ afters) (t ∷ told) before after more whole is = (whole.0, AreWhole-push befores afters told before after more whole.1 is)
-AreWhole-push [] [] (t ∷ told) before after more whole is = absurd whole
-AreWhole-push [] (a ∷ afters) told before after more whole is = absurd whole
-AreWhole-push (b ∷ befores) [] told before after more whole is = absurd whole
-AreWhole-push (b ∷ befores) (a ∷ afters) [] before after more whole is = absurd whole
-
--- one input more is whole
-pub whole-step : (i : ℕ) (befores afters : List (Option (List ℕ))) (told : List (List Message)) (after : Option (List ℕ)) (more : List Message) → i < length befores → i < length afters → AreWhole (take i befores) (take i afters) told → IsWhole (get_or befores i None) after more → AreWhole (take (i + 1) befores) (take (i + 1) (set afters i after)) (told ++ more ∷ [])
-whole-step i befores afters told after more in_before in_after whole is =
-    let a : take (i + 1) befores ≡ take i befores ++ get_or befores i None ∷ [] = rw (add-one i) (take-suc befores i None in_before) in
-    let long : i < length (set afters i after) = omega (arith, length-set afters i after) in
-    let b : take (i + 1) (set afters i after) ≡ take i afters ++ after ∷ [] = rw (add-one i) (take-suc (set afters i after) i None long ∙ rw (take-set afters i after, get_or-set_same afters i after None in_after)) in
-    rw (a, b) (AreWhole-push (take i befores) (take i afters) told (get_or befores i None) after more whole is)
-
--- the inputs before this index are whole and joined, and the others were not read
-pub record HasJoined {S : Type 0} (left : S → Option (List ℕ)) (i : ℕ) (initial current : List S) (old new : State) : Type 0 where
-  pub told : List (List Message)
-  pub whole : AreWhole (take i (map left initial)) (take i (map left current)) told
-  pub behind : drop i current ≡ drop i initial
-  pub joins : (earlier : List BatchData) → old ≡ joined earlier → new ≡ joined (earlier ++ all_of told)
-
--- no input was read yet
-pub joined_none : {S : Type 0} (left : S → Option (List ℕ)) (inputs : List S) (old : State) → HasJoined left 0 inputs inputs old old
-joined_none left inputs old = record { told = []; whole = tt; behind = refl; joins = λ earlier from. from ∙ ap joined (sym (append-nil earlier)) }
+AreWhole-push : (inputs : List Drawn) (told : List (List Message)) (input : Drawn) (more : List Message) → AreWhole inputs told → IsWhole input more → AreWhole (inputs ++ input ∷ []) (told ++ more ∷ [])
+AreWhole-push [] [] input more whole is = (is, tt)
+AreWhole-push (i ∷ inputs) (t ∷ told) input more whole is = (whole.0, AreWhole-push inputs told input more whole.1 is)
+AreWhole-push [] (t ∷ told) input more whole is = absurd whole
+AreWhole-push (i ∷ inputs) [] input more whole is = absurd whole
 
 all_of-push : (told : List (List Message)) (more : List Message) → all_of (told ++ more ∷ []) ≡ all_of told ++ batches_of more
 all_of-push told more = flat_map-append batches_of told (more ∷ []) ∙ ap (λ r. all_of told ++ r) (append-nil (batches_of more))
 
--- the input at an index is as it was, if none from there on was read
-as_it_was : {S : Type 0} (i : ℕ) (initial current : List S) (d : S) → drop i current ≡ drop i initial → get_or current i d ≡ get_or initial i d
-as_it_was {S = S} i initial current d behind =
-    let at = λ (xs : List S). get_or-drop i xs 0 d ∙ ap (λ n. get_or xs n d) (add-zero i) in
-    sym (at current) ∙ ap (λ xs. get_or xs 0 d) behind ∙ at initial
+module _ {S : Type 0} (left : S → Option (List ℕ)) (stops : S → ℕ) where
+  each_drawn-length : (olds news : List S) → length news ≡ length olds → length (each_drawn left stops olds news) ≡ length olds
+  each_drawn-length [] news long = refl
+  each_drawn-length (o ∷ olds) [] long = omega arith
+  each_drawn-length (o ∷ olds) (n ∷ news) long = let e : length news ≡ length olds = omega arith in ap suc (each_drawn-length olds news e)
 
--- what a reader tells of the input at an index, before and after it was read
-told_before : {S T : Type 0} (f : S → T) (i : ℕ) (initial current : List S) (d : S) (e : T) → i < length initial → drop i current ≡ drop i initial → get_or (map f initial) i e ≡ f (get_or current i d)
-told_before f i initial current d e within behind = get_or-map f initial i d e within ∙ ap f (sym (as_it_was i initial current d behind))
+  -- the inputs, of which one was read: those before it, then it, and then those behind it
+  each_drawn-set : (i : ℕ) (olds news : List S) (d x : S) → i < length olds → length news ≡ length olds → drop i news ≡ drop i olds
+      → each_drawn left stops olds (set news i x) ≡ take i (each_drawn left stops olds news) ++ drawn left stops (get_or news i d) x ∷ drop (suc i) (each_drawn left stops olds news)
+  each_drawn-set i [] news d x within long same = absurd (let no : i < 0 = within in omega arith)
+  each_drawn-set i (o ∷ olds) [] d x within long same = absurd (let no : 0 ≡ suc (length olds) = long in omega arith)
+  each_drawn-set zero (o ∷ olds) (n ∷ news) d x within long same = ap (λ p. drawn left stops (get_or p 0 d) x ∷ each_drawn left stops olds news) (sym same)
+  each_drawn-set (suc i) (o ∷ olds) (n ∷ news) d x within long same =
+      let below : i < length olds = omega arith in
+      let e : length news ≡ length olds = omega arith in
+      ap (λ r. drawn left stops o n ∷ r) (each_drawn-set i olds news d x below e same)
 
-told_after : {S T : Type 0} (f : S → T) (i : ℕ) (current : List S) (x : S) (e : T) → i < length current → get_or (map f (set current i x)) i e ≡ f x
-told_after f i current x e within =
-    let long : i < length (set current i x) = omega (arith, length-set current i x) in
-    get_or-map f (set current i x) i x e long ∙ ap f (get_or-set_same current i x x within)
+-- the inputs before this index are whole and joined, and the sources from it on are as they were
+pub record HasJoined {S : Type 0} (i : ℕ) (s : Sources S) (old new : State) : Type 0 where
+  pub told : List (List Message)
+  pub whole : AreWhole (take i (inputs_of s)) told
+  pub untouched : drop i s.new ≡ drop i s.old
+  pub joins : (earlier : List BatchData) → old ≡ joined earlier → new ≡ joined (earlier ++ all_of told)
+
+-- no input was read yet
+pub joined_none : {S : Type 0} (left : S → Option (List ℕ)) (stops : S → ℕ) (inputs : List S) (old : State) → HasJoined 0 (sources left stops inputs inputs) old old
+joined_none left stops inputs old = record { told = []; whole = tt; untouched = refl; joins = λ earlier from. from ∙ ap joined (sym (append-nil earlier)) }
 
 -- those behind the one that was read are as they were
-behind_it : {S : Type 0} (i : ℕ) (initial current : List S) (x : S) → drop i current ≡ drop i initial → drop (i + 1) (set current i x) ≡ drop (i + 1) initial
-behind_it i initial current x behind =
+behind_it : {S : Type 0} (i : ℕ) (olds news : List S) (x : S) → drop i news ≡ drop i olds → drop (i + 1) (set news i x) ≡ drop (i + 1) olds
+behind_it i olds news x behind =
     let past : i < i + 1 = omega arith in
-    drop-set-lt (i + 1) current i x past ∙ sym (drop-drop 1 i current) ∙ ap (drop 1) behind ∙ drop-drop 1 i initial
+    drop-set-lt (i + 1) news i x past ∙ sym (drop-drop 1 i news) ∙ ap (drop 1) behind ∙ drop-drop 1 i olds
+
+-- before the index are as many inputs as it says
+front_length : {S : Type 0} (i : ℕ) (left : S → Option (List ℕ)) (stops : S → ℕ) (olds news : List S) → i < length olds → length news ≡ length olds → length (take i (each_drawn left stops olds news)) ≡ i
+front_length i left stops olds news within long =
+    let all : i ≤ length (each_drawn left stops olds news) = omega (arith, each_drawn-length left stops olds news long) in
+    length-take-le i (each_drawn left stops olds news) all
+
+take-front : {A : Type 0} (front : List A) (x : A) (behind : List A) → take (length front + 1) (front ++ x ∷ behind) ≡ front ++ x ∷ []
+take-front front x behind = take-append-add front (x ∷ behind) 1
 
 -- one input more was read and joined
-pub joined_more : {S : Type 0} (left : S → Option (List ℕ)) (i : ℕ) (initial current : List S) (d x : S) (old mid new : State) → i < length initial → length current ≡ length initial → HasJoined left i initial current old mid → Joins (left (get_or current i d)) (left x) mid new → HasJoined left (i + 1) initial (set current i x) old new
-joined_more left i initial current d x old mid new in_initial long so_far more =
-    let before : i < length (map left initial) = omega (arith, length-map initial left) in
-    let after : i < length (map left current) = omega (arith, length-map current left) in
-    let is : IsWhole (get_or (map left initial) i None) (left x) more.told = rw (told_before left i initial current d None in_initial so_far.behind) more.whole in
+pub joined_more : {S : Type 0} (left : S → Option (List ℕ)) (stops : S → ℕ) (i : ℕ) (olds news : List S) (d x : S) (old mid new : State) → i < length olds → length news ≡ length olds
+    → HasJoined i (sources left stops olds news) old mid → Joins (drawn left stops (get_or news i d) x) mid new → HasJoined (i + 1) (sources left stops olds (set news i x)) old new
+joined_more left stops i olds news d x old mid new within long so_far more =
+    let front = take i (each_drawn left stops olds news) in
+    let seen : take (i + 1) (each_drawn left stops olds (set news i x)) ≡ front ++ drawn left stops (get_or news i d) x ∷ [] =
+    ap (take (i + 1)) (each_drawn-set left stops i olds news d x within long so_far.untouched)
+    ∙ subst (λ n. take (n + 1) (front ++ drawn left stops (get_or news i d) x ∷ drop (suc i) (each_drawn left stops olds news)) ≡ front ++ drawn left stops (get_or news i d) x ∷ []) (front_length i left stops olds news within long) (take-front front (drawn left stops (get_or news i d) x) (drop (suc i) (each_drawn left stops olds news))) in
     record {
       told = so_far.told ++ more.told ∷ [];
-      whole = rw (map-set left current i x) (whole-step i (map left initial) (map left current) so_far.told (left x) more.told before after so_far.whole is);
-      behind = behind_it i initial current x so_far.behind;
+      whole = rw seen (AreWhole-push front so_far.told (drawn left stops (get_or news i d) x) more.told so_far.whole more.whole);
+      untouched = behind_it i olds news x so_far.untouched;
       joins = λ earlier from. more.joins (earlier ++ all_of so_far.told) (so_far.joins earlier from) ∙ ap joined (append_assoc earlier (all_of so_far.told) (batches_of more.told) ∙ ap (λ r. earlier ++ r) (sym (all_of-push so_far.told more.told)));
     }
 
 -- the input at this index was refused
-pub refused_at : {S : Type 0} (left : S → Option (List ℕ)) (stops : S → ℕ) (i : ℕ) (initial current : List S) (d x : S) (old mid : State) (fault : ToolFault) → i < length initial → length current ≡ length initial → HasJoined left i initial current old mid → IsInputFault (i + 1) fault (left (get_or current i d)) (left x) (stops (get_or current i d)) (stops x) → IsRefused fault (map left initial) (map left (set current i x)) (map stops initial) (map stops (set current i x))
-refused_at left stops i initial current d x old mid fault in_initial long so_far why =
-    let within : i < length current = omega arith in
+pub refused_at : {S : Type 0} (left : S → Option (List ℕ)) (stops : S → ℕ) (i : ℕ) (olds news : List S) (d x : S) (old mid : State) (given : ToolFault) → i < length olds → length news ≡ length olds
+    → HasJoined i (sources left stops olds news) old mid → IsInputFault (i + 1) (drawn left stops (get_or news i d) x) given → IsRefused (sources left stops olds (set news i x)) given
+refused_at left stops i olds news d x old mid given within long so_far why =
+    let front = take i (each_drawn left stops olds news) in
+    let many : length front ≡ i = front_length i left stops olds news within long in
     record {
-      index = i;
-      within = omega (arith, length-map initial left);
+      before = front;
+      refused = drawn left stops (get_or news i d) x;
+      behind = drop (suc i) (each_drawn left stops olds news);
+      parts = each_drawn-set left stops i olds news d x within long so_far.untouched;
       told = so_far.told;
-      whole = rw (map-set left current i x, take-set (map left current) i (left x)) so_far.whole;
-      why = rw (told_before left i initial current d None in_initial so_far.behind, told_after left i current x None within, told_before stops i initial current d 0 in_initial so_far.behind, told_after stops i current x 0 within) why;
-      behind = drop-map left (i + 1) (set current i x) ∙ ap (map left) (behind_it i initial current x so_far.behind) ∙ sym (drop-map left (i + 1) initial);
+      whole = so_far.whole;
+      why = rw many why;
+      untouched = rw many (behind_it i olds news x so_far.untouched);
     }
 
 -- all inputs were read and joined
-pub joined_all : {S : Type 0} (left : S → Option (List ℕ)) (i : ℕ) (initial current : List S) (old new : State) → length initial ≤ i → length current ≡ length initial → HasJoined left i initial current old new → JoinsAll (map left initial) (map left current) old new
-joined_all left i initial current old new past long so_far =
-    let before : take i (map left initial) ≡ map left initial = take_all i (map left initial) (omega (arith, length-map initial left)) in
-    let after : take i (map left current) ≡ map left current = take_all i (map left current) (omega (arith, length-map current left)) in
-    record { told = so_far.told; whole = rw (sym before, sym after) so_far.whole; joins = so_far.joins }
+pub joined_all : {S : Type 0} (left : S → Option (List ℕ)) (stops : S → ℕ) (i : ℕ) (olds news : List S) (old new : State) → length olds ≤ i → length news ≡ length olds
+    → HasJoined i (sources left stops olds news) old new → JoinsAll (each_drawn left stops olds news) old new
+joined_all left stops i olds news old new past long so_far =
+    let all : take i (each_drawn left stops olds news) ≡ each_drawn left stops olds news = take_all i (each_drawn left stops olds news) (omega (arith, each_drawn-length left stops olds news long)) in
+    record { told = so_far.told; whole = rw (sym all) so_far.whole; joins = so_far.joins }

@@ -1,4 +1,4 @@
-use Rattle.std.proofs.Common.{◌≡◌, ℕ, ◌<◌, ◌≤◌, Bool, true, false, List, [], ◌∷◌, ◌++◌, max, refl, sym, ◌∙◌, ap, arith, append-nil}
+use Rattle.std.proofs.Common.{◌≡◌, ℕ, ◌<◌, Bool, true, false, List, [], ◌∷◌, ◌++◌, max, refl, sym, ◌∙◌, ap, arith, append-nil}
 use Rattle.std.proofs.Common.{◌+◌, length, take, get_or, add-one, append_assoc}
 use Rattle.std.proofs.Math.Seq.{take-suc}
 use Rattle.svid_wire.specs.Messages.{batches_of}
@@ -18,9 +18,6 @@ use Rattle.svid_replay.specs.Records.{State, join, state_of, batch_state}
 use Rattle.svid_replay.proofs.UsesLemmas.{holds-uses_in, holds-live, uses_in-filter}
 use Rattle.svid_replay.proofs.RecordsLemmas.{is_join}
 use Rattle.svid_tool.specs.Joined.{greatest, joined}
-
-max-zero : (m : ℕ) → max m 0 ≡ m
-max-zero m = omega arith
 
 greatest-push : (batches : List BatchData) (batch : BatchData) → greatest (batches ++ batch ∷ []) ≡ max (greatest batches) batch.moment
 greatest-push [] batch = omega arith

@@ -1,7 +1,6 @@
 -- What `svid candidates` prints.
-use Rattle.std.specs.Prelude.{◌≡◌, ℕ, ◌==◌, nat_lt, Bool, false, true, if◌then◌else◌, is_none, List, [], ◌∷◌, ◌++◌, codes, find, length, Option, None, Some, option_and_then, option_map, string_bytes, unwrap_or, Result, Ok, Err, ◌⊎◌}
+use Rattle.std.specs.Prelude.{◌≡◌, ℕ, ◌==◌, nat_lt, Bool, false, true, is_none, List, [], ◌∷◌, ◌++◌, find, length, Option, None, Some, option_and_then, option_map, string_bytes, unwrap_or, Result, Ok, Err, ◌⊎◌}
 use Rattle.std.specs.List.{flat_map}
-use Rattle.std.specs.Io.KnownBytes.{Appends}
 use Rattle.hex.specs.Hex.{encode_lower}
 use Rattle.serde_json.specs.Data.{string}
 use Rattle.serde_json.specs.Written.{compact_text}
@@ -12,7 +11,7 @@ use Rattle.svid_token.specs.Header.{header_rows, header_said}
 use Rattle.svid_token.specs.Object.{part_object}
 use Rattle.svid_token.specs.Part.{part_bytes}
 use Rattle.svid_token.specs.Payload.{payload_rows}
-use Rattle.svid_token.specs.Rows.{Row, fails, first_row, holds_of, judged}
+use Rattle.svid_token.specs.Rows.{Row, first_row, judged}
 use Rattle.svid_token.specs.Signature.{signature_rows}
 use Rattle.svid_token.specs.declared.alg.Alg.{Alg}
 use Rattle.svid_token.specs.declared.refusal.Refusal.{Refusal}
@@ -23,12 +22,12 @@ use Rattle.svid_keys.specs.Key.{KeyData}
 use Rattle.svid_keys.specs.Lines.{lines_of}
 use Rattle.svid_keys.specs.Question.{question_of}
 use Rattle.svid_keys.specs.declared.bundle_fault.BundleFault.{BundleFault}
+use Rattle.svid_keys.specs.declared.bundle_fault.BundleFault.TheVariants as bundles
+use Rattle.svid_wire.specs.Streams.{Drawn, IsRead, Taken, TookAll, TookPart}
 use Rattle.svid_tool.specs.declared.candidates.Signing.{Signing as SigningRead}
 use Rattle.svid_tool.specs.declared.tool_fault.ToolFault.{ToolFault}
 use Rattle.svid_tool.specs.declared.tool_fault.ToolFault.TheVariants as tool
-use Rattle.svid_tool.specs.Inputs.{IsRead}
-use Rattle.svid_tool.specs.Output.{TookPart}
-use Rattle.svid_tool.specs.Reading.{IsReadFault}
+use Rattle.svid_tool.specs.Inputs.{IsUnread, most_bytes}
 use Rattle.svid_tool.specs.Refused.{refusal_line}
 
 -- the first of some lines that is not empty, no bytes where each is empty
@@ -130,72 +129,84 @@ abbrev pub accepts : Result (List ℕ) Refusal → Bool
 accepts (Ok lines) = true
 accepts (Err refusal) = false
 
--- what is printed: the lines of the candidates, or the one line of the refusal
-abbrev pub printed : Result (List ℕ) Refusal → List ℕ
-printed (Ok lines) = lines
+-- what is printed: the lines of the candidates, or the one line of the refusal; nothing for want of memory
+abbrev pub printed : Result (List ℕ) Refusal → Option (List ℕ)
+printed (Ok lines) = Some lines
 printed (Err refusal) = refusal_line refusal
 
--- the first input was read, and its bytes are bundles
-pub record AreBundlesRead (before after : Option (List ℕ)) (bundles : List Bundle) : Type 0 where
+-- what was done to the two inputs of the engine
+pub record Inputs : Type 0 where
+  pub bundles : Drawn
+  pub tokens : Drawn
+
+-- the input was read, and its bytes are these bundles
+pub record AreBundlesRead (input : Drawn) (bundles : List Bundle) : Type 0 where
   pub text : List ℕ
-  pub read : IsRead before after text
+  pub read : IsRead input most_bytes text
   pub are : bundles_in text ≡ Some bundles
 
--- the first input was read, and its bytes are no bundles, for this fault
-pub record AreBundlesRefused (before after : Option (List ℕ)) (fault : BundleFault) : Type 0 where
+-- the input was read, and its bytes are no bundles, for this fault
+pub record AreBundlesRefused (input : Drawn) (fault : BundleFault) : Type 0 where
   pub text : List ℕ
-  pub read : IsRead before after text
+  pub read : IsRead input most_bytes text
   pub why : bundles_fault text ≡ Some fault
 
 -- both inputs were read, and this is the answer to them
-pub record IsCandidatesAnswer (bundles_before bundles_after tokens_before tokens_after : Option (List ℕ)) (accepted : Bool) (text : List ℕ) : Type 0 where
+pub record IsCandidatesAnswer (inputs : Inputs) (accepted : Bool) (text : List ℕ) : Type 0 where
   pub bundles : List Bundle
   pub tokens : List ℕ
-  pub bundles_read : AreBundlesRead bundles_before bundles_after bundles
-  pub tokens_read : IsRead tokens_before tokens_after tokens
+  pub bundles_read : AreBundlesRead inputs.bundles bundles
+  pub tokens_read : IsRead inputs.tokens most_bytes tokens
   pub accepts_as : accepted ≡ accepts (lines_due bundles (first_token tokens))
-  pub prints : text ≡ printed (lines_due bundles (first_token tokens))
+  pub prints : printed (lines_due bundles (first_token tokens)) ≡ Some text
 
 -- the answer was written
-pub record AreCandidatesPrinted (bundles_before bundles_after tokens_before tokens_after : Option (List ℕ)) (accepted : Bool) (out_before out_after : Option (List ℕ)) : Type 0 where
+pub record AreCandidatesPrinted (inputs : Inputs) (out : Taken) (accepted : Bool) : Type 0 where
   pub text : List ℕ
-  pub answer : IsCandidatesAnswer bundles_before bundles_after tokens_before tokens_after accepted text
-  pub written : Appends out_before out_after text
+  pub answer : IsCandidatesAnswer inputs accepted text
+  pub written : TookAll out text
 
 -- a part of the answer was written
-pub record AreCandidatesCut (bundles_before bundles_after tokens_before tokens_after : Option (List ℕ)) (out_before out_after : Option (List ℕ)) (stops_before stops_after : ℕ) : Type 0 where
+pub record AreCandidatesCut (inputs : Inputs) (out : Taken) : Type 0 where
   pub accepted : Bool
   pub text : List ℕ
-  pub answer : IsCandidatesAnswer bundles_before bundles_after tokens_before tokens_after accepted text
-  pub part : TookPart out_before out_after stops_before stops_after text
+  pub answer : IsCandidatesAnswer inputs accepted text
+  pub part : TookPart out text
+
+-- the fault of bundles that are refused: want of memory is no fault of theirs
+abbrev pub bundle_fault_of : BundleFault → ToolFault
+bundle_fault_of bundles.OutOfMemory = tool.OutOfMemory
+bundle_fault_of fault = tool.Bundles fault
+
+-- why the first input is refused: it is no bundles, it could not be read, or memory was wanted
+abbrev pub IsFirstFault : Drawn → ToolFault → Type 0
+IsFirstFault input (tool.Bundles fault) = AreBundlesRefused input fault
+IsFirstFault input tool.OutOfMemory = Unit {0}
+IsFirstFault input given = IsUnread 1 input given
 
 -- the second input could not be read, while the first one is bundles
-pub record IsSecondRefused (fault : ToolFault) (bundles_before bundles_after tokens_before tokens_after : Option (List ℕ)) (stops_before stops_after : ℕ) : Type 0 where
+pub record IsSecondRefused (inputs : Inputs) (fault : ToolFault) : Type 0 where
   pub bundles : List Bundle
-  pub bundles_read : AreBundlesRead bundles_before bundles_after bundles
-  pub why : IsReadFault 2 fault tokens_before tokens_after stops_before stops_after
-
--- why the first input is refused
-abbrev pub IsFirstFault : ToolFault → Option (List ℕ) → Option (List ℕ) → ℕ → ℕ → Type 0
-IsFirstFault (tool.Bundles fault) before after stops_before stops_after = AreBundlesRefused before after fault
-IsFirstFault fault before after stops_before stops_after = IsReadFault 1 fault before after stops_before stops_after
-
--- one of the two inputs could not be read: the second one is not touched for the first one's sake
-abbrev pub IsOneRefused : ToolFault → Option (List ℕ) → Option (List ℕ) → Option (List ℕ) → Option (List ℕ) → ℕ → ℕ → ℕ → ℕ → Type 0
-IsOneRefused fault bundles_before bundles_after tokens_before tokens_after bundles_stops_before bundles_stops_after tokens_stops_before tokens_stops_after =
-    (IsReadFault 1 fault bundles_before bundles_after bundles_stops_before bundles_stops_after × (tokens_after ≡ tokens_before))
-    ⊎ IsSecondRefused fault bundles_before bundles_after tokens_before tokens_after tokens_stops_before tokens_stops_after
+  pub bundles_read : AreBundlesRead inputs.bundles bundles
+  pub why : IsUnread 2 inputs.tokens fault
 
 -- why the inputs of the engine are refused
-abbrev pub AreRefused : ToolFault → Option (List ℕ) → Option (List ℕ) → Option (List ℕ) → Option (List ℕ) → ℕ → ℕ → ℕ → ℕ → Type 0
-AreRefused tool.OutOfMemory bundles_before bundles_after tokens_before tokens_after bundles_stops_before bundles_stops_after tokens_stops_before tokens_stops_after = Unit {0}
-AreRefused (tool.Bundles fault) bundles_before bundles_after tokens_before tokens_after bundles_stops_before bundles_stops_after tokens_stops_before tokens_stops_after = AreBundlesRefused bundles_before bundles_after fault × (tokens_after ≡ tokens_before)
-AreRefused fault bundles_before bundles_after tokens_before tokens_after bundles_stops_before bundles_stops_after tokens_stops_before tokens_stops_after = IsOneRefused fault bundles_before bundles_after tokens_before tokens_after bundles_stops_before bundles_stops_after tokens_stops_before tokens_stops_after
+abbrev pub AreRefused : Inputs → ToolFault → Type 0
+AreRefused inputs (tool.Bundles fault) = AreBundlesRefused inputs.bundles fault
+AreRefused inputs tool.OutOfMemory = Unit {0}
+AreRefused inputs given = IsUnread 1 inputs.bundles given ⊎ IsSecondRefused inputs given
 
--- when the engine gives up: for one of its inputs, or since the sink stopped
-abbrev pub IsCandidatesFault : ToolFault → Option (List ℕ) → Option (List ℕ) → Option (List ℕ) → Option (List ℕ) → ℕ → ℕ → ℕ → ℕ → Option (List ℕ) → Option (List ℕ) → ℕ → ℕ → Type 0
-IsCandidatesFault tool.Write bundles_before bundles_after tokens_before tokens_after bundles_stops_before bundles_stops_after tokens_stops_before tokens_stops_after out_before out_after out_stops_before out_stops_after = AreCandidatesCut bundles_before bundles_after tokens_before tokens_after out_before out_after out_stops_before out_stops_after
-IsCandidatesFault fault bundles_before bundles_after tokens_before tokens_after bundles_stops_before bundles_stops_after tokens_stops_before tokens_stops_after out_before out_after out_stops_before out_stops_after = AreRefused fault bundles_before bundles_after tokens_before tokens_after bundles_stops_before bundles_stops_after tokens_stops_before tokens_stops_after
+-- when the engine gives up: since the sink stopped, or for one of its inputs
+abbrev pub IsCandidatesFault : Inputs → Taken → ToolFault → Type 0
+IsCandidatesFault inputs out tool.Write = AreCandidatesCut inputs out
+IsCandidatesFault inputs out given = AreRefused inputs given
+
+-- the fault is one of the first input
+abbrev pub IsOfFirst : ToolFault → Type 0
+IsOfFirst (tool.Bundles fault) = Unit {0}
+IsOfFirst (tool.Read input) = input ≡ 1
+IsOfFirst (tool.TooMuch input) = input ≡ 1
+IsOfFirst _ = ⊥
 
 -- what contracts see of what a token says of its signature
 abbrev pub said : SigningRead → Signing

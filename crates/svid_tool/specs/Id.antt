@@ -1,13 +1,12 @@
 -- What `svid id` prints.
-use Rattle.std.specs.Prelude.{◌≡◌, ℕ, List, [], ◌∷◌, ◌++◌, Bool, codes, length, ◌==◌, if◌then◌else◌, Option, None, Some}
-use Rattle.std.specs.Io.KnownBytes.{Appends}
+use Rattle.std.specs.Prelude.{ℕ, List, [], ◌∷◌, ◌++◌, codes, length, ◌==◌, if◌then◌else◌, Option, None, Some}
 use Rattle.std.specs.Fmt.{decimal}
-use Rattle.svid_id.specs.Id.{IdParts, id_parts, id_fault, is_id}
+use Rattle.svid_id.specs.Id.{IdParts, id_parts, id_fault}
 use Rattle.svid_id.specs.declared.id_fault.IdFault.{IdFault}
 use Rattle.svid_id.specs.declared.id_fault.IdFault.TheVariants as fault
+use Rattle.svid_wire.specs.Streams.{Taken, TookPart}
 use Rattle.svid_tool.specs.declared.tool_fault.ToolFault.{ToolFault}
 use Rattle.svid_tool.specs.declared.tool_fault.ToolFault.TheVariants as tool
-use Rattle.svid_tool.specs.Output.{TookPart}
 
 -- a name with a place in round brackets
 abbrev pub placed : List ℕ → ℕ → List ℕ
@@ -48,7 +47,7 @@ unfoldable pub id_answer : List ℕ → List ℕ
 id_answer text = answer_of (id_parts text) (id_fault text)
 
 -- the engine gives up for its sink alone, which took a part of the answer, or for want of memory
-abbrev pub IsIdEngineFault : ToolFault → Option (List ℕ) → Option (List ℕ) → ℕ → ℕ → List ℕ → Type 0
-IsIdEngineFault tool.Write before after stops_before stops_after answer = TookPart before after stops_before stops_after answer
-IsIdEngineFault tool.OutOfMemory before after stops_before stops_after answer = Unit {0}
-IsIdEngineFault _ before after stops_before stops_after answer = ⊥
+abbrev pub IsIdEngineFault : Taken → List ℕ → ToolFault → Type 0
+IsIdEngineFault out answer tool.Write = TookPart out answer
+IsIdEngineFault out answer tool.OutOfMemory = Unit {0}
+IsIdEngineFault out answer _ = ⊥

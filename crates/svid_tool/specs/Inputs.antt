@@ -1,12 +1,11 @@
 -- What an engine read of its inputs, and why one of them was refused.
-use Rattle.std.specs.Prelude.{◌≡◌, ℕ, ◌+◌, ◌<◌, ◌≤◌, List, [], ◌∷◌, length, take, drop, slice_index_or, Option, None}
+use Rattle.std.specs.Prelude.{◌≡◌, ℕ, ◌+◌, List, [], ◌∷◌, ◌++◌, length, drop, Option}
 use Rattle.std.specs.List.{flat_map}
-use Rattle.std.specs.Io.KnownBytes.{Consumes, IsAtEnd}
 use Rattle.svid_replay.specs.Batches.{BatchData}
 use Rattle.svid_wire.specs.Messages.{Splits, batches_of}
-use Rattle.svid_wire.specs.declared.message.Message.{Message}
-use Rattle.svid_wire.specs.Faults.{raised}
+use Rattle.svid_wire.specs.Streams.{Drawn, IsRead, IsReadFault, drawn}
 use Rattle.svid_wire.specs.WireFault.{IsFault}
+use Rattle.svid_wire.specs.declared.message.Message.{Message}
 use Rattle.svid_wire.specs.declared.reason.Reason.{Reason}
 use Rattle.svid_wire.specs.declared.reason.Reason.TheVariants as wire
 use Rattle.svid_wire.specs.declared.read_fault.ReadFault.{ReadFault}
@@ -18,76 +17,84 @@ use Rattle.svid_tool.specs.declared.tool_fault.ToolFault.TheVariants as fault
 abbrev pub most_bytes : ℕ
 most_bytes = 67108864
 
--- the input was read to its end, and these were its bytes
-pub record IsRead (before after : Option (List ℕ)) (bytes : List ℕ) : Type 0 where
-  pub given : Consumes before after bytes
-  pub ended : IsAtEnd after
-  pub within : length bytes ≤ most_bytes
+-- the fault of an input with this number that could not be read
+abbrev pub read_fault_of : ℕ → ReadFault → ToolFault
+read_fault_of number reading.Stopped = fault.Read number
+read_fault_of number reading.TooMuch = fault.TooMuch number
+read_fault_of number reading.OutOfMemory = fault.OutOfMemory
 
--- the input stopped before its end
-pub record HasStopped (before after : Option (List ℕ)) (stops_before stops_after : ℕ) : Type 0 where
-  pub bytes : List ℕ
-  pub given : Consumes before after bytes
-  pub within : length bytes ≤ most_bytes
-  pub stopped : stops_after ≡ raised stops_before
+-- the input with this number could not be read, and this is its fault
+pub record IsUnread (number : ℕ) (input : Drawn) (fault : ToolFault) : Type 0 where
+  pub why : ReadFault
+  pub due : IsReadFault input most_bytes why
+  pub is : fault ≡ read_fault_of number why
 
--- more bytes came of the input than it may have
-pub record GaveTooMuch (before after : Option (List ℕ)) : Type 0 where
-  pub bytes : List ℕ
-  pub given : Consumes before after bytes
-  pub beyond : most_bytes < length bytes
+-- the fault of bytes that are refused: want of memory has no place
+abbrev pub wire_fault_at : Reason → ℕ → ℕ → ℕ → ToolFault
+wire_fault_at wire.OutOfMemory input message place = fault.OutOfMemory
+wire_fault_at reason input message place = fault.Wire input message place reason
 
 -- the input was read to its end, and its bytes are these messages, one after the other
-pub record IsWhole (before after : Option (List ℕ)) (messages : List Message) : Type 0 where
+pub record IsWhole (input : Drawn) (messages : List Message) : Type 0 where
   pub bytes : List ℕ
-  pub read : IsRead before after bytes
+  pub read : IsRead input most_bytes bytes
   pub splits : Splits bytes messages []
 
--- each input was read to its end, and its bytes are the messages of its list
-abbrev pub AreWhole : List (Option (List ℕ)) → List (Option (List ℕ)) → List (List Message) → Type 0
-AreWhole [] [] [] = Unit {0}
-AreWhole (before ∷ befores) (after ∷ afters) (told ∷ others) = IsWhole before after told × AreWhole befores afters others
-AreWhole _ _ _ = ⊥
-
--- the batches of all inputs, in their order
-abbrev pub all_of : List (List Message) → List BatchData
-all_of told = flat_map batches_of told
-
--- the input was read to its end, and behind some messages something is wrong with its bytes, for this reason at this place of
--- the message with this number
-pub record IsBroken (before after : Option (List ℕ)) (message place : ℕ) (reason : Reason) : Type 0 where
+-- the input was read to its end, and behind some messages something is wrong with its bytes, for this reason at this
+-- place of the message with this number
+pub record IsBroken (input : Drawn) (message place : ℕ) (reason : Reason) : Type 0 where
   pub bytes : List ℕ
-  pub read : IsRead before after bytes
+  pub read : IsRead input most_bytes bytes
   pub messages : List Message
   pub rest : List ℕ
   pub splits : Splits bytes messages rest
   pub number : message ≡ length messages + 1
   pub why : IsFault rest (record { place = place; reason = reason })
 
--- why the input with this number was refused
-abbrev pub IsInputFault : ℕ → ToolFault → Option (List ℕ) → Option (List ℕ) → ℕ → ℕ → Type 0
-IsInputFault number (fault.Wire input message place reason) before after stops_before stops_after = (input ≡ number) × IsBroken before after message place reason
-IsInputFault number (fault.Read input) before after stops_before stops_after = (input ≡ number) × HasStopped before after stops_before stops_after
-IsInputFault number (fault.TooMuch input) before after stops_before stops_after = (input ≡ number) × GaveTooMuch before after
-IsInputFault number fault.OutOfMemory before after stops_before stops_after = Unit {0}
-IsInputFault number _ before after stops_before stops_after = ⊥
+-- why the input with this number was refused: its bytes are broken, it could not be read, or memory was wanted
+abbrev pub IsInputFault : ℕ → Drawn → ToolFault → Type 0
+IsInputFault number input (fault.Wire told message place reason) = (told ≡ number) × IsBroken input message place reason
+IsInputFault number input fault.OutOfMemory = Unit {0}
+IsInputFault number input given = IsUnread number input given
 
--- the input at this index was refused; those before it are whole, and those behind it were not read
-pub record IsRefused (fault : ToolFault) (befores afters : List (Option (List ℕ))) (stops_before stops_after : List ℕ) : Type 0 where
-  pub index : ℕ
-  pub within : index < length befores
+-- the sources that a call goes over, before and after it, with the words by which such a source tells of itself
+pub record Sources (S : Type 0) : Type 0 where
+  pub left : S → Option (List ℕ)
+  pub stops : S → ℕ
+  pub old : List S
+  pub new : List S
+
+-- that of sources, by their own words `left` and `stops`
+abbrev pub sources : {S : Type 0} → (S → Option (List ℕ)) → (S → ℕ) → List S → List S → Sources S
+sources left stops old new = record { left = left; stops = stops; old = old; new = new }
+
+-- what was done to each source
+abbrev pub each_drawn : {S : Type 0} → (S → Option (List ℕ)) → (S → ℕ) → List S → List S → List Drawn
+each_drawn left stops [] news = []
+each_drawn left stops (old ∷ olds) [] = []
+each_drawn left stops (old ∷ olds) (new ∷ news) = drawn left stops old new ∷ each_drawn left stops olds news
+
+-- what was done to the inputs of an engine, in their order
+abbrev pub inputs_of : {S : Type 0} → Sources S → List Drawn
+inputs_of s = each_drawn s.left s.stops s.old s.new
+
+-- each input was read to its end, and its bytes are the messages of its list
+abbrev pub AreWhole : List Drawn → List (List Message) → Type 0
+AreWhole [] [] = Unit {0}
+AreWhole (input ∷ inputs) (told ∷ others) = IsWhole input told × AreWhole inputs others
+AreWhole _ _ = ⊥
+
+-- the batches of all inputs, in their order
+abbrev pub all_of : List (List Message) → List BatchData
+all_of told = flat_map batches_of told
+
+-- an input was refused: those before it are whole, and the sources behind it are as they were
+pub record IsRefused {S : Type 0} (s : Sources S) (fault : ToolFault) : Type 0 where
+  pub before : List Drawn
+  pub refused : Drawn
+  pub behind : List Drawn
+  pub parts : inputs_of s ≡ before ++ refused ∷ behind
   pub told : List (List Message)
-  pub whole : AreWhole (take index befores) (take index afters) told
-  pub why : IsInputFault (index + 1) fault (slice_index_or befores index None) (slice_index_or afters index None) (slice_index_or stops_before index 0) (slice_index_or stops_after index 0)
-  pub behind : drop (index + 1) afters ≡ drop (index + 1) befores
-
--- the fault of an input that could not be read
-abbrev pub read_fault_of : ReadFault → ℕ → ToolFault
-read_fault_of reading.Stopped input = fault.Read input
-read_fault_of reading.TooMuch input = fault.TooMuch input
-read_fault_of reading.OutOfMemory input = fault.OutOfMemory
-
--- the fault of bytes that are refused: want of memory has no place
-abbrev pub wire_fault_at : Reason → ℕ → ℕ → ℕ → ToolFault
-wire_fault_at wire.OutOfMemory input message place = fault.OutOfMemory
-wire_fault_at reason input message place = fault.Wire input message place reason
+  pub whole : AreWhole before told
+  pub why : IsInputFault (length before + 1) refused fault
+  pub untouched : drop (length before + 1) s.new ≡ drop (length before + 1) s.old

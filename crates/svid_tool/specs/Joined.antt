@@ -5,6 +5,7 @@ use Rattle.svid_replay.specs.Batches.{BatchData}
 use Rattle.svid_replay.specs.Records.{State, join, state_of}
 use Rattle.svid_replay.specs.Uses.{uses_in, live}
 use Rattle.svid_wire.specs.Messages.{batches_of}
+use Rattle.svid_wire.specs.Streams.{Drawn}
 use Rattle.svid_wire.specs.declared.message.Message.{Message}
 use Rattle.svid_tool.specs.Inputs.{IsWhole, AreWhole, all_of}
 
@@ -23,13 +24,13 @@ raised_to None r = r
 raised_to (Some now) r = join r (state_of now [])
 
 -- an input is whole, and what it tells was joined to a record, whatever batches the record came of
-pub record Joins (before after : Option (List ℕ)) (old new : State) : Type 0 where
+pub record Joins (input : Drawn) (old new : State) : Type 0 where
   pub told : List Message
-  pub whole : IsWhole before after told
+  pub whole : IsWhole input told
   pub joins : (earlier : List BatchData) → old ≡ joined earlier → new ≡ joined (earlier ++ batches_of told)
 
 -- all inputs are whole, and what they tell was joined to a record
-pub record JoinsAll (befores afters : List (Option (List ℕ))) (old new : State) : Type 0 where
+pub record JoinsAll (inputs : List Drawn) (old new : State) : Type 0 where
   pub told : List (List Message)
-  pub whole : AreWhole befores afters told
+  pub whole : AreWhole inputs told
   pub joins : (earlier : List BatchData) → old ≡ joined earlier → new ≡ joined (earlier ++ all_of told)

@@ -3,8 +3,6 @@ pub mod Checks
 pub mod Id
 pub mod Inputs
 pub mod Joined
-pub mod Output
-pub mod Reading
 pub mod Refused
 pub mod Report
 pub mod Status

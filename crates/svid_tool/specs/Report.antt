@@ -1,14 +1,14 @@
+-- What `svid report` prints.
 use Rattle.std.specs.Prelude.{◌≡◌, ℕ, List, [], ◌∷◌, ◌++◌, length, codes, Option}
 use Rattle.std.specs.List.{flat_map}
 use Rattle.std.specs.Fmt.{decimal}
-use Rattle.std.specs.Io.KnownBytes.{Appends}
 use Rattle.hex.specs.Hex.{encode_lower}
 use Rattle.svid_tool.specs.declared.tool_fault.ToolFault.{ToolFault}
 use Rattle.svid_tool.specs.declared.tool_fault.ToolFault.TheVariants as tool
-use Rattle.svid_tool.specs.Inputs.{AreWhole, IsRefused, all_of}
+use Rattle.svid_tool.specs.Inputs.{AreWhole, IsRefused, Sources, all_of, inputs_of}
 use Rattle.svid_tool.specs.Joined.{joined, raised_to}
-use Rattle.svid_tool.specs.Output.{TookPart}
 use Rattle.svid_replay.specs.declared.token_use.Use.{Use}
+use Rattle.svid_wire.specs.Streams.{Drawn, Taken, TookAll, TookPart}
 use Rattle.svid_wire.specs.declared.message.Message.{Message}
 use Rattle.svid_replay.specs.Records.{State}
 use Rattle.svid_replay.specs.Sets.{rising}
@@ -40,25 +40,25 @@ abbrev pub report_of_all : List (List Message) → Option ℕ → List ℕ
 report_of_all told now = report_of (raised_to now (joined (all_of told)))
 
 -- all inputs are whole, and the text is the report of what they tell
-pub record IsReportOf (befores afters : List (Option (List ℕ))) (now : Option ℕ) (text : List ℕ) : Type 0 where
+pub record IsReportOf (inputs : List Drawn) (now : Option ℕ) (text : List ℕ) : Type 0 where
   pub told : List (List Message)
-  pub whole : AreWhole befores afters told
+  pub whole : AreWhole inputs told
   pub is : text ≡ report_of_all told now
 
 -- the report of what the inputs tell was written
-pub record IsReported (befores afters : List (Option (List ℕ))) (now : Option ℕ) (out_before out_after : Option (List ℕ)) : Type 0 where
+pub record IsReported (inputs : List Drawn) (now : Option ℕ) (out : Taken) : Type 0 where
   pub text : List ℕ
-  pub report : IsReportOf befores afters now text
-  pub written : Appends out_before out_after text
+  pub report : IsReportOf inputs now text
+  pub written : TookAll out text
 
 -- a part of the report of what the inputs tell was written
-pub record IsPartlyReported (befores afters : List (Option (List ℕ))) (now : Option ℕ) (out_before out_after : Option (List ℕ)) (stops_before stops_after : ℕ) : Type 0 where
+pub record IsPartlyReported (inputs : List Drawn) (now : Option ℕ) (out : Taken) : Type 0 where
   pub text : List ℕ
-  pub report : IsReportOf befores afters now text
-  pub part : TookPart out_before out_after stops_before stops_after text
+  pub report : IsReportOf inputs now text
+  pub part : TookPart out text
 
--- when the engine gives up: for one of its inputs, or since the sink stopped
-abbrev pub IsReportFault : ToolFault → List (Option (List ℕ)) → List (Option (List ℕ)) → List ℕ → List ℕ → Option ℕ → Option (List ℕ) → Option (List ℕ) → ℕ → ℕ → Type 0
-IsReportFault tool.Write befores afters stops_before stops_after now out_before out_after out_stops_before out_stops_after = IsPartlyReported befores afters now out_before out_after out_stops_before out_stops_after
-IsReportFault tool.OutOfMemory befores afters stops_before stops_after now out_before out_after out_stops_before out_stops_after = Unit {0}
-IsReportFault given befores afters stops_before stops_after now out_before out_after out_stops_before out_stops_after = IsRefused given befores afters stops_before stops_after
+-- when the engine gives up: since the sink stopped, for want of memory, or for one of its inputs
+abbrev pub IsReportFault : {S : Type 0} → Sources S → Option ℕ → Taken → ToolFault → Type 0
+IsReportFault s now out tool.Write = IsPartlyReported (inputs_of s) now out
+IsReportFault s now out tool.OutOfMemory = Unit {0}
+IsReportFault s now out given = IsRefused s given

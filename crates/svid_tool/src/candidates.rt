@@ -2,7 +2,8 @@ ghost use Rattle.std.specs.Prelude.{◌≡◌, ◌≢◌, ◌≤◌, ◌==◌, �
 ghost use Rattle.std.specs.List.{flat_map};
 ghost use Rattle.svid_token.specs.Rows.{Answers};
 ghost use Rattle.svid_keys.specs.Candidates.{candidates_left};
-ghost use Rattle.svid_tool.specs.Candidates.{AreBundlesRead, AreCandidatesPrinted, AreRefused, IsCandidatesAnswer, IsCandidatesFault, IsFirstFault, accepts, candidate_line, first_token, keys_due, lines_due, printed, said, signing_due, signing_view};
+ghost use Rattle.svid_wire.specs.Streams.{drawn, taken};
+ghost use Rattle.svid_tool.specs.Candidates.{AreBundlesRead, AreCandidatesPrinted, AreRefused, IsCandidatesAnswer, IsCandidatesFault, IsFirstFault, IsOfFirst, accepts, candidate_line, first_token, keys_due, lines_due, printed, said, signing_due, signing_view};
 
 use crate::ToolFault;
 use crate::inputs::read_input;
@@ -11,7 +12,7 @@ use crate::refused::refusal_line;
 use serde_json::Value;
 use std::alloc::{AllocError, Global};
 use std::fmt::Write;
-use svid_keys::{BundleFault, Bundles, Candidates, JwtKey, Lines, question};
+use svid_keys::{Bundles, Candidates, JwtKey, Lines, question};
 use svid_token::{Claims, Compact, Header, Payload, Refusal, read_signature};
 use svid_wire::{Sink, Source};
 
@@ -109,11 +110,10 @@ fn token_lines(alloc: Global, bundles: &Bundles, token: &[u8]) -> Result<String,
 
 // What is printed for a token, and whether there are candidates.
 fn answer(alloc: Global, bundles: &Bundles, token: &[u8]) -> Result<(bool, String), AllocError>
-    ensures { IfOk result (λ a. (a.0 ≡ accepts (lines_due bundles.now token.now)) × (string_bytes a.1 ≡ printed (lines_due bundles.now token.now))) }
+    ensures { IfOk result (λ a. (a.0 ≡ accepts (lines_due bundles.now token.now)) × (printed (lines_due bundles.now token.now) ≡ Some (string_bytes a.1))) }
 {
     match token_lines(alloc, bundles, token) {
         Ok(lines) => Ok((true, lines)),
-        Err(Refusal::OutOfMemory) => Err(AllocError),
         Err(refusal) => Ok((false, refusal_line(alloc, refusal)?)),
     }
 }
@@ -132,15 +132,11 @@ fn first_token(text: &[u8]) -> &[u8]
 
 // The bundles that the first input is.
 fn read_bundles<S: Source>(alloc: Global, source: &mut S) -> Result<Bundles, ToolFault>
-    ensures ok { IfOk result (λ bundles. AreBundlesRead (S.left source.old) (S.left source.new) bundles) }
-    ensures fault { IfErr result (λ fault. IsFirstFault fault (S.left source.old) (S.left source.new) (S.stops source.old) (S.stops source.new)) }
+    ensures ok { IfOk result (AreBundlesRead (drawn S.left S.stops source.old source.new)) }
+    ensures fault { IfErr result (IsFirstFault (drawn S.left S.stops source.old source.new)) }
 {
     let bytes = read_input(alloc, source, 1)?;
-    match Bundles::read(alloc, &bytes) {
-        Ok(bundles) => Ok(bundles),
-        Err(BundleFault::OutOfMemory) => Err(ToolFault::OutOfMemory),
-        Err(fault) => Err(ToolFault::Bundles(fault)),
-    }
+    Ok(Bundles::read(alloc, &bytes)?)
 }
 
 // What is printed for both inputs, and whether there are candidates.
@@ -150,8 +146,9 @@ fn text_of_inputs<B: Source, T: Source>(
     bundles: &mut B,
     tokens: &mut T,
 ) -> Result<(bool, String), ToolFault>
-    ensures ok { IfOk result (λ a. IsCandidatesAnswer (B.left bundles.old) (B.left bundles.new) (T.left tokens.old) (T.left tokens.new) a.0 (string_bytes a.1)) }
-    ensures fault { IfErr result (λ fault. AreRefused fault (B.left bundles.old) (B.left bundles.new) (T.left tokens.old) (T.left tokens.new) (B.stops bundles.old) (B.stops bundles.new) (T.stops tokens.old) (T.stops tokens.new)) }
+    ensures ok { IfOk result (λ a. IsCandidatesAnswer (record { bundles = drawn B.left B.stops bundles.old bundles.new; tokens = drawn T.left T.stops tokens.old tokens.new }) a.0 (string_bytes a.1)) }
+    ensures fault { IfErr result (AreRefused (record { bundles = drawn B.left B.stops bundles.old bundles.new; tokens = drawn T.left T.stops tokens.old tokens.new })) }
+    ensures tokens_kept { IfErr result (λ fault. IsOfFirst fault → tokens.new ≡ tokens.old) }
 {
     let bundles = read_bundles(alloc, bundles)?;
     let lines = read_input(alloc, tokens, 2)?;
@@ -174,8 +171,9 @@ pub fn run_candidates<B: Source, T: Source, K: Sink>(
     tokens: &mut T,
     out: &mut K,
 ) -> Result<bool, ToolFault>
-    ensures ok { IfOk result (λ accepted. AreCandidatesPrinted (B.left bundles.old) (B.left bundles.new) (T.left tokens.old) (T.left tokens.new) accepted (K.told out.old) (K.told out.new)) }
-    ensures fault { IfErr result (λ fault. IsCandidatesFault fault (B.left bundles.old) (B.left bundles.new) (T.left tokens.old) (T.left tokens.new) (B.stops bundles.old) (B.stops bundles.new) (T.stops tokens.old) (T.stops tokens.new) (K.told out.old) (K.told out.new) (K.stops out.old) (K.stops out.new)) }
+    ensures ok { IfOk result (AreCandidatesPrinted (record { bundles = drawn B.left B.stops bundles.old bundles.new; tokens = drawn T.left T.stops tokens.old tokens.new }) (taken K.told K.stops out.old out.new)) }
+    ensures fault { IfErr result (IsCandidatesFault (record { bundles = drawn B.left B.stops bundles.old bundles.new; tokens = drawn T.left T.stops tokens.old tokens.new }) (taken K.told K.stops out.old out.new)) }
+    ensures tokens_kept { IfErr result (λ fault. IsOfFirst fault → tokens.new ≡ tokens.old) }
     ensures kept { IfErr result (λ fault. fault ≢ ToolFault.Write → out.new ≡ out.old) }
 {
     let (accepted, text) = text_of_inputs(alloc, bundles, tokens)?;

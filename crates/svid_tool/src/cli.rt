@@ -21,6 +21,9 @@ fn id_command<'a>(alloc: Global) -> Result<Command<'a>, AllocError> {
         .help("The text, as its bytes");
     Command::new(alloc, "id")
         .about("Prints the trust domain and the path of a SPIFFE ID, or why a text is none")
+        .after_help(
+            "Standard input is not read.{n}{n}Exit status: 0 the text is an ID; 1 it is none; 2 usage, a write or memory.",
+        )
         .arg(text)
 }
 
@@ -37,6 +40,9 @@ fn report_command<'a>(alloc: Global) -> Result<Command<'a>, AllocError> {
         .help("Files of messages; standard input where there is none");
     Command::new(alloc, "report")
         .about("Joins the batches of the inputs, and prints the uses and the keys used twice")
+        .after_help(
+            "Standard input is read where no FILE is named: messages, to their end.{n}{n}Exit status: 0 the report was printed; 1 an input was refused; 2 usage, a file, a write or memory.",
+        )
         .arg(now)?
         .arg(file)
 }
@@ -51,13 +57,20 @@ fn candidates_command<'a>(alloc: Global) -> Result<Command<'a>, AllocError> {
         .about(
             "Prints for each key that may have signed the token of standard input the question whether it did",
         )
+        .after_help(
+            "Standard input is read to its end: the first line that is not empty is the token.{n}{n}Exit status: 0 a key may have signed it; 1 the token or the bundles are refused; 2 usage, a file, a write or memory.",
+        )
         .arg(bundles)
 }
 
-fn command<'a>(alloc: Global) -> Result<Command<'a>, AllocError> {
+/// The commands and their arguments.
+pub fn command<'a>(alloc: Global) -> Result<Command<'a>, AllocError> {
     Command::new(alloc, "svid")
         .bin_name("svid")?
         .about("Checks SPIFFE JWT-SVIDs, and keeps the record of those that were used")
+        .after_help(
+            "Standard input is read by report where no FILE is named, and by candidates.{n}{n}Exit status: 0 the answer is yes; 1 something was refused; 2 usage, a file, a write or memory.",
+        )
         .subcommand_required(true)
         .subcommand(id_command(alloc)?)?
         .subcommand(report_command(alloc)?)?
@@ -81,11 +94,17 @@ fn status_of(accepted: bool) -> u8 {
     if accepted { 0 } else { 1 }
 }
 
+// A file that gets none of the numbers 0, 1 and 2, also where a standard stream is closed: the number
+// of a copy is always beyond them, and the first one is closed again. So a closed stream stays closed.
+fn open_beyond_streams(rt: &HostRuntime, path: &str) -> io::Result<File> {
+    File::open(rt, path)?.try_clone()
+}
+
 // The file of this name. A name that is not UTF-8 is none that can be opened.
 fn open(rt: &HostRuntime, name: &str) -> Result<Input, Failure> {
     let bytes = bytes_of_text(rt.alloc(), name)?;
     let file = match str::from_utf8(&bytes) {
-        Ok(path) => File::open(rt, path).ok(),
+        Ok(path) => open_beyond_streams(rt, path).ok(),
         Err(_) => None,
     };
     match file {

@@ -1,5 +1,5 @@
 ghost use Rattle.std.specs.Prelude.{◌≡◌, ◌≢◌, IfOk, IfErr, string_bytes};
-ghost use Rattle.std.specs.Io.KnownBytes.{Appends};
+ghost use Rattle.svid_wire.specs.Streams.{TookAll, taken};
 ghost use Rattle.svid_id.specs.Id.{is_id, id_text, IsId};
 ghost use Rattle.svid_tool.specs.Id.{fault_name, path_line, parts_lines, refused_line, id_answer, IsIdEngineFault};
 
@@ -68,8 +68,8 @@ fn answer(alloc: Global, text: &[u8]) -> Result<(bool, String), AllocError>
 /// Answers `Write` where the sink stopped, and `OutOfMemory`; then nothing was written.
 pub fn run_id<K: Sink>(alloc: Global, text: &[u8], out: &mut K) -> Result<bool, ToolFault>
     ensures accepted { IfOk result (λ accepted. accepted ≡ is_id text.now) }
-    ensures answer { IfOk result (λ _. Appends (K.told out.old) (K.told out.new) (id_answer text.now)) }
-    ensures fault { IfErr result (λ fault. IsIdEngineFault fault (K.told out.old) (K.told out.new) (K.stops out.old) (K.stops out.new) (id_answer text.now)) }
+    ensures answer { IfOk result (λ _. TookAll (taken K.told K.stops out.old out.new) (id_answer text.now)) }
+    ensures fault { IfErr result (IsIdEngineFault (taken K.told K.stops out.old out.new) (id_answer text.now)) }
     ensures kept { IfErr result (λ fault. fault ≢ ToolFault.Write → out.new ≡ out.old) }
 {
     let (accepted, answer) = answer(alloc, text)?;

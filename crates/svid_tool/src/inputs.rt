@@ -1,8 +1,8 @@
-ghost use Rattle.std.specs.Prelude.{◌≡◌, ◌++◌, ◌∷◌, [], List, map, OnOk, IfOk, IfErr};
+ghost use Rattle.std.specs.Prelude.{◌≡◌, ◌++◌, ◌∷◌, [], List, OnOk, IfOk, IfErr};
 ghost use Rattle.svid_replay.specs.Batches.{BatchData};
 ghost use Rattle.svid_wire.specs.Messages.{batches_of};
-ghost use Rattle.svid_tool.specs.Inputs.{IsInputFault, IsRead, IsRefused, read_fault_of, wire_fault_at};
-ghost use Rattle.svid_tool.specs.Reading.{IsReadFault};
+ghost use Rattle.svid_wire.specs.Streams.{IsRead, drawn};
+ghost use Rattle.svid_tool.specs.Inputs.{IsInputFault, IsRefused, IsUnread, inputs_of, most_bytes, read_fault_of, sources, wire_fault_at};
 ghost use Rattle.svid_tool.specs.Joined.{Joins, JoinsAll, joined};
 
 use crate::ToolFault;
@@ -13,8 +13,9 @@ use svid_wire::{Message, ReadFault, Reason, Source, WireFault, read_all, read_up
 /// How many bytes an input has at the most.
 pub const MOST_BYTES: usize = 67_108_864;
 
+// (no `From`: a fault of the program has the number of the input)
 fn read_fault(fault: ReadFault, input: usize) -> ToolFault
-    ensures { result ≡ read_fault_of fault input }
+    ensures { result ≡ read_fault_of input fault }
 {
     match fault {
         ReadFault::Stopped => ToolFault::Read { input },
@@ -43,9 +44,8 @@ pub fn read_input<S: Source>(
     source: &mut S,
     input: usize,
 ) -> Result<Vec<u8>, ToolFault>
-    ensures ok { IfOk result (λ bytes. IsRead (S.left source.old) (S.left source.new) bytes.items) }
-    ensures fault { IfErr result (λ fault. IsInputFault input fault (S.left source.old) (S.left source.new) (S.stops source.old) (S.stops source.new)) }
-    ensures reading { IfErr result (λ fault. IsReadFault input fault (S.left source.old) (S.left source.new) (S.stops source.old) (S.stops source.new)) }
+    ensures ok { IfOk result (λ bytes. IsRead (drawn S.left S.stops source.old source.new) most_bytes bytes.items) }
+    ensures fault { IfErr result (IsUnread input (drawn S.left S.stops source.old source.new)) }
 {
     match read_up_to(alloc, source, MOST_BYTES) {
         Ok(bytes) => Ok(bytes),
@@ -76,6 +76,7 @@ fn join_messages<T: UseStore>(
 
 // Reads the messages of the input with this number, and joins its batches. `messages` is room that is
 // used anew for each input.
+#[tactic(auto, using(crate::proofs::InputsLemmas::unread_refused))]
 fn join_input<S: Source, T: UseStore>(
     alloc: Global,
     source: &mut S,
@@ -83,8 +84,8 @@ fn join_input<S: Source, T: UseStore>(
     messages: &mut Vec<Message>,
     target: &mut Record<T>,
 ) -> Result<(), ToolFault>
-    ensures ok { OnOk result (Joins (S.left source.old) (S.left source.new) target.old target.new) }
-    ensures fault { IfErr result (λ fault. IsInputFault input fault (S.left source.old) (S.left source.new) (S.stops source.old) (S.stops source.new)) }
+    ensures ok { OnOk result (Joins (drawn S.left S.stops source.old source.new) target.old target.new) }
+    ensures fault { IfErr result (IsInputFault input (drawn S.left S.stops source.old source.new)) }
 {
     let bytes = read_input(alloc, source, input)?;
     messages.clear();
@@ -104,20 +105,12 @@ pub fn join_inputs<S: Source, T: UseStore>(
     inputs: &mut [S],
     target: &mut Record<T>,
 ) -> Result<(), ToolFault>
-    ensures ok { OnOk result (JoinsAll (map S.left inputs.old) (map S.left inputs.new) target.old target.new) }
-    ensures fault { IfErr result (λ fault. IsRefused fault (map S.left inputs.old) (map S.left inputs.new) (map S.stops inputs.old) (map S.stops inputs.new)) }
+    ensures ok { OnOk result (JoinsAll (inputs_of (sources S.left S.stops inputs.old inputs.new)) target.old target.new) }
+    ensures fault { IfErr result (IsRefused (sources S.left S.stops inputs.old inputs.new)) }
 {
     let mut messages = Vec::new(alloc);
     for index in 0..inputs.len() {
-        if let Err(fault) = join_input(
-            alloc,
-            &mut inputs[index],
-            index + 1,
-            &mut messages,
-            target,
-        ) {
-            return Err(fault);
-        }
+        join_input(alloc, &mut inputs[index], index + 1, &mut messages, target)?;
     }
     Ok(())
 }

@@ -1,17 +1,14 @@
 ghost use Rattle.std.specs.Prelude.{OnOk, IfErr, ◌≡◌};
-ghost use Rattle.std.specs.Io.KnownBytes.{Appends};
-ghost use Rattle.svid_wire.specs.Faults.{CountsFault};
-ghost use Rattle.svid_tool.specs.Output.{TookPart};
-ghost use Rattle.svid_tool.specs.declared.tool_fault.ToolFault.TheVariants.{Write};
+ghost use Rattle.svid_wire.specs.Streams.{TookAll, TookPart, taken};
 
 use crate::ToolFault;
 use svid_wire::{Sink, put_all};
 
 /// Writes a whole text, or answers `Write` where the sink stopped, and then a part of the text went out.
 pub fn put_text<K: Sink>(out: &mut K, text: &str) -> Result<(), ToolFault>
-    ensures ok { OnOk result (Appends (K.told out.old) (K.told out.new) text.now) }
+    ensures ok { OnOk result (TookAll (taken K.told K.stops out.old out.new) text.now) }
     ensures fault { IfErr result (λ e. e ≡ ToolFault.Write) }
-    ensures part { IfErr result (λ _. TookPart (K.told out.old) (K.told out.new) (K.stops out.old) (K.stops out.new) text.now) }
+    ensures part { IfErr result (λ _. TookPart (taken K.told K.stops out.old out.new) text.now) }
 {
     match put_all(out, text.as_bytes()) {
         Ok(()) => Ok(()),

@@ -1,14 +1,14 @@
-ghost use Rattle.std.specs.Prelude.{◌≡◌, IfOk, string_bytes};
+ghost use Rattle.std.specs.Prelude.{◌≡◌, IfOk, option_map, string_bytes};
 ghost use Rattle.svid_tool.specs.Refused.{refusal_line, refusal_name};
 
 use std::alloc::{AllocError, Global};
 use svid_token::Refusal;
 
-// The name of a refusal: none for want of memory, of which nothing is printed.
-fn refusal_name(refusal: Refusal) -> &'static str
-    ensures { result.now ≡ refusal_name refusal }
+// The name of a refusal. Want of memory has none.
+fn refusal_name(refusal: Refusal) -> Option<&'static str>
+    ensures { option_map (λ name. name.now) result ≡ refusal_name refusal }
 {
-    match refusal {
+    let name = match refusal {
         Refusal::TooLong => "TooLong",
         Refusal::NotThreeParts => "NotThreeParts",
         Refusal::HeaderSpelling => "HeaderSpelling",
@@ -32,14 +32,17 @@ fn refusal_name(refusal: Refusal) -> &'static str
         Refusal::NoKey => "NoKey",
         Refusal::BadSignature => "BadSignature",
         Refusal::Replayed => "Replayed",
-        Refusal::OutOfMemory => "",
-    }
+        Refusal::OutOfMemory => return None,
+    };
+    Some(name)
 }
 
-/// The line that tells why a token is refused.
+/// The line that tells why a token is refused. Want of memory has none, and is passed on.
 pub fn refusal_line(alloc: Global, refusal: Refusal) -> Result<String, AllocError>
-    ensures { IfOk result (λ line. string_bytes line ≡ refusal_line refusal) }
+    ensures { IfOk result (λ line. refusal_line refusal ≡ Some (string_bytes line)) }
 {
-    let name = refusal_name(refusal);
-    format!(in alloc; "refused {name}\n")
+    match refusal_name(refusal) {
+        Some(name) => format!(in alloc; "refused {name}\n"),
+        None => Err(AllocError),
+    }
 }

@@ -1,6 +1,7 @@
-ghost use Rattle.std.specs.Prelude.{◌≡◌, ◌≢◌, map, OnOk, IfOk, IfErr, string_bytes};
+ghost use Rattle.std.specs.Prelude.{◌≡◌, ◌≢◌, OnOk, IfOk, IfErr, string_bytes};
+ghost use Rattle.svid_wire.specs.Streams.{taken};
 ghost use Rattle.svid_tool.specs.Report.{IsReportOf, IsReported, IsReportFault, report_of};
-ghost use Rattle.svid_tool.specs.Inputs.{IsRefused};
+ghost use Rattle.svid_tool.specs.Inputs.{IsRefused, inputs_of, sources};
 ghost use Rattle.svid_tool.specs.Joined.{raised_to};
 
 use crate::ToolFault;
@@ -34,18 +35,13 @@ fn text_of_inputs<S: Source>(
     inputs: &mut [S],
     now: Option<u64>,
 ) -> Result<String, ToolFault>
-    ensures ok { IfOk result (λ text. IsReportOf (map S.left inputs.old) (map S.left inputs.new) now (string_bytes text)) }
-    ensures fault { IfErr result (λ fault. (fault ≢ ToolFault.OutOfMemory) → IsRefused fault (map S.left inputs.old) (map S.left inputs.new) (map S.stops inputs.old) (map S.stops inputs.new)) }
+    ensures ok { IfOk result (λ text. IsReportOf (inputs_of (sources S.left S.stops inputs.old inputs.new)) now (string_bytes text)) }
+    ensures fault { IfErr result (λ fault. fault ≢ ToolFault.OutOfMemory → IsRefused (sources S.left S.stops inputs.old inputs.new) fault) }
 {
     let mut record = Record::new(SortedUses::new(alloc));
-    if let Err(fault) = join_inputs(alloc, inputs, &mut record) {
-        return Err(fault);
-    }
+    join_inputs(alloc, inputs, &mut record)?;
     raise_to(&mut record, now);
-    match text_of_record(alloc, &record) {
-        Ok(text) => Ok(text),
-        Err(AllocError) => Err(ToolFault::OutOfMemory),
-    }
+    Ok(text_of_record(alloc, &record)?)
 }
 
 /// Joins the batches of all inputs, raises what they come to to the moment `now` (in seconds) where one is
@@ -61,8 +57,8 @@ pub fn run_report<S: Source, K: Sink>(
     now: Option<u64>,
     out: &mut K,
 ) -> Result<(), ToolFault>
-    ensures ok { OnOk result (IsReported (map S.left inputs.old) (map S.left inputs.new) now (K.told out.old) (K.told out.new)) }
-    ensures fault { IfErr result (λ fault. IsReportFault fault (map S.left inputs.old) (map S.left inputs.new) (map S.stops inputs.old) (map S.stops inputs.new) now (K.told out.old) (K.told out.new) (K.stops out.old) (K.stops out.new)) }
+    ensures ok { OnOk result (IsReported (inputs_of (sources S.left S.stops inputs.old inputs.new)) now (taken K.told K.stops out.old out.new)) }
+    ensures fault { IfErr result (IsReportFault (sources S.left S.stops inputs.old inputs.new) now (taken K.told K.stops out.old out.new)) }
     ensures kept { IfErr result (λ fault. fault ≢ ToolFault.Write → out.new ≡ out.old) }
 {
     let text = text_of_inputs(alloc, inputs, now)?;

@@ -1,6 +1,8 @@
 mod candidates;
 mod faults;
 mod id;
+mod line;
+mod refusing;
 mod report;
 mod sweep;
 mod words;

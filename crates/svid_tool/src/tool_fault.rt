@@ -1,4 +1,5 @@
 ghost use Rattle.std.specs.Prelude.{◌≡◌};
+ghost use Rattle.svid_tool.specs.Candidates.{bundle_fault_of};
 ghost use Rattle.svid_tool.specs.declared.tool_fault.ToolFault.TheVariants.{OutOfMemory};
 
 use std::alloc::{AllocError, AllocFailed};
@@ -127,5 +128,16 @@ impl<T: Drop> From<AllocFailed<T>> for ToolFault {
 
     fn from(_error: AllocFailed<T>) -> ToolFault {
         ToolFault::OutOfMemory
+    }
+}
+
+impl From<BundleFault> for ToolFault {
+    ghost from_gives = { λ fault e. e ≡ bundle_fault_of fault };
+
+    fn from(fault: BundleFault) -> ToolFault {
+        match fault {
+            BundleFault::OutOfMemory => ToolFault::OutOfMemory,
+            fault => ToolFault::Bundles(fault),
+        }
     }
 }

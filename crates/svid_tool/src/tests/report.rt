@@ -6,6 +6,7 @@ use super::{EMPTY_REPORT, TWO_USES, TWO_USES_REPORT};
 use crate::ToolFault;
 use crate::report::run_report;
 use std::alloc::{AllocError, Global};
+use std::fmt::Write;
 use std::test::Fail;
 use svid_wire::{MemSink, MemSource, Reason, Sink, Source, Stopped};
 
@@ -73,7 +74,6 @@ fn refuses_the_first_bad_field(rt: HostRuntime) -> Result<(), Fail> {
         (0, 0, 0, Reason::Magic),
         (4, 3, 4, Reason::Kind),
         (4, 2, 4, Reason::Kind),
-        // a count of 4,097: its two bytes are changed one after the other
         (24, 100, 17, Reason::UseExpired),
         (80, 101, 17, Reason::UseFuture),
         (88, 100, 81, Reason::UseExpired),
@@ -175,6 +175,58 @@ fn joins_the_batches_of_one_input(rt: HostRuntime) -> Result<(), Fail> {
     let mut out = MemSink::new(alloc, 1000, None);
     assert_eq!(rt; report(alloc, bytes, &mut out), Ok(()));
     assert_eq!(rt; out.bytes(), TWO_USES_REPORT);
+    Ok(())
+}
+
+// The text of use n of many: it expires at 1,000 + n, two of them after each other have one key, and it was
+// made at 7.
+fn push_use(bytes: &mut Vec<u8>, n: u32) -> Result<(), AllocError> {
+    bytes.extend_from_slice(&(1000 + u64::from(n)).to_be_bytes())?;
+    bytes.extend_from_slice(&[0; 28])?;
+    bytes.extend_from_slice(&(n / 2).to_be_bytes())?;
+    bytes.extend_from_slice(&[0; 16])?;
+    Ok(bytes.extend_from_slice(&7u64.to_be_bytes())?)
+}
+
+// A batch of moment 100 with `count` of these uses from use `first` on.
+fn part(alloc: Global, first: u32, count: u32) -> Result<MemSource, AllocError>
+    requires { first + count ≤ 10000 }
+{
+    let mut bytes = b"JSR\x01\x01".to_vec(alloc)?;
+    bytes.extend_from_slice(&100u64.to_be_bytes())?;
+    bytes.extend_from_slice(&count.to_be_bytes())?;
+    for n in first..first + count {
+        push_use(&mut bytes, n)?;
+    }
+    Ok(MemSource::new(bytes, 100_000, None))
+}
+
+// The report of the first 5,000 of these uses.
+fn report_of_5000(alloc: Global) -> Result<String, AllocError> {
+    let mut text = String::from_str(alloc, "moment 100\nuses 5000\n")?;
+    for n in 0..5000u32 {
+        let (exp, key) = (1000 + n, n / 2);
+        writeln!(text, "{exp} {key:064x} 00000000000000000000000000000000 7")?;
+    }
+    text.push_str("twice 2500\n")?;
+    for key in 0..2500u32 {
+        writeln!(text, "{key:064x} 2")?;
+    }
+    Ok(text)
+}
+
+// A batch has 4,096 uses at the most.
+#[test]
+fn reports_more_uses_than_a_batch_has(rt: HostRuntime) -> Result<(), Fail> {
+    let alloc = rt.alloc();
+    for mut inputs in [
+        [part(alloc, 0, 4096)?, part(alloc, 4096, 904)?],
+        [part(alloc, 2501, 2499)?, part(alloc, 0, 2501)?],
+    ] {
+        let mut out = MemSink::new(alloc, 1_000_000, None);
+        assert_eq!(rt; run_report(alloc, &mut inputs, None, &mut out), Ok(()));
+        assert!(rt; out.bytes() == report_of_5000(alloc)?.as_bytes());
+    }
     Ok(())
 }
 

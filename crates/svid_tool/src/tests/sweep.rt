@@ -1,30 +1,19 @@
-// Each growth of an engine is refused in turn, where tools/failmalloc.c is loaded; else the happy path runs alone.
-ghost use Rattle.std.specs.Prelude.{◌<◌};
-
+// Each growth of an engine, and of what reads the command line, is refused in turn, where
+// tools/failmalloc.c is loaded; else the happy path runs alone.
+use super::line::Line;
+use super::refusing::{refuse, was_refused};
 use super::{ONE_KEY, ONE_QUESTION, TOKEN, TWO_USES, TWO_USES_REPORT};
 use crate::ToolFault;
 use crate::candidates::run_candidates;
+use crate::cli::command;
 use crate::id::run_id;
 use crate::report::run_report;
-use std::alloc::Global;
+use crate::words::{bytes_of_text, text_of_bytes, words};
+use clap::error::ErrorKind;
+use std::alloc::{AllocError, Global};
 use std::process::Abort;
 use std::test::Fail;
 use svid_wire::{MemSink, MemSource};
-
-// Sizes that no allocator gives command the library.
-const ARM: usize = 0x4000_0000_0000_0000;
-
-const ASK: usize = 0x6000_0000_0000_0000;
-
-fn refuse(alloc: Global, nth: usize)
-    requires { nth < 4294967296 }
-{
-    let _ = Vec::<u8>::with_capacity(alloc, ARM + nth);
-}
-
-fn was_refused(alloc: Global) -> bool {
-    Vec::<u8>::with_capacity(alloc, ASK).is_ok()
-}
 
 // An engine that was refused memory says so and wrote nothing, or, where the sink was refused, a part.
 fn assert_refused(rt: &impl Abort, answer: Result<(), ToolFault>, out: &MemSink, whole: &[u8]) {
@@ -40,6 +29,7 @@ fn assert_refused(rt: &impl Abort, answer: Result<(), ToolFault>, out: &MemSink,
 #[test]
 fn report_tells_want_of_memory(rt: HostRuntime) -> Result<(), Fail> {
     let alloc = rt.alloc();
+    let mut met = false;
     for nth in 1..10000usize {
         let mut inputs = [MemSource::new(TWO_USES.to_vec(alloc)?, 1000, None)];
         let mut out = MemSink::new(alloc, 1000, None);
@@ -56,9 +46,11 @@ fn report_tells_want_of_memory(rt: HostRuntime) -> Result<(), Fail> {
         assert_eq!(rt; out.bytes(), TWO_USES_REPORT);
         if !refused {
             assert_eq!(rt; answer, Ok(()));
+            met = true;
             break;
         }
     }
+    assert!(rt; met);
     Ok(())
 }
 
@@ -69,6 +61,7 @@ fn id_tells_want_of_memory(rt: HostRuntime) -> Result<(), Fail> {
         ("spiffe://a/b", "domain a\npath /b\n"),
         ("spiffe://a/", "refused SegmentEmpty(11)\n"),
     ] {
+        let mut met = false;
         for nth in 1..10000usize {
             let mut out = MemSink::new(alloc, 1000, None);
             refuse(alloc, nth);
@@ -78,10 +71,12 @@ fn id_tells_want_of_memory(rt: HostRuntime) -> Result<(), Fail> {
             if !refused {
                 assert_eq!(rt; answer, Ok(whole.starts_with("domain")));
                 assert_eq!(rt; out.bytes(), whole.as_bytes());
+                met = true;
                 break;
             }
             assert_refused(&rt, answer.map(|_| ()), &out, whole.as_bytes());
         }
+        assert!(rt; met, "of {text}");
     }
     Ok(())
 }
@@ -93,6 +88,7 @@ fn candidates_tell_want_of_memory(rt: HostRuntime) -> Result<(), Fail> {
         (TOKEN, ONE_QUESTION),
         (b"a.b".as_slice(), b"refused NotThreeParts\n".as_slice()),
     ] {
+        let mut met = false;
         for nth in 1..10000usize {
             let mut bundles = MemSource::new(ONE_KEY.to_vec(alloc)?, 1000, None);
             let mut tokens = MemSource::new(token.to_vec(alloc)?, 1000, None);
@@ -104,10 +100,103 @@ fn candidates_tell_want_of_memory(rt: HostRuntime) -> Result<(), Fail> {
             if !refused {
                 assert_eq!(rt; answer, Ok(whole == ONE_QUESTION));
                 assert_eq!(rt; out.bytes(), whole);
+                met = true;
                 break;
             }
             assert_refused(&rt, answer.map(|_| ()), &out, whole);
         }
+        assert!(rt; met);
+    }
+    Ok(())
+}
+
+#[test]
+fn words_tell_want_of_memory(rt: HostRuntime) -> Result<(), Fail> {
+    let alloc = rt.alloc();
+    let mut met = false;
+    for nth in 1..10000usize {
+        refuse(alloc, nth);
+        let answer = words(&Line { count: 30 }, alloc);
+        let refused = was_refused(alloc);
+        refuse(alloc, 0);
+        if !refused {
+            assert_eq!(rt; answer.map(|words| words.len()), Ok(30));
+            met = true;
+            break;
+        }
+        assert!(rt; answer.is_err());
+    }
+    assert!(rt; met);
+    Ok(())
+}
+
+// A word that is turned into text and back.
+fn there_and_back(alloc: Global, word: &[u8]) -> Result<Vec<u8>, AllocError> {
+    let text = text_of_bytes(alloc, word)?;
+    bytes_of_text(alloc, text.as_str())
+}
+
+#[test]
+fn a_word_tells_want_of_memory(rt: HostRuntime) -> Result<(), Fail> {
+    let alloc = rt.alloc();
+    let mut word = Vec::new(alloc);
+    for byte in 0..=255u8 {
+        word.push(byte)?;
+    }
+    let mut met = false;
+    for nth in 1..10000usize {
+        refuse(alloc, nth);
+        let answer = there_and_back(alloc, &word);
+        let refused = was_refused(alloc);
+        refuse(alloc, 0);
+        if let Ok(bytes) = answer {
+            assert!(rt; !refused);
+            assert_eq!(rt; bytes.as_slice(), word.as_slice());
+            met = true;
+            break;
+        }
+        assert!(rt; refused);
+    }
+    assert!(rt; met);
+    Ok(())
+}
+
+// Reads a command line: whether it is understood, or is to be told to the user.
+fn is_understood(alloc: Global, words: &[&str]) -> Result<bool, AllocError> {
+    match command(alloc)?.try_get_matches_from(words) {
+        Ok(_) => Ok(true),
+        Err(error) if error.kind() == ErrorKind::OutOfMemory => Err(AllocError),
+        Err(_) => Ok(false),
+    }
+}
+
+#[test]
+fn the_command_line_tells_want_of_memory(rt: HostRuntime) -> Result<(), Fail> {
+    let alloc = rt.alloc();
+    for (words, understood) in [
+        (
+            ["svid", "report", "--now", "100", "a", "b"].as_slice(),
+            true,
+        ),
+        (["svid", "candidates", "--bundles=a"].as_slice(), true),
+        (["svid", "id", "a", "b"].as_slice(), false),
+        (["svid", "--help"].as_slice(), false),
+    ] {
+        let mut met = false;
+        for nth in 1..10000usize {
+            refuse(alloc, nth);
+            let answer = is_understood(alloc, words);
+            let refused = was_refused(alloc);
+            refuse(alloc, 0);
+            if let Ok(answer) = answer {
+                assert!(rt; !refused);
+                assert_eq!(rt; answer, understood);
+                met = true;
+                break;
+            }
+            assert!(rt; refused);
+        }
+        assert!(rt; met);
     }
     Ok(())
 }

@@ -1,5 +1,6 @@
+use Rattle.svid_tool.specs.Inputs.{sources}
 use Rattle.svid_tool.proofs.InputsLemmas.{HasJoined}
 use Rattle.svid_tool.proofs.inputs.join_inputs.Given as goal
 
 abbrev pub invariant-loop-index : goal.invariant-loop-index
-invariant-loop-index g l = HasJoined g.S.Source.left l.index l.fn.inputs l.inputs l.fn.target l.target
+invariant-loop-index g l = HasJoined l.index (sources g.S.Source.left g.S.Source.stops l.fn.inputs l.inputs) l.fn.target l.target

@@ -1,4 +1,4 @@
-use Rattle.std.proofs.Common.{rules, arith, ◌∙◌}
+use Rattle.std.proofs.Common.{arith}
 use Rattle.std.proofs.lemmas.Grind.{common_steps}
 use Rattle.svid_tool.specs.Report.{report_text}
 use Rattle.svid_tool.proofs.report_text.report_text.Goals as goal
