@@ -26,6 +26,15 @@ unread_refused number input (fault.Wire told message place reason) unread = absu
 unread_refused number input fault.OutOfMemory unread = tt
 unread_refused number input given unread = unread
 
+-- an input that could not be read is not refused as a write is
+pub not_write : (number : ℕ) (input : Drawn) → IsUnread number input fault.Write → ⊥
+not_write number input unread = by_kind unread.why unread.is
+  where
+    by_kind : (why : ReadFault) → fault.Write ≡ read_fault_of number why → ⊥
+    by_kind reading.Stopped is = cc
+    by_kind reading.TooMuch is = cc
+    by_kind reading.OutOfMemory is = cc
+
 AreWhole-push : (inputs : List Drawn) (told : List (List Message)) (input : Drawn) (more : List Message) → AreWhole inputs told → IsWhole input more → AreWhole (inputs ++ input ∷ []) (told ++ more ∷ [])
 AreWhole-push [] [] input more whole is = (is, tt)
 AreWhole-push (i ∷ inputs) (t ∷ told) input more whole is = (whole.0, AreWhole-push inputs told input more whole.1 is)

@@ -65,6 +65,6 @@ joined-message earlier messages i d batch within is =
     sym (joined-push (earlier ++ batches_of (take i messages)) batch) ∙ ap joined (append_assoc earlier (batches_of (take i messages)) (batch ∷ []) ∙ ap (λ r. earlier ++ r) (sym more))
 
 -- no batches come to the record of moment 0 with no uses
-pub joined-none : state_of 0 [] ≡ joined []
+pub joined_none : state_of 0 [] ≡ joined []
 unfolding joined
-joined-none = ap (λ (s : Uses). let r : State = record { moment = 0; uses = s } in r) (uses_in-filter (λ u. nat_lt 0 u.exp) [])
+joined_none = ap (λ (s : Uses). let r : State = record { moment = 0; uses = s } in r) (uses_in-filter (λ u. nat_lt 0 u.exp) [])

@@ -1,4 +1,5 @@
 pub mod CandidatesLemmas
+pub mod CheckLemmas
 pub mod IdLemmas
 pub mod InputsLemmas
 pub mod JoinedLemmas

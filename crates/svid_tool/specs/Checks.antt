@@ -1,5 +1,5 @@
 -- What the checks of some tokens come to, one after the other.
-use Rattle.std.specs.Prelude.{ℕ, ◌&&◌, Bool, true, false, nat_lt, filter, List, [], ◌∷◌, ◌++◌, codes, length, Option, Some, None, Result, Ok, Err}
+use Rattle.std.specs.Prelude.{ℕ, ◌&&◌, Bool, true, false, nat_lt, filter, List, [], ◌∷◌, ◌++◌, codes, length, Option, Some, None, unwrap_or, Result, Ok, Err}
 use Rattle.std.specs.Fmt.{decimal}
 use Rattle.std.specs.List.{flat_map}
 use Rattle.svid_id.specs.Id.{id_text}
@@ -55,11 +55,11 @@ are_accepted [] = true
 are_accepted (given ∷ others) = is_accepted given && are_accepted others
 
 -- the line of a verdict: the ID of the subject and the expiry, or the name of the refusal
-abbrev pub judgement_line : Judgement → List ℕ
-judgement_line (Ok (Some accepted)) = codes "accepted " ++ id_text accepted.id ++ 32 ∷ decimal accepted.used.exp ++ 10 ∷ []
-judgement_line (Ok None) = []
+abbrev pub judgement_line : Judgement → Option (List ℕ)
+judgement_line (Ok (Some accepted)) = Some (codes "accepted " ++ id_text accepted.id ++ 32 ∷ decimal accepted.used.exp ++ 10 ∷ [])
+judgement_line (Ok None) = None
 judgement_line (Err refusal) = refusal_line refusal
 
 -- the lines of verdicts
 abbrev pub judgement_lines : List Judgement → List ℕ
-judgement_lines given = flat_map judgement_line given
+judgement_lines given = flat_map (λ judgement. unwrap_or (judgement_line judgement) []) given

@@ -1,83 +1,35 @@
-ghost use Rattle.std.specs.Prelude.{◌≡◌, ◌≢◌, ◌≤◌, ◌==◌, ◌++◌, IfOk, IfErr, OnOk, length, string_bytes};
+ghost use Rattle.std.specs.Prelude.{◌≡◌, ◌≢◌, ◌≤◌, ◌++◌, IfOk, IfErr, OnOk, Some, length, string_bytes};
 ghost use Rattle.std.specs.List.{flat_map};
 ghost use Rattle.svid_token.specs.Rows.{Answers};
 ghost use Rattle.svid_keys.specs.Candidates.{candidates_left};
+ghost use Rattle.svid_check.specs.Said.{said_in};
 ghost use Rattle.svid_wire.specs.Streams.{drawn, taken};
-ghost use Rattle.svid_tool.specs.Candidates.{AreBundlesRead, AreCandidatesPrinted, AreRefused, IsCandidatesAnswer, IsCandidatesFault, IsFirstFault, IsOfFirst, accepts, candidate_line, first_token, keys_due, lines_due, printed, said, signing_due, signing_view};
+ghost use Rattle.svid_tool.specs.Candidates.{AreCandidatesPrinted, AreRefused, IsCandidatesAnswer, IsCandidatesFault, IsOfFirst, accepts, candidate_line, first_token, lines_due, printed};
 
 use crate::ToolFault;
+use crate::bundles::read_bundles;
 use crate::inputs::read_input;
 use crate::output::put_text;
 use crate::refused::refusal_line;
 use serde_json::Value;
 use std::alloc::{AllocError, Global};
 use std::fmt::Write;
+use svid_check::Reading;
 use svid_keys::{Bundles, Candidates, JwtKey, Lines, question};
-use svid_token::{Claims, Compact, Header, Payload, Refusal, read_signature};
+use svid_token::Refusal;
 use svid_wire::{Sink, Source};
-
-// What a token says of its signature.
-#[derive(Drop)]
-struct Signing<'a> {
-    header: Header,
-    claims: Claims,
-    input: &'a [u8],
-    signature: Vec<u8>,
-}
-
-fn read_signing(alloc: Global, token: &[u8]) -> Result<Signing<'_>, Refusal>
-    ensures value { Answers signing_view result (signing_due token.now) }
-    ensures len { IfOk result (λ s. (length s.input.now ≤ 65536) × (length s.signature.items ≤ 65536)) }
-{
-    let compact = Compact::split(token)?;
-    let header = Header::read(alloc, compact.header)?;
-    let payload = Payload::read(alloc, compact.payload)?;
-    let signature = read_signature(alloc, compact.signature)?;
-    let claims = payload.claims(alloc)?;
-    Ok(Signing {
-        header,
-        claims,
-        input: compact.input,
-        signature,
-    })
-}
-
-fn is_empty(mut candidates: Candidates<'_>) -> bool
-    ensures { result ≡ (length (candidates_left candidates.entry) == 0) }
-{
-    candidates.next().is_none()
-}
-
-// The candidates for a signature, or why there are none.
-fn find_candidates<'a>(
-    bundles: &'a Bundles,
-    signing: &'a Signing<'_>,
-) -> Result<Candidates<'a>, Refusal>
-    ensures { Answers candidates_left result (keys_due bundles.now (said signing.now)) }
-{
-    let domain = signing.claims.sub.domain();
-    if !bundles.has_domain(domain) {
-        return Err(Refusal::UnknownDomain);
-    }
-    let kid = signing.header.kid.as_deref();
-    let candidates = bundles.candidates(domain, signing.header.alg, kid);
-    if is_empty(candidates) {
-        return Err(Refusal::NoKey);
-    }
-    Ok(candidates)
-}
 
 fn push_line(
     alloc: Global,
     text: &mut String,
     key: &JwtKey,
-    signing: &Signing<'_>,
+    reading: &Reading<'_>,
 ) -> Result<(), AllocError>
-    requires input_len { length signing.now.input.now ≤ 65536 }
-    requires signature_len { length signing.now.signature.items ≤ 65536 }
-    ensures { OnOk result (string_bytes text.new ≡ string_bytes text.old ++ candidate_line (said signing.now) key.now) }
+    requires input_len { length reading.now.input.now ≤ 65536 }
+    requires signature_len { length reading.now.signature.items ≤ 65536 }
+    ensures { OnOk result (string_bytes text.new ≡ string_bytes text.old ++ candidate_line (said_in reading.now) key.now) }
 {
-    let asked = question(key, signing.header.alg, signing.input, &signing.signature);
+    let asked = question(key, reading.header.alg, reading.input, &reading.signature);
     let asked = hex::encode(alloc, asked.as_slice())?;
     let kid = Value::String(String::from_str(alloc, key.kid())?).to_string(alloc)?;
     writeln!(text, "{asked} {kid}")
@@ -86,15 +38,15 @@ fn push_line(
 fn candidate_lines(
     alloc: Global,
     candidates: Candidates<'_>,
-    signing: &Signing<'_>,
+    reading: &Reading<'_>,
 ) -> Result<String, AllocError>
-    requires input_len { length signing.now.input.now ≤ 65536 }
-    requires signature_len { length signing.now.signature.items ≤ 65536 }
-    ensures { IfOk result (λ text. string_bytes text ≡ flat_map (candidate_line (said signing.now)) (candidates_left candidates.entry)) }
+    requires input_len { length reading.now.input.now ≤ 65536 }
+    requires signature_len { length reading.now.signature.items ≤ 65536 }
+    ensures { IfOk result (λ text. string_bytes text ≡ flat_map (candidate_line (said_in reading.now)) (candidates_left candidates.entry)) }
 {
     let mut text = String::new(alloc);
     for key in candidates {
-        push_line(alloc, &mut text, key, signing)?;
+        push_line(alloc, &mut text, key, reading)?;
     }
     Ok(text)
 }
@@ -103,9 +55,9 @@ fn candidate_lines(
 fn token_lines(alloc: Global, bundles: &Bundles, token: &[u8]) -> Result<String, Refusal>
     ensures { Answers string_bytes result (lines_due bundles.now token.now) }
 {
-    let signing = read_signing(alloc, token)?;
-    let candidates = find_candidates(bundles, &signing)?;
-    Ok(candidate_lines(alloc, candidates, &signing)?)
+    let reading = Reading::of(alloc, token)?;
+    let candidates = reading.candidates(bundles)?;
+    Ok(candidate_lines(alloc, candidates, &reading)?)
 }
 
 // What is printed for a token, and whether there are candidates.
@@ -128,15 +80,6 @@ fn first_token(text: &[u8]) -> &[u8]
         }
     }
     &[]
-}
-
-// The bundles that the first input is.
-fn read_bundles<S: Source>(alloc: Global, source: &mut S) -> Result<Bundles, ToolFault>
-    ensures ok { IfOk result (AreBundlesRead (drawn S.left S.stops source.old source.new)) }
-    ensures fault { IfErr result (IsFirstFault (drawn S.left S.stops source.old source.new)) }
-{
-    let bytes = read_input(alloc, source, 1)?;
-    Ok(Bundles::read(alloc, &bytes)?)
 }
 
 // What is printed for both inputs, and whether there are candidates.

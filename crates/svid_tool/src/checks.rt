@@ -9,11 +9,10 @@ use std::alloc::{AllocError, Global};
 use svid_check::{Accepted, Validator};
 use svid_keys::{Lines, Verifier};
 use svid_replay::UseStore;
-use svid_token::Refusal;
 
 // The line of an acceptance.
 fn accepted_line(alloc: Global, accepted: &Accepted) -> Result<String, AllocError>
-    ensures { IfOk result (λ line. string_bytes line ≡ judgement_line (Ok (Some accepted.now))) }
+    ensures { IfOk result (λ line. judgement_line (Ok (Some accepted.now)) ≡ Some (string_bytes line)) }
 {
     let id = accepted.id.as_str();
     let exp = accepted.used.exp;
@@ -28,12 +27,11 @@ fn answer<V: Verifier, S: UseStore>(
     token: &[u8],
 ) -> Result<(bool, String), AllocError>
     ensures said { IfOk result (λ a. (a.0 ≡ is_accepted (due (setting_of V.says validator.old) now validator.old.state token.now))
-        × (string_bytes a.1 ≡ judgement_line (due (setting_of V.says validator.old) now validator.old.state token.now))) }
+        × (judgement_line (due (setting_of V.says validator.old) now validator.old.state token.now) ≡ Some (string_bytes a.1))) }
     ensures state { OnOk result (validator.new ≡ with_state validator.old (after (setting_of V.says validator.old) now validator.old.state token.now)) }
 {
     match validator.check(now, token) {
         Ok(accepted) => Ok((true, accepted_line(alloc, &accepted)?)),
-        Err(Refusal::OutOfMemory) => Err(AllocError),
         Err(refusal) => Ok((false, refusal_line(alloc, refusal)?)),
     }
 }

@@ -74,10 +74,10 @@ fn join_messages<T: UseStore>(
     Ok(())
 }
 
-// Reads the messages of the input with this number, and joins its batches. `messages` is room that is
-// used anew for each input.
+/// Reads the messages of the input with this number, and joins its batches. `messages` is room that is
+/// used anew for each input.
 #[tactic(auto, using(crate::proofs::InputsLemmas::unread_refused))]
-fn join_input<S: Source, T: UseStore>(
+pub fn join_input<S: Source, T: UseStore>(
     alloc: Global,
     source: &mut S,
     input: usize,

@@ -3,7 +3,10 @@
 //! write of what they read.
 #![tactic(auto)]
 
+mod batches;
+mod bundles;
 mod candidates;
+mod check;
 mod checks;
 mod cli;
 mod failure;

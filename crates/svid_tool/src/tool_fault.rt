@@ -1,11 +1,12 @@
 ghost use Rattle.std.specs.Prelude.{◌≡◌};
-ghost use Rattle.svid_tool.specs.Candidates.{bundle_fault_of};
+ghost use Rattle.svid_tool.specs.Bundles.{bundle_fault_of};
+ghost use Rattle.svid_tool.specs.Check.{table_fault_of};
 ghost use Rattle.svid_tool.specs.declared.tool_fault.ToolFault.TheVariants.{OutOfMemory};
 
 use std::alloc::{AllocError, AllocFailed};
 use std::error::Error;
 use std::fmt;
-use svid_keys::BundleFault;
+use svid_keys::{BundleFault, TableFault};
 use svid_wire::Reason;
 
 /// Why an engine of the program gave up. Inputs and messages are numbered from 1.
@@ -138,6 +139,17 @@ impl From<BundleFault> for ToolFault {
         match fault {
             BundleFault::OutOfMemory => ToolFault::OutOfMemory,
             fault => ToolFault::Bundles(fault),
+        }
+    }
+}
+
+impl From<TableFault> for ToolFault {
+    ghost from_gives = { λ fault e. e ≡ table_fault_of fault };
+
+    fn from(fault: TableFault) -> ToolFault {
+        match fault {
+            TableFault::Line(line) => ToolFault::Table(line),
+            TableFault::OutOfMemory => ToolFault::OutOfMemory,
         }
     }
 }
