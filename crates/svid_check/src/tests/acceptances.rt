@@ -173,6 +173,8 @@ fn begins_with_the_record_that_it_is_given(rt: HostRuntime) -> Result<(), Fail> 
     };
     let mut record = Record::new(SortedUses::new(alloc));
     record.raise(500);
+    assert!(rt; held.at <= record.moment());
+    assert!(rt; record.moment() < held.exp);
     record.add(held)?;
     let own = vec![in alloc; String::from_str(alloc, "s")?]?;
     let bundles = Bundles::read(alloc, ONE_KEY)?;
