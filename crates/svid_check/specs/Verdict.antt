@@ -38,7 +38,7 @@ time_rows moment t =
     ∷ (NotYet, holds_of t.nbf (λ nbf. nat_lt moment nbf))
     ∷ []
 
--- the refusals of a token for its keys (JWT-SVID, section 4.2)
+-- the refusals of a token for its keys (JWT-SVID, section 4)
 abbrev pub keys_rows : List Bundle → Said → List Row
 keys_rows bundles t =
     (UnknownDomain, is_none (bundle_at t.sub.domain bundles))
