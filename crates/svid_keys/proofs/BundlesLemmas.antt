@@ -1,5 +1,5 @@
 -- Bundles that are read one after the other, in rising order of their names.
-use Rattle.std.proofs.Common.{◌≡◌, ◌⊎◌, ◌+◌, ℕ, if◌then◌else◌, Bool, true, false, not, List, [], ◌∷◌, ◌++◌, map, filter_map, length, string_bytes, string_cmp, String, Vec, Option, Some, None, IsSome, is_none, unwrap_or, inl, inr, refl, ap, subst, sym, ◌∙◌, arith}
+use Rattle.std.proofs.Common.{◌≡◌, ◌+◌, ℕ, if◌then◌else◌, Bool, true, false, not, List, [], ◌∷◌, ◌++◌, map, filter_map, length, string_bytes, string_cmp, String, Vec, Option, Some, None, IsSome, is_none, unwrap_or, inl, inr, refl, ap, subst, sym, ◌∙◌, arith}
 use Rattle.std.proofs.lemmas.Bool.{cases_Bool, false≢true}
 use Rattle.std.proofs.lemmas.List.{append-nil, length-append}
 use Rattle.std.proofs.lemmas.Map.Keys.{sorted_head, sorted_tail}

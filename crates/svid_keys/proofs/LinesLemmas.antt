@@ -1,10 +1,10 @@
 -- The lines of a text, one at a time.
-use Rattle.std.proofs.Common.{◌≡◌, ◌≢◌, ◌==◌, ℕ, false, List, [], ◌∷◌, ◌++◌, All, map, refl, ap, ◌∙◌}
+use Rattle.std.proofs.Common.{◌≡◌, ◌≢◌, ◌==◌, ℕ, Bool, true, false, if◌then◌else◌, List, [], ◌∷◌, ◌++◌, All, map, inl, inr, refl, ap, eqb-true, ◌∙◌}
 use Rattle.std.proofs.lemmas.Bool.{ne_eqb}
 use Rattle.std.proofs.lemmas.List.Elements.{All-weaker}
 use Rattle.std.proofs.lemmas.List.Splits.{slice_split_at, slice_split_none}
-use Rattle.std.specs.List.{AllByRecursion, join_with_byte}
-use Rattle.svid_keys.specs.Lines.{HasNoFeed, carriage_return, line_feed, lines_of, pieces_of, without_return}
+use Rattle.std.specs.List.{AllByRecursion, AllZip, join_with_byte}
+use Rattle.svid_keys.specs.Lines.{HasNoFeed, IsPieceOf, carriage_return, line_feed, lines_of, pieces_of, without_return}
 
 whole : (bytes : List ℕ) → HasNoFeed bytes → All (λ b. (b == line_feed) ≡ false) bytes
 whole bytes none = All-weaker _ _ (λ b. ne_eqb b line_feed) bytes none
@@ -38,6 +38,23 @@ pieces_of-joined first [] none = slice_split_none _ first (whole first none.0)
 pieces_of-joined first (next ∷ more) none =
     slice_split_at _ first line_feed (join_with_byte line_feed (next ∷ more)) (whole first none.0) refl
     ∙ ap (λ cut. first ∷ cut) (pieces_of-joined next more none.1)
+
+by_return : (b : ℕ) (here : Bool) → (b == carriage_return) ≡ here → IsPieceOf (if here then [] else b ∷ []) (b ∷ [])
+by_return b true is = inr (ap (λ x. x ∷ []) (eqb-true b carriage_return is))
+by_return b false is = inl refl
+
+is_piece_of : (piece : List ℕ) → IsPieceOf (without_return piece) piece
+is_piece_of [] = inl refl
+is_piece_of (b ∷ []) = by_return b (b == carriage_return) refl
+is_piece_of (a ∷ b ∷ bytes) = elim (is_piece_of (b ∷ bytes)) [
+  | inl whole_piece ↦ inl (ap (λ more. a ∷ more) whole_piece)
+  | inr cut_piece ↦ inr (ap (λ more. a ∷ more) cut_piece)
+]
+
+-- each piece is its line, or its line and one carriage return
+pub are_pieces_of : (pieces : List (List ℕ)) → AllZip IsPieceOf (map without_return pieces) pieces
+are_pieces_of [] = tt
+are_pieces_of (piece ∷ pieces) = (is_piece_of piece, are_pieces_of pieces)
 
 pub ruleset lines = (lines_of-last, lines_of-first)
 

@@ -1,5 +1,5 @@
 -- Which questions a set holds, and how many lines a text has.
-use Rattle.std.proofs.Common.{◌≡◌, ◌⊎◌, ℕ, suc, ◌+◌, ◌≤◌, ◌==◌, ◌||◌, Bool, true, false, List, [], ◌∷◌, length, map, bytes_eq, filter_map, cond, if◌then◌else◌, IsFalse, IsTrue, Option, Some, None, option_to_list, inl, inr, refl, ap, sym, ◌∙◌, arith}
+use Rattle.std.proofs.Common.{◌≡◌, ℕ, suc, ◌+◌, ◌≤◌, ◌==◌, ◌||◌, Bool, true, false, List, [], ◌∷◌, length, map, bytes_eq, filter_map, cond, if◌then◌else◌, IsFalse, IsTrue, Option, Some, None, option_to_list, inl, inr, refl, ap, sym, ◌∙◌, arith}
 use Rattle.std.proofs.lemmas.List.Sums.{count_by-le-length}
 use Rattle.std.proofs.lemmas.List.Splits.{length-slice_split}
 use Rattle.std.proofs.lemmas.Map.Text.{is_eq-slice_cmp}

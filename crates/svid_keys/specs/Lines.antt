@@ -1,5 +1,5 @@
 -- The lines of an input.
-use Rattle.std.specs.Prelude.{◌≢◌, ℕ, ◌==◌, All, if◌then◌else◌, List, [], ◌∷◌, map, Option, Some, None}
+use Rattle.std.specs.Prelude.{◌≡◌, ◌≢◌, ◌⊎◌, ℕ, ◌==◌, All, if◌then◌else◌, List, [], ◌∷◌, ◌++◌, map, Option, Some, None}
 use Rattle.std.specs.Borrow.{Bor}
 use Rattle.std.specs.List.{slice_split}
 use Rattle.svid_keys.specs.declared.lines.Lines.{Lines}
@@ -29,6 +29,10 @@ pieces_of text = slice_split (λ b. b == line_feed) text
 -- the lines of a text: its pieces, each without one carriage return at its end
 abbrev pub lines_of : List ℕ → List (List ℕ)
 lines_of text = map without_return (pieces_of text)
+
+-- a piece is this line, or this line and one carriage return
+abbrev pub IsPieceOf : List ℕ → List ℕ → Type 0
+IsPieceOf line piece = (piece ≡ line) ⊎ (piece ≡ line ++ carriage_return ∷ [])
 
 -- the lines of what is left of a text, none after its end
 abbrev pub lines_of_rest : Option (Bor (List ℕ)) → List (List ℕ)

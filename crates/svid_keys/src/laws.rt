@@ -2,11 +2,11 @@
 //! do nothing.
 
 ghost use Rattle.std.specs.Prelude.{◌≡◌, ◌≢◌, ◌↔◌, ℕ, List, [], ◌∷◌, ◌++◌, All, None, Some};
-ghost use Rattle.std.specs.List.{join_with_byte};
+ghost use Rattle.std.specs.List.{AllZip, join_with_byte};
 ghost use Rattle.serde_json.specs.Data.{Data};
 ghost use Rattle.svid_keys.specs.Bundles.{IsBundles, IsFirstBundleFault, bundles_fault};
 ghost use Rattle.svid_keys.specs.Key.{IsKey, KeyData, kept_key};
-ghost use Rattle.svid_keys.specs.Lines.{HasNoFeed, carriage_return, line_feed, pieces_of, without_return};
+ghost use Rattle.svid_keys.specs.Lines.{HasNoFeed, IsPieceOf, carriage_return, line_feed, lines_of, pieces_of, without_return};
 ghost use Rattle.svid_keys.specs.Table.{IsFirstTableFault, table_fault};
 
 use crate::bundle_fault::BundleFault;
@@ -40,13 +40,14 @@ pub fn table_fault_is_first()
 {}
 
 /// The pieces of a text hold no line feed, and give the text back where they are joined by line
-/// feeds; no other pieces do. A line is a piece without one carriage return at its end: of a piece
-/// that ends with one that alone is cut off, and any other is a line as it stands.
+/// feeds; no other pieces do. A line is a piece without one carriage return at its end: each piece is
+/// its line, or its line and one carriage return, and that alone is cut off where it stands.
 pub fn lines_give_the_text()
     ensures joined { (text : List ℕ) → join_with_byte line_feed (pieces_of text) ≡ text }
     ensures whole { (text : List ℕ) → All HasNoFeed (pieces_of text) }
     ensures alone { (first : List ℕ) (more : List (List ℕ)) → All HasNoFeed (first ∷ more)
         → pieces_of (join_with_byte line_feed (first ∷ more)) ≡ first ∷ more }
+    ensures lines { (text : List ℕ) → AllZip IsPieceOf (lines_of text) (pieces_of text) }
     ensures cut { (front : List ℕ) → without_return (front ++ carriage_return ∷ []) ≡ front }
     ensures kept { (front : List ℕ) (last : ℕ) → last ≢ carriage_return
         → without_return (front ++ last ∷ []) ≡ front ++ last ∷ [] }

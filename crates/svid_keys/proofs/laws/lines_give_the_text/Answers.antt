@@ -3,7 +3,7 @@ use Rattle.std.proofs.lemmas.List.Elements.{All-from_recursion, recursion_from_A
 use Rattle.std.proofs.lemmas.List.Splits.{join_with_byte-slice_split}
 use Rattle.svid_token.proofs.CompactLemmas.{whole_pieces}
 use Rattle.svid_keys.specs.Lines.{HasNoFeed, line_feed, pieces_of}
-use Rattle.svid_keys.proofs.LinesLemmas.{pieces_of-joined, without_return-other, without_return-return}
+use Rattle.svid_keys.proofs.LinesLemmas.{are_pieces_of, pieces_of-joined, without_return-other, without_return-return}
 use Rattle.svid_keys.proofs.laws.lines_give_the_text.Goals as goal
 
 pub returns-clause-joined : goal.returns-clause-joined
@@ -14,6 +14,9 @@ returns-clause-whole c = λ text. All-from_recursion HasNoFeed (pieces_of text) 
 
 pub returns-clause-alone : goal.returns-clause-alone
 returns-clause-alone c = λ first more none. pieces_of-joined first more (recursion_from_All HasNoFeed (first ∷ more) none)
+
+pub returns-clause-lines : goal.returns-clause-lines
+returns-clause-lines c = λ text. are_pieces_of (pieces_of text)
 
 pub returns-clause-cut : goal.returns-clause-cut
 returns-clause-cut c = without_return-return
