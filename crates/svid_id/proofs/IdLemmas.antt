@@ -137,7 +137,7 @@ first-memory : (one other : Option IdFault) → one ≢ Some OutOfMemory → oth
 first-memory None other is-not other-is-not = other-is-not
 first-memory (Some fault) other is-not other-is-not = is-not
 
-domain_fault-memory : (at : ℕ) (name : List ℕ) → domain_fault at name ≢ Some OutOfMemory
+pub domain_fault-memory : (at : ℕ) (name : List ℕ) → domain_fault at name ≢ Some OutOfMemory
 domain_fault-memory at name =
     let good = prefix_len is_domain_byte name in
     either-memory _ (Some DomainEmpty) _ (λ e. cc)

@@ -17,7 +17,11 @@ pub fn no_fault_means_id()
     ensures parts { (text : List ℕ) (id : IdParts) → (id_parts text ≡ Some id) ↔ IsId text id }
 {}
 
-/// A text has no fault as a trust domain name, wherever it stands, exactly if it is one.
+/// A text has no fault as a trust domain name, wherever it stands, exactly if it is one. Want of
+/// memory is the fault of no name.
 pub fn no_fault_means_domain()
-    ensures { (place : ℕ) (text : List ℕ) → (domain_fault place text ≡ None) ↔ IsDomain text }
+    ensures exactly { (place : ℕ) (text : List ℕ)
+        → (domain_fault place text ≡ None) ↔ IsDomain text }
+    ensures no_memory { (place : ℕ) (text : List ℕ)
+        → domain_fault place text ≢ Some IdFault.OutOfMemory }
 {}

@@ -1,4 +1,7 @@
-ghost use Rattle.std.specs.Prelude.{◌≡◌, ◌<◌, ◌≤◌, IfOk, IfErr, IsOkUnless, length, unwrap_or};
+ghost use Rattle.std.specs.Prelude.{◌≡◌, ◌<◌, ◌≤◌, IfOk, IfErr, IsOkUnless, Some, bytes_eq, length, refl, unwrap_or};
+ghost use Rattle.std.specs.Cmp.{on_equiv, on_per, on_po, on_total, partial_equiv_from_equiv};
+ghost use Rattle.std.specs.Cmp.Lexicographic.{nat_list_cmp_total, nat_list_eq_equiv, slice_cmp, texts_po, texts_ties};
+ghost use Rattle.std.specs.Ordering.{nat_cmp};
 ghost use Rattle.std.specs.Result.{result_err};
 ghost use Rattle.svid_id.specs.Domain.{IsDomain};
 ghost use Rattle.svid_id.specs.Path.{IsPath};
@@ -8,7 +11,10 @@ use crate::domain::domain_len;
 use crate::id_fault::IdFault;
 use crate::path::check_path;
 use crate::text::to_text;
-use std::alloc::Global;
+use std::alloc::{AllocError, Global};
+use std::cmp::Ordering;
+use std::convert::AsStr;
+use std::fmt;
 use std::marker::Model;
 
 // The most bytes of an ID that are read.
@@ -19,7 +25,7 @@ const SCHEME: &[u8] = b"spiffe://";
 /// A SPIFFE ID (SPIFFE-ID, section 2): the scheme `spiffe://`, a trust domain name and a path, which
 /// may be empty.
 ///
-/// Contracts see it as its name and its path.
+/// Contracts see it as its name and its path. IDs are compared, shown and lent as their texts.
 #[derive(Debug, Drop)]
 pub struct SpiffeId {
     text: String,
@@ -82,6 +88,72 @@ impl SpiffeId {
     {
         let start = SCHEME.len() + self.domain_len;
         &self.text[start..]
+    }
+}
+
+impl Clone for SpiffeId {
+    ghost is_clone = { λ id copy. copy ≡ id };
+
+    fn clone(&self) -> Result<SpiffeId, AllocError> {
+        let text = self.text.clone()?;
+        Ok(SpiffeId {
+            text,
+            domain_len: self.domain_len,
+        })
+    }
+}
+
+impl PartialEq for SpiffeId {
+    ghost eq = { λ one other. bytes_eq (id_text one) (id_text other) };
+
+    ghost laws = { on_per id_text (partial_equiv_from_equiv nat_list_eq_equiv) };
+
+    fn eq(&self, other: &SpiffeId) -> bool {
+        self.as_str() == other.as_str()
+    }
+}
+
+impl Eq for SpiffeId {
+    ghost laws = { on_equiv id_text nat_list_eq_equiv };
+}
+
+impl PartialOrd for SpiffeId {
+    ghost partial_cmp = { λ one other. Some (slice_cmp nat_cmp (id_text one) (id_text other)) };
+
+    ghost laws = { on_po id_text texts_po };
+
+    fn partial_cmp(&self, other: &SpiffeId) -> Option<Ordering> {
+        Some(self.cmp(other))
+    }
+}
+
+impl Ord for SpiffeId {
+    ghost cmp = { λ one other. slice_cmp nat_cmp (id_text one) (id_text other) };
+
+    ghost total = { on_total id_text nat_list_cmp_total };
+
+    ghost matches_partial_cmp = { λ one other. refl };
+
+    ghost matches_eq = { λ one other. texts_ties (id_text one) (id_text other) };
+
+    fn cmp(&self, other: &SpiffeId) -> Ordering {
+        self.as_str().cmp(other.as_str())
+    }
+}
+
+impl fmt::Display for SpiffeId {
+    ghost output = { λ id. Some (id_text id) };
+
+    fn fmt<W: fmt::Write>(&self, f: &mut fmt::Formatter<W>) -> fmt::Result {
+        fmt::Display::fmt(&self.as_str(), f)
+    }
+}
+
+impl AsStr for SpiffeId {
+    ghost text = { id_text };
+
+    fn as_str(&self) -> &str {
+        SpiffeId::as_str(self)
     }
 }
 

@@ -1,7 +1,10 @@
-ghost use Rattle.std.specs.Prelude.{◌<◌};
+mod refusing;
 
 use super::*;
+use refusing::{refuse, was_refused};
 use std::alloc::Global;
+use std::cmp::Ordering;
+use std::convert::AsStr;
 use std::test::Fail;
 
 // The bytes of `front`, and then `count` times `byte`.
@@ -149,6 +152,81 @@ fn reads_a_hundred_thousand_ids(rt: HostRuntime) -> Result<(), Fail> {
     Ok(())
 }
 
+// The text that a value lends through `AsStr`.
+fn lent<T: AsStr>(value: &T) -> &str {
+    T::as_str(value)
+}
+
+#[test]
+fn compares_ids_as_texts(rt: HostRuntime) -> Result<(), Fail> {
+    // Each comes before the next, as the bytes of their texts do: '-' and '.' before '/', that
+    // before digits, these before capitals, '_' and small letters.
+    let rising = [
+        "spiffe://a",
+        "spiffe://a-b/c",
+        "spiffe://a.b/a",
+        "spiffe://a/0",
+        "spiffe://a/B",
+        "spiffe://a/_",
+        "spiffe://a/b",
+        "spiffe://a/b/c",
+        "spiffe://a0",
+        "spiffe://b",
+    ];
+    for (i, one) in rising.into_iter().enumerate() {
+        for (j, other) in rising.into_iter().enumerate() {
+            let left = SpiffeId::parse(rt.alloc(), one.as_bytes())?;
+            let right = SpiffeId::parse(rt.alloc(), other.as_bytes())?;
+            assert_eq!(rt; left.cmp(&right), i.cmp(&j), "{one} and {other}");
+            assert_eq!(rt; left.partial_cmp(&right), Some(i.cmp(&j)));
+            assert_eq!(rt; left == right, i == j, "{one} and {other}");
+            assert_eq!(rt; left < right, i < j, "{one} and {other}");
+        }
+    }
+    Ok(())
+}
+
+#[test]
+fn compares_trust_domains_as_texts(rt: HostRuntime) -> Result<(), Fail> {
+    for (one, other, order) in [
+        ("a", "a", Ordering::Equal),
+        ("a", "b", Ordering::Less),
+        ("b", "a.b", Ordering::Greater),
+        ("a", "a.b", Ordering::Less),
+        ("a-b", "a.b", Ordering::Less),
+        ("a0", "a.b", Ordering::Greater),
+        ("a_b", "aab", Ordering::Less),
+    ] {
+        let left = TrustDomain::parse(rt.alloc(), one.as_bytes())?;
+        let right = TrustDomain::parse(rt.alloc(), other.as_bytes())?;
+        assert_eq!(rt; left.cmp(&right), order, "{one} and {other}");
+        assert_eq!(rt; left.partial_cmp(&right), Some(order));
+        assert_eq!(rt; left == right, order.is_eq(), "{one} and {other}");
+        assert_eq!(rt; left >= right, order.is_ge(), "{one} and {other}");
+    }
+    Ok(())
+}
+
+#[test]
+fn shows_lends_and_clones_texts(rt: HostRuntime) -> Result<(), Fail> {
+    for text in ["spiffe://a", "spiffe://example.org/ns/a_B"] {
+        let id = SpiffeId::parse(rt.alloc(), text.as_bytes())?;
+        assert_eq!(rt; format!(in rt.alloc(); "{id}")?.as_str(), text);
+        assert_eq!(rt; lent(&id), text);
+        let copy = id.clone()?;
+        assert_eq!(rt; copy.as_str(), text);
+        assert_eq!(rt; copy.domain(), id.domain());
+        assert_eq!(rt; copy.path(), id.path());
+    }
+    for name in ["a", "example.org"] {
+        let domain = TrustDomain::parse(rt.alloc(), name.as_bytes())?;
+        assert_eq!(rt; format!(in rt.alloc(); "{domain}")?.as_str(), name);
+        assert_eq!(rt; lent(&domain), name);
+        assert_eq!(rt; domain.clone()?.as_str(), name);
+    }
+    Ok(())
+}
+
 #[test]
 fn tells_each_fault(rt: HostRuntime) -> Result<(), Fail> {
     for (fault, words) in [
@@ -179,27 +257,15 @@ fn tells_each_fault(rt: HostRuntime) -> Result<(), Fail> {
     Ok(())
 }
 
-const ARM: usize = 1 << 62;
+// The most allocations that a call is taken to make.
+const MOST: usize = 10000;
 
-const ASK: usize = ARM + (1 << 61);
-
-// Has the nth allocation from here on refused, and none for 0, where the tests run over the library
-// of tools/failmalloc.c, which takes sizes that no allocator can give as its commands.
-fn refuse(alloc: Global, nth: usize)
-    requires { nth < 4294967296 }
-{
-    let _ = Vec::<u8>::with_capacity(alloc, ARM + nth);
-}
-
-// Whether an allocation was refused since the last command. Without that library none is.
-fn was_refused(alloc: Global) -> bool {
-    Vec::<u8>::with_capacity(alloc, ASK).is_ok()
-}
+const NEVER_ENDS: &str = "no run met all its allocations";
 
 #[test]
 fn answers_want_of_memory_for_an_id(rt: HostRuntime) -> Result<(), Fail> {
     let text = b"spiffe://a/b";
-    for nth in 1..10000usize {
+    for nth in 1..MOST {
         refuse(rt.alloc(), nth);
         let read = SpiffeId::parse(rt.alloc(), text);
         let faulty = SpiffeId::parse(rt.alloc(), b"spiffe://a/");
@@ -213,12 +279,12 @@ fn answers_want_of_memory_for_an_id(rt: HostRuntime) -> Result<(), Fail> {
         assert_eq!(rt; read.err(), Some(IdFault::OutOfMemory));
         assert_eq!(rt; SpiffeId::parse(rt.alloc(), text)?.path(), "/b");
     }
-    Ok(())
+    Err(Fail::from(NEVER_ENDS))
 }
 
 #[test]
 fn answers_want_of_memory_for_a_trust_domain(rt: HostRuntime) -> Result<(), Fail> {
-    for nth in 1..10000usize {
+    for nth in 1..MOST {
         refuse(rt.alloc(), nth);
         let read = TrustDomain::parse(rt.alloc(), b"a.b");
         let faulty = TrustDomain::parse(rt.alloc(), b"a/b");
@@ -232,5 +298,28 @@ fn answers_want_of_memory_for_a_trust_domain(rt: HostRuntime) -> Result<(), Fail
         assert_eq!(rt; read.err(), Some(IdFault::OutOfMemory));
         assert_eq!(rt; TrustDomain::parse(rt.alloc(), b"a.b")?.as_str(), "a.b");
     }
-    Ok(())
+    Err(Fail::from(NEVER_ENDS))
+}
+
+#[test]
+fn answers_want_of_memory_for_a_clone(rt: HostRuntime) -> Result<(), Fail> {
+    let id = SpiffeId::parse(rt.alloc(), b"spiffe://a/b")?;
+    let domain = TrustDomain::parse(rt.alloc(), b"a.b")?;
+    for nth in 1..MOST {
+        refuse(rt.alloc(), nth);
+        let copy: Result<_, _> = id.clone();
+        let refused = was_refused(rt.alloc());
+        refuse(rt.alloc(), nth);
+        let name: Result<_, _> = domain.clone();
+        let also_refused = was_refused(rt.alloc());
+        refuse(rt.alloc(), 0);
+        assert_eq!(rt; copy.is_err(), refused);
+        assert_eq!(rt; name.is_err(), also_refused);
+        if !refused && !also_refused {
+            assert_eq!(rt; copy?.path(), "/b");
+            assert_eq!(rt; name?.as_str(), "a.b");
+            return Ok(());
+        }
+    }
+    Err(Fail::from(NEVER_ENDS))
 }

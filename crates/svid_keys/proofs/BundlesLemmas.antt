@@ -1,5 +1,6 @@
 -- Bundles that are read one after the other, in rising order of their names.
-use Rattle.std.proofs.Common.{◌≡◌, ◌+◌, ℕ, if◌then◌else◌, Bool, true, false, not, List, [], ◌∷◌, ◌++◌, map, filter_map, length, string_bytes, string_cmp, String, Vec, Option, Some, None, IsSome, is_none, unwrap_or, refl, ap, sym, ◌∙◌, arith}
+use Rattle.std.proofs.Common.{◌≡◌, ◌+◌, ℕ, if◌then◌else◌, Bool, true, false, not, List, [], ◌∷◌, ◌++◌, map, filter_map, length, string_bytes, string_cmp, String, Vec, Option, Some, None, IsSome, is_none, unwrap_or, inl, inr, refl, ap, subst, sym, ◌∙◌, arith}
+use Rattle.std.proofs.lemmas.Bool.{cases_Bool, false≢true}
 use Rattle.std.proofs.lemmas.List.{append-nil, length-append}
 use Rattle.std.proofs.lemmas.Map.Keys.{sorted_head, sorted_tail}
 use Rattle.std.specs.declared.alloc.Global.{Global}
@@ -13,11 +14,13 @@ use Rattle.serde_json.specs.View.{items_view, view}
 use Rattle.serde_json.specs.declared.value.Value.{Value}
 use Rattle.serde_json.specs.Data.{Data, Members, no_members, member}
 use Rattle.serde_json.specs.View.{members_view}
-use Rattle.svid_id.specs.Domain.{domain_fault, is_domain}
+use Rattle.svid_id.specs.Domain.{IsDomain, domain_fault, is_domain}
 use Rattle.svid_id.specs.declared.id_fault.IdFault.{IdFault}
 use Rattle.svid_id.proofs.DomainLemmas.{IsDomain-from_fault, domain_fault-IsDomain}
-use Rattle.svid_keys.specs.Bundles.{AreBundles, IsBundle, IsBundles, IsRefusal, bundle_of, bundle_view, bundles_fault, bundles_in, bundles_of, entries_in, items_list, members_fault, members_in, object_fault}
+use Rattle.svid_keys.specs.Bundles.{AreBundles, IsBundle, IsBundles, IsFirstBundleFault, IsRefusal, Named, bundle_of, bundle_view, bundles_fault, bundles_in, bundles_of, entries_in, items_list, members_fault, members_in, members_list, object_fault}
+use Rattle.svid_keys.specs.First.{IsFirstBad}
 use Rattle.svid_keys.specs.Key.{KeyData, kept_key}
+use Rattle.svid_keys.proofs.FirstLemmas.{first_here, first_later, first_or_later, none_first}
 use Rattle.svid_keys.specs.declared.bundle_fault.BundleFault.{BundleFault}
 use Rattle.svid_keys.specs.declared.bundle_fault.BundleFault.TheVariants.{NotObject, Domain, Keys, OutOfMemory}
 
@@ -122,17 +125,22 @@ pub reading_all : (all : Members) (read : List (String Global × Vec KeyData Glo
 reading_all all read left is none =
     (sym (rw none at is.bundles ∙ append-nil (map bundle_view read)), is.accepted (rw none tt))
 
-has_entries : (at : ℕ) (entries : Option (List Data)) (ms : Members) → IsSome entries → members_fault (at + 1) ms ≡ None
-    → (if is_none entries then Some (Keys at) else members_fault (at + 1) ms) ≡ None
-has_entries at None ms some rest = cc
-has_entries at (Some entries) ms some rest = rest
+has_entries : (at : ℕ) (entries : Option (List Data)) (ms : Members) → IsSome entries
+    → (if is_none entries then Some (Keys at) else members_fault (at + 1) ms) ≡ members_fault (at + 1) ms
+has_entries at None ms some = cc
+has_entries at (Some entries) ms some = refl
+
+-- a member that is a bundle has no fault
+members_fault-IsBundle : (at : ℕ) (name : List ℕ) (set : Data) (ms : Members) → IsBundle name set
+    → members_fault at (member name set ms) ≡ members_fault (at + 1) ms
+members_fault-IsBundle at name set ms is =
+    let named : domain_fault 0 name ≡ None = domain_fault-IsDomain 0 name is.domain in
+    rw named (has_entries at (entries_in set) ms is.entries)
 
 -- bundles have no fault
 pub no_fault : (at : ℕ) (ms : Members) → AreBundles ms → members_fault at ms ≡ None
 no_fault at no_members are = refl
-no_fault at (member name set ms) are =
-    let named : domain_fault 0 name ≡ None = domain_fault-IsDomain 0 name are.0.domain in
-    rw named (has_entries at (entries_in set) ms are.0.entries (no_fault (at + 1) ms are.1))
+no_fault at (member name set ms) are = members_fault-IsBundle at name set ms are.0 ∙ no_fault (at + 1) ms are.1
 
 -- a text that is bundles has no fault
 pub bundles_fault-IsBundles : (text : List ℕ) → IsBundles text → bundles_fault text ≡ None
@@ -178,3 +186,110 @@ memory_alone text NotObject refused is = absurd (whole text _ refused is)
 memory_alone text (Domain place) refused is = absurd (whole text _ refused is)
 memory_alone text (Keys place) refused is = absurd (whole text _ refused is)
 memory_alone text OutOfMemory refused is = refl
+
+-- a member that is a bundle, and the two ways of one that is none
+abbrev Good : Named → Type 0
+Good m = IsBundle m.name m.set
+
+abbrev BadDomain : Named → Type 0
+BadDomain m = ¬ IsDomain m.name
+
+abbrev BadKeys : Named → Type 0
+BadKeys m = IsDomain m.name × (entries_in m.set ≡ None)
+
+-- of members, of which the first stands at a place, the fault is that of the first bad one
+abbrev IsFirstOf : ℕ → Members → BundleFault → Type 0
+IsFirstOf at ms NotObject = ⊥
+IsFirstOf at ms (Domain place) = (before : ℕ) × (place ≡ at + before) × IsFirstBad Good BadDomain (members_list ms) before
+IsFirstOf at ms (Keys place) = (before : ℕ) × (place ≡ at + before) × IsFirstBad Good BadKeys (members_list ms) before
+IsFirstOf at ms OutOfMemory = ⊥
+
+first_of_rest : (at : ℕ) (name : List ℕ) (set : Data) (ms : Members) (fault : BundleFault) → IsBundle name set
+    → IsFirstOf (at + 1) ms fault → IsFirstOf at (member name set ms) fault
+first_of_rest at name set ms NotObject good first = first
+first_of_rest at name set ms (Domain place) good first =
+    (first.0 + 1, omega (arith, first.1), first_later Good BadDomain _ (members_list ms) first.0 good first.2)
+first_of_rest at name set ms (Keys place) good first =
+    (first.0 + 1, omega (arith, first.1), first_later Good BadKeys _ (members_list ms) first.0 good first.2)
+first_of_rest at name set ms OutOfMemory good first = first
+
+some_is : (a b : BundleFault) → Some a ≡ Some b → a ≡ b
+some_is a b e = cc
+
+no_domain : (name : List ℕ) → is_domain name ≡ false → IsDomain name → ⊥
+no_domain name bad is = let none : domain_fault 0 name ≡ None = domain_fault-IsDomain 0 name is in false≢true (sym (rw none at bad))
+
+by_member : (at : ℕ) (name : List ℕ) (set : Data) (ms : Members) (fault : BundleFault) (named : Bool) (entries : Option (List Data))
+    → is_domain name ≡ named → entries_in set ≡ entries → (members_fault (at + 1) ms ≡ Some fault → IsFirstOf (at + 1) ms fault)
+    → (if not named then Some (Domain at) else if is_none entries then Some (Keys at) else members_fault (at + 1) ms) ≡ Some fault
+    → IsFirstOf at (member name set ms) fault
+by_member at name set ms fault false entries bad is rest e =
+    let here : IsFirstOf at (member name set ms) (Domain at) = (0, omega arith, first_here Good BadDomain _ (members_list ms) (no_domain name bad)) in
+    subst (IsFirstOf at (member name set ms)) (some_is _ _ e) here
+by_member at name set ms fault true None good is rest e =
+    let domain : IsDomain name = IsDomain-from_fault 0 name (no_id_fault _ good) in
+    let here : IsFirstOf at (member name set ms) (Keys at) = (0, omega arith, first_here Good BadKeys _ (members_list ms) (domain, is)) in
+    subst (IsFirstOf at (member name set ms)) (some_is _ _ e) here
+by_member at name set ms fault true (Some entries) good is rest e =
+    let one : IsBundle name set = record { domain = IsDomain-from_fault 0 name (no_id_fault _ good); entries = rw is refl } in
+    first_of_rest at name set ms fault one (rest e)
+
+members_fault-first : (at : ℕ) (ms : Members) (fault : BundleFault) → members_fault at ms ≡ Some fault → IsFirstOf at ms fault
+members_fault-first at no_members fault e = absurd (cc)
+members_fault-first at (member name set ms) fault e =
+    by_member at name set ms fault (is_domain name) (entries_in set) refl refl (members_fault-first (at + 1) ms fault) e
+
+of_members : (text : List ℕ) (ms : Members) (fault : BundleFault) → members_in text ≡ Some ms → IsFirstOf 0 ms fault → IsFirstBundleFault text fault
+of_members text ms NotObject is first = absurd first
+of_members text ms (Domain place) is first =
+    let counted : first.0 ≡ place = omega (arith, first.1) in
+    (ms, is, subst (IsFirstBad Good BadDomain (members_list ms)) counted first.2)
+of_members text ms (Keys place) is first =
+    let counted : first.0 ≡ place = omega (arith, first.1) in
+    (ms, is, subst (IsFirstBad Good BadKeys (members_list ms)) counted first.2)
+of_members text ms OutOfMemory is first = absurd first
+
+of_found : (text : List ℕ) (found : Option Members) (fault : BundleFault) → members_in text ≡ found → object_fault found ≡ Some fault
+    → IsFirstBundleFault text fault
+of_found text None NotObject is e = is
+of_found text None (Domain place) is e = absurd (cc)
+of_found text None (Keys place) is e = absurd (cc)
+of_found text None OutOfMemory is e = absurd (cc)
+of_found text (Some ms) fault is e = of_members text ms fault is (members_fault-first 0 ms fault e)
+
+-- the fault of bundles is the first
+pub bundles_fault-first : (text : List ℕ) (fault : BundleFault) → bundles_fault text ≡ Some fault → IsFirstBundleFault text fault
+bundles_fault-first text fault e = of_found text (members_in text) fault refl e
+
+from_first : (Bad : Named → Type 0) (faulty : ℕ → BundleFault)
+    → ((at : ℕ) (name : List ℕ) (set : Data) (ms : Members) → Bad (record { name = name; set = set })
+    → members_fault at (member name set ms) ≡ Some (faulty at))
+    → (at before : ℕ) (ms : Members) → IsFirstBad Good Bad (members_list ms) before → members_fault at ms ≡ Some (faulty (at + before))
+from_first Bad faulty here at before no_members is = absurd (none_first Good Bad before is)
+from_first Bad faulty here at before (member name set ms) is =
+    elim (first_or_later Good Bad (record { name = name; set = set }) (members_list ms) before is) [
+      | inl first ↦
+          let counted : at ≡ at + before = omega (arith, first.0) in
+          here at name set ms first.1 ∙ ap (λ n. Some (faulty n)) counted
+      | inr later ↦
+          let counted : at + 1 + later.0 ≡ at + before = omega (arith, later.1) in
+          members_fault-IsBundle at name set ms later.2
+          ∙ (from_first Bad faulty here (at + 1) later.0 ms later.3 ∙ ap (λ n. Some (faulty n)) counted)
+    ]
+
+bad_domain : (at : ℕ) (name : List ℕ) (set : Data) (ms : Members) → ¬ IsDomain name → members_fault at (member name set ms) ≡ Some (Domain at)
+bad_domain at name set ms bad = elim (cases_Bool (is_domain name)) [
+  | inl good ↦ absurd (bad (IsDomain-from_fault 0 name (no_id_fault _ good)))
+  | inr none ↦ rw none refl
+]
+
+bad_keys : (at : ℕ) (name : List ℕ) (set : Data) (ms : Members) → IsDomain name × (entries_in set ≡ None)
+    → members_fault at (member name set ms) ≡ Some (Keys at)
+bad_keys at name set ms bad = rw (domain_fault-IsDomain 0 name bad.0, bad.1) refl
+
+-- and the first is the fault of bundles
+pub bundles_fault-from_first : (text : List ℕ) (fault : BundleFault) → IsFirstBundleFault text fault → bundles_fault text ≡ Some fault
+bundles_fault-from_first text NotObject is = rw is refl
+bundles_fault-from_first text (Domain place) is = rw is.1 (from_first BadDomain Domain bad_domain 0 place is.0 is.2 ∙ ap (λ n. Some (Domain n)) (omega arith))
+bundles_fault-from_first text (Keys place) is = rw is.1 (from_first BadKeys Keys bad_keys 0 place is.0 is.2 ∙ ap (λ n. Some (Keys n)) (omega arith))
+bundles_fault-from_first text OutOfMemory is = absurd is

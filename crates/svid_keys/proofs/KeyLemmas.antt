@@ -8,8 +8,7 @@ use Rattle.serde_json.specs.Find.{as_object}
 use Rattle.serde_json.specs.Written.{compact_text, has_float}
 use Rattle.svid_token.specs.Json.{text_at}
 use Rattle.svid_token.specs.declared.kty.Kty.{Kty}
-use Rattle.svid_keys.specs.Key.{IsKey, KeyData, kept_key, kty_in}
-use Rattle.svid_keys.specs.declared.jwt_key.TheConstants.{MAX_KEY_LEN}
+use Rattle.svid_keys.specs.Key.{IsKey, KeyData, kept_key, kty_in, most_key_bytes}
 
 -- what an entry says of a key
 record Says (purpose kid : Option (List ℕ)) (kty : Option Kty) (float short : Bool) (name text : List ℕ) (key : KeyData) : Type 0 where
@@ -60,7 +59,7 @@ is_object name entry text e = cc
 -- an entry of which a key was made is that key
 pub IsKey-from_kept : (name : List ℕ) (entry : Data) (key : KeyData) → kept_key name entry ≡ Some key → IsKey name entry key
 IsKey-from_kept name entry key kept =
-    let said : Says (text_at (codes "use") entry) (text_at (codes "kid") entry) (kty_in entry) (has_float entry) (nat_le (length (compact_text entry)) MAX_KEY_LEN) name (compact_text entry) key =
+    let said : Says (text_at (codes "use") entry) (text_at (codes "kid") entry) (kty_in entry) (has_float entry) (nat_le (length (compact_text entry)) most_key_bytes) name (compact_text entry) key =
     from_made _ _ _ _ _ name (compact_text entry) key kept in
     record {
       object = is_object (codes "use") entry _ said.is_purpose;
@@ -76,5 +75,5 @@ IsKey-from_kept name entry key kept =
 -- of an entry that is a key, that key is made
 pub kept_key-IsKey : (name : List ℕ) (entry : Data) (key : KeyData) → IsKey name entry key → kept_key name entry ≡ Some key
 kept_key-IsKey name entry key is =
-    let short : nat_le (length (compact_text entry)) MAX_KEY_LEN ≡ true = le-leb _ _ (rw is.text at is.not_long) in
+    let short : nat_le (length (compact_text entry)) most_key_bytes ≡ true = le-leb _ _ (rw is.text at is.not_long) in
     rw (is.purpose, is.whole, short, is.kid, is.kty, ← is.text, ← is.domain) refl

@@ -1,5 +1,5 @@
 -- Which questions a set holds, and how many lines a text has.
-use Rattle.std.proofs.Common.{◌≡◌, ℕ, suc, ◌+◌, ◌≤◌, ◌==◌, ◌||◌, Bool, true, false, List, [], ◌∷◌, length, map, bytes_eq, filter_map, cond, Option, Some, None, option_to_list, refl, ap, sym, ◌∙◌, arith}
+use Rattle.std.proofs.Common.{◌≡◌, ℕ, suc, ◌+◌, ◌≤◌, ◌==◌, ◌||◌, Bool, true, false, List, [], ◌∷◌, length, map, bytes_eq, filter_map, cond, if◌then◌else◌, IsFalse, IsTrue, Option, Some, None, option_to_list, inl, inr, refl, ap, sym, ◌∙◌, arith}
 use Rattle.std.proofs.lemmas.List.Sums.{count_by-le-length}
 use Rattle.std.proofs.lemmas.List.Splits.{length-slice_split}
 use Rattle.std.proofs.lemmas.Map.Text.{is_eq-slice_cmp}
@@ -7,12 +7,14 @@ use Rattle.std.specs.declared.cmp.Ordering.{Ordering}
 use Rattle.std.specs.declared.cmp.Ordering.TheVariants.{Less, Equal, Greater}
 use Rattle.std.specs.BTreeMap.{is_at}
 use Rattle.std.specs.Cmp.Lexicographic.{nat_list_cmp_total, slice_cmp}
-use Rattle.std.specs.List.{cons_option, list_any, slice_split}
+use Rattle.std.specs.List.{cons_option, list_any}
 use Rattle.std.specs.Ordering.{is_eq, nat_cmp, ordering_reverse}
-use Rattle.svid_keys.specs.Lines.{lines_of, without_return}
-use Rattle.svid_keys.specs.Table.{IsTableRefusal, is_among, lines_fault, question_in, questions_in, table_fault}
+use Rattle.svid_keys.specs.Lines.{line_feed, lines_of, pieces_of, without_return}
+use Rattle.svid_keys.specs.Table.{IsFirstTableFault, IsTableRefusal, is_among, is_table_line, lines_fault, question_in, questions_in, table_fault}
 use Rattle.svid_keys.specs.declared.table_fault.TableFault.{TableFault}
-use Rattle.svid_keys.specs.declared.lines.TheConstants.{LINE_FEED}
+use Rattle.svid_keys.specs.declared.table_fault.TableFault.TheVariants.{Line, OutOfMemory}
+use Rattle.svid_keys.specs.First.{IsFirstBad}
+use Rattle.svid_keys.proofs.FirstLemmas.{first_here, first_later, first_or_later, none_first}
 
 -- the order of a set tells its questions as their bytes do
 pub is_among_keys : (question : List ℕ) (keys : List (List ℕ)) → list_any (is_at (slice_cmp nat_cmp question)) keys ≡ is_among question keys
@@ -61,7 +63,7 @@ length-map_lines (piece ∷ pieces) = ap suc (length-map_lines pieces)
 
 -- a text has at most one line more than bytes
 pub length-lines : (text : List ℕ) → length (lines_of text) ≤ length text + 1
-length-lines text = omega (arith, length-map_lines (slice_split (λ b. b == LINE_FEED) text), length-slice_split (λ b. b == LINE_FEED) text, count_by-le-length (λ b. b == LINE_FEED) text)
+length-lines text = omega (arith, length-map_lines (pieces_of text), length-slice_split (λ b. b == line_feed) text, count_by-le-length (λ b. b == line_feed) text)
 
 -- of the lines of a text this many were read, with the questions in them, and these are left
 pub record IsReadingLines (text : List ℕ) (number : ℕ) (read : List (List ℕ)) (left : List (List ℕ)) : Type 0 where
@@ -101,3 +103,63 @@ pub lines_all : (text : List ℕ) (number : ℕ) (read left : List (List ℕ)) �
     → (table_fault text ≡ None) × ((question : List ℕ) → is_among question read ≡ is_among question (questions_in text))
 lines_all text number read left is none =
     (rw none at is.fault, λ question. sym (rw none at (is.held question) ∙ or_false (is_among question read)))
+
+-- a line of a table, and one that is none
+abbrev Good : List ℕ → Type 0
+Good line = IsTrue (is_table_line line)
+
+abbrev Bad : List ℕ → Type 0
+Bad line = IsFalse (is_table_line line)
+
+-- the fault of lines is that of the first bad one
+abbrev IsFirstOf : ℕ → List (List ℕ) → TableFault → Type 0
+IsFirstOf number lines fault = (before : ℕ) × (fault ≡ Line (number + before)) × IsFirstBad Good Bad lines before
+
+by_line : (number : ℕ) (line : List ℕ) (lines : List (List ℕ)) (fault : TableFault) (good : Bool) → is_table_line line ≡ good
+    → (lines_fault (number + 1) lines ≡ Some fault → IsFirstOf (number + 1) lines fault)
+    → (if good then lines_fault (number + 1) lines else Some (Line number)) ≡ Some fault → IsFirstOf number (line ∷ lines) fault
+by_line number line lines fault true is rest e =
+    let next : IsFirstOf (number + 1) lines fault = rest e in
+    let counted : number + 1 + next.0 ≡ number + (next.0 + 1) = omega arith in
+    (next.0 + 1, next.1 ∙ ap Line counted, first_later Good Bad line lines next.0 is next.2)
+by_line number line lines fault false is rest e =
+    let counted : number ≡ number + 0 = omega arith in
+    let is_fault : fault ≡ Line number = cc in
+    (0, is_fault ∙ ap Line counted, first_here Good Bad line lines is)
+
+lines_fault-first : (number : ℕ) (lines : List (List ℕ)) (fault : TableFault) → lines_fault number lines ≡ Some fault
+    → IsFirstOf number lines fault
+lines_fault-first number [] fault e = absurd (cc)
+lines_fault-first number (line ∷ lines) fault e =
+    by_line number line lines fault (is_table_line line) refl (lines_fault-first (number + 1) lines fault) e
+
+lines_fault-from_first : (number before : ℕ) (lines : List (List ℕ)) → IsFirstBad Good Bad lines before
+    → lines_fault number lines ≡ Some (Line (number + before))
+lines_fault-from_first number before [] is = absurd (none_first Good Bad before is)
+lines_fault-from_first number before (line ∷ lines) is = elim (first_or_later Good Bad line lines before is) [
+  | inl here ↦
+      let counted : number ≡ number + before = omega (arith, here.0) in
+      rw here.1 (ap (λ n. Some (Line n)) counted)
+  | inr later ↦
+      let counted : number + 1 + later.0 ≡ number + before = omega (arith, later.1) in
+      rw later.2 (lines_fault-from_first (number + 1) later.0 lines later.3 ∙ ap (λ n. Some (Line n)) counted)
+]
+
+-- the fault of a table is its first bad line
+pub table_fault-first : (text : List ℕ) (fault : TableFault) → table_fault text ≡ Some fault → IsFirstTableFault text fault
+unfolding table_fault
+table_fault-first text (Line number) e =
+    let first : IsFirstOf 1 (lines_of text) (Line number) = lines_fault-first 1 (lines_of text) (Line number) e in
+    let same : number ≡ 1 + first.0 = cc (first.1) in
+    (first.0, omega (arith, same), first.2)
+table_fault-first text OutOfMemory e =
+    let first : IsFirstOf 1 (lines_of text) OutOfMemory = lines_fault-first 1 (lines_of text) OutOfMemory e in
+    absurd (cc (first.1))
+
+-- and its first bad line is its fault
+pub table_fault-from_first : (text : List ℕ) (fault : TableFault) → IsFirstTableFault text fault → table_fault text ≡ Some fault
+unfolding table_fault
+table_fault-from_first text (Line number) is =
+    let counted : 1 + is.0 ≡ number = omega (arith, is.1) in
+    lines_fault-from_first 1 is.0 (lines_of text) is.2 ∙ ap (λ n. Some (Line n)) counted
+table_fault-from_first text OutOfMemory is = absurd is

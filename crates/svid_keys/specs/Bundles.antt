@@ -6,6 +6,7 @@ use Rattle.serde_json.specs.Data.{Data, Items, no_items, item, Members, no_membe
 use Rattle.serde_json.specs.Find.{as_array, as_null, as_object, get}
 use Rattle.svid_id.specs.Domain.{IsDomain, is_domain}
 use Rattle.svid_token.specs.Json.{json_of}
+use Rattle.svid_keys.specs.First.{IsFirstBad}
 use Rattle.svid_keys.specs.Key.{KeyData, kept_key}
 use Rattle.svid_keys.specs.declared.bundle_fault.BundleFault.{BundleFault}
 use Rattle.svid_keys.specs.declared.bundle_fault.BundleFault.TheVariants.{NotObject, Domain, Keys, OutOfMemory}
@@ -62,6 +63,29 @@ members_fault at (member name set ms) =
     if not (is_domain name) then Some (Domain at)
     else if is_none (entries_in set) then Some (Keys at)
     else members_fault (at + 1) ms
+
+-- a member of an object: a name and what stands under it
+pub record Named : Type 0 where
+  pub name : List ℕ
+  pub set : Data
+
+-- the members of an object, in rising order of their names
+abbrev pub members_list : Members → List Named
+members_list no_members = []
+members_list (member name set ms) = record { name = name; set = set } ∷ members_list ms
+
+-- the members before a place are bundles, and the one at the place is bad in this way
+abbrev pub IsFirstBadMember : (Named → Type 0) → List ℕ → ℕ → Type 0
+IsFirstBadMember Bad text place = (ms : Members) × (members_in text ≡ Some ms)
+    × IsFirstBad (λ m. IsBundle m.name m.set) Bad (members_list ms) place
+
+-- the first fault of a text as bundles, by what stands before it: it is no object; the names before this one are bundles,
+-- and this one is no trust domain name; or it is one, and has no list of keys
+abbrev pub IsFirstBundleFault : List ℕ → BundleFault → Type 0
+IsFirstBundleFault text NotObject = members_in text ≡ None
+IsFirstBundleFault text (Domain place) = IsFirstBadMember (λ m. ¬ IsDomain m.name) text place
+IsFirstBundleFault text (Keys place) = IsFirstBadMember (λ m. IsDomain m.name × (entries_in m.set ≡ None)) text place
+IsFirstBundleFault text OutOfMemory = ⊥
 
 -- the first fault of members that may not be there
 abbrev pub object_fault : Option Members → Option BundleFault

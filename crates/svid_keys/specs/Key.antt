@@ -7,7 +7,6 @@ use Rattle.serde_json.specs.Written.{compact_text, has_float}
 use Rattle.svid_token.specs.Json.{text_at}
 use Rattle.svid_token.specs.declared.kty.Kty.{Kty}
 use Rattle.svid_token.specs.declared.kty.Kty.TheVariants.{Rsa, Ec}
-use Rattle.svid_keys.specs.declared.jwt_key.TheConstants.{MAX_KEY_LEN}
 
 -- a key: the trust domain that it speaks for, its name, its family, and its entry as compact JSON
 pub record KeyData : Type 0 where
@@ -15,6 +14,10 @@ pub record KeyData : Type 0 where
   pub kid : List ℕ
   pub kty : Kty
   pub text : List ℕ
+
+-- the most bytes of a key's text
+abbrev pub most_key_bytes : ℕ
+most_key_bytes = 65536
 
 -- the family of a name (RFC 7518, section 6.1)
 abbrev pub kty_named : List ℕ → Option Kty
@@ -37,12 +40,12 @@ pub record IsKey (name : List ℕ) (entry : Data) (key : KeyData) : Type 0 where
   pub kty : kty_in entry ≡ Some key.kty
   pub whole : has_float entry ≡ false
   pub text : key.text ≡ compact_text entry
-  pub not_long : length key.text ≤ MAX_KEY_LEN
+  pub not_long : length key.text ≤ most_key_bytes
   pub domain : key.domain ≡ name
 
 -- an entry is a key, if it has a name and a family
 abbrev pub is_usable : Data → Bool
-is_usable entry = is_for_svids entry && not (has_float entry) && nat_le (length (compact_text entry)) MAX_KEY_LEN
+is_usable entry = is_for_svids entry && not (has_float entry) && nat_le (length (compact_text entry)) most_key_bytes
 
 -- the key that an entry of the bundle of a domain is, if it is one
 abbrev pub kept_key : List ℕ → Data → Option KeyData

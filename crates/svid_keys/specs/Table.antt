@@ -1,9 +1,10 @@
 -- Tables of questions to which the answer is yes.
-use Rattle.std.specs.Prelude.{◌≡◌, ℕ, ◌+◌, ◌==◌, ◌||◌, Bool, if◌then◌else◌, is_some, List, [], ◌∷◌, length, bytes_eq, filter_map, Option, Some, None}
+use Rattle.std.specs.Prelude.{◌≡◌, ℕ, ◌+◌, ◌==◌, ◌||◌, Bool, IsFalse, IsTrue, if◌then◌else◌, is_some, List, [], ◌∷◌, length, bytes_eq, filter_map, Option, Some, None}
 use Rattle.std.specs.List.{list_any}
 use Rattle.std.specs.Result.{result_ok}
 use Rattle.hex.specs.Hex.{decode_sized}
 use Rattle.svid_token.specs.declared.alg.Alg.{Alg}
+use Rattle.svid_keys.specs.First.{IsFirstBad}
 use Rattle.svid_keys.specs.Key.{KeyData}
 use Rattle.svid_keys.specs.Lines.{lines_of}
 use Rattle.svid_keys.specs.Question.{question_of}
@@ -30,6 +31,12 @@ lines_fault number (line ∷ lines) = if is_table_line line then lines_fault (nu
 -- the fault of a text as a table; its lines count from 1
 unfoldable pub table_fault : List ℕ → Option TableFault
 table_fault text = lines_fault 1 (lines_of text)
+
+-- the lines before the one of this number are empty or questions, and that one is neither; lines count from 1
+abbrev pub IsFirstTableFault : List ℕ → TableFault → Type 0
+IsFirstTableFault text (Line number) = (before : ℕ) × (number ≡ before + 1)
+    × IsFirstBad (λ line. IsTrue (is_table_line line)) (λ line. IsFalse (is_table_line line)) (lines_of text) before
+IsFirstTableFault text OutOfMemory = ⊥
 
 -- the questions of a table
 unfoldable pub questions_in : List ℕ → List (List ℕ)

@@ -2,7 +2,7 @@ ghost use Rattle.std.specs.Prelude.{◌≡◌, ◌≤◌, IfOk, length, option_m
 ghost use Rattle.serde_json.specs.View.{view};
 ghost use Rattle.svid_id.specs.Domain.{IsDomain};
 ghost use Rattle.svid_token.specs.Json.{text_at};
-ghost use Rattle.svid_keys.specs.Key.{is_for_svids, kept_key, kty_in};
+ghost use Rattle.svid_keys.specs.Key.{is_for_svids, kept_key, kty_in, most_key_bytes};
 
 use crate::float::has_float;
 use serde_json::Value;
@@ -28,13 +28,13 @@ impl Model for JwtKey {
     ghost use Rattle.std.specs.Prelude.{◌≤◌, length};
     ghost use Rattle.std.specs.String.{string_bytes};
     ghost use Rattle.svid_id.specs.Domain.{IsDomain};
-    ghost use Rattle.svid_keys.specs.Key.{KeyData};
+    ghost use Rattle.svid_keys.specs.Key.{KeyData, most_key_bytes};
 
     ghost Value = { KeyData };
 
     ghost view = { λ key. record { domain = string_bytes key.domain; kid = string_bytes key.kid; kty = key.kty; text = string_bytes key.text } };
 
-    ghost invariant = { λ key. IsDomain (string_bytes key.domain) × (length (string_bytes key.text) ≤ 65536) };
+    ghost invariant = { λ key. IsDomain (string_bytes key.domain) × (length (string_bytes key.text) ≤ most_key_bytes) };
 }
 
 impl JwtKey {
@@ -95,7 +95,7 @@ impl JwtKey {
     /// The whole entry as compact JSON with its names in rising byte order: at most 65,536 bytes.
     pub fn text(&self) -> &str
         ensures value { result.now ≡ self.now.text }
-        ensures len { length result.now ≤ 65536 }
+        ensures len { length result.now ≤ most_key_bytes }
     {
         self.text.as_str()
     }

@@ -26,8 +26,6 @@ mod float;
 mod jwt_key;
 pub mod laws;
 mod lines;
-#[cfg(test)]
-mod memory_tests;
 mod questions;
 mod table_fault;
 mod table_verifier;

@@ -1,5 +1,5 @@
 ghost use Rattle.std.specs.Prelude.{◌≡◌, ◌∷◌, ◌++◌, MatchOption};
-ghost use Rattle.svid_keys.specs.Lines.{HasNoFeed, without_return};
+ghost use Rattle.svid_keys.specs.Lines.{HasNoFeed, line_feed, without_return};
 
 const LINE_FEED: u8 = b'\n';
 
@@ -52,7 +52,7 @@ impl<'a> Iterator for Lines<'a> {
 // What stands before and after the first line feed.
 fn split_feed(bytes: &[u8]) -> Option<(&[u8], &[u8])>
     ensures { MatchOption result (HasNoFeed bytes.now)
-        (λ x. HasNoFeed x.0.now × (bytes.now ≡ x.0.now ++ LINE_FEED ∷ x.1.now)) }
+        (λ x. HasNoFeed x.0.now × (bytes.now ≡ x.0.now ++ line_feed ∷ x.1.now)) }
 {
     let at = bytes.iter().position(|byte| *byte == LINE_FEED)?;
     let (before, _) = bytes.split_at(at);

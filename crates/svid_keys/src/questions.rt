@@ -1,4 +1,5 @@
 ghost use Rattle.std.specs.Prelude.{◌≡◌, ◌≤◌, ◌<◌, ◌^◌, ◌++◌, List, ℕ, length};
+ghost use Rattle.svid_token.specs.Compact.{most_token_bytes};
 ghost use Rattle.svid_keys.specs.Question.{field, question_of};
 
 use crate::jwt_key::JwtKey;
@@ -9,8 +10,8 @@ use svid_token::Alg;
 /// digest of the trust domain, the key's text, the algorithm's name, the signing input and the
 /// signature, each after its length in four bytes, the greatest first. No memory is taken.
 pub fn question(key: &JwtKey, alg: Alg, input: &[u8], signature: &[u8]) -> [u8; 32]
-    requires input_len { length input.now ≤ 65536 }
-    requires signature_len { length signature.now ≤ 65536 }
+    requires input_len { length input.now ≤ most_token_bytes }
+    requires signature_len { length signature.now ≤ most_token_bytes }
     ensures { result ≡ question_of key.now alg input.now signature.now }
 {
     let mut hasher = Sha256::new();

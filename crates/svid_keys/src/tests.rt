@@ -3,6 +3,9 @@
 
 ghost use Rattle.std.specs.Prelude.{◌≤◌};
 
+mod memory;
+mod refusing;
+
 use crate::{BundleFault, Bundles, JwtKey, Lines, TableFault, TableVerifier, Verifier, question};
 use hex::ToHex;
 use std::alloc::{AllocError, Global};
@@ -10,15 +13,14 @@ use std::test::Fail;
 use svid_token::{Alg, Kty};
 
 // A bundle of one key, and a token's signing input of another encoder.
-pub(crate) const ONE_KEY: &[u8] =
+const ONE_KEY: &[u8] =
     b"{\"a\":{\"keys\":[{\"kty\":\"EC\",\"use\":\"jwt-svid\",\"kid\":\"k01\",\"crv\":\"P-256\",\"x\":\"AA\",\"y\":\"AA\"}]}}";
 
 const INPUT: &[u8] =
     b"eyJhbGciOiJFUzI1NiIsImtpZCI6ImswMSIsInR5cCI6IkpXVCJ9.eyJzdWIiOiJzcGlmZmU6Ly9hL2IiLCJhdWQiOiJzIiwiZXhwIjoxMDAxLCJqdGkiOiJqMSJ9";
 
 // The question for that key, ES256, that input and the signature `sig`.
-pub(crate) const QUESTION: &str =
-    "bc905fb9ff409ccd144f0ea328f043d7d765a8e7d61f27505a41839950f6ed1e";
+const QUESTION: &str = "bc905fb9ff409ccd144f0ea328f043d7d765a8e7d61f27505a41839950f6ed1e";
 
 const MIXED: &[u8] = b"{\"a\":{\"spiffe_sequence\":1,\"keys\":[
 {\"kty\":\"EC\",\"use\":\"jwt-svid\",\"kid\":\"k1\"},

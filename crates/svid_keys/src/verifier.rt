@@ -1,4 +1,5 @@
 ghost use Rattle.std.specs.Prelude.{◌≡◌, ◌≤◌, ℕ, Bool, List, length};
+ghost use Rattle.svid_token.specs.Compact.{most_token_bytes};
 ghost use Rattle.svid_token.specs.declared.alg.Alg.{Alg};
 ghost use Rattle.svid_keys.specs.Key.{KeyData};
 
@@ -15,7 +16,7 @@ pub trait Verifier {
     /// Whether a signature over an input is good for a key and an algorithm. The input and the
     /// signature have at most 65,536 bytes each. No memory is taken.
     fn verify(&self, key: &JwtKey, alg: Alg, input: &[u8], signature: &[u8]) -> bool
-        requires input_len { length input.now ≤ 65536 }
-        requires signature_len { length signature.now ≤ 65536 }
+        requires input_len { length input.now ≤ most_token_bytes }
+        requires signature_len { length signature.now ≤ most_token_bytes }
         ensures { result ≡ says self.now key.now alg input.now signature.now };
 }

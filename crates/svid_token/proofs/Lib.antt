@@ -1,5 +1,6 @@
 pub mod ClaimsLemmas
 pub mod CompactLemmas
 pub mod JsonLemmas
+pub mod ObjectLemmas
 pub mod PartLemmas
 pub mod RowsLemmas

@@ -5,15 +5,22 @@ use Rattle.svid_token.specs.Rows.{Row, first_row, judged}
 use Rattle.svid_token.specs.declared.refusal.Refusal.{Refusal}
 use Rattle.svid_token.specs.declared.refusal.Refusal.TheVariants.{TooLong, NotThreeParts}
 use Rattle.svid_token.specs.declared.compact.Compact.{Compact}
-use Rattle.svid_token.specs.declared.compact.TheConstants.{PERIOD, MAX_TOKEN_LEN}
+
+-- the byte '.'
+abbrev pub period : ℕ
+period = 46
+
+-- the most bytes of a token
+abbrev pub most_token_bytes : ℕ
+most_token_bytes = 65536
 
 -- bytes in which no period stands
 abbrev pub HasNoPeriod : List ℕ → Type 0
-HasNoPeriod = All (λ b. b ≢ PERIOD)
+HasNoPeriod = All (λ b. b ≢ period)
 
 -- a token is its header, payload and signature, joined by periods
 pub record IsCompact (token header payload signature : List ℕ) : Type 0 where
-  pub joined : token ≡ header ++ PERIOD ∷ (payload ++ PERIOD ∷ signature)
+  pub joined : token ≡ header ++ period ∷ (payload ++ period ∷ signature)
   pub header_whole : HasNoPeriod header
   pub payload_whole : HasNoPeriod payload
   pub signature_whole : HasNoPeriod signature
@@ -31,7 +38,7 @@ three _ = None
 
 -- the parts of a token, cut at each period, if there are three
 unfoldable pub parts_of : List ℕ → Option Parts
-parts_of token = three (slice_split (λ b. b == PERIOD) token)
+parts_of token = three (slice_split (λ b. b == period) token)
 
 -- these are the parts of a token, by both definitions
 abbrev pub AreParts : List ℕ → List ℕ → List ℕ → List ℕ → Type 0
@@ -40,12 +47,12 @@ AreParts token header payload signature = IsCompact token header payload signatu
 
 -- what a signature is made over (RFC 7515, section 5.1)
 abbrev pub signing_input : List ℕ → List ℕ → List ℕ
-signing_input header payload = header ++ PERIOD ∷ payload
+signing_input header payload = header ++ period ∷ payload
 
 -- the refusals of a token by its form
 abbrev pub compact_rows : List ℕ → List Row
 compact_rows token =
-    (TooLong, nat_lt MAX_TOKEN_LEN (length token))
+    (TooLong, nat_lt most_token_bytes (length token))
     ∷ (NotThreeParts, is_none (parts_of token))
     ∷ []
 

@@ -1,11 +1,9 @@
 -- A part that is to spell a JSON object (RFC 7515, section 4; RFC 7519, section 7.2).
-use Rattle.std.specs.Prelude.{◌≡◌, ℕ, is_none, List, [], ◌∷◌, Option, None, Some, option_and_then}
+use Rattle.std.specs.Prelude.{ℕ, is_none, List, [], ◌∷◌, Option, Result, option_and_then}
 use Rattle.serde_json.specs.Data.{Data}
 use Rattle.svid_token.specs.Json.{object_of}
 use Rattle.svid_token.specs.Part.{part_bytes}
-use Rattle.svid_token.specs.Rows.{Row, fails}
-use Rattle.svid_token.specs.declared.object.ObjectFault.{ObjectFault}
-use Rattle.svid_token.specs.declared.object.ObjectFault.TheVariants.{Spelling, NotObject, OutOfMemory}
+use Rattle.svid_token.specs.Rows.{Row, fails, first_row, judged}
 use Rattle.svid_token.specs.declared.refusal.Refusal.{Refusal}
 
 -- the JSON object that a part spells, if it spells one
@@ -19,8 +17,6 @@ object_rows spelling not_object part =
     ∷ (not_object, fails object_of (part_bytes part))
     ∷ []
 
--- why a part gave no object
-abbrev pub IsObjectFault : List ℕ → ObjectFault → Type 0
-IsObjectFault part Spelling = part_bytes part ≡ None
-IsObjectFault part NotObject = (bytes : List ℕ) × (part_bytes part ≡ Some bytes) × (object_of bytes ≡ None)
-IsObjectFault part OutOfMemory = Unit {0}
+-- the answer that is due to a part that is to spell an object
+abbrev pub object_due : Refusal → Refusal → List ℕ → Result (Option Data) Refusal
+object_due spelling not_object part = judged (first_row (object_rows spelling not_object part)) (part_object part)

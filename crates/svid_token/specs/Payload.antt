@@ -2,8 +2,8 @@
 use Rattle.std.specs.Prelude.{ℕ, List, Option, Result}
 use Rattle.serde_json.specs.Data.{Data}
 use Rattle.serde_json.specs.View.{view}
-use Rattle.svid_token.specs.Object.{object_rows, part_object}
-use Rattle.svid_token.specs.Rows.{Row, first_row, judged}
+use Rattle.svid_token.specs.Object.{object_due, object_rows}
+use Rattle.svid_token.specs.Rows.{Row}
 use Rattle.svid_token.specs.declared.payload.Payload.{Payload}
 use Rattle.svid_token.specs.declared.refusal.Refusal.{Refusal}
 use Rattle.svid_token.specs.declared.refusal.Refusal.TheVariants.{PayloadSpelling, PayloadNotObject}
@@ -14,7 +14,7 @@ payload_rows part = object_rows PayloadSpelling PayloadNotObject part
 
 -- the answer that is due to a payload
 abbrev pub payload_of : List ℕ → Result (Option Data) Refusal
-payload_of part = judged (first_row (payload_rows part)) (part_object part)
+payload_of part = object_due PayloadSpelling PayloadNotObject part
 
 -- what contracts see of a payload: its JSON object
 abbrev pub payload_object : Payload → Data

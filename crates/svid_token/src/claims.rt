@@ -10,7 +10,7 @@ use std::alloc::{AllocError, Global};
 use svid_id::{IdFault, SpiffeId};
 
 /// The claims of a JWT-SVID that a validator looks at (RFC 7519, section 4.1).
-#[derive(Debug, Drop)]
+#[derive(Debug, Drop, PartialEq, Eq)]
 pub struct Claims {
     /// The subject: the SPIFFE ID of the workload that the token speaks for.
     pub sub: SpiffeId,
@@ -72,7 +72,7 @@ fn read_subject(alloc: Global, object: &Value) -> Result<Option<SpiffeId>, Alloc
 }
 
 // The SPIFFE ID that a text is, if it is one.
-#[tactic(auto, using(crate::proofs::ClaimsLemmas::refused_parts))]
+#[tactic(auto, using(svid_id::proofs::IdLemmas::refused_parts))]
 fn read_id(alloc: Global, text: &[u8]) -> Result<Option<SpiffeId>, AllocError>
     ensures { IfOk result (λ o. o ≡ id_parts text.now) }
 {

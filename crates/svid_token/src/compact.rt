@@ -1,5 +1,5 @@
 ghost use Rattle.std.specs.Prelude.{◌≡◌, ◌++◌, ◌∷◌, None, MatchOption};
-ghost use Rattle.svid_token.specs.Compact.{AreParts, HasNoPeriod, parts_of};
+ghost use Rattle.svid_token.specs.Compact.{AreParts, HasNoPeriod, parts_of, period};
 
 use crate::refusal::Refusal;
 
@@ -23,7 +23,7 @@ pub struct Compact<'a> {
 
 impl<'a> Compact<'a> {
     ghost use Rattle.std.specs.Prelude.{◌≡◌, ◌≤◌, ℕ, List, length, Err, IfOk, OnOk};
-    ghost use Rattle.svid_token.specs.Compact.{IsCompact, compact_of, compact_view, signing_input};
+    ghost use Rattle.svid_token.specs.Compact.{IsCompact, compact_of, compact_view, most_token_bytes, signing_input};
     ghost use Rattle.svid_token.specs.Rows.{seen};
 
     /// Splits a token at its two periods. No memory is taken.
@@ -35,7 +35,7 @@ impl<'a> Compact<'a> {
             (λ c. IsCompact token.now c.header.now c.payload.now c.signature.now) }
         ensures input { IfOk result
             (λ c. c.input.now ≡ signing_input c.header.now c.payload.now) }
-        ensures len { OnOk result (length token.now ≤ MAX_TOKEN_LEN) }
+        ensures len { OnOk result (length token.now ≤ most_token_bytes) }
         ensures not_three { result ≡ Err Refusal.NotThreeParts
             → (header payload signature : List ℕ) → ¬ IsCompact token.now header payload signature }
         ensures value { seen compact_view result ≡ compact_of token.now }
@@ -72,7 +72,7 @@ fn three_parts(token: &[u8]) -> Option<(&[u8], &[u8], &[u8])>
 // What stands before and after the first period.
 fn split_period(bytes: &[u8]) -> Option<(&[u8], &[u8])>
     ensures { MatchOption result (HasNoPeriod bytes.now)
-        (λ x. HasNoPeriod x.0.now × (bytes.now ≡ x.0.now ++ PERIOD ∷ x.1.now)) }
+        (λ x. HasNoPeriod x.0.now × (bytes.now ≡ x.0.now ++ period ∷ x.1.now)) }
 {
     let at = bytes.iter().position(|b| *b == PERIOD)?;
     let (before, _) = bytes.split_at(at);

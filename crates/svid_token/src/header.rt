@@ -6,7 +6,7 @@ ghost use Rattle.svid_token.specs.Rows.{fails};
 
 use crate::alg::Alg;
 use crate::member::{optional_text, owned};
-use crate::object::{ObjectFault, read_object};
+use crate::object::read_object;
 use crate::refusal::Refusal;
 use serde_json::Value;
 use std::alloc::Global;
@@ -34,12 +34,13 @@ impl Header {
     pub fn read(alloc: Global, part: &[u8]) -> Result<Header, Refusal>
         ensures { Answers header_view result (header_of part.now) }
     {
-        match read_object(alloc, part) {
-            Ok(object) => Header::from_object(alloc, &object),
-            Err(ObjectFault::Spelling) => Err(Refusal::HeaderSpelling),
-            Err(ObjectFault::NotObject) => Err(Refusal::HeaderNotObject),
-            Err(ObjectFault::OutOfMemory) => Err(Refusal::OutOfMemory),
-        }
+        let object = read_object(
+            alloc,
+            part,
+            Refusal::HeaderSpelling,
+            Refusal::HeaderNotObject,
+        )?;
+        Header::from_object(alloc, &object)
     }
 
     // The header that a JSON object is.

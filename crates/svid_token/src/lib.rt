@@ -27,8 +27,6 @@ mod key;
 mod kty;
 pub mod laws;
 mod member;
-#[cfg(test)]
-mod memory_tests;
 mod object;
 mod part;
 mod payload;

@@ -1,6 +1,8 @@
 ghost use Rattle.std.specs.Prelude.{◌≡◌, ◌≤◌, Some, IfOk, IfErr, length, vec_len};
-ghost use Rattle.svid_token.specs.Part.{IsPartFault, Spells, part_bytes};
+ghost use Rattle.svid_token.specs.Part.{IsPartFault, Spells, bytes_due, part_bytes};
+ghost use Rattle.svid_token.specs.Rows.{Answers};
 
+use crate::refusal::Refusal;
 use base64::DecodeAllocError;
 use base64::engine::general_purpose::URL_SAFE_NO_PAD;
 use std::alloc::Global;
@@ -29,9 +31,23 @@ pub fn decode_part(alloc: Global, part: &[u8]) -> Result<Vec<u8>, PartFault>
     ensures refused { IfErr result (IsPartFault part.now) }
     ensures len { IfOk result (λ v. vec_len v ≤ length part.now) }
 {
+    // The decoder answers want of memory as one of two faults, so it is told apart by hand.
     match URL_SAFE_NO_PAD.decode(alloc, part) {
         Ok(bytes) => Ok(bytes),
         Err(DecodeAllocError::OutOfMemory) => Err(PartFault::OutOfMemory),
         Err(DecodeAllocError::DecodeError(_)) => Err(PartFault::Spelling),
+    }
+}
+
+// The bytes that a part of a token spells, or the refusal of its spelling.
+pub(crate) fn read_part(alloc: Global, part: &[u8], spelling: Refusal) -> Result<Vec<u8>, Refusal>
+    ensures value { Answers (λ v. Some v.items) result (bytes_due spelling part.now) }
+    ensures len { IfOk result (λ v. vec_len v ≤ length part.now) }
+{
+    // Which refusal a fault becomes depends on the part, so `From` can't say it.
+    match decode_part(alloc, part) {
+        Ok(bytes) => Ok(bytes),
+        Err(PartFault::Spelling) => Err(spelling),
+        Err(PartFault::OutOfMemory) => Err(Refusal::OutOfMemory),
     }
 }

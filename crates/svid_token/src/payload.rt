@@ -1,5 +1,5 @@
 use crate::claims::Claims;
-use crate::object::{ObjectFault, read_object};
+use crate::object::read_object;
 use crate::refusal::Refusal;
 use serde_json::Value;
 use std::alloc::Global;
@@ -24,12 +24,13 @@ impl Payload {
     pub fn read(alloc: Global, part: &[u8]) -> Result<Payload, Refusal>
         ensures { Answers (λ payload. Some (payload_object payload)) result (payload_of part.now) }
     {
-        match read_object(alloc, part) {
-            Ok(object) => Ok(Payload { object }),
-            Err(ObjectFault::Spelling) => Err(Refusal::PayloadSpelling),
-            Err(ObjectFault::NotObject) => Err(Refusal::PayloadNotObject),
-            Err(ObjectFault::OutOfMemory) => Err(Refusal::OutOfMemory),
-        }
+        let object = read_object(
+            alloc,
+            part,
+            Refusal::PayloadSpelling,
+            Refusal::PayloadNotObject,
+        )?;
+        Ok(Payload { object })
     }
 
     /// The claims of the payload.

@@ -2,7 +2,7 @@ ghost use Rattle.std.specs.Prelude.{◌≤◌, IfOk, Some, length, vec_len};
 ghost use Rattle.svid_token.specs.Rows.{Answers};
 ghost use Rattle.svid_token.specs.Signature.{signature_of};
 
-use crate::part::{PartFault, decode_part};
+use crate::part::read_part;
 use crate::refusal::Refusal;
 use std::alloc::Global;
 
@@ -18,9 +18,5 @@ pub fn read_signature(alloc: Global, part: &[u8]) -> Result<Vec<u8>, Refusal>
     if part.is_empty() {
         return Err(Refusal::SignatureSpelling);
     }
-    match decode_part(alloc, part) {
-        Ok(bytes) => Ok(bytes),
-        Err(PartFault::Spelling) => Err(Refusal::SignatureSpelling),
-        Err(PartFault::OutOfMemory) => Err(Refusal::OutOfMemory),
-    }
+    read_part(alloc, part, Refusal::SignatureSpelling)
 }

@@ -1,9 +1,11 @@
+mod memory;
+mod refusing;
+
 use crate::{
-    Alg, Claims, Compact, Header, Kty, PartFault, Payload, Refusal, decode_part, read_signature,
-    token_key,
+    Alg, Claims, Compact, Header, Kty, PartFault, Payload, Refusal, decode_part, read_json,
+    read_signature, token_key,
 };
 use base64::engine::general_purpose::URL_SAFE_NO_PAD;
-use sha2::{Digest, Sha256};
 use std::alloc::{AllocError, Global};
 use std::test::Fail;
 use svid_id::SpiffeId;
@@ -12,10 +14,12 @@ use svid_id::SpiffeId;
 const TOKEN: &str =
     "eyJhbGciOiJFUzI1NiIsImtpZCI6ImswMSIsInR5cCI6IkpXVCJ9.eyJzdWIiOiJzcGlmZmU6Ly9hL2IiLCJhdWQiOiJzIiwiZXhwIjoxMDAxLCJqdGkiOiJqMSJ9.c2ln";
 
-pub(crate) const HEADER: &str = "eyJhbGciOiJFUzI1NiIsImtpZCI6ImswMSIsInR5cCI6IkpXVCJ9";
+const HEADER: &str = "eyJhbGciOiJFUzI1NiIsImtpZCI6ImswMSIsInR5cCI6IkpXVCJ9";
 
-pub(crate) const PAYLOAD: &str =
-    "eyJzdWIiOiJzcGlmZmU6Ly9hL2IiLCJhdWQiOiJzIiwiZXhwIjoxMDAxLCJqdGkiOiJqMSJ9";
+const PAYLOAD: &str = "eyJzdWIiOiJzcGlmZmU6Ly9hL2IiLCJhdWQiOiJzIiwiZXhwIjoxMDAxLCJqdGkiOiJqMSJ9";
+
+// The digest of the bytes 01 00 00 00 01 61 6a 31, by Python's `hashlib`.
+const KEY_OF_J1: &str = "aa248ce528cb9cae518c0ae05cdaf85eda5482429ab9cc3d6d5681f47a1f4596";
 
 fn spell(alloc: Global, bytes: &[u8]) -> Result<String, AllocError> {
     URL_SAFE_NO_PAD.encode(alloc, bytes)
@@ -44,6 +48,15 @@ fn nested(alloc: Global, members: &str, depth: usize) -> Result<String, AllocErr
     Ok(text)
 }
 
+// Bytes as digits of base 16, two a byte.
+fn hex(alloc: Global, bytes: &[u8]) -> Result<String, AllocError> {
+    let mut text = String::new(alloc);
+    for byte in bytes {
+        text.push_str(format!(in alloc; "{byte:02x}")?.as_str())?;
+    }
+    Ok(text)
+}
+
 #[test]
 fn takes_a_token_apart(rt: HostRuntime) -> Result<(), Fail> {
     let token = Compact::split(TOKEN.as_bytes())?;
@@ -63,7 +76,7 @@ fn takes_a_token_apart(rt: HostRuntime) -> Result<(), Fail> {
     let signature = read_signature(rt.alloc(), token.signature)?;
     assert_eq!(rt; signature.as_slice(), b"sig".as_slice());
     let key = token_key(&claims.sub, claims.jti.as_deref(), token.input);
-    assert_eq!(rt; key, Sha256::digest(b"\x01\x00\x00\x00\x01aj1"));
+    assert_eq!(rt; hex(rt.alloc(), &key)?.as_str(), KEY_OF_J1);
     Ok(())
 }
 
@@ -232,6 +245,32 @@ fn reads_headers(rt: HostRuntime) -> Result<(), Fail> {
 }
 
 #[test]
+fn reads_a_header_of_each_algorithm(rt: HostRuntime) -> Result<(), Fail> {
+    // RFC 7518, section 3.1.
+    let cases = [
+        ("RS256", Alg::Rs256),
+        ("RS384", Alg::Rs384),
+        ("RS512", Alg::Rs512),
+        ("ES256", Alg::Es256),
+        ("ES384", Alg::Es384),
+        ("ES512", Alg::Es512),
+        ("PS256", Alg::Ps256),
+        ("PS384", Alg::Ps384),
+        ("PS512", Alg::Ps512),
+    ];
+    for (name, alg) in cases {
+        let json = format!(in rt.alloc(); "{{\"alg\":\"{name}\",\"kid\":\"k\"}}")?;
+        let read = header(rt.alloc(), json.as_bytes())?;
+        let same = Header {
+            alg,
+            kid: Some(String::from_str(rt.alloc(), "k")?),
+        };
+        assert_eq!(rt; read, same, "{name}");
+    }
+    Ok(())
+}
+
+#[test]
 fn refuses_headers(rt: HostRuntime) -> Result<(), Fail> {
     let cases: [(&[u8], Refusal); 30] = [
         (b"", Refusal::HeaderNotObject),
@@ -310,6 +349,40 @@ fn reads_to_a_nesting_limit(rt: HostRuntime) -> Result<(), Fail> {
 }
 
 #[test]
+fn reads_json_values(rt: HostRuntime) -> Result<(), Fail> {
+    // The compact text of each value, its names in rising order, as Python's `json` writes it.
+    let cases: [(&[u8], &str); 7] = [
+        (b"null", "null"),
+        (b" [ ] ", "[]"),
+        (b"\"\\u0061\\u00e9\"", "\"a\u{e9}\""),
+        (
+            b"[true,false,-1,18446744073709551615]",
+            "[true,false,-1,18446744073709551615]",
+        ),
+        (b"{\"b\":[1,{}],\"a\":\"\"}", "{\"a\":\"\",\"b\":[1,{}]}"),
+        (b"{\"a\":1,\"a\":2}", "{\"a\":2}"),
+        (b"[[[[\"x\"]]]]", "[[[[\"x\"]]]]"),
+    ];
+    for (bytes, text) in cases {
+        let value = read_json(rt.alloc(), bytes)?.ok_or("a value")?;
+        assert_eq!(rt; value.to_string(rt.alloc())?.as_str(), text);
+    }
+    let none: [&[u8]; 7] = [
+        b"",
+        b" ",
+        b"nul",
+        b"[1,]",
+        b"1 2",
+        b"\"\xff\"",
+        b"\xef\xbb\xbf1",
+    ];
+    for bytes in none {
+        assert!(rt; read_json(rt.alloc(), bytes)?.is_none(), "{bytes:?}");
+    }
+    Ok(())
+}
+
+#[test]
 fn reads_signatures(rt: HostRuntime) -> Result<(), Fail> {
     assert_eq!(rt;
         read_signature(rt.alloc(), b"c2ln")?.as_slice(),
@@ -356,6 +429,75 @@ fn reads_claims(rt: HostRuntime) -> Result<(), Fail> {
     assert_eq!(rt; read.exp, 5);
     assert_eq!(rt; read.nbf, Some(3));
     assert_eq!(rt; read.jti.as_deref(), Some(""));
+    Ok(())
+}
+
+#[test]
+fn reads_audiences_in_order(rt: HostRuntime) -> Result<(), Fail> {
+    // Of a member that is written twice the last stands (RFC 7515, section 4).
+    let cases: [(&str, &[&str]); 7] = [
+        ("\"aud\":\"s\"", &["s"]),
+        ("\"aud\":[\"s\"]", &["s"]),
+        ("\"aud\":[\"t\",\"u\",\"s\"]", &["t", "u", "s"]),
+        ("\"aud\":[\"u\",\"\",\"u\"]", &["u", "", "u"]),
+        ("\"aud\":\"s\",\"aud\":[\"t\",\"u\"]", &["t", "u"]),
+        ("\"aud\":[\"t\",\"u\"],\"aud\":\"s\"", &["s"]),
+        ("\"aud\":7,\"aud\":\"t\"", &["t"]),
+    ];
+    for (aud, wanted) in cases {
+        let json = format!(in rt.alloc(); "{{\"sub\":\"spiffe://a\",{aud},\"exp\":5}}")?;
+        let read = claims(rt.alloc(), json.as_bytes())?;
+        assert_eq!(rt; read.aud.len(), wanted.len(), "{aud}");
+        for (i, text) in wanted.into_iter().enumerate() {
+            assert_eq!(rt; read.aud.get(i).map(String::as_str), Some(*text), "{aud}");
+        }
+        assert_eq!(rt; read.nbf, None);
+        assert_eq!(rt; read.jti, None);
+    }
+    Ok(())
+}
+
+#[test]
+fn compares_claims(rt: HostRuntime) -> Result<(), Fail> {
+    let one = "\"sub\":\"spiffe://a/b\",\"aud\":[\"s\",\"t\"],\"exp\":5,\"nbf\":3,\"jti\":\"j\"";
+    let cases = [
+        (
+            "\"jti\":\"j\",\"nbf\":3,\"exp\":5,\"aud\":[\"s\",\"t\"],\"sub\":\"spiffe://a/b\",\"x\":1",
+            true,
+        ),
+        (
+            "\"sub\":\"spiffe://a\",\"aud\":[\"s\",\"t\"],\"exp\":5,\"nbf\":3,\"jti\":\"j\"",
+            false,
+        ),
+        (
+            "\"sub\":\"spiffe://a/b\",\"aud\":[\"t\",\"s\"],\"exp\":5,\"nbf\":3,\"jti\":\"j\"",
+            false,
+        ),
+        (
+            "\"sub\":\"spiffe://a/b\",\"aud\":[\"s\",\"t\"],\"exp\":6,\"nbf\":3,\"jti\":\"j\"",
+            false,
+        ),
+        (
+            "\"sub\":\"spiffe://a/b\",\"aud\":[\"s\",\"t\"],\"exp\":5,\"jti\":\"j\"",
+            false,
+        ),
+        (
+            "\"sub\":\"spiffe://a/b\",\"aud\":[\"s\",\"t\"],\"exp\":5,\"nbf\":3,\"jti\":\"k\"",
+            false,
+        ),
+        (
+            "\"sub\":\"spiffe://a/b\",\"aud\":[\"s\",\"t\"],\"exp\":5,\"nbf\":3",
+            false,
+        ),
+    ];
+    let left = claims(rt.alloc(), format!(in rt.alloc(); "{{{one}}}")?.as_bytes())?;
+    for (other, same) in cases {
+        let right = claims(
+            rt.alloc(),
+            format!(in rt.alloc(); "{{{other}}}")?.as_bytes(),
+        )?;
+        assert_eq!(rt; left == right, same, "{other}");
+    }
     Ok(())
 }
 
@@ -487,20 +629,24 @@ fn reads_times_of_digits_alone(rt: HostRuntime) -> Result<(), Fail> {
 
 #[test]
 fn keys_tokens(rt: HostRuntime) -> Result<(), Fail> {
-    let id = SpiffeId::parse(rt.alloc(), b"spiffe://a/b")
-        .ok()
-        .ok_or("an ID")?;
-    let by_jti = Sha256::digest(b"\x01\x00\x00\x00\x01aj1");
-    assert_eq!(rt; token_key(&id, Some("j1"), b"."), by_jti);
-    assert_eq!(rt; token_key(&id, Some("j1"), b"h.p"), by_jti);
-    let by_input = Sha256::digest(b"\x00.");
-    assert_eq!(rt; token_key(&id, None, b"."), by_input);
-    assert_eq!(rt; token_key(&id, Some(""), b"."), by_input);
-    let other = SpiffeId::parse(rt.alloc(), b"spiffe://aj")
-        .ok()
-        .ok_or("an ID")?;
-    assert_ne!(rt; token_key(&other, Some("1"), b"."), by_jti);
-    assert_eq!(rt; token_key(&other, None, b"."), by_input);
+    // Digests by Python's `hashlib`, of byte 00 and the signing input, and of the name `aj` and `1`.
+    let by_period = "3639618e90314d0feb7ce289d97468263ca4af996ffc621399d092e1f12aa1dd";
+    let by_input = "3834f997cfc9f044a15349bc658d5d33cb71e22ff4a851591935a16dafbb0ebc";
+    let of_aj = "11bcfa5b6ec3b9df18336df3252ed62ff699208b975ceb75b40d47507d583da0";
+    let cases = [
+        ("spiffe://a", Some("j1"), ".", KEY_OF_J1),
+        ("spiffe://a/b", Some("j1"), "h.p", KEY_OF_J1),
+        ("spiffe://a", None, ".", by_period),
+        ("spiffe://a", Some(""), ".", by_period),
+        ("spiffe://aj/b", None, ".", by_period),
+        ("spiffe://a", None, "h.p", by_input),
+        ("spiffe://aj", Some("1"), ".", of_aj),
+    ];
+    for (sub, jti, input, digest) in cases {
+        let sub = SpiffeId::parse(rt.alloc(), sub.as_bytes())?;
+        let key = token_key(&sub, jti, input.as_bytes());
+        assert_eq!(rt; hex(rt.alloc(), &key)?.as_str(), digest);
+    }
     Ok(())
 }
 

@@ -1,6 +1,5 @@
 use Rattle.std.proofs.Common.{◌∷◌, ◌++◌, ◌∙◌, ap}
-use Rattle.svid_token.specs.Compact.{IsCompact}
-use Rattle.svid_token.specs.declared.compact.TheConstants.{PERIOD}
+use Rattle.svid_token.specs.Compact.{IsCompact, period}
 use Rattle.svid_token.proofs.CompactLemmas.{parts_of-one, parts_of-two, parts_of-three, parts_of-four}
 use Rattle.svid_token.proofs.compact.three_parts.Goals as goal
 
@@ -14,7 +13,7 @@ returns-in_err-payload c =
 pub returns-in-None : goal.returns-in-None
 returns-in-None c =
     let is : IsCompact c.args.token.now c.in_ok-header.header.now c.in_ok-payload.payload.now c.in_ok-payload.signature.now = record {
-      joined = c.in_ok-header.ensures.1 ∙ ap (λ rest. c.in_ok-header.header.now ++ PERIOD ∷ rest) c.in_ok-payload.ensures.1;
+      joined = c.in_ok-header.ensures.1 ∙ ap (λ rest. c.in_ok-header.header.now ++ period ∷ rest) c.in_ok-payload.ensures.1;
       header_whole = c.in_ok-header.ensures.0;
       payload_whole = c.in_ok-payload.ensures.0;
       signature_whole = c.in-None.ensures;

@@ -1,32 +1,13 @@
-// Each call that takes memory, with each of its allocations refused in turn.
-//
-// A preloaded library refuses them. It is told by requests that no allocator can meet: 2^62 + n
-// bytes refuse the nth allocation that follows, none for n = 0, and 2^62 + 2^61 bytes are given
-// exactly where one was refused since. Without the library each test runs its call with ample
-// memory.
+// Each call that takes memory, with each of its allocations refused in turn. Without the library of
+// ./test none is refused, and each test runs its call with ample memory.
 
-ghost use Rattle.std.specs.Prelude.{◌≤◌};
-
-use crate::tests::{ONE_KEY, QUESTION};
+use super::refusing::{refuse, was_refused};
+use super::{ONE_KEY, QUESTION};
 use crate::{BundleFault, Bundles, TableFault, TableVerifier};
 use std::alloc::Global;
 use std::process::Abort;
 
-const REFUSE: usize = 0x4000_0000_0000_0000;
-
-const WAS_REFUSED: usize = 0x6000_0000_0000_0000;
-
 const MOST_ALLOCATIONS: usize = 10000;
-
-fn refuse(alloc: Global, nth: usize)
-    requires { nth ≤ MOST_ALLOCATIONS }
-{
-    let _ = Vec::<u8>::with_capacity(alloc, REFUSE + nth);
-}
-
-fn was_refused(alloc: Global) -> bool {
-    Vec::<u8>::with_capacity(alloc, WAS_REFUSED).is_ok()
-}
 
 // Reads bundles with each allocation refused in turn, and then with memory: want of memory is
 // answered exactly where one was refused, and else the fault that is due, or none.
