@@ -3,6 +3,7 @@ pub mod ListLemmas
 pub mod PartsLemmas
 pub mod RecordsLemmas
 pub mod SetsLemmas
+pub mod TestsLemmas
 pub mod TwiceLemmas
 pub mod UseLemmas
 pub mod UsesLemmas

@@ -1,32 +1,16 @@
 // Each growth of a call is refused in turn, where tools/failmalloc.c is loaded; else the happy path runs alone.
-ghost use Rattle.std.specs.Prelude.{◌<◌};
-
-use super::{FIRST, SECOND, add, at, empty, record_of, uses_to};
+use super::refusing::{refuse, was_refused};
+use super::{FIRST, SECOND, absorb, add, at, sorted, uses_to};
 use crate::{Batch, Record, SortedUses, Use, UseStore};
 use std::alloc::Global;
 use std::process::Abort;
 use std::test::Fail;
 
-// Sizes that no allocator gives command the library.
-const ARM: usize = 0x4000_0000_0000_0000;
-
-const ASK: usize = 0x6000_0000_0000_0000;
-
-fn refuse(alloc: Global, nth: usize)
-    requires { nth < 4294967296 }
-{
-    let _ = Vec::<u8>::with_capacity(alloc, ARM + nth);
-}
-
-fn was_refused(alloc: Global) -> bool {
-    Vec::<u8>::with_capacity(alloc, ASK).is_ok()
-}
-
 // A record that was refused memory has the moment and a proper prefix of the uses, which it gives in order.
-fn assert_prefix(
+fn assert_prefix<S: UseStore>(
     rt: &impl Abort,
     alloc: Global,
-    record: &Record<SortedUses>,
+    record: &Record<S>,
     uses: &[Use],
 ) -> Result<(), Fail> {
     let kept = record.uses(alloc)?;
@@ -36,60 +20,90 @@ fn assert_prefix(
     Ok(())
 }
 
+// Has a new record absorb the batch while the nth allocation is refused, and says whether one was.
+fn absorbs_as_far_as_memory_goes<S: UseStore>(
+    rt: &impl Abort,
+    alloc: Global,
+    nth: usize,
+    record: &mut Record<S>,
+    batch: &Batch,
+) -> Result<bool, Fail>
+    requires { nth < 4294967296 }
+{
+    refuse(alloc, nth);
+    let answer = record.absorb(batch);
+    let refused = was_refused(alloc);
+    refuse(alloc, 0);
+    assert_eq!(rt; answer.is_err(), refused);
+    if refused {
+        assert_prefix(rt, alloc, record, batch.uses())?;
+    }
+    record.absorb(batch)?;
+    assert_eq!(rt; record.uses(alloc)?.as_slice(), batch.uses());
+    Ok(refused)
+}
+
 #[test]
 fn a_batch_is_absorbed_as_far_as_memory_goes(rt: HostRuntime) -> Result<(), Fail> {
     let alloc = rt.alloc();
     let batch = Batch::make(5000, uses_to(alloc, 4096)?)?;
+    let mut refused = true;
     for nth in 1..10000usize {
-        let mut record = empty(alloc);
-        refuse(alloc, nth);
-        let answer = record.absorb(&batch);
-        let refused = was_refused(alloc);
-        refuse(alloc, 0);
-        if refused {
-            assert!(rt; answer.is_err());
-            assert_prefix(&rt, alloc, &record, batch.uses())?;
-        }
-        record.absorb(&batch)?;
-        assert_eq!(rt; record.uses(alloc)?.as_slice(), batch.uses());
+        refused = absorbs_as_far_as_memory_goes(&rt, alloc, nth, &mut sorted(alloc), &batch)?;
         if !refused {
-            assert!(rt; answer.is_ok());
             break;
         }
     }
+    assert!(rt; !refused);
     Ok(())
+}
+
+// Has a new record merge another while the nth allocation is refused, and says whether one was.
+fn merges_as_far_as_memory_goes<S: UseStore, T: UseStore>(
+    rt: &impl Abort,
+    alloc: Global,
+    nth: usize,
+    record: &mut Record<S>,
+    other: &Record<T>,
+) -> Result<bool, Fail>
+    requires { nth < 4294967296 }
+{
+    let uses = other.uses(alloc)?;
+    refuse(alloc, nth);
+    let answer = record.merge(other);
+    let refused = was_refused(alloc);
+    refuse(alloc, 0);
+    assert_eq!(rt; answer.is_err(), refused);
+    if refused {
+        assert_prefix(rt, alloc, record, &uses)?;
+    }
+    record.merge(other)?;
+    assert_eq!(rt; record.uses(alloc)?.as_slice(), uses.as_slice());
+    Ok(refused)
 }
 
 #[test]
 fn a_record_is_merged_as_far_as_memory_goes(rt: HostRuntime) -> Result<(), Fail> {
     let alloc = rt.alloc();
-    let uses = uses_to(alloc, 100)?;
-    let other = record_of(alloc, 5000, &uses)?;
+    let mut other = sorted(alloc);
+    absorb(&mut other, alloc, 5000, uses_to(alloc, 100)?.as_slice())?;
+    let mut refused = true;
     for nth in 1..10000usize {
-        let mut record = empty(alloc);
-        refuse(alloc, nth);
-        let answer = record.merge(&other);
-        let refused = was_refused(alloc);
-        refuse(alloc, 0);
-        if refused {
-            assert!(rt; answer.is_err());
-            assert_prefix(&rt, alloc, &record, &uses)?;
-        }
-        record.merge(&other)?;
-        assert_eq!(rt; record.uses(alloc)?.as_slice(), uses.as_slice());
+        refused = merges_as_far_as_memory_goes(&rt, alloc, nth, &mut sorted(alloc), &other)?;
         if !refused {
-            assert!(rt; answer.is_ok());
             break;
         }
     }
+    assert!(rt; !refused);
     Ok(())
 }
 
 #[test]
-fn a_use_is_put_in_or_the_set_stays(rt: HostRuntime) -> Result<(), Fail> {
+fn a_use_is_put_in_or_the_record_stays(rt: HostRuntime) -> Result<(), Fail> {
     let alloc = rt.alloc();
     let mut store = SortedUses::new(alloc);
-    let mut record = record_of(alloc, 5000, &[])?;
+    let mut record = sorted(alloc);
+    absorb(&mut record, alloc, 5000, &[])?;
     for made in 0..100u64 {
         let before = store.len();
         refuse(alloc, 1);
@@ -100,7 +114,7 @@ fn a_use_is_put_in_or_the_set_stays(rt: HostRuntime) -> Result<(), Fail> {
         let record_refused = was_refused(alloc);
         refuse(alloc, 1);
         // a use that is there already takes no memory
-        assert_eq!(rt; before == 0 || store.insert(at(0)).is_ok(), true);
+        assert!(rt; before == 0 || store.insert(at(0)).is_ok());
         refuse(alloc, 0);
         assert_eq!(rt; stored.is_ok(), !store_refused);
         assert_eq!(rt; added.is_ok(), !record_refused);
@@ -117,7 +131,9 @@ fn a_use_is_put_in_or_the_set_stays(rt: HostRuntime) -> Result<(), Fail> {
 fn lists_tell_want_of_memory(rt: HostRuntime) -> Result<(), Fail> {
     let alloc = rt.alloc();
     let uses = [FIRST, SECOND, at(7), at(8)];
-    let record = record_of(alloc, 100, &uses)?;
+    let mut record = sorted(alloc);
+    absorb(&mut record, alloc, 100, &uses)?;
+    let mut refused = true;
     for nth in 1..10000usize {
         refuse(alloc, nth);
         let told = record.uses(alloc);
@@ -133,12 +149,14 @@ fn lists_tell_want_of_memory(rt: HostRuntime) -> Result<(), Fail> {
         assert_eq!(rt; listed.is_ok(), !listed_refused);
         assert_eq!(rt; parts.is_ok(), !parts_refused);
         assert_eq!(rt; record.len(), 4);
-        if !listed_refused && !parts_refused {
+        refused = told_refused || listed_refused || parts_refused;
+        if !refused {
+            assert_eq!(rt; told?.as_slice(), uses.as_slice());
             assert_eq!(rt; listed?.len(), 1);
             assert_eq!(rt; parts?.len(), 1);
-            assert_eq!(rt; told?.as_slice(), uses.as_slice());
             break;
         }
     }
+    assert!(rt; !refused);
     Ok(())
 }
