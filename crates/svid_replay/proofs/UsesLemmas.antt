@@ -158,7 +158,7 @@ place_is_free us new i is =
     ∙ any_none tied (drop i us) (each_weaker (λ u. use_cmp u new ≡ Greater) _ (λ u e. ap is_eq (greater u new e)) (drop i us) (each_behind _ us i is.point.1))
 
 -- ---- tests that a front of rising uses alone passes
-less_exp : (u v : Use) → use_cmp u v ≡ Less → u.exp ≤ v.exp
+pub less_exp : (u v : Use) → use_cmp u v ≡ Less → u.exp ≤ v.exp
 less_exp u v less = by_ranked (u.exp < v.exp) (u.exp ≡ v.exp) (v.exp < u.exp) (nat_cmp u.exp v.exp) (ranked u.exp v.exp (nat_cmp u.exp v.exp) refl) (λ _ h. omega arith) (λ _ h. omega arith) (λ e h. absurd (subst T (ap is_lt (sym less ∙ ap (λ (r : Ordering). ordering_then r (ordering_then (slice_cmp nat_cmp u.key v.key) (ordering_then (slice_cmp nat_cmp u.place v.place) (nat_cmp u.at v.at)))) e)) tt))
 
 not_before : (last u v : Use) → use_cmp u v ≡ Less → not (is_lt (use_cmp last v)) ≡ true → (r : Ordering) → use_cmp last u ≡ r → not (is_lt r) ≡ true

@@ -3,7 +3,7 @@ mod record;
 mod refusing;
 mod sweep;
 
-use crate::{Batch, Record, SortedUses, Use, UseStore};
+use crate::{Batch, IndexedUses, Record, SortedUses, Use, UseStore};
 use std::alloc::{AllocError, Global};
 use std::test::Fail;
 
@@ -43,6 +43,10 @@ fn uses_to(alloc: Global, count: u64) -> Result<Vec<Use>, AllocError> {
 
 fn sorted(alloc: Global) -> Record<SortedUses> {
     Record::new(SortedUses::new(alloc))
+}
+
+fn indexed(alloc: Global) -> Record<IndexedUses> {
+    Record::new(IndexedUses::new(alloc))
 }
 
 // Absorbs the batch of this moment and these uses.

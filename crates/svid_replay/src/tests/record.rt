@@ -1,5 +1,5 @@
-use super::{FIRST, SECOND, absorb, add, at, sorted, uses_to};
-use crate::{Raised, Record, SortedUses, Use, UseStore};
+use super::{FIRST, SECOND, absorb, add, at, indexed, sorted, uses_to};
+use crate::{IndexedUses, Raised, Record, SortedUses, Use, UseStore};
 use std::alloc::Global;
 use std::process::Abort;
 use std::test::Fail;
@@ -68,7 +68,7 @@ fn assert_only_part<S: UseStore>(
     Ok(())
 }
 
-fn merges_in_any_order_and_any_number_of_times<S: UseStore, T: UseStore>(
+fn merges_any_number_of_times<S: UseStore, T: UseStore>(
     rt: &impl Abort,
     alloc: Global,
     one: &mut Record<S>,
@@ -91,7 +91,7 @@ fn merges_in_any_order_and_any_number_of_times<S: UseStore, T: UseStore>(
     assert_only_part(rt, alloc, one, 101, &[])
 }
 
-fn joins_the_greater_moment_and_drops_what_expired_by_it<S: UseStore, T: UseStore>(
+fn joins_the_greater_moment<S: UseStore, T: UseStore>(
     rt: &impl Abort,
     alloc: Global,
     one: &mut Record<S>,
@@ -124,7 +124,7 @@ fn drops_what_expires_once<S: UseStore>(
     Ok(())
 }
 
-fn reports_a_key_of_two_uses_until_one_expires<S: UseStore>(
+fn reports_a_key_until_one_use_expires<S: UseStore>(
     rt: &impl Abort,
     alloc: Global,
     record: &mut Record<S>,
@@ -208,7 +208,7 @@ fn assert_has_4097<S: UseStore>(
     Ok(())
 }
 
-fn parts_hold_4096_uses_and_the_last_the_rest<S: UseStore, T: UseStore>(
+fn has_parts_of_4096_uses<S: UseStore, T: UseStore>(
     rt: &impl Abort,
     alloc: Global,
     one: &mut Record<S>,
@@ -228,41 +228,54 @@ fn parts_hold_4096_uses_and_the_last_the_rest<S: UseStore, T: UseStore>(
 #[test]
 fn stores_hold_sets_of_uses(rt: HostRuntime) -> Result<(), Fail> {
     let alloc = rt.alloc();
-    stores_a_set_of_uses(&rt, &mut SortedUses::new(alloc))
+    stores_a_set_of_uses(&rt, &mut SortedUses::new(alloc))?;
+    stores_a_set_of_uses(&rt, &mut IndexedUses::new(alloc))
 }
 
 #[test]
-fn records_merge(rt: HostRuntime) -> Result<(), Fail> {
+fn records_merge_over_any_two_stores(rt: HostRuntime) -> Result<(), Fail> {
     let alloc = rt.alloc();
-    merges_in_any_order_and_any_number_of_times(
-        &rt,
-        alloc,
-        &mut sorted(alloc),
-        &mut sorted(alloc),
-    )?;
-    joins_the_greater_moment_and_drops_what_expired_by_it(
-        &rt,
-        alloc,
-        &mut sorted(alloc),
-        &mut sorted(alloc),
-    )?;
-    parts_hold_4096_uses_and_the_last_the_rest(&rt, alloc, &mut sorted(alloc), &mut sorted(alloc))
+    merges_any_number_of_times(&rt, alloc, &mut sorted(alloc), &mut sorted(alloc))?;
+    merges_any_number_of_times(&rt, alloc, &mut indexed(alloc), &mut indexed(alloc))?;
+    merges_any_number_of_times(&rt, alloc, &mut indexed(alloc), &mut sorted(alloc))?;
+    merges_any_number_of_times(&rt, alloc, &mut sorted(alloc), &mut indexed(alloc))
+}
+
+#[test]
+fn records_join_the_greater_moment(rt: HostRuntime) -> Result<(), Fail> {
+    let alloc = rt.alloc();
+    joins_the_greater_moment(&rt, alloc, &mut sorted(alloc), &mut sorted(alloc))?;
+    joins_the_greater_moment(&rt, alloc, &mut indexed(alloc), &mut indexed(alloc))?;
+    joins_the_greater_moment(&rt, alloc, &mut indexed(alloc), &mut sorted(alloc))?;
+    joins_the_greater_moment(&rt, alloc, &mut sorted(alloc), &mut indexed(alloc))
+}
+
+#[test]
+fn records_have_parts(rt: HostRuntime) -> Result<(), Fail> {
+    let alloc = rt.alloc();
+    has_parts_of_4096_uses(&rt, alloc, &mut sorted(alloc), &mut indexed(alloc))?;
+    has_parts_of_4096_uses(&rt, alloc, &mut indexed(alloc), &mut sorted(alloc))
 }
 
 #[test]
 fn records_drop_what_expires_once(rt: HostRuntime) -> Result<(), Fail> {
     let alloc = rt.alloc();
-    drops_what_expires_once(&rt, alloc, &mut sorted(alloc))
+    drops_what_expires_once(&rt, alloc, &mut sorted(alloc))?;
+    drops_what_expires_once(&rt, alloc, &mut indexed(alloc))
 }
 
 #[test]
 fn records_report_keys_used_twice(rt: HostRuntime) -> Result<(), Fail> {
     let alloc = rt.alloc();
-    reports_a_key_of_two_uses_until_one_expires(&rt, alloc, &mut sorted(alloc))?;
-    lists_keys_in_order_with_all_their_uses(&rt, alloc, &mut sorted(alloc))
+    reports_a_key_until_one_use_expires(&rt, alloc, &mut sorted(alloc))?;
+    reports_a_key_until_one_use_expires(&rt, alloc, &mut indexed(alloc))?;
+    lists_keys_in_order_with_all_their_uses(&rt, alloc, &mut sorted(alloc))?;
+    lists_keys_in_order_with_all_their_uses(&rt, alloc, &mut indexed(alloc))
 }
 
 #[test]
 fn records_add_a_use_once(rt: HostRuntime) -> Result<(), Fail> {
-    adds_a_use_once(&rt, &mut sorted(rt.alloc()))
+    let alloc = rt.alloc();
+    adds_a_use_once(&rt, &mut sorted(alloc))?;
+    adds_a_use_once(&rt, &mut indexed(alloc))
 }

@@ -1,8 +1,8 @@
 // Each growth of a call is refused in turn, where tools/failmalloc.c is loaded; else the happy path runs alone.
 use super::refusing::{refuse, was_refused};
-use super::{FIRST, SECOND, absorb, add, at, sorted, uses_to};
-use crate::{Batch, Record, SortedUses, Use, UseStore};
-use std::alloc::Global;
+use super::{FIRST, SECOND, absorb, add, at, indexed, sorted, uses_to};
+use crate::{Batch, IndexedUses, Record, SortedUses, Use, UseStore};
+use std::alloc::{AllocError, Global};
 use std::process::Abort;
 use std::test::Fail;
 
@@ -46,10 +46,19 @@ fn absorbs_as_far_as_memory_goes<S: UseStore>(
 #[test]
 fn a_batch_is_absorbed_as_far_as_memory_goes(rt: HostRuntime) -> Result<(), Fail> {
     let alloc = rt.alloc();
-    let batch = Batch::make(5000, uses_to(alloc, 4096)?)?;
+    let large = Batch::make(5000, uses_to(alloc, 4096)?)?;
     let mut refused = true;
     for nth in 1..10000usize {
-        refused = absorbs_as_far_as_memory_goes(&rt, alloc, nth, &mut sorted(alloc), &batch)?;
+        refused = absorbs_as_far_as_memory_goes(&rt, alloc, nth, &mut sorted(alloc), &large)?;
+        if !refused {
+            break;
+        }
+    }
+    assert!(rt; !refused);
+    let small = Batch::make(5000, uses_to(alloc, 200)?)?;
+    refused = true;
+    for nth in 1..10000usize {
+        refused = absorbs_as_far_as_memory_goes(&rt, alloc, nth, &mut indexed(alloc), &small)?;
         if !refused {
             break;
         }
@@ -89,7 +98,9 @@ fn a_record_is_merged_as_far_as_memory_goes(rt: HostRuntime) -> Result<(), Fail>
     absorb(&mut other, alloc, 5000, uses_to(alloc, 100)?.as_slice())?;
     let mut refused = true;
     for nth in 1..10000usize {
-        refused = merges_as_far_as_memory_goes(&rt, alloc, nth, &mut sorted(alloc), &other)?;
+        let one = merges_as_far_as_memory_goes(&rt, alloc, nth, &mut sorted(alloc), &other)?;
+        let two = merges_as_far_as_memory_goes(&rt, alloc, nth, &mut indexed(alloc), &other)?;
+        refused = one || two;
         if !refused {
             break;
         }
@@ -98,32 +109,121 @@ fn a_record_is_merged_as_far_as_memory_goes(rt: HostRuntime) -> Result<(), Fail>
     Ok(())
 }
 
-#[test]
-fn a_use_is_put_in_or_the_record_stays(rt: HostRuntime) -> Result<(), Fail> {
-    let alloc = rt.alloc();
-    let mut store = SortedUses::new(alloc);
-    let mut record = sorted(alloc);
-    absorb(&mut record, alloc, 5000, &[])?;
-    for made in 0..100u64 {
-        let before = store.len();
-        refuse(alloc, 1);
-        let stored = store.insert(at(made));
-        let store_refused = was_refused(alloc);
-        refuse(alloc, 1);
-        let added = add(&mut record, at(made));
-        let record_refused = was_refused(alloc);
-        refuse(alloc, 1);
-        // a use that is there already takes no memory
-        assert!(rt; before == 0 || store.insert(at(0)).is_ok());
-        refuse(alloc, 0);
-        assert_eq!(rt; stored.is_ok(), !store_refused);
-        assert_eq!(rt; added.is_ok(), !record_refused);
-        assert_eq!(rt; store.len() == before, store_refused);
-        store.insert(at(made))?;
-        assert!(rt; add(&mut record, at(made))?);
-        assert_eq!(rt; store.len().checked_sub(1), Some(before));
-        assert_eq!(rt; record.len(), store.len());
+// A use of a key that no other of the numbers below 101 has; the keys don't rise with the numbers.
+fn keyed(number: u64) -> Use {
+    Use {
+        exp: 5001 + number % 7,
+        key: [(number * 37 % 101) as u8; 32],
+        place: [0x22; 16],
+        at: number,
     }
+}
+
+// The uses of a store, from each to the next.
+fn walk<S: UseStore>(rt: &impl Abort, alloc: Global, store: &S) -> Result<Vec<Use>, AllocError> {
+    let mut uses = Vec::new(alloc);
+    let mut after = None;
+    for _ in 0..store.len() {
+        after = store.next_after(after);
+        if let Some(used) = after {
+            uses.push(used)?;
+        }
+    }
+    assert!(rt; store.is_empty() || store.next_after(after).is_none());
+    Ok(uses)
+}
+
+// Puts in one use after the other while each growth is refused in turn: a refusal leaves all as it was.
+fn puts_a_use_in_or_stays<S: UseStore>(
+    rt: &impl Abort,
+    alloc: Global,
+    store: &mut S,
+) -> Result<(), Fail> {
+    for number in 0..100u64 {
+        let new = keyed(number);
+        let before = walk(rt, alloc, store)?;
+        let mut refused = true;
+        for nth in 1..100usize {
+            refuse(alloc, nth);
+            let answer = store.insert(new);
+            refused = was_refused(alloc);
+            refuse(alloc, 0);
+            assert_eq!(rt; answer.is_err(), refused);
+            if !refused {
+                break;
+            }
+            assert_eq!(rt; store.len(), before.len());
+            assert!(rt; !store.has(&new.key));
+            assert_eq!(rt; walk(rt, alloc, store)?.as_slice(), before.as_slice());
+        }
+        assert!(rt; !refused);
+        assert_eq!(rt; store.len().checked_sub(1), Some(before.len()));
+        assert!(rt; store.has(&new.key));
+        // a use that is there already takes no memory
+        refuse(alloc, 1);
+        let again = store.insert(new);
+        refuse(alloc, 0);
+        assert!(rt; again.is_ok());
+    }
+    Ok(())
+}
+
+#[test]
+fn a_use_is_put_in_or_the_store_stays(rt: HostRuntime) -> Result<(), Fail> {
+    let alloc = rt.alloc();
+    puts_a_use_in_or_stays(&rt, alloc, &mut SortedUses::new(alloc))?;
+    puts_a_use_in_or_stays(&rt, alloc, &mut IndexedUses::new(alloc))
+}
+
+// Adds one use after the other while each growth is refused in turn: a refusal leaves all as it was.
+fn adds_a_use_or_stays<S: UseStore>(
+    rt: &impl Abort,
+    alloc: Global,
+    record: &mut Record<S>,
+) -> Result<(), Fail> {
+    absorb(record, alloc, 5000, &[])?;
+    for number in 0..100u64 {
+        let new = keyed(number);
+        let before = record.uses(alloc)?;
+        let mut refused = true;
+        for nth in 1..100usize {
+            refuse(alloc, nth);
+            let answer = add(record, new);
+            refused = was_refused(alloc);
+            refuse(alloc, 0);
+            assert_eq!(rt; answer.is_err(), refused);
+            if !refused {
+                break;
+            }
+            assert_eq!(rt; record.moment(), 5000);
+            assert_eq!(rt; record.uses(alloc)?.as_slice(), before.as_slice());
+        }
+        assert!(rt; !refused);
+        assert!(rt; record.has(&new.key));
+    }
+    Ok(())
+}
+
+#[test]
+fn a_use_is_added_or_the_record_stays(rt: HostRuntime) -> Result<(), Fail> {
+    let alloc = rt.alloc();
+    adds_a_use_or_stays(&rt, alloc, &mut sorted(alloc))?;
+    adds_a_use_or_stays(&rt, alloc, &mut indexed(alloc))
+}
+
+#[test]
+fn an_indexed_store_of_100000_uses_loses_none(rt: HostRuntime) -> Result<(), Fail> {
+    let alloc = rt.alloc();
+    let mut store = IndexedUses::new(alloc);
+    for number in 0..100_000u64 {
+        store.insert(at(number * 7919 % 100_000))?;
+    }
+    assert_eq!(rt; store.len(), 100_000);
+    assert!(rt; store.has(&at(0).key));
+    let uses = uses_to(alloc, 100_000)?;
+    assert_eq!(rt; walk(&rt, alloc, &store)?.as_slice(), uses.as_slice());
+    assert_eq!(rt; store.drop_expired(5001).dropped, 100_000);
+    assert!(rt; !store.has(&at(0).key));
     Ok(())
 }
 
