@@ -1,7 +1,7 @@
 ghost use Rattle.std.specs.Prelude.{◌≡◌, ◌+◌, ◌≤◌, ◌++◌, length, take, nat_lt};
 ghost use Rattle.svid_replay.specs.Use.{text_of, IsUse};
 
-use crate::layout::{AT_PLACE, EXP_PLACE, KEY_PLACE, PLACE_PLACE, USE_LEN};
+use crate::layout::{AT_START, EXP_START, KEY_START, PLACE_START, USE_LEN};
 
 /// One use of a token: a validator accepted it once. Uses are ordered as their texts are.
 #[derive(Clone, Copy, Debug, PartialEq, Eq, PartialOrd, Ord)]
@@ -44,10 +44,10 @@ impl Use {
             at,
         } = *self;
         let mut text = [0; USE_LEN];
-        put_piece(&mut text, EXP_PLACE, &exp.to_be_bytes());
-        put_piece(&mut text, KEY_PLACE, &key);
-        put_piece(&mut text, PLACE_PLACE, &place);
-        put_piece(&mut text, AT_PLACE, &at.to_be_bytes());
+        put_piece(&mut text, EXP_START, &exp.to_be_bytes());
+        put_piece(&mut text, KEY_START, &key);
+        put_piece(&mut text, PLACE_START, &place);
+        put_piece(&mut text, AT_START, &at.to_be_bytes());
         text
     }
 }

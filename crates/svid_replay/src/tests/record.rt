@@ -244,8 +244,6 @@ fn records_merge_over_any_two_stores(rt: HostRuntime) -> Result<(), Fail> {
 #[test]
 fn records_join_the_greater_moment(rt: HostRuntime) -> Result<(), Fail> {
     let alloc = rt.alloc();
-    joins_the_greater_moment(&rt, alloc, &mut sorted(alloc), &mut sorted(alloc))?;
-    joins_the_greater_moment(&rt, alloc, &mut indexed(alloc), &mut indexed(alloc))?;
     joins_the_greater_moment(&rt, alloc, &mut indexed(alloc), &mut sorted(alloc))?;
     joins_the_greater_moment(&rt, alloc, &mut sorted(alloc), &mut indexed(alloc))
 }

@@ -1,4 +1,6 @@
 // Each growth of a call is refused in turn, where tools/failmalloc.c is loaded; else the happy path runs alone.
+ghost use Rattle.std.specs.Prelude.{◌<◌};
+
 use super::refusing::{refuse, was_refused};
 use super::{FIRST, SECOND, absorb, add, at, indexed, sorted, uses_to};
 use crate::{Batch, IndexedUses, Record, SortedUses, Use, UseStore};
@@ -113,7 +115,7 @@ fn a_record_is_merged_as_far_as_memory_goes(rt: HostRuntime) -> Result<(), Fail>
 fn keyed(number: u64) -> Use {
     Use {
         exp: 5001 + number % 7,
-        key: [(number * 37 % 101) as u8; 32],
+        key: [(number % 101 * 37 % 101) as u8; 32],
         place: [0x22; 16],
         at: number,
     }
