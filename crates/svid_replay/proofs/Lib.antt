@@ -1,8 +1,10 @@
 pub mod BatchesLemmas
+pub mod IndexedLemmas
 pub mod ListLemmas
 pub mod PartsLemmas
 pub mod RecordsLemmas
 pub mod SetsLemmas
+pub mod TestsLemmas
 pub mod TwiceLemmas
 pub mod UseLemmas
 pub mod UsesLemmas

@@ -8,6 +8,7 @@ use Rattle.std.specs.List.{AllByRecursion, AllWithin, list_any, filter, prefix_l
 use Rattle.std.specs.List.Sorted.{IsStrictlySortedBy, IsPartitionedBy, IsPartitionPoint}
 use Rattle.std.specs.declared.cmp.Ordering.{Ordering}
 use Rattle.std.specs.declared.cmp.Ordering.TheVariants.{Less}
+use Rattle.svid_replay.proofs.TestsLemmas.{or-true}
 
 -- ---- lists and tests
 pub all_same : {X : Type 0} (p : X → Bool) (xs : List X) → AllByRecursion (λ x. p x ≡ true) xs → filter p xs ≡ xs
@@ -52,10 +53,6 @@ pub rises_push : {K : Type 0} (R : K → K → Ordering) (ks : List K) (x : K) �
 unfolding IsStrictlySortedBy
 rises_push R [] x up below = (tt, tt)
 rises_push R (k ∷ ks) x up below = (each_append (λ y. R k y ≡ Less) ks (x ∷ []) up.0 (below.0, tt), rises_push R ks x up.1 below.1)
-
-pub or-true : (b : Bool) → (b || true) ≡ true
-or-true true = refl
-or-true false = refl
 
 pub each_drop : {X : Type 0} (P : X → Type 0) (n : ℕ) (xs : List X) → AllByRecursion P xs → AllByRecursion P (drop n xs)
 each_drop P zero xs h = h

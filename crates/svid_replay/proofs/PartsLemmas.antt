@@ -9,7 +9,7 @@ use Rattle.std.specs.declared.cmp.Ordering.TheVariants.{Less}
 use Rattle.svid_replay.specs.Uses.{Uses, uses_in}
 use Rattle.svid_replay.specs.declared.token_use.Use.{Use}
 use Rattle.svid_replay.specs.Batches.{BatchData, AllGood, IsBatch, flaw, is_after}
-use Rattle.svid_replay.specs.Parts.{full_batches, cut, IsCut, CutIsCut, parts_of, join_all, PartsAreBatches, SamePartsSameRecord, PartsGiveRecord}
+use Rattle.svid_replay.specs.Parts.{full_batches, cut, AreParts, CutGivesParts, parts_of, join_all, PartsAreBatches, SamePartsSameRecord, PartsGiveRecord}
 use Rattle.svid_replay.specs.Records.{State, IsRecord, IsHeldAt, join, state_of}
 use Rattle.svid_replay.specs.Sets.{rising}
 use Rattle.svid_replay.specs.Use.{use_cmp, IsRising, IsUse}
@@ -68,9 +68,6 @@ pub record HasCut (m : ℕ) (us rest : List Use) (batches : List BatchData) : Ty
   pub held : AllByRecursion (IsHeldAt m) rest
   pub value : batches ++ cut m rest ≡ cut m us
 
-pub cuts_none : (m : ℕ) (us : List Use) → IsRising us → AllByRecursion (IsHeldAt m) us → HasCut m us us []
-cuts_none m us up held = record { up = up; held = held; value = refl }
-
 -- what a turn of the loop cuts off, and what it leaves
 pub record IsTurn (rest full others : List Use) : Type 0 where
   pub many : 4096 < length rest
@@ -98,7 +95,7 @@ cuts_last m us rest last batches items b so_far few e is pushed =
     rw (pushed, is, e) (ap (λ bs. batches ++ bs) (sym (cut_few m rest few)) ∙ so_far.value)
 
 -- ---- the sizes of what is cut
-full_cut : (n m : ℕ) (us : List Use) → length us ≤ 4096 * suc n → (0 < n → 4096 * n < length us) → IsCut m us (full_batches n m us)
+full_cut : (n m : ℕ) (us : List Use) → length us ≤ 4096 * suc n → (0 < n → 4096 * n < length us) → AreParts m us (full_batches n m us)
 unfolding full_batches
 full_cut zero m us few many = record {
   full = [];
@@ -126,9 +123,9 @@ full_cut (suc n) m us few many =
       some = λ _. cut.some (omega arith);
     }
 
-pub cut_is_cut : CutIsCut
+pub cut_gives_parts : CutGivesParts
 unfolding cut
-cut_is_cut m us = full_cut ((length us - 1) / 4096) m us (omega arith) (λ some. omega arith)
+cut_gives_parts m us = full_cut ((length us - 1) / 4096) m us (omega arith) (λ some. omega arith)
 
 -- ---- a record's uses
 pub each_held : (r : State) → IsRecord r → AllByRecursion (IsHeldAt r.moment) (rising r.uses)
@@ -150,14 +147,14 @@ parts_are_batches r is = full_batches_are ((length (rising r.uses) - 1) / 4096) 
 -- what the parts tell
 moment_told : (m n : ℕ) (us vs : List Use) → cut m us ≡ cut n vs → m ≡ n
 moment_told m n us vs e =
-    let a = cut_is_cut m us in
-    let b = cut_is_cut n vs in
+    let a = cut_gives_parts m us in
+    let b = cut_gives_parts n vs in
     let in_a : All (λ c. c.moment ≡ m) (a.full ++ a.last ∷ []) = subst (All (λ c. c.moment ≡ m)) a.parts a.moments in
     let in_b : All (λ c. c.moment ≡ n) (a.full ++ a.last ∷ []) = subst (All (λ c. c.moment ≡ n)) (sym e ∙ a.parts) b.moments in
     sym (All-contains (λ c. c.moment ≡ m) (a.full ++ a.last ∷ []) a.last in_a (Contains-push a.full a.last)) ∙ All-contains (λ c. c.moment ≡ n) (a.full ++ a.last ∷ []) a.last in_b (Contains-push a.full a.last)
 
 uses_told : (m n : ℕ) (us vs : List Use) → cut m us ≡ cut n vs → us ≡ vs
-uses_told m n us vs e = sym (cut_is_cut m us).whole ∙ ap (flat_map (λ (b : BatchData). b.uses)) e ∙ (cut_is_cut n vs).whole
+uses_told m n us vs e = sym (cut_gives_parts m us).whole ∙ ap (flat_map (λ (b : BatchData). b.uses)) e ∙ (cut_gives_parts n vs).whole
 
 -- records with the same parts are the same
 pub same_parts_same_record : SamePartsSameRecord
@@ -179,7 +176,7 @@ no_end : {X : Type 0} (xs : List X) (x : X) → [] ≡ xs ++ x ∷ [] → ⊥
 no_end [] x e = cc
 no_end (y ∷ ys) x e = cc
 
-pub join_all-one : (old : State) (m : ℕ) (bs : List BatchData) (us : List Use) → IsCut m us bs → join_all old bs ≡ join old (state_of m us)
+pub join_all-one : (old : State) (m : ℕ) (bs : List BatchData) (us : List Use) → AreParts m us bs → join_all old bs ≡ join old (state_of m us)
 join_all-one old m [] us is = absurd (no_end is.full is.last is.parts)
 join_all-one old m (b ∷ bs) us is =
     let all = recursion_from_All (λ (c : BatchData). c.moment ≡ m) (b ∷ bs) is.moments in
@@ -188,5 +185,5 @@ join_all-one old m (b ∷ bs) us is =
 -- a new record joined with all parts of a record is that record
 pub parts_give_record : PartsGiveRecord
 parts_give_record r is =
-    join_all-one (state_of 0 []) r.moment (parts_of r) (rising r.uses) (cut_is_cut r.moment (rising r.uses))
+    join_all-one (state_of 0 []) r.moment (parts_of r) (rising r.uses) (cut_gives_parts r.moment (rising r.uses))
     ∙ ap (λ (s : Uses). join (state_of 0 []) (record { moment = r.moment; uses = s })) (uses_in-rising r.uses) ∙ join_new r is

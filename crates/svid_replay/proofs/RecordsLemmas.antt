@@ -11,37 +11,22 @@ use Rattle.std.specs.declared.cmp.Ordering.{Ordering}
 use Rattle.std.specs.declared.cmp.Ordering.TheVariants.{Less, Equal, Greater}
 use Rattle.svid_replay.specs.declared.token_use.Use.{Use}
 use Rattle.svid_replay.specs.Batches.{BatchData, AllGood, IsBatch, is_after}
-use Rattle.svid_replay.specs.Sets.{holds, rising, with}
+use Rattle.svid_replay.specs.Sets.{holds, rising, with, union}
 use Rattle.svid_replay.specs.Use.{IsUse, use_cmp}
-use Rattle.svid_replay.specs.Uses.{Uses, no_uses, union, live}
-use Rattle.svid_replay.specs.Records.{State, IsHeldAt, IsRecord, IsPartlyJoined, HasNoNew, join, state_of, batch_state, JoinIsCommutative, JoinIsAssociative, JoinIsIdempotent, JoinIsClosed}
+use Rattle.svid_replay.specs.Uses.{Uses, no_uses, live}
+use Rattle.svid_replay.specs.Records.{State, IsHeldAt, IsRecord, IsPartlyJoined, HasNoNew, join, state_of, batch_state, JoinHoldsUnexpired, JoinIsCommutative, JoinIsAssociative, JoinIsIdempotent, JoinIsClosed}
 use Rattle.svid_replay.proofs.BatchesLemmas.{made_at}
-use Rattle.svid_replay.proofs.SetsLemmas.{rising_rises, holds-with, or-false}
+use Rattle.svid_replay.proofs.SetsLemmas.{rising_rises, holds-with}
 use Rattle.svid_replay.proofs.UseLemmas.{use_total, use_exact}
 use Rattle.svid_replay.proofs.UsesLemmas.{IsWalked, walk_none, walk_more, walk_parts, walk_end, found_held, holds-uses_in, holds-live, holds-union, same_uses, uses_in-rising}
-use Rattle.svid_replay.proofs.ListLemmas.{or-true}
+use Rattle.svid_replay.proofs.TestsLemmas.{equal, or-true, or-false, or-comm, and-false, and-comm}
 
 same_state : (a b : State) → a.moment ≡ b.moment → a.uses ≡ b.uses → a ≡ b
 same_state a b m u = λ i. record { moment = m i; uses = u i }
 
-equal : (r : Ordering) → is_eq r ≡ true → r ≡ Equal
-equal Less e = cc
-equal Equal e = refl
-equal Greater e = cc
-
 -- ---- tests
 lt-max : (m n e : ℕ) → nat_lt (max m n) e ≡ (nat_lt m e && nat_lt n e)
 lt-max m n e = grind (arith, nat_tests)
-
-or_comm : (a b : Bool) → (a || b) ≡ (b || a)
-or_comm true true = refl
-or_comm true false = refl
-or_comm false true = refl
-or_comm false false = refl
-
-and-false : (a : Bool) → (a && false) ≡ false
-and-false true = refl
-and-false false = refl
 
 both_true : (a b : Bool) → (a && b) ≡ true → (a ≡ true) × (b ≡ true)
 both_true true b e = (refl, e)
@@ -64,6 +49,10 @@ unfolding join
 holds-join a b u =
     holds-live (union a.uses b.uses) (max a.moment b.moment) u ∙ ap (λ h. nat_lt (max a.moment b.moment) u.exp && h) (holds-union a.uses b.uses u)
 
+pub join_holds_unexpired : JoinHoldsUnexpired
+join_holds_unexpired a b u =
+    holds-join a b u ∙ and-comm (nat_lt (max a.moment b.moment) u.exp) (holds b.uses u || holds a.uses u) ∙ ap (λ h. h && nat_lt (max a.moment b.moment) u.exp) (or-comm (holds b.uses u) (holds a.uses u))
+
 -- a moment and a set are a join where they are so by each use
 pub is_join : (a b s : State) → s.moment ≡ max a.moment b.moment → ((u : Use) → holds s.uses u ≡ (nat_lt (max a.moment b.moment) u.exp && (holds b.uses u || holds a.uses u))) → s ≡ join a b
 is_join a b s m is = same_state s (join a b) (m ∙ sym (moment-join a b)) (same_uses s.uses (join a b).uses (λ u. is u ∙ sym (holds-join a b u)))
@@ -71,7 +60,7 @@ is_join a b s m is = same_state s (join a b) (m ∙ sym (moment-join a b)) (same
 pub join_comm : JoinIsCommutative
 join_comm a b =
     let turned : max a.moment b.moment ≡ max b.moment a.moment = omega arith in
-    is_join b a (join a b) (moment-join a b ∙ turned) (λ u. holds-join a b u ∙ ap (λ n. nat_lt n u.exp && (holds b.uses u || holds a.uses u)) turned ∙ ap (λ h. nat_lt (max b.moment a.moment) u.exp && h) (or_comm (holds b.uses u) (holds a.uses u)))
+    is_join b a (join a b) (moment-join a b ∙ turned) (λ u. holds-join a b u ∙ ap (λ n. nat_lt n u.exp && (holds b.uses u || holds a.uses u)) turned ∙ ap (λ h. nat_lt (max b.moment a.moment) u.exp && h) (or-comm (holds b.uses u) (holds a.uses u)))
 
 pub join_assoc : JoinIsAssociative
 join_assoc a b c =

@@ -8,7 +8,8 @@ use Rattle.std.specs.List.Sorted.{IsStrictlySortedBy}
 use Rattle.std.specs.Ordering.{eq_by_cmp, is_lt}
 use Rattle.std.specs.declared.cmp.Ordering.{Ordering}
 use Rattle.std.specs.declared.cmp.Ordering.TheVariants.{Less, Equal, Greater}
-use Rattle.svid_replay.specs.Sets.{Set, empty, with, keep, holds, rising, with_all, set_of}
+use Rattle.svid_replay.specs.Sets.{Set, empty, with, keep, holds, rising, with_all, set_of, union}
+use Rattle.svid_replay.proofs.TestsLemmas.{or-false}
 
 same_unit : (a b : Option (Unit {0})) → is_some a ≡ is_some b → a ≡ b
 same_unit None None e = refl
@@ -46,10 +47,6 @@ swapped true true c = refl
 swapped true false c = refl
 swapped false true c = refl
 swapped false false c = refl
-
-pub or-false : (a : Bool) → (a || false) ≡ a
-or-false true = refl
-or-false false = refl
 
 module _ {K : Type 0} (R : K → K → Ordering) where
   entries_of : List K → List (K × Unit {0})
@@ -131,3 +128,6 @@ module _ {K : Type 0} {R : K → K → Ordering} (o : IsTotalOrder R) (same : Is
 
   pub holds-set_of : (ks : List K) (q : K) → holds (set_of R ks) q ≡ list_any (eq_by_cmp R q) ks
   holds-set_of ks q = holds-with_all (empty R) ks q ∙ ap (λ b. list_any (eq_by_cmp R q) ks || b) (holds-empty R q) ∙ or-false (list_any (eq_by_cmp R q) ks)
+
+  pub holds-union : (s t : Set R) (q : K) → holds (union s t) q ≡ (holds t q || holds s q)
+  holds-union s t q = holds-with_all s (rising t) q ∙ ap (λ b. b || holds s q) (sym (holds-rising R t q))

@@ -18,9 +18,10 @@ use Rattle.svid_replay.specs.Use.{bytes_cmp, use_cmp, IsRising}
 use Rattle.svid_replay.specs.Twice.{has_key, uses_of, keys_of, twice_of, IsKeySorted, IsTwice, HasTwo}
 use Rattle.svid_replay.specs.declared.token_use.Use.{Use}
 use Rattle.svid_replay.specs.declared.twice.Twice.{Twice}
-use Rattle.svid_replay.proofs.ListLemmas.{all_same, none_same, each_weaker, each_append, found, same_map, any_map, any_here, rises_push, or-true, each_drop, any-filter, each_true, has_first, has_later, kept_in, in_kept, any_in, many}
+use Rattle.svid_replay.proofs.ListLemmas.{all_same, none_same, each_weaker, each_append, found, same_map, any_map, any_here, rises_push, each_drop, any-filter, each_true, has_first, has_later, kept_in, in_kept, any_in, many}
 use Rattle.svid_replay.proofs.UseLemmas.{use_total}
-use Rattle.svid_replay.proofs.SetsLemmas.{same_rising, rising_rises, holds-rising, holds-set_of, or-false}
+use Rattle.svid_replay.proofs.SetsLemmas.{same_rising, rising_rises, holds-rising, holds-set_of}
+use Rattle.svid_replay.proofs.TestsLemmas.{equal, same_some, or-true, or-false}
 
 -- what a loop over sorted uses has listed when these are left
 pub record HasListed (sorted rest : List Use) (listed : List Twice) : Type 0 where
@@ -35,11 +36,6 @@ key_total = nat_list_cmp_total
 
 key_exact : IsAntisymmetric bytes_cmp
 key_exact = slice_cmp-IsAntisymmetric nat_cmp-IsAntisymmetric
-
-equal : (r : Ordering) → is_eq r ≡ true → r ≡ Equal
-equal Less e = cc
-equal Equal e = refl
-equal Greater e = cc
 
 -- ---- what a sort by key gives
 ahead : (u : Use) (us : List Use) → IsSortedByKey (λ u. u.key) bytes_cmp (u ∷ us) → AllByRecursion (λ v. is_lt (bytes_cmp v.key u.key) ≡ false) us
@@ -220,9 +216,6 @@ pub record IsTurn (left : List Use) (first : Use) (group others : List Use) : Ty
   pub front : group ≡ take (prefix_len (has_key first.key) left) left
   pub rest : others ≡ drop (prefix_len (has_key first.key) left) left
 
-same_some : {X : Type 0} (x y : X) → Some x ≡ Some y → x ≡ y
-same_some x y e = cc
-
 lists_more : (sorted left : List Use) (listed : List Twice) (first : Use) (group others : List Use) → HasListed sorted left listed → IsTurn left first group others → HasListed sorted others (listed ++ cond (nat_lt 1 (length group)) (record { key = first.key; uses = group } ∷ []) [])
 lists_more sorted [] listed first group others h is = let e : None ≡ Some first = is.is_first in cc
 lists_more sorted (r ∷ rs) listed first group others h is =
@@ -238,17 +231,15 @@ falls (r ∷ rs) first group others is =
     let rest : others ≡ drop (prefix_len (has_key r.key) rs) rs = is.rest ∙ ap (λ (u : Use). drop (prefix_len (has_key u.key) (r ∷ rs)) (r ∷ rs)) e ∙ rest-drop r rs in
     omega (arith, ap length rest, length-drop (prefix_len (has_key r.key) rs) rs)
 
-pub lists_group : (sorted left : List Use) (listed items : List Twice) (first : Use) (group others uses : List Use) → HasListed sorted left listed → IsTurn left first group others → 1 < length group → uses ≡ group → items ≡ listed ++ record { key = first.key; uses = uses } ∷ [] → HasListed sorted others items
+pub lists_group : (sorted left : List Use) (listed items : List Twice) (first : Use) (group others uses : List Use) → HasListed sorted left listed → IsTurn left first group others → nat_lt 1 (length group) ≡ true → uses ≡ group → items ≡ listed ++ record { key = first.key; uses = uses } ∷ [] → HasListed sorted others items
 lists_group sorted left listed items first group others uses h is many e pushed =
-    let test : nat_lt 1 (length group) ≡ true = grind (arith, nat_tests) in
     let more = lists_more sorted left listed first group others h is in
-    rw (pushed, e) (rw test at more)
+    rw (pushed, e) (rw many at more)
 
-pub lists_nothing : (sorted left : List Use) (listed : List Twice) (first : Use) (group others : List Use) → HasListed sorted left listed → IsTurn left first group others → length group ≤ 1 → HasListed sorted others listed
+pub lists_nothing : (sorted left : List Use) (listed : List Twice) (first : Use) (group others : List Use) → HasListed sorted left listed → IsTurn left first group others → nat_lt 1 (length group) ≡ false → HasListed sorted others listed
 lists_nothing sorted left listed first group others h is few =
-    let test : nat_lt 1 (length group) ≡ false = grind (arith, nat_tests) in
     let more = lists_more sorted left listed first group others h is in
-    subst (HasListed sorted others) (append-nil listed) (rw test at more)
+    subst (HasListed sorted others) (append-nil listed) (rw few at more)
 
 -- ---- the lists that two orders of the same uses give
 same-keys : (us vs : List Use) → ((key : List ℕ) → uses_of key us ≡ uses_of key vs) → keys_of us ≡ keys_of vs

@@ -1,14 +1,14 @@
-use Rattle.std.proofs.Common.{◌≡◌, ℕ, ◌<◌, ◌≤◌, ◌+◌, ◌-◌, zero, suc, Bool, true, false, cond, not, ◌||◌, ◌&&◌, List, [], ◌∷◌, ◌++◌, length, take, drop, get_or, refl, sym, ◌∙◌, ap, subst, T, arith, nat_lt, Option, Some, None, ⊎_elim}
+use Rattle.std.proofs.Common.{◌≡◌, ℕ, ◌<◌, ◌≤◌, ◌+◌, ◌-◌, zero, suc, Bool, true, false, cond, not, ◌||◌, ◌&&◌, List, [], ◌∷◌, ◌++◌, length, take, drop, get_or, refl, sym, ◌∙◌, ap, subst, T, arith, nat_lt, Option, Some, None, ⊎_elim, ◌↔◌, IsTrue, nat_eq, Contains}
 use Rattle.std.proofs.lemmas.Bool.Decides.{nat_tests}
 use Rattle.std.proofs.lemmas.Cmp.{tied_itself, ranked, by_ranked}
 use Rattle.std.proofs.lemmas.List.Sorted.{searchable_from_sorted}
-use Rattle.std.proofs.lemmas.List.{take-append-drop, length-drop, append_assoc, append-nil}
-use Rattle.std.proofs.lemmas.List.Elements.{recursion_from_All, filter_agree, Contains-get_or}
+use Rattle.std.proofs.lemmas.List.{take-append-drop, length-drop, append_assoc, append-nil, nil_from_length}
+use Rattle.std.proofs.lemmas.List.Elements.{recursion_from_All, filter_agree, Contains-get_or, All-contains_itself}
 use Rattle.std.proofs.lemmas.List.Kept.{IsStrictlySortedBy-filter}
 use Rattle.std.proofs.lemmas.List.Sums.{prefix_len-le-length}
 use Rattle.std.proofs.lemmas.List.Folds.{list_any-append, find_at}
 use Rattle.std.proofs.lemmas.Map.Keys.{Less-from_sorted}
-use Rattle.std.proofs.lemmas.Bool.{cases_lt, false≢true}
+use Rattle.std.proofs.lemmas.Bool.{cases_lt, false≢true, eqb-true, eq-eqb}
 use Rattle.std.specs.Cmp.Lexicographic.{slice_cmp}
 use Rattle.std.specs.List.{AllByRecursion, list_any, filter, insert, prefix_len, find, slice_get}
 use Rattle.std.specs.List.Sorted.{IsStrictlySortedBy, IsSorted, IsPartitionedBy, IsPartitionPoint, IsNonDecreasingBy}
@@ -17,17 +17,14 @@ use Rattle.std.specs.declared.cmp.Ordering.{Ordering}
 use Rattle.std.specs.declared.cmp.Ordering.TheVariants.{Less, Equal, Greater}
 use Rattle.svid_replay.specs.declared.token_use.Use.{Use}
 use Rattle.svid_replay.specs.Batches.{is_after}
-use Rattle.svid_replay.specs.Sets.{holds, rising, with, keep}
+use Rattle.svid_replay.specs.Sets.{holds, rising, with, keep, union}
 use Rattle.svid_replay.specs.Use.{use_cmp, IsRising}
-use Rattle.svid_replay.specs.Uses.{Uses, uses_in, union, live, count}
-use Rattle.svid_replay.proofs.ListLemmas.{any_in, all_same, each_true, drop-parted, each_append, each_take, each_drop, each_before, each_behind, each_weaker, any_none}
-use Rattle.svid_replay.proofs.SetsLemmas.{same_set, same_rising, rising_rises, holds-rising, holds-with, holds-with_all, holds-keep, holds-set_of}
+use Rattle.svid_replay.specs.Uses.{Uses, no_uses, uses_in, live, count, NoUsesHoldNone, WithHoldsOneMore, UnionHoldsEither, LiveHoldsUnexpired, RisingHasHeld, SameHeldSameSet}
+use Rattle.svid_replay.proofs.ListLemmas.{any_in, found, all_same, each_true, drop-parted, each_append, each_take, each_drop, each_before, each_behind, each_weaker, any_none}
+use Rattle.svid_replay.proofs.SetsLemmas.{same_set, same_rising, rising_rises, holds-rising, holds-with, holds-keep, holds-set_of, holds-empty}
+use Rattle.svid_replay.proofs.SetsLemmas.{holds-union as of_union}
+use Rattle.svid_replay.proofs.TestsLemmas.{equal, is_less, same_some, or-comm, and-comm}
 use Rattle.svid_replay.proofs.UseLemmas.{use_total, use_exact}
-
-equal : (r : Ordering) → is_eq r ≡ true → r ≡ Equal
-equal Less e = cc
-equal Equal e = refl
-equal Greater e = cc
 
 -- ---- the words on sets, each by the uses that it holds
 pub holds-uses_in : (us : List Use) (u : Use) → holds (uses_in us) u ≡ list_any (eq_by_cmp use_cmp u) us
@@ -37,7 +34,7 @@ pub holds-live : (s : Uses) (moment : ℕ) (u : Use) → holds (live s moment) u
 holds-live s moment u = holds-keep use_total use_exact (λ v. nat_lt moment v.exp) s u
 
 pub holds-union : (s t : Uses) (u : Use) → holds (union s t) u ≡ (holds t u || holds s u)
-holds-union s t u = holds-with_all use_total use_exact s (rising t) u ∙ ap (λ b. b || holds s u) (sym (holds-rising use_cmp t u))
+holds-union s t u = of_union use_total use_exact s t u
 
 pub same_uses : (s t : Uses) → ((u : Use) → holds s u ≡ holds t u) → s ≡ t
 same_uses s t is = same_set use_total use_exact s t is
@@ -47,6 +44,38 @@ rising-uses_in us up = same_rising use_total use_exact (rising (uses_in us)) us 
 
 pub uses_in-rising : (s : Uses) → uses_in (rising s) ≡ s
 uses_in-rising s = same_uses (uses_in (rising s)) s (λ u. holds-uses_in (rising s) u ∙ sym (holds-rising use_cmp s u))
+
+-- ---- the laws of the words on sets
+pub no_uses_hold_none : NoUsesHoldNone
+no_uses_hold_none u = holds-empty use_cmp u
+
+pub with_holds_one_more : WithHoldsOneMore
+with_holds_one_more s new u = holds-with use_total use_exact s new u
+
+pub union_holds_either : UnionHoldsEither
+union_holds_either s t u = holds-union s t u ∙ or-comm (holds t u) (holds s u)
+
+pub live_holds_unexpired : LiveHoldsUnexpired
+live_holds_unexpired s moment u = holds-live s moment u ∙ and-comm (nat_lt moment u.exp) (holds s u)
+
+pub rising_has_held : RisingHasHeld
+rising_has_held s u =
+    let us = rising s in
+    let tied = eq_by_cmp use_cmp u in (
+      λ held. found (Contains us) tied (Contains us u) us (recursion_from_All (Contains us) us (All-contains_itself us)) (sym (holds-rising use_cmp s u) ∙ held) (λ v has e. subst (Contains us) (sym (use_exact u v (equal _ e))) has),
+      λ has. holds-rising use_cmp s u ∙ any_in tied us u has (ap is_eq (tied_itself use_total u)),
+    )
+
+pub same_held_same_set : SameHeldSameSet
+same_held_same_set s t is = same_uses s t is
+
+-- a set of which none are counted is that of no uses
+pub counts_none : (s : Uses) (n : ℕ) → n ≡ count s → IsTrue (nat_eq n 0) ↔ (s ≡ no_uses)
+unfolding IsStrictlySortedBy
+counts_none s n e = (
+  λ zero. let none : n ≡ 0 = eqb-true n 0 zero in sym (uses_in-rising s) ∙ ap uses_in (nil_from_length (rising s) (sym e ∙ none)),
+  λ same. eq-eqb n 0 (e ∙ ap count same ∙ ap length (rising-uses_in [] tt)),
+)
 
 -- ---- lists of uses as sets
 kept : (tie test any : Bool) → (tie ≡ true → test ≡ true) → (tie || (test && any)) ≡ (test && (tie || any))
@@ -129,7 +158,7 @@ place_is_free us new i is =
     ∙ any_none tied (drop i us) (each_weaker (λ u. use_cmp u new ≡ Greater) _ (λ u e. ap is_eq (greater u new e)) (drop i us) (each_behind _ us i is.point.1))
 
 -- ---- tests that a front of rising uses alone passes
-less_exp : (u v : Use) → use_cmp u v ≡ Less → u.exp ≤ v.exp
+pub less_exp : (u v : Use) → use_cmp u v ≡ Less → u.exp ≤ v.exp
 less_exp u v less = by_ranked (u.exp < v.exp) (u.exp ≡ v.exp) (v.exp < u.exp) (nat_cmp u.exp v.exp) (ranked u.exp v.exp (nat_cmp u.exp v.exp) refl) (λ _ h. omega arith) (λ _ h. omega arith) (λ e h. absurd (subst T (ap is_lt (sym less ∙ ap (λ (r : Ordering). ordering_then r (ordering_then (slice_cmp nat_cmp u.key v.key) (ordering_then (slice_cmp nat_cmp u.place v.place) (nat_cmp u.at v.at)))) e)) tt))
 
 not_before : (last u v : Use) → use_cmp u v ≡ Less → not (is_lt (use_cmp last v)) ≡ true → (r : Ordering) → use_cmp last u ≡ r → not (is_lt r) ≡ true
@@ -160,20 +189,20 @@ pub stored : (us : List Use) (s : Uses) → IsRising us → uses_in us ≡ s →
 stored us s up e = ap rising (sym e) ∙ rising-uses_in us up
 
 -- what is left of rising uses where the expired ones in front are cut off
-pub record IsCut (us : List Use) (moment dropped : ℕ) (left : List Use) : Type 0 where
+pub record IsPruned (us : List Use) (moment dropped : ℕ) (left : List Use) : Type 0 where
   pub front : dropped ≡ prefix_len (λ u. not (nat_lt moment u.exp)) us
   pub rest : left ≡ drop dropped us
 
-pub left_is : (us : List Use) (moment dropped : ℕ) (left : List Use) → IsRising us → IsCut us moment dropped left → left ≡ filter (λ u. nat_lt moment u.exp) us
+pub left_is : (us : List Use) (moment dropped : ℕ) (left : List Use) → IsRising us → IsPruned us moment dropped left → left ≡ filter (λ u. nat_lt moment u.exp) us
 left_is us moment dropped left up is = is.rest ∙ ap (λ n. drop n us) is.front ∙ drop-expired moment us up
 
-pub left_rises : (us : List Use) (moment dropped : ℕ) (left : List Use) → IsRising us → IsCut us moment dropped left → IsRising left
+pub left_rises : (us : List Use) (moment dropped : ℕ) (left : List Use) → IsRising us → IsPruned us moment dropped left → IsRising left
 left_rises us moment dropped left up is = subst IsRising (sym (left_is us moment dropped left up is)) (IsStrictlySortedBy-filter use_cmp (λ u. nat_lt moment u.exp) us up)
 
-pub left_live : (us : List Use) (moment dropped : ℕ) (left : List Use) (s : Uses) → IsRising us → uses_in us ≡ s → IsCut us moment dropped left → uses_in left ≡ live s moment
+pub left_live : (us : List Use) (moment dropped : ℕ) (left : List Use) (s : Uses) → IsRising us → uses_in us ≡ s → IsPruned us moment dropped left → uses_in left ≡ live s moment
 left_live us moment dropped left s up e is = ap uses_in (left_is us moment dropped left up is) ∙ uses_in-filter (λ u. nat_lt moment u.exp) us ∙ ap (λ (t : Uses). live t moment) e
 
-pub left_count : (us : List Use) (moment dropped : ℕ) (left : List Use) (s : Uses) → IsRising us → uses_in us ≡ s → IsCut us moment dropped left → dropped + count (uses_in left) ≡ count s
+pub left_count : (us : List Use) (moment dropped : ℕ) (left : List Use) (s : Uses) → IsRising us → uses_in us ≡ s → IsPruned us moment dropped left → dropped + count (uses_in left) ≡ count s
 left_count us moment dropped left s up e is =
     let here : count (uses_in left) ≡ length left = ap length (rising-uses_in left (left_rises us moment dropped left up is)) in
     let all : count s ≡ length us = ap length (stored us s up e) in
@@ -203,17 +232,9 @@ pub record IsWalked (us : List Use) (after : Option Use) (front : List Use) : Ty
 pub walk_none : (us : List Use) → IsWalked us None []
 walk_none us = record { parts = sym (all_same (is_after None) us (each_true (λ u. is_after None u ≡ true) (λ u. refl) us)) }
 
-same_some : {X : Type 0} (x y : X) → Some x ≡ Some y → x ≡ y
-same_some x y e = cc
-
-less_is : (o : Ordering) → is_lt o ≡ true → o ≡ Less
-less_is Less e = refl
-less_is Equal e = cc
-less_is Greater e = cc
-
 after_more : (after : Option Use) (u v : Use) → is_after after u ≡ true → use_cmp u v ≡ Less → is_after after v ≡ true
 after_more None u v e less = refl
-after_more (Some a) u v e less = ap is_lt (use_total.trans a u v (less_is (use_cmp a u) e) less)
+after_more (Some a) u v e less = ap is_lt (use_total.trans a u v (is_less (use_cmp a u) e) less)
 
 first_of_found : (P : Use → Type 0) (p : Use → Bool) (us : List Use) (u : Use) → AllByRecursion P us → find p us ≡ Some u → P u
 first_of_found P p [] u all e = let none : None ≡ Some u = e in cc

@@ -1,4 +1,5 @@
 pub mod Batches
+pub mod Indexed
 pub mod Parts
 pub mod Records
 pub mod Sets

@@ -15,7 +15,7 @@ unfoldable pub cut : ℕ → List Use → List BatchData
 cut moment us = full_batches ((length us - 1) / 4096) moment us
 
 -- batches of one moment that hold the uses in their order: 4,096 in each but the last, which has one or more where there is a use at all
-pub record IsCut (moment : ℕ) (us : List Use) (batches : List BatchData) : Type 0 where
+pub record AreParts (moment : ℕ) (us : List Use) (batches : List BatchData) : Type 0 where
   pub full : List BatchData
   pub last : BatchData
   pub parts : batches ≡ full ++ last ∷ []
@@ -47,5 +47,5 @@ abbrev pub PartsGiveRecord : Type 0
 PartsGiveRecord = (r : State) → IsRecord r → join_all (state_of 0 []) (parts_of r) ≡ r
 
 -- uses are cut so
-abbrev pub CutIsCut : Type 0
-CutIsCut = (moment : ℕ) (us : List Use) → IsCut moment us (cut moment us)
+abbrev pub CutGivesParts : Type 0
+CutGivesParts = (moment : ℕ) (us : List Use) → AreParts moment us (cut moment us)

@@ -1,10 +1,10 @@
-use Rattle.std.specs.Prelude.{◌≡◌, ℕ, ◌<◌, ◌≤◌, ◌^◌, false, max, List, ◌∷◌, ◌++◌, IsTrue, Contains, refl}
+use Rattle.std.specs.Prelude.{◌≡◌, ◌||◌, ◌&&◌, nat_lt, ℕ, ◌<◌, ◌≤◌, ◌^◌, false, max, List, ◌∷◌, ◌++◌, IsTrue, Contains, refl}
 use Rattle.std.specs.Coded.{Coded, code_by, coded×, coded_ℕ}
 use Rattle.svid_replay.specs.declared.token_use.Use.{Use}
 use Rattle.svid_replay.specs.Batches.{BatchData}
-use Rattle.svid_replay.specs.Sets.{holds}
+use Rattle.svid_replay.specs.Sets.{holds, union}
 use Rattle.svid_replay.specs.Use.{IsUse}
-use Rattle.svid_replay.specs.Uses.{Uses, uses_in, uses_code, union, live}
+use Rattle.svid_replay.specs.Uses.{Uses, uses_in, uses_code, live}
 
 -- what a record tells: a moment, and a set of uses
 pub record State : Type 0 where
@@ -51,6 +51,10 @@ pub record IsPartlyJoined (old new : State) (moment : ℕ) (us : List Use) : Typ
 -- the record has each of these uses that expires after both moments
 abbrev pub HasNoNew : State → ℕ → List Use → Type 0
 HasNoNew r moment us = (u : Use) → Contains us u → max r.moment moment < u.exp → IsTrue (holds r.uses u)
+
+-- a join holds what the one record or the other holds, and what expires after the greater moment
+abbrev pub JoinHoldsUnexpired : Type 0
+JoinHoldsUnexpired = (a b : State) (u : Use) → holds (join a b).uses u ≡ ((holds a.uses u || holds b.uses u) && nat_lt (max a.moment b.moment) u.exp)
 
 -- joining is commutative
 abbrev pub JoinIsCommutative : Type 0

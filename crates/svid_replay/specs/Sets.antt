@@ -34,3 +34,7 @@ with_all s (k ∷ ks) = with_all (with s k) ks
 -- the set of a list's things
 abbrev pub set_of : {K : Type 0} (R : K → K → Ordering) → List K → Set R
 set_of R ks = with_all (empty R) ks
+
+-- the things of either set
+abbrev pub union : {K : Type 0} {R : K → K → Ordering} → Set R → Set R → Set R
+union s t = with_all s (rising t)

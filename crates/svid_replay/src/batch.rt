@@ -4,11 +4,8 @@ ghost use Rattle.svid_replay.specs.Use.{IsUse};
 ghost use Rattle.svid_replay.specs.Batches.{AllGood, IsBatch, IsBatchFault, fault_of};
 
 use crate::flaw::{Flaw, flaw_of};
-use crate::{BatchFault, Use};
+use crate::{BatchFault, MOST_USES, Use};
 use std::marker::Model;
-
-/// How many uses a batch has at most.
-pub const MOST_USES: usize = 4096;
 
 /// A moment, and up to 4,096 uses that are live at it, in strictly rising order.
 #[derive(Debug, Drop)]

@@ -1,13 +1,34 @@
 //! Laws of the definitions that this crate's contracts cite. Each is the contract of a function with
 //! nothing in it, so that the check proves it like any other promise.
 
-ghost use Rattle.svid_replay.specs.Parts.{CutIsCut, PartsAreBatches, PartsGiveRecord, SamePartsSameRecord};
-ghost use Rattle.svid_replay.specs.Records.{JoinIsAssociative, JoinIsClosed, JoinIsCommutative, JoinIsIdempotent};
+ghost use Rattle.svid_replay.specs.Parts.{CutGivesParts, PartsAreBatches, PartsGiveRecord, SamePartsSameRecord};
+ghost use Rattle.svid_replay.specs.Records.{JoinHoldsUnexpired, JoinIsAssociative, JoinIsClosed, JoinIsCommutative, JoinIsIdempotent};
 ghost use Rattle.svid_replay.specs.Use.{OrderIsTextOrder};
+ghost use Rattle.svid_replay.specs.Uses.{LiveHoldsUnexpired, NoUsesHoldNone, RisingHasHeld, SameHeldSameSet, UnionHoldsEither, WithHoldsOneMore};
 
 /// Uses are ordered as their texts of 64 bytes are.
 pub fn use_order_is_text_order()
     ensures { OrderIsTextOrder }
+{}
+
+/// What each word on sets of uses holds: nothing, one use more, what either set holds, what a set holds
+/// and expires after a moment. A set's rising list has what the set holds.
+pub fn sets_hold()
+    ensures none { NoUsesHoldNone }
+    ensures with { WithHoldsOneMore }
+    ensures union { UnionHoldsEither }
+    ensures live { LiveHoldsUnexpired }
+    ensures rising { RisingHasHeld }
+{}
+
+/// Sets that hold the same uses are equal.
+pub fn sets_are_what_they_hold()
+    ensures { SameHeldSameSet }
+{}
+
+/// A join holds what either record holds and expires after the greater moment.
+pub fn joins_hold()
+    ensures { JoinHoldsUnexpired }
 {}
 
 /// Records may be joined in any order, any number of times, and a join of records is a record.
@@ -20,7 +41,7 @@ pub fn records_join()
 
 /// Uses are cut into batches that hold all of them in their order: 4,096 in each but the last.
 pub fn uses_are_cut_into_full_batches()
-    ensures { CutIsCut }
+    ensures { CutGivesParts }
 {}
 
 /// The parts of a record are batches that tell it whole: records with the same parts are the same, and

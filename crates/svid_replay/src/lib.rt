@@ -6,7 +6,8 @@
 //! kept in a [`UseStore`]. Whatever happens to it is a join: the greater moment, and of the uses of
 //! both sides those that expire after it. So records may be merged in any order, any number of times,
 //! and come out the same ([`laws`]). Where memory is refused on the way, the record is the join with
-//! a part that the contract names.
+//! a part that the contract names. Of the two stores [`SortedUses`] is for few uses, or uses that come
+//! in their order, and [`IndexedUses`] for many and for look-ups by key.
 //!
 //! ```rust
 //! use svid_replay::{Batch, Record, SortedUses, Use};
@@ -30,7 +31,10 @@
 mod batch;
 mod batch_fault;
 mod flaw;
+mod indexed_uses;
+mod key_first;
 pub mod laws;
+mod layout;
 mod parts;
 mod record;
 mod sorted;
@@ -41,9 +45,11 @@ mod token_use;
 mod twice;
 mod use_list;
 
-pub use batch::{Batch, MOST_USES};
+pub use batch::Batch;
 pub use batch_fault::BatchFault;
 pub use flaw::{Flaw, flaw_of};
+pub use indexed_uses::IndexedUses;
+pub use layout::{MOST_USES, USE_LEN};
 pub use record::Record;
 pub use sorted::SortedUses;
 pub use store::{Raised, UseStore};

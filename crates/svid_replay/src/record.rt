@@ -1,4 +1,4 @@
-ghost use Rattle.std.specs.Prelude.{◌≡◌, ◌+◌, ◌<◌, ◌≤◌, [], ◌∷◌, false, IsTrue, IsOk, IfOk, OnOk, OnErr};
+ghost use Rattle.std.specs.Prelude.{◌≡◌, ◌↔◌, ◌+◌, ◌<◌, ◌≤◌, [], ◌∷◌, false, IsTrue, IsOk, IfOk, OnOk, OnErr};
 ghost use Rattle.svid_replay.specs.Parts.{cut};
 ghost use Rattle.svid_replay.specs.Records.{HasNoNew, IsPartlyJoined, IsRecord, batch_state, join, state_of};
 ghost use Rattle.svid_replay.specs.Sets.{holds, rising};
@@ -54,6 +54,13 @@ impl<S: UseStore> Record<S> {
         ensures { result ≡ count self.now.uses }
     {
         self.store.len()
+    }
+
+    /// Whether the record has no uses.
+    pub fn is_empty(&self) -> bool
+        ensures { IsTrue result ↔ (self.now.uses ≡ no_uses) }
+    {
+        self.store.is_empty()
     }
 
     /// Whether a use of the record has this key.

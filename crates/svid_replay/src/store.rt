@@ -1,6 +1,6 @@
-ghost use Rattle.std.specs.Prelude.{◌≡◌, ◌+◌, IsTrue, IsOk, OnOk, OnErr};
+ghost use Rattle.std.specs.Prelude.{◌≡◌, ◌↔◌, ◌+◌, IsTrue, IsOk, OnOk, OnErr};
 ghost use Rattle.svid_replay.specs.Sets.{holds, with};
-ghost use Rattle.svid_replay.specs.Uses.{Uses, count, has_use_of, live, next_above};
+ghost use Rattle.svid_replay.specs.Uses.{Uses, count, has_use_of, live, next_above, no_uses};
 
 use crate::Use;
 use std::alloc::AllocError;
@@ -35,6 +35,13 @@ pub trait UseStore {
     /// How many uses the set has.
     fn len(&self) -> usize
         ensures { result ≡ count (content self.now) };
+
+    /// Whether the set has no uses.
+    fn is_empty(&self) -> bool
+        ensures { IsTrue result ↔ (content self.now ≡ no_uses) }
+    {
+        self.len() == 0
+    }
 
     /// The least use of the set, or the least that is greater than the one given.
     fn next_after(&self, after: Option<Use>) -> Option<Use>

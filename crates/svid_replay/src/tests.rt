@@ -1,8 +1,9 @@
 mod batch;
 mod record;
+mod refusing;
 mod sweep;
 
-use crate::{Batch, Record, SortedUses, Use};
+use crate::{Batch, IndexedUses, Record, SortedUses, Use, UseStore};
 use std::alloc::{AllocError, Global};
 use std::test::Fail;
 
@@ -40,19 +41,27 @@ fn uses_to(alloc: Global, count: u64) -> Result<Vec<Use>, AllocError> {
     Ok(uses)
 }
 
-fn empty(alloc: Global) -> Record<SortedUses> {
+fn sorted(alloc: Global) -> Record<SortedUses> {
     Record::new(SortedUses::new(alloc))
 }
 
-// A new record that has absorbed a batch of this moment and these uses.
-fn record_of(alloc: Global, moment: u64, uses: &[Use]) -> Result<Record<SortedUses>, Fail> {
-    let mut record = empty(alloc);
+fn indexed(alloc: Global) -> Record<IndexedUses> {
+    Record::new(IndexedUses::new(alloc))
+}
+
+// Absorbs the batch of this moment and these uses.
+fn absorb<S: UseStore>(
+    record: &mut Record<S>,
+    alloc: Global,
+    moment: u64,
+    uses: &[Use],
+) -> Result<(), Fail> {
     record.absorb(&Batch::make(moment, uses.to_vec(alloc)?)?)?;
-    Ok(record)
+    Ok(())
 }
 
 // Adds a use where the record may be asked to, and says whether it was.
-fn add(record: &mut Record<SortedUses>, used: Use) -> Result<bool, AllocError> {
+fn add<S: UseStore>(record: &mut Record<S>, used: Use) -> Result<bool, AllocError> {
     if used.at > record.moment() || !used.is_live(record.moment()) {
         return Ok(false);
     }

@@ -1,6 +1,8 @@
 ghost use Rattle.std.specs.Prelude.{◌≡◌, ◌+◌, ◌≤◌, ◌++◌, length, take, nat_lt};
 ghost use Rattle.svid_replay.specs.Use.{text_of, IsUse};
 
+use crate::layout::{AT_START, EXP_START, KEY_START, PLACE_START, USE_LEN};
+
 /// One use of a token: a validator accepted it once. Uses are ordered as their texts are.
 #[derive(Clone, Copy, Debug, PartialEq, Eq, PartialOrd, Ord)]
 pub struct Use {
@@ -14,7 +16,7 @@ pub struct Use {
     pub at: u64,
 }
 
-fn put_piece(text: &mut [u8; 64], at: usize, piece: &[u8])
+fn put_piece(text: &mut [u8; USE_LEN], at: usize, piece: &[u8])
     requires { at + length piece.now ≤ 64 }
     ensures { take (at + length piece.now) text.new ≡ take at text.old ++ piece.now }
 {
@@ -32,7 +34,7 @@ impl Use {
 
     /// The 64 bytes of this use: `exp`, `key`, `place` and `at`, each number with its greatest byte
     /// first.
-    pub fn text(&self) -> [u8; 64]
+    pub fn text(&self) -> [u8; USE_LEN]
         ensures { result ≡ text_of self.now }
     {
         let Use {
@@ -41,11 +43,11 @@ impl Use {
             place,
             at,
         } = *self;
-        let mut text = [0; 64];
-        put_piece(&mut text, 0, &exp.to_be_bytes());
-        put_piece(&mut text, 8, &key);
-        put_piece(&mut text, 40, &place);
-        put_piece(&mut text, 56, &at.to_be_bytes());
+        let mut text = [0; USE_LEN];
+        put_piece(&mut text, EXP_START, &exp.to_be_bytes());
+        put_piece(&mut text, KEY_START, &key);
+        put_piece(&mut text, PLACE_START, &place);
+        put_piece(&mut text, AT_START, &at.to_be_bytes());
         text
     }
 }

@@ -1,4 +1,4 @@
-ghost use Rattle.std.specs.Prelude.{◌≡◌, ℕ, List, IfOk, take, drop};
+ghost use Rattle.std.specs.Prelude.{◌≡◌, ℕ, List, IfOk, take, drop, length, nat_lt};
 ghost use Rattle.std.specs.List.{prefix_len};
 ghost use Rattle.svid_replay.specs.Use.{IsRising};
 ghost use Rattle.svid_replay.specs.Twice.{IsKeySorted, IsTwice, has_key, twice_of, uses_of};
@@ -19,6 +19,13 @@ pub(crate) fn has_key(key: &[u8; 32], used: &Use) -> bool
     ensures { result ≡ has_key key.now used.now }
 {
     key.cmp(&used.key).is_eq()
+}
+
+// Whether a key with these uses was used twice.
+fn is_twice(group: &[Use]) -> bool
+    ensures { result ≡ nat_lt 1 (length group.now) }
+{
+    group.len() > 1
 }
 
 // The uses in front that have this key, and the rest.
@@ -51,7 +58,7 @@ fn list_groups(alloc: Global, sorted: &[Use]) -> Result<Vec<Twice>, AllocError>
     let mut rest = sorted;
     while let Some(first) = rest.first() {
         let (group, others) = split_key(&first.key, rest);
-        if group.len() > 1 {
+        if is_twice(group) {
             let uses = UseList::from_vec(group.to_vec(alloc)?);
             listed.push(Twice {
                 key: first.key,

@@ -1,4 +1,4 @@
-ghost use Rattle.std.specs.Prelude.{◌≡◌};
+ghost use Rattle.std.specs.Prelude.{◌≡◌, ◌↔◌, [], length, IsTrue};
 
 use crate::Use;
 use std::marker::Model;
@@ -31,6 +31,20 @@ impl UseList {
         ensures { result.items ≡ self }
     {
         self.uses
+    }
+
+    /// How many uses the list has.
+    pub fn len(&self) -> usize
+        ensures { result ≡ length self.now }
+    {
+        self.uses.len()
+    }
+
+    /// Whether the list has no uses.
+    pub fn is_empty(&self) -> bool
+        ensures { IsTrue result ↔ (self.now ≡ []) }
+    {
+        self.uses.is_empty()
     }
 
     /// The uses, in their order.

@@ -1,122 +1,163 @@
-use super::{FIRST, SECOND, add, at, empty, record_of, uses_to};
-use crate::{Raised, Record, SortedUses, Use, UseStore};
+use super::{FIRST, SECOND, absorb, add, at, indexed, sorted, uses_to};
+use crate::{IndexedUses, Raised, Record, SortedUses, Use, UseStore};
 use std::alloc::Global;
 use std::process::Abort;
 use std::test::Fail;
 
-#[test]
-fn stores_a_set_of_uses(rt: HostRuntime) -> Result<(), Fail> {
-    let mut store = SortedUses::new(rt.alloc());
+// Each case takes new stores or records, so that it runs over every store and over any two of them.
+fn stores_a_set_of_uses<S: UseStore>(rt: &impl Abort, store: &mut S) -> Result<(), Fail> {
+    let early = Use { exp: 7, ..SECOND };
     assert_eq!(rt; store.len(), 0);
+    assert!(rt; store.is_empty());
     assert!(rt; !store.has(&FIRST.key));
     assert_eq!(rt; store.next_after(None), None);
     store.insert(FIRST)?;
     store.insert(FIRST)?;
     assert_eq!(rt; store.len(), 1);
+    assert!(rt; !store.is_empty());
     assert!(rt; store.has(&FIRST.key));
+    assert!(rt; !store.has(&[0x10; 32]));
     assert!(rt; !store.has(&[0x12; 32]));
-    store.insert(Use { exp: 7, ..SECOND })?;
-    assert_eq!(rt; store.next_after(None), Some(Use { exp: 7, ..SECOND }));
-    assert_eq!(rt;
-        store.next_after(Some(Use { exp: 7, ..SECOND })),
-        Some(FIRST)
-    );
+    store.insert(early)?;
+    assert_eq!(rt; store.next_after(None), Some(early));
+    assert_eq!(rt; store.next_after(Some(early)), Some(FIRST));
     assert_eq!(rt; store.next_after(Some(FIRST)), None);
     assert_eq!(rt; store.drop_expired(7), Raised { dropped: 1 });
+    assert!(rt; store.has(&FIRST.key));
     assert_eq!(rt; store.drop_expired(100), Raised { dropped: 0 });
     assert_eq!(rt; store.drop_expired(101), Raised { dropped: 1 });
+    assert!(rt; !store.has(&FIRST.key));
     assert_eq!(rt; store.len(), 0);
+    assert!(rt; store.is_empty());
     Ok(())
 }
 
 // The record of moment 100 with both uses.
-fn assert_has_both(
+fn assert_has_both<S: UseStore>(
     rt: &impl Abort,
     alloc: Global,
-    record: &Record<SortedUses>,
+    record: &Record<S>,
 ) -> Result<(), Fail> {
     assert_eq!(rt; record.moment(), 100);
     assert_eq!(rt; record.len(), 2);
+    assert!(rt; !record.is_empty());
     assert!(rt; record.has(&FIRST.key));
     assert_eq!(rt; record.next_after(Some(FIRST)), Some(SECOND));
     assert_eq!(rt; record.uses(alloc)?.as_slice(), [FIRST, SECOND].as_slice());
     let listed = record.report(alloc)?;
     assert_eq!(rt; listed.len(), 1);
     assert_eq!(rt; listed[0].key, [0x11; 32]);
+    assert_eq!(rt; listed[0].uses.len(), 2);
+    assert!(rt; !listed[0].uses.is_empty());
     assert_eq!(rt; listed[0].uses.as_slice(), [FIRST, SECOND].as_slice());
+    assert_only_part(rt, alloc, record, 100, &[FIRST, SECOND])
+}
+
+// The record has one part, of this moment and these uses.
+fn assert_only_part<S: UseStore>(
+    rt: &impl Abort,
+    alloc: Global,
+    record: &Record<S>,
+    moment: u64,
+    uses: &[Use],
+) -> Result<(), Fail> {
     let parts = record.parts(alloc)?;
     assert_eq!(rt; parts.len(), 1);
-    assert_eq!(rt; parts[0].moment(), 100);
-    assert_eq!(rt; parts[0].uses(), [FIRST, SECOND].as_slice());
+    assert_eq!(rt; parts[0].moment(), moment);
+    assert_eq!(rt; parts[0].uses(), uses);
     Ok(())
 }
 
-#[test]
-fn merges_in_any_order_and_any_number_of_times(rt: HostRuntime) -> Result<(), Fail> {
-    let alloc = rt.alloc();
-    let mut one = record_of(alloc, 100, &[FIRST])?;
-    let mut other = record_of(alloc, 100, &[SECOND])?;
-    one.merge(&other)?;
-    other.merge(&one)?;
-    one.merge(&other)?;
-    assert_has_both(&rt, alloc, &one)?;
-    assert_has_both(&rt, alloc, &other)?;
+fn merges_any_number_of_times<S: UseStore, T: UseStore>(
+    rt: &impl Abort,
+    alloc: Global,
+    one: &mut Record<S>,
+    other: &mut Record<T>,
+) -> Result<(), Fail> {
+    absorb(one, alloc, 100, &[FIRST])?;
+    absorb(other, alloc, 100, &[SECOND])?;
+    one.merge(other)?;
+    assert_has_both(rt, alloc, one)?;
+    other.merge(one)?;
+    assert_has_both(rt, alloc, other)?;
+    one.merge(other)?;
+    other.merge(one)?;
+    assert_has_both(rt, alloc, one)?;
+    assert_has_both(rt, alloc, other)?;
     assert_eq!(rt; one.raise(101), Raised { dropped: 2 });
     assert_eq!(rt; one.moment(), 101);
+    assert!(rt; one.is_empty());
     assert!(rt; one.report(alloc)?.is_empty());
-    Ok(())
+    assert_only_part(rt, alloc, one, 101, &[])
 }
 
-#[test]
-fn joins_the_greater_moment_and_drops_what_expired_by_it(rt: HostRuntime) -> Result<(), Fail> {
-    let alloc = rt.alloc();
-    let mut record = record_of(alloc, 100, &[FIRST])?;
-    let mut later = empty(alloc);
+fn joins_the_greater_moment<S: UseStore, T: UseStore>(
+    rt: &impl Abort,
+    alloc: Global,
+    one: &mut Record<S>,
+    later: &mut Record<T>,
+) -> Result<(), Fail> {
+    absorb(one, alloc, 100, &[FIRST])?;
     assert_eq!(rt; later.raise(101), Raised { dropped: 0 });
-    record.merge(&later)?;
-    assert_eq!(rt; record.moment(), 101);
-    assert_eq!(rt; record.len(), 0);
-    later.merge(&record_of(alloc, 100, &[FIRST])?)?;
+    later.merge(one)?;
     assert_eq!(rt; later.moment(), 101);
     assert_eq!(rt; later.len(), 0);
-    assert_eq!(rt; later.raise(5), Raised { dropped: 0 });
-    assert_eq!(rt; later.moment(), 101);
+    one.merge(later)?;
+    assert_eq!(rt; one.moment(), 101);
+    assert_eq!(rt; one.len(), 0);
+    assert_eq!(rt; one.raise(5), Raised { dropped: 0 });
+    assert_eq!(rt; one.moment(), 101);
     Ok(())
 }
 
-#[test]
-fn reports_a_key_of_two_uses_until_one_expires(rt: HostRuntime) -> Result<(), Fail> {
-    let alloc = rt.alloc();
+fn drops_what_expires_once<S: UseStore>(
+    rt: &impl Abort,
+    alloc: Global,
+    record: &mut Record<S>,
+) -> Result<(), Fail> {
+    let later = Use { exp: 200, ..FIRST };
+    absorb(record, alloc, 100, &[FIRST, SECOND, later])?;
+    assert_eq!(rt; record.raise(101), Raised { dropped: 2 });
+    assert_eq!(rt; record.raise(101), Raised { dropped: 0 });
+    assert_eq!(rt; record.uses(alloc)?.as_slice(), [later].as_slice());
+    assert!(rt; record.has(&later.key));
+    Ok(())
+}
+
+fn reports_a_key_until_one_use_expires<S: UseStore>(
+    rt: &impl Abort,
+    alloc: Global,
+    record: &mut Record<S>,
+) -> Result<(), Fail> {
     let used = Use {
         exp: 10,
         at: 4,
         ..FIRST
     };
-    let mut record = record_of(alloc, 5, &[used])?;
-    assert!(rt; add(&mut record, Use { exp: 12, ..used })?);
+    absorb(record, alloc, 5, &[used])?;
+    assert!(rt; add(record, Use { exp: 12, ..used })?);
     let listed = record.report(alloc)?;
     assert_eq!(rt; listed.len(), 1);
-    assert_eq!(rt; listed[0].uses.as_slice().len(), 2);
+    assert_eq!(rt; listed[0].uses.len(), 2);
     assert_eq!(rt; record.raise(10), Raised { dropped: 1 });
     assert_eq!(rt; record.len(), 1);
     assert!(rt; record.report(alloc)?.is_empty());
     Ok(())
 }
 
-#[test]
-fn adds_a_use_once(rt: HostRuntime) -> Result<(), Fail> {
-    let mut record = empty(rt.alloc());
+fn adds_a_use_once<S: UseStore>(rt: &impl Abort, record: &mut Record<S>) -> Result<(), Fail> {
     assert_eq!(rt; record.raise(100), Raised { dropped: 0 });
-    assert!(rt; add(&mut record, FIRST)?);
-    assert!(rt; add(&mut record, FIRST)?);
+    assert!(rt; add(record, FIRST)?);
+    assert!(rt; add(record, FIRST)?);
     assert_eq!(rt; record.len(), 1);
     Ok(())
 }
 
-#[test]
-fn lists_keys_in_order_with_all_their_uses(rt: HostRuntime) -> Result<(), Fail> {
-    let alloc = rt.alloc();
-    let mut record = empty(alloc);
+fn lists_keys_in_order_with_all_their_uses<S: UseStore>(
+    rt: &impl Abort,
+    alloc: Global,
+    record: &mut Record<S>,
+) -> Result<(), Fail> {
     assert_eq!(rt; record.raise(100), Raised { dropped: 0 });
     for (exp, key) in [
         (202, 3),
@@ -133,45 +174,106 @@ fn lists_keys_in_order_with_all_their_uses(rt: HostRuntime) -> Result<(), Fail> 
             key: [key; 32],
             ..FIRST
         };
-        assert!(rt; add(&mut record, used)?);
+        assert!(rt; add(record, used)?);
     }
     let listed = record.report(alloc)?;
     let mut keys = Vec::new(alloc);
     for twice in &listed {
-        keys.push((twice.key[0], twice.uses.as_slice().len()))?;
+        keys.push((twice.key[0], twice.uses.len()))?;
     }
     assert_eq!(rt; keys.as_slice(), [(1, 2), (2, 3), (3, 2)].as_slice());
     assert_eq!(rt; record.len(), 8);
     Ok(())
 }
 
-#[test]
-fn absorbs_a_full_batch(rt: HostRuntime) -> Result<(), Fail> {
-    let alloc = rt.alloc();
-    let record = record_of(alloc, 5000, uses_to(alloc, 4096)?.as_slice())?;
-    assert_eq!(rt; record.moment(), 5000);
-    assert_eq!(rt; record.len(), 4096);
+// The record of moment 5000 with 4,097 uses of one key, in parts of 4,096 and 1.
+fn assert_has_4097<S: UseStore>(
+    rt: &impl Abort,
+    alloc: Global,
+    record: &Record<S>,
+) -> Result<(), Fail> {
+    let uses = uses_to(alloc, 4097)?;
+    assert_eq!(rt; record.len(), 4097);
     assert_eq!(rt; record.next_after(Some(at(4094))), Some(at(4095)));
-    Ok(())
-}
-
-#[test]
-fn parts_hold_4096_uses_and_the_last_the_rest(rt: HostRuntime) -> Result<(), Fail> {
-    let alloc = rt.alloc();
-    let mut record = empty(alloc);
-    assert_eq!(rt; record.raise(5), Raised { dropped: 0 });
-    let parts = record.parts(alloc)?;
-    assert_eq!(rt; parts.len(), 1);
-    assert_eq!(rt; parts[0].moment(), 5);
-    assert!(rt; parts[0].uses().is_empty());
-    let mut record = record_of(alloc, 5000, uses_to(alloc, 4096)?.as_slice())?;
-    assert_eq!(rt; record.parts(alloc)?.len(), 1);
-    assert!(rt; add(&mut record, at(4096))?);
+    assert_eq!(rt; record.uses(alloc)?.as_slice(), uses.as_slice());
     let parts = record.parts(alloc)?;
     assert_eq!(rt; parts.len(), 2);
     assert_eq!(rt; parts[0].moment(), 5000);
     assert_eq!(rt; parts[0].uses(), uses_to(alloc, 4096)?.as_slice());
     assert_eq!(rt; parts[1].moment(), 5000);
     assert_eq!(rt; parts[1].uses(), [at(4096)].as_slice());
+    let listed = record.report(alloc)?;
+    assert_eq!(rt; listed.len(), 1);
+    assert_eq!(rt; listed[0].uses.as_slice(), uses.as_slice());
     Ok(())
+}
+
+fn has_parts_of_4096_uses<S: UseStore, T: UseStore>(
+    rt: &impl Abort,
+    alloc: Global,
+    one: &mut Record<S>,
+    other: &mut Record<T>,
+) -> Result<(), Fail> {
+    assert_eq!(rt; one.raise(5), Raised { dropped: 0 });
+    assert_only_part(rt, alloc, one, 5, &[])?;
+    let uses = uses_to(alloc, 4096)?;
+    absorb(one, alloc, 5000, &uses)?;
+    assert_only_part(rt, alloc, one, 5000, &uses)?;
+    assert!(rt; add(one, at(4096))?);
+    assert_has_4097(rt, alloc, one)?;
+    other.merge(one)?;
+    assert_has_4097(rt, alloc, other)
+}
+
+#[test]
+fn stores_hold_sets_of_uses(rt: HostRuntime) -> Result<(), Fail> {
+    let alloc = rt.alloc();
+    stores_a_set_of_uses(&rt, &mut SortedUses::new(alloc))?;
+    stores_a_set_of_uses(&rt, &mut IndexedUses::new(alloc))
+}
+
+#[test]
+fn records_merge_over_any_two_stores(rt: HostRuntime) -> Result<(), Fail> {
+    let alloc = rt.alloc();
+    merges_any_number_of_times(&rt, alloc, &mut sorted(alloc), &mut sorted(alloc))?;
+    merges_any_number_of_times(&rt, alloc, &mut indexed(alloc), &mut indexed(alloc))?;
+    merges_any_number_of_times(&rt, alloc, &mut indexed(alloc), &mut sorted(alloc))?;
+    merges_any_number_of_times(&rt, alloc, &mut sorted(alloc), &mut indexed(alloc))
+}
+
+#[test]
+fn records_join_the_greater_moment(rt: HostRuntime) -> Result<(), Fail> {
+    let alloc = rt.alloc();
+    joins_the_greater_moment(&rt, alloc, &mut indexed(alloc), &mut sorted(alloc))?;
+    joins_the_greater_moment(&rt, alloc, &mut sorted(alloc), &mut indexed(alloc))
+}
+
+#[test]
+fn records_have_parts(rt: HostRuntime) -> Result<(), Fail> {
+    let alloc = rt.alloc();
+    has_parts_of_4096_uses(&rt, alloc, &mut sorted(alloc), &mut indexed(alloc))?;
+    has_parts_of_4096_uses(&rt, alloc, &mut indexed(alloc), &mut sorted(alloc))
+}
+
+#[test]
+fn records_drop_what_expires_once(rt: HostRuntime) -> Result<(), Fail> {
+    let alloc = rt.alloc();
+    drops_what_expires_once(&rt, alloc, &mut sorted(alloc))?;
+    drops_what_expires_once(&rt, alloc, &mut indexed(alloc))
+}
+
+#[test]
+fn records_report_keys_used_twice(rt: HostRuntime) -> Result<(), Fail> {
+    let alloc = rt.alloc();
+    reports_a_key_until_one_use_expires(&rt, alloc, &mut sorted(alloc))?;
+    reports_a_key_until_one_use_expires(&rt, alloc, &mut indexed(alloc))?;
+    lists_keys_in_order_with_all_their_uses(&rt, alloc, &mut sorted(alloc))?;
+    lists_keys_in_order_with_all_their_uses(&rt, alloc, &mut indexed(alloc))
+}
+
+#[test]
+fn records_add_a_use_once(rt: HostRuntime) -> Result<(), Fail> {
+    let alloc = rt.alloc();
+    adds_a_use_once(&rt, &mut sorted(alloc))?;
+    adds_a_use_once(&rt, &mut indexed(alloc))
 }

@@ -1,32 +1,18 @@
 // Each growth of a call is refused in turn, where tools/failmalloc.c is loaded; else the happy path runs alone.
 ghost use Rattle.std.specs.Prelude.{◌<◌};
 
-use super::{FIRST, SECOND, add, at, empty, record_of, uses_to};
-use crate::{Batch, Record, SortedUses, Use, UseStore};
-use std::alloc::Global;
+use super::refusing::{refuse, was_refused};
+use super::{FIRST, SECOND, absorb, add, at, indexed, sorted, uses_to};
+use crate::{Batch, IndexedUses, Record, SortedUses, Use, UseStore};
+use std::alloc::{AllocError, Global};
 use std::process::Abort;
 use std::test::Fail;
 
-// Sizes that no allocator gives command the library.
-const ARM: usize = 0x4000_0000_0000_0000;
-
-const ASK: usize = 0x6000_0000_0000_0000;
-
-fn refuse(alloc: Global, nth: usize)
-    requires { nth < 4294967296 }
-{
-    let _ = Vec::<u8>::with_capacity(alloc, ARM + nth);
-}
-
-fn was_refused(alloc: Global) -> bool {
-    Vec::<u8>::with_capacity(alloc, ASK).is_ok()
-}
-
 // A record that was refused memory has the moment and a proper prefix of the uses, which it gives in order.
-fn assert_prefix(
+fn assert_prefix<S: UseStore>(
     rt: &impl Abort,
     alloc: Global,
-    record: &Record<SortedUses>,
+    record: &Record<S>,
     uses: &[Use],
 ) -> Result<(), Fail> {
     let kept = record.uses(alloc)?;
@@ -36,80 +22,210 @@ fn assert_prefix(
     Ok(())
 }
 
+// Has a new record absorb the batch while the nth allocation is refused, and says whether one was.
+fn absorbs_as_far_as_memory_goes<S: UseStore>(
+    rt: &impl Abort,
+    alloc: Global,
+    nth: usize,
+    record: &mut Record<S>,
+    batch: &Batch,
+) -> Result<bool, Fail>
+    requires { nth < 4294967296 }
+{
+    refuse(alloc, nth);
+    let answer = record.absorb(batch);
+    let refused = was_refused(alloc);
+    refuse(alloc, 0);
+    assert_eq!(rt; answer.is_err(), refused);
+    if refused {
+        assert_prefix(rt, alloc, record, batch.uses())?;
+    }
+    record.absorb(batch)?;
+    assert_eq!(rt; record.uses(alloc)?.as_slice(), batch.uses());
+    Ok(refused)
+}
+
 #[test]
 fn a_batch_is_absorbed_as_far_as_memory_goes(rt: HostRuntime) -> Result<(), Fail> {
     let alloc = rt.alloc();
-    let batch = Batch::make(5000, uses_to(alloc, 4096)?)?;
+    let large = Batch::make(5000, uses_to(alloc, 4096)?)?;
+    let mut refused = true;
     for nth in 1..10000usize {
-        let mut record = empty(alloc);
-        refuse(alloc, nth);
-        let answer = record.absorb(&batch);
-        let refused = was_refused(alloc);
-        refuse(alloc, 0);
-        if refused {
-            assert!(rt; answer.is_err());
-            assert_prefix(&rt, alloc, &record, batch.uses())?;
-        }
-        record.absorb(&batch)?;
-        assert_eq!(rt; record.uses(alloc)?.as_slice(), batch.uses());
+        refused = absorbs_as_far_as_memory_goes(&rt, alloc, nth, &mut sorted(alloc), &large)?;
         if !refused {
-            assert!(rt; answer.is_ok());
             break;
         }
     }
+    assert!(rt; !refused);
+    let small = Batch::make(5000, uses_to(alloc, 200)?)?;
+    refused = true;
+    for nth in 1..10000usize {
+        refused = absorbs_as_far_as_memory_goes(&rt, alloc, nth, &mut indexed(alloc), &small)?;
+        if !refused {
+            break;
+        }
+    }
+    assert!(rt; !refused);
     Ok(())
+}
+
+// Has a new record merge another while the nth allocation is refused, and says whether one was.
+fn merges_as_far_as_memory_goes<S: UseStore, T: UseStore>(
+    rt: &impl Abort,
+    alloc: Global,
+    nth: usize,
+    record: &mut Record<S>,
+    other: &Record<T>,
+) -> Result<bool, Fail>
+    requires { nth < 4294967296 }
+{
+    let uses = other.uses(alloc)?;
+    refuse(alloc, nth);
+    let answer = record.merge(other);
+    let refused = was_refused(alloc);
+    refuse(alloc, 0);
+    assert_eq!(rt; answer.is_err(), refused);
+    if refused {
+        assert_prefix(rt, alloc, record, &uses)?;
+    }
+    record.merge(other)?;
+    assert_eq!(rt; record.uses(alloc)?.as_slice(), uses.as_slice());
+    Ok(refused)
 }
 
 #[test]
 fn a_record_is_merged_as_far_as_memory_goes(rt: HostRuntime) -> Result<(), Fail> {
     let alloc = rt.alloc();
-    let uses = uses_to(alloc, 100)?;
-    let other = record_of(alloc, 5000, &uses)?;
+    let mut other = sorted(alloc);
+    absorb(&mut other, alloc, 5000, uses_to(alloc, 100)?.as_slice())?;
+    let mut refused = true;
     for nth in 1..10000usize {
-        let mut record = empty(alloc);
-        refuse(alloc, nth);
-        let answer = record.merge(&other);
-        let refused = was_refused(alloc);
-        refuse(alloc, 0);
-        if refused {
-            assert!(rt; answer.is_err());
-            assert_prefix(&rt, alloc, &record, &uses)?;
-        }
-        record.merge(&other)?;
-        assert_eq!(rt; record.uses(alloc)?.as_slice(), uses.as_slice());
+        let one = merges_as_far_as_memory_goes(&rt, alloc, nth, &mut sorted(alloc), &other)?;
+        let two = merges_as_far_as_memory_goes(&rt, alloc, nth, &mut indexed(alloc), &other)?;
+        refused = one || two;
         if !refused {
-            assert!(rt; answer.is_ok());
             break;
         }
+    }
+    assert!(rt; !refused);
+    Ok(())
+}
+
+// A use of a key that no other of the numbers below 101 has; the keys don't rise with the numbers.
+fn keyed(number: u64) -> Use {
+    Use {
+        exp: 5001 + number % 7,
+        key: [(number % 101 * 37 % 101) as u8; 32],
+        place: [0x22; 16],
+        at: number,
+    }
+}
+
+// The uses of a store, from each to the next.
+fn walk<S: UseStore>(rt: &impl Abort, alloc: Global, store: &S) -> Result<Vec<Use>, AllocError> {
+    let mut uses = Vec::new(alloc);
+    let mut after = None;
+    for _ in 0..store.len() {
+        after = store.next_after(after);
+        if let Some(used) = after {
+            uses.push(used)?;
+        }
+    }
+    assert!(rt; store.is_empty() || store.next_after(after).is_none());
+    Ok(uses)
+}
+
+// Puts in one use after the other while each growth is refused in turn: a refusal leaves all as it was.
+fn puts_a_use_in_or_stays<S: UseStore>(
+    rt: &impl Abort,
+    alloc: Global,
+    store: &mut S,
+) -> Result<(), Fail> {
+    for number in 0..100u64 {
+        let new = keyed(number);
+        let before = walk(rt, alloc, store)?;
+        let mut refused = true;
+        for nth in 1..100usize {
+            refuse(alloc, nth);
+            let answer = store.insert(new);
+            refused = was_refused(alloc);
+            refuse(alloc, 0);
+            assert_eq!(rt; answer.is_err(), refused);
+            if !refused {
+                break;
+            }
+            assert_eq!(rt; store.len(), before.len());
+            assert!(rt; !store.has(&new.key));
+            assert_eq!(rt; walk(rt, alloc, store)?.as_slice(), before.as_slice());
+        }
+        assert!(rt; !refused);
+        assert_eq!(rt; store.len().checked_sub(1), Some(before.len()));
+        assert!(rt; store.has(&new.key));
+        // a use that is there already takes no memory
+        refuse(alloc, 1);
+        let again = store.insert(new);
+        refuse(alloc, 0);
+        assert!(rt; again.is_ok());
     }
     Ok(())
 }
 
 #[test]
-fn a_use_is_put_in_or_the_set_stays(rt: HostRuntime) -> Result<(), Fail> {
+fn a_use_is_put_in_or_the_store_stays(rt: HostRuntime) -> Result<(), Fail> {
     let alloc = rt.alloc();
-    let mut store = SortedUses::new(alloc);
-    let mut record = record_of(alloc, 5000, &[])?;
-    for made in 0..100u64 {
-        let before = store.len();
-        refuse(alloc, 1);
-        let stored = store.insert(at(made));
-        let store_refused = was_refused(alloc);
-        refuse(alloc, 1);
-        let added = add(&mut record, at(made));
-        let record_refused = was_refused(alloc);
-        refuse(alloc, 1);
-        // a use that is there already takes no memory
-        assert_eq!(rt; before == 0 || store.insert(at(0)).is_ok(), true);
-        refuse(alloc, 0);
-        assert_eq!(rt; stored.is_ok(), !store_refused);
-        assert_eq!(rt; added.is_ok(), !record_refused);
-        assert_eq!(rt; store.len() == before, store_refused);
-        store.insert(at(made))?;
-        assert!(rt; add(&mut record, at(made))?);
-        assert_eq!(rt; store.len().checked_sub(1), Some(before));
-        assert_eq!(rt; record.len(), store.len());
+    puts_a_use_in_or_stays(&rt, alloc, &mut SortedUses::new(alloc))?;
+    puts_a_use_in_or_stays(&rt, alloc, &mut IndexedUses::new(alloc))
+}
+
+// Adds one use after the other while each growth is refused in turn: a refusal leaves all as it was.
+fn adds_a_use_or_stays<S: UseStore>(
+    rt: &impl Abort,
+    alloc: Global,
+    record: &mut Record<S>,
+) -> Result<(), Fail> {
+    absorb(record, alloc, 5000, &[])?;
+    for number in 0..100u64 {
+        let new = keyed(number);
+        let before = record.uses(alloc)?;
+        let mut refused = true;
+        for nth in 1..100usize {
+            refuse(alloc, nth);
+            let answer = add(record, new);
+            refused = was_refused(alloc);
+            refuse(alloc, 0);
+            assert_eq!(rt; answer.is_err(), refused);
+            if !refused {
+                break;
+            }
+            assert_eq!(rt; record.moment(), 5000);
+            assert_eq!(rt; record.uses(alloc)?.as_slice(), before.as_slice());
+        }
+        assert!(rt; !refused);
+        assert!(rt; record.has(&new.key));
     }
+    Ok(())
+}
+
+#[test]
+fn a_use_is_added_or_the_record_stays(rt: HostRuntime) -> Result<(), Fail> {
+    let alloc = rt.alloc();
+    adds_a_use_or_stays(&rt, alloc, &mut sorted(alloc))?;
+    adds_a_use_or_stays(&rt, alloc, &mut indexed(alloc))
+}
+
+#[test]
+fn an_indexed_store_of_100000_uses_loses_none(rt: HostRuntime) -> Result<(), Fail> {
+    let alloc = rt.alloc();
+    let mut store = IndexedUses::new(alloc);
+    for number in 0..100_000u64 {
+        store.insert(at(number * 7919 % 100_000))?;
+    }
+    assert_eq!(rt; store.len(), 100_000);
+    assert!(rt; store.has(&at(0).key));
+    let uses = uses_to(alloc, 100_000)?;
+    assert_eq!(rt; walk(&rt, alloc, &store)?.as_slice(), uses.as_slice());
+    assert_eq!(rt; store.drop_expired(5001).dropped, 100_000);
+    assert!(rt; !store.has(&at(0).key));
     Ok(())
 }
 
@@ -117,7 +233,9 @@ fn a_use_is_put_in_or_the_set_stays(rt: HostRuntime) -> Result<(), Fail> {
 fn lists_tell_want_of_memory(rt: HostRuntime) -> Result<(), Fail> {
     let alloc = rt.alloc();
     let uses = [FIRST, SECOND, at(7), at(8)];
-    let record = record_of(alloc, 100, &uses)?;
+    let mut record = sorted(alloc);
+    absorb(&mut record, alloc, 100, &uses)?;
+    let mut refused = true;
     for nth in 1..10000usize {
         refuse(alloc, nth);
         let told = record.uses(alloc);
@@ -133,12 +251,14 @@ fn lists_tell_want_of_memory(rt: HostRuntime) -> Result<(), Fail> {
         assert_eq!(rt; listed.is_ok(), !listed_refused);
         assert_eq!(rt; parts.is_ok(), !parts_refused);
         assert_eq!(rt; record.len(), 4);
-        if !listed_refused && !parts_refused {
+        refused = told_refused || listed_refused || parts_refused;
+        if !refused {
+            assert_eq!(rt; told?.as_slice(), uses.as_slice());
             assert_eq!(rt; listed?.len(), 1);
             assert_eq!(rt; parts?.len(), 1);
-            assert_eq!(rt; told?.as_slice(), uses.as_slice());
             break;
         }
     }
+    assert!(rt; !refused);
     Ok(())
 }

@@ -1,0 +1,37 @@
+use Rattle.std.specs.Prelude.{◌≡◌, ℕ, Bool, true, List, [], ◌∷◌, Option, Some, None, length, nat_lt, if◌then◌else◌}
+use Rattle.std.specs.List.{list_any}
+use Rattle.std.specs.List.Sorted.{IsStrictlySortedBy}
+use Rattle.std.specs.Ordering.{nat_cmp, ordering_then, eq_by_cmp}
+use Rattle.std.specs.Cmp.Lexicographic.{slice_cmp}
+use Rattle.std.specs.declared.cmp.Ordering.{Ordering}
+use Rattle.svid_replay.specs.declared.token_use.Use.{Use}
+use Rattle.svid_replay.specs.declared.key_first.KeyFirst.{KeyFirst}
+use Rattle.svid_replay.specs.Use.{IsRising, use_cmp}
+
+-- the order by key: by key, then by exp, by place, by at
+abbrev pub key_first_cmp : KeyFirst → KeyFirst → Ordering
+key_first_cmp j k = ordering_then (slice_cmp nat_cmp j.key k.key) (ordering_then (nat_cmp j.exp k.exp) (ordering_then (slice_cmp nat_cmp j.place k.place) (nat_cmp j.at k.at)))
+
+-- a use with its key first
+abbrev pub key_first : Use → KeyFirst
+key_first u = record { key = u.key; exp = u.exp; place = u.place; at = u.at }
+
+-- whether the list has the use
+abbrev pub has_use : List Use → Use → Bool
+has_use us u = list_any (eq_by_cmp use_cmp u) us
+
+-- whether the list by key has it
+abbrev pub has_key_first : List KeyFirst → KeyFirst → Bool
+has_key_first ks k = list_any (eq_by_cmp key_first_cmp k) ks
+
+-- two lists, in order by use and by key, that have the same uses, each with a place of 16 bytes
+pub record IsIndexed (us : List Use) (ks : List KeyFirst) : Type 0 where
+  pub rising : IsRising us
+  pub by_key : IsStrictlySortedBy key_first_cmp ks
+  pub same : (u : Use) → has_key_first ks (key_first u) ≡ has_use us u
+  pub wide : (u : Use) → has_use us u ≡ true → length u.place ≡ 16
+
+-- the least of rising uses, where it expires at the moment or before it
+abbrev pub first_expired : ℕ → List Use → Option Use
+first_expired moment [] = None
+first_expired moment (u ∷ us) = if nat_lt moment u.exp then None else Some u

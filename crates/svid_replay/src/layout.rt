@@ -1,0 +1,15 @@
+// The numbers of the layout: how many uses a batch has, and where the fields of a use stand in its text.
+
+/// How many uses a batch has at most.
+pub const MOST_USES: usize = 4096;
+
+/// How many bytes the text of a use has.
+pub const USE_LEN: usize = 64;
+
+pub(crate) const EXP_START: usize = 0;
+
+pub(crate) const KEY_START: usize = 8;
+
+pub(crate) const PLACE_START: usize = 40;
+
+pub(crate) const AT_START: usize = 56;
