@@ -2,7 +2,6 @@ use Rattle.std.proofs.Common.{◌≡◌, ℕ, zero, suc, ◌<◌, ◌≤◌, inl
 use Rattle.std.specs.List.{AllByRecursion, flat_map}
 use Rattle.std.proofs.lemmas.List.{drop_at}
 use Rattle.std.proofs.lemmas.List.Elements.{All-drop, All-same}
-use Rattle.svid_replay.specs.Batches.{IsBatch}
 use Rattle.svid_wire.specs.BatchText.{batch_text}
 use Rattle.svid_wire.specs.WireFault.{BeginsBatch, IsFault}
 use Rattle.svid_wire.specs.Messages.{message_text, IsMessage, batches_of, BeginsMessage, Parses, HasFault, NoTextIsLonger, ParsesOneWay, EachParses, ParseEnds}
@@ -11,18 +10,9 @@ use Rattle.svid_wire.specs.declared.message.Message.TheVariants.{Batch}
 use Rattle.svid_wire.proofs.FirstBatch.{begins_one_batch, text_has_no_fault}
 use Rattle.svid_wire.proofs.FirstBatchTells.{begins_or_faults}
 
--- the texts of messages are those of their batches
-pub flat_map-batches_of : (ms : List Message) → flat_map message_text ms ≡ flat_map batch_text (batches_of ms)
-flat_map-batches_of [] = refl
-flat_map-batches_of (Batch b ∷ ms) = ap (λ x. batch_text b ++ x) (flat_map-batches_of ms)
-
 pub batches_of-append : (ms ns : List Message) → batches_of (ms ++ ns) ≡ batches_of ms ++ batches_of ns
 batches_of-append [] ns = refl
 batches_of-append (Batch b ∷ ms) ns = ap (λ x. b ∷ x) (batches_of-append ms ns)
-
-pub batches_of-all : (ms : List Message) → AllByRecursion IsMessage ms → AllByRecursion IsBatch (batches_of ms)
-batches_of-all [] good = tt
-batches_of-all (Batch b ∷ ms) (good, more) = (good, batches_of-all ms more)
 
 -- bytes begin with at most one message
 begins_one_message : (a b : Message) (x y : List ℕ) → IsMessage a → IsMessage b → message_text a ++ x ≡ message_text b ++ y → (a ≡ b) × (x ≡ y)

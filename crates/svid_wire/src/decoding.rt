@@ -4,7 +4,7 @@ ghost use Rattle.svid_wire.specs.BatchText.{batch_text};
 ghost use Rattle.svid_wire.specs.Messages.{Appended, StopsAt};
 ghost use Rattle.svid_wire.specs.WireFault.{IsRefusal};
 
-use crate::judging::{NO_MEMORY, judge};
+use crate::judging::judge;
 use crate::stage::{Progress, Stage};
 use crate::{Message, Reason, WireFault};
 use std::alloc::Global;
@@ -49,9 +49,7 @@ pub fn read_all(alloc: Global, bytes: &[u8], out: &mut Vec<Message>) -> Result<(
     let mut rest = bytes;
     while !rest.is_empty() {
         let (batch, after) = decode_batch(alloc, rest)?;
-        if out.push(Message::Batch(batch)).is_err() {
-            return Err(NO_MEMORY);
-        }
+        out.push(Message::Batch(batch))?;
         rest = after;
     }
     Ok(())

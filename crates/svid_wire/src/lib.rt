@@ -31,6 +31,7 @@ mod decoding;
 mod field;
 mod judging;
 pub mod laws;
+mod layout;
 mod mem_sink;
 mod mem_source;
 mod message;

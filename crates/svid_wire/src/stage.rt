@@ -1,5 +1,6 @@
 ghost use Rattle.std.specs.Prelude.{◌≡◌, ◌<◌};
 
+use crate::layout::{KIND_LEN, MAGIC_LEN, NUMBERS_LEN, USE_LEN};
 use svid_replay::{Batch, Use};
 
 /// The field of a batch that comes next, with what the fields before it told.
@@ -24,10 +25,10 @@ impl Stage {
         ensures some { 0 < result }
     {
         match self {
-            Stage::Magic => 4,
-            Stage::Kind => 1,
-            Stage::Numbers => 12,
-            Stage::Uses { .. } => 64,
+            Stage::Magic => MAGIC_LEN,
+            Stage::Kind => KIND_LEN,
+            Stage::Numbers => NUMBERS_LEN,
+            Stage::Uses { .. } => USE_LEN,
         }
     }
 }

@@ -1,5 +1,6 @@
 mod decoding;
 mod messages;
+mod refusing;
 mod streams;
 mod sweep;
 mod writing;

@@ -1,7 +1,8 @@
 // Each growth of each call that takes memory is refused in turn, where `tools/failmalloc.c` is loaded.
 // Without it no growth is refused, and each loop ends with its first round, the happy one.
-ghost use Rattle.std.specs.Prelude.{◌<◌, ◌≤◌, ◌^◌};
+ghost use Rattle.std.specs.Prelude.{◌≤◌};
 
+use super::refusing::{refuse, was_refused};
 use super::{TWO_USES, many_uses};
 use crate::{
     Counted, MemSink, MemSource, Message, ReadFault, Reason, Sink, WireFault, decode_batch,
@@ -9,22 +10,6 @@ use crate::{
 };
 use std::alloc::Global;
 use std::test::Fail;
-
-// Sizes that no allocator can give: commands for that library.
-const ARM: usize = 1 << 62;
-
-const ASK: usize = ARM + (1 << 61);
-
-// Has the nth growth from here on refused, or none at 0.
-fn refuse(alloc: Global, nth: usize)
-    requires { nth < 2 ^ 32 }
-{
-    let _ = Vec::<u8>::with_capacity(alloc, ARM + nth);
-}
-
-fn was_refused(alloc: Global) -> bool {
-    Vec::<u8>::with_capacity(alloc, ASK).is_ok()
-}
 
 #[test]
 fn decoding_answers_want_of_memory(rt: HostRuntime) -> Result<(), Fail> {

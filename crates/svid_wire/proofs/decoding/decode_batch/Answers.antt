@@ -1,6 +1,6 @@
 use Rattle.std.proofs.Common.{◌++◌, ◌∙◌, ap, sym, refl, append_assoc, inl, arith}
 use Rattle.svid_wire.specs.Stage.{stage_text}
-use Rattle.svid_wire.proofs.StageLemmas.{IsCut-stage}
+use Rattle.svid_wire.proofs.StageLemmas.{IsUnfinished-stage}
 use Rattle.svid_wire.proofs.WireFaultLemmas.{IsRefusal-append}
 use Rattle.svid_wire.proofs.decoding.decode_batch.Goals as goal
 
@@ -13,4 +13,4 @@ returns-in-Err-clause-fault c =
 pub returns-clause-fault : goal.returns-clause-fault
 returns-clause-fault c =
     let (good, parts) = c.loop-rest.invariant in
-    inl (refl, c.requires, IsCut-stage _ _ _ good parts (omega (arith, c.field_len.ensures.value)))
+    inl (refl, c.requires, IsUnfinished-stage _ _ _ good parts (omega (arith, c.field_len.ensures.value)))
