@@ -76,7 +76,7 @@ length_pieces : (e k p a : List ℕ) → length e ≡ 8 → length k ≡ 32 → 
 length_pieces e k p a le lk lp la =
     omega (arith, length-append e k, length-append (e ++ k) p, length-append (e ++ k ++ p) a)
 
-length-text_of : (u : Use) → IsUse u → length (text_of u) ≡ 64
+pub length-text_of : (u : Use) → IsUse u → length (text_of u) ≡ 64
 unfolding text_of
 length-text_of u h =
     length_pieces (to_be_bytes w64 u.exp) u.key u.place (to_be_bytes w64 u.at) refl h.key.size h.place.size refl

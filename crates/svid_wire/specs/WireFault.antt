@@ -88,7 +88,11 @@ flaw_reason Order = reason.UseOrder
 abbrev pub no_memory : WireFault
 no_memory = record { place = 0; reason = reason.OutOfMemory }
 
--- what a reader of such bytes may refuse them for
+-- what a reader may refuse such bytes for, whatever follows them: a bad field, or want of memory
+abbrev pub IsFieldRefusal : List ℕ → WireFault → Type 0
+IsFieldRefusal bytes fault = IsFieldFault bytes fault ⊎ (fault ≡ no_memory)
+
+-- what a reader of such bytes may refuse them for, where none follow
 abbrev pub IsRefusal : List ℕ → WireFault → Type 0
 IsRefusal bytes fault = IsFault bytes fault ⊎ (fault ≡ no_memory)
 

@@ -3,7 +3,7 @@
 
 ghost use Rattle.svid_replay.specs.Parts.{PartsGiveRecord};
 ghost use Rattle.svid_wire.specs.BatchText.{BeginsOneBatch};
-ghost use Rattle.svid_wire.specs.Messages.{EachParses, NoTextIsLonger, ParseEnds, ParsesOneWay};
+ghost use Rattle.svid_wire.specs.Messages.{CutAnywhere, EachParses, NoTextIsLonger, ParseEnds, ParsesOneWay};
 ghost use Rattle.svid_wire.specs.RecordText.{TextTellsRecord};
 ghost use Rattle.svid_wire.specs.WireFault.{BeginsOrFaults, FaultIsUnique, FieldFaultStays, TextHasNoFault};
 
@@ -53,6 +53,12 @@ pub fn each_parses()
 /// begin with.
 pub fn parse_ends()
     ensures { ParseEnds }
+{}
+
+/// However bytes are cut, there is one parse: that of the first bytes, and then that of its rest
+/// followed by the other bytes, make the parse of all, with the same rest.
+pub fn cut_anywhere()
+    ensures { CutAnywhere }
 {}
 
 /// Two records are equal exactly if the texts of their parts, one after the other, are equal.

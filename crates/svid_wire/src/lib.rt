@@ -28,6 +28,7 @@
 
 mod counted;
 mod decoding;
+mod feed;
 mod field;
 mod judging;
 pub mod laws;
@@ -35,6 +36,7 @@ mod layout;
 mod mem_sink;
 mod mem_source;
 mod message;
+mod partial;
 mod read_fault;
 mod reading;
 mod reason;
@@ -49,7 +51,8 @@ mod write_fault;
 mod writing;
 
 pub use counted::Counted;
-pub use decoding::{decode_batch, read_all};
+pub use decoding::read_all;
+pub use feed::Feed;
 pub use mem_sink::MemSink;
 pub use mem_source::MemSource;
 pub use message::Message;
