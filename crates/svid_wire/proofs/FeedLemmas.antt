@@ -5,7 +5,7 @@ use Rattle.std.specs.List.{flat_map, AllByRecursion}
 use Rattle.svid_replay.specs.declared.token_use.Use.{Use}
 use Rattle.svid_replay.specs.Use.{IsUse, text_of}
 use Rattle.svid_wire.specs.BatchText.{numbers_text, head_text}
-use Rattle.svid_wire.specs.Feed.{IsHeld, Pushed, end_of}
+use Rattle.svid_wire.specs.Feed.{IsHeld, Pushed, PushesJoin, end_of}
 use Rattle.svid_wire.specs.Messages.{Appended, StopsAt, StopsIn}
 use Rattle.svid_wire.specs.Partial.{IsPartial, held_of}
 use Rattle.svid_wire.specs.Stage.{IsStage, field_len, stage_text}
@@ -69,3 +69,12 @@ pub ended : (held : Option (List ℕ)) (old new : List Message) (bytes : List �
 ended None old new bytes h = absurd h
 ended (Some []) old new bytes h = tt
 ended (Some (b ∷ x)) old new bytes h = record { rest = b ∷ x; some = omega arith; read = h.0; why = inl (refl, omega arith, h.1.unfinished) }
+
+pub pushes_join : PushesJoin
+pushes_join None between after old mid new first second p q = absurd p
+pushes_join (Some x) None after old mid new first second p q = absurd p
+pushes_join (Some x) (Some y) None old mid new first second p q = absurd q
+pushes_join (Some x) (Some y) (Some z) old mid new first second (one, _) (other, held) = (
+  subst (λ (bytes : List ℕ). Appended bytes old new z) (append_assoc x first second) (Appended-trans (x ++ first ++ second) (y ++ second) z old mid new (Appended-more (x ++ first) second y old mid one) other),
+  held,
+)

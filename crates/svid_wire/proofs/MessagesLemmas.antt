@@ -3,7 +3,6 @@ use Rattle.std.specs.List.{AllByRecursion, flat_map}
 use Rattle.std.proofs.lemmas.Grind.{flat_map-append}
 use Rattle.std.proofs.lemmas.List.{drop_at}
 use Rattle.std.proofs.lemmas.List.Elements.{All-drop, All-same}
-use Rattle.svid_replay.specs.Batches.{BatchData, IsBatch}
 use Rattle.svid_replay.proofs.ListLemmas.{each_append}
 use Rattle.svid_wire.specs.BatchText.{batch_text}
 use Rattle.svid_wire.specs.WireFault.{BeginsBatch, IsFault}
@@ -30,18 +29,6 @@ Splits-more bytes more ms rest p = record { good = p.good; parts = ap (λ x. x +
 
 pub cut_anywhere : CutAnywhere
 cut_anywhere first others ms ns rest last p q = record { splits = Splits-append (first ++ others) ms ns (rest ++ others) last (Splits-more first others ms rest p.splits) q.splits; ends = q.ends }
-
--- no message came
-pub Appended-none : (bytes rest : List ℕ) (ms : List Message) → bytes ≡ rest → Appended bytes ms ms rest
-Appended-none bytes rest ms same = record { came = []; grown = sym (append-nil ms); splits = record { good = tt; parts = same } }
-
--- one message came, and nothing behind it
-pub Appended-one : (bytes : List ℕ) (old new : List Message) (b : BatchData) → IsBatch b → batch_text b ≡ bytes → new ≡ old ++ Batch b ∷ [] → Appended bytes old new []
-Appended-one bytes old new b good text grown = record {
-  came = Batch b ∷ [];
-  grown = grown;
-  splits = record { good = (good, tt); parts = sym text ∙ sym (append-nil (batch_text b)) ∙ sym (append-nil (batch_text b ++ [])) };
-}
 
 -- messages came of some bytes, and others of their rest
 pub Appended-trans : (bytes mid rest : List ℕ) (a b c : List Message) → Appended bytes a b mid → Appended mid b c rest → Appended bytes a c rest

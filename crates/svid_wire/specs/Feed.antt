@@ -36,3 +36,7 @@ abbrev pub end_of : Option (List ℕ) → Result Unit WireFault
 end_of None = Err failed
 end_of (Some []) = Ok tt
 end_of (Some (b ∷ bytes)) = Err (record { place = length (b ∷ bytes); reason = Truncated })
+
+-- two pushes are one of both pieces together
+abbrev pub PushesJoin : Type 0
+PushesJoin = (before between after : Option (List ℕ)) (old mid new : List Message) (first second : List ℕ) → Pushed before between old mid first → Pushed between after mid new second → Pushed before after old new (first ++ second)

@@ -3,6 +3,7 @@
 
 ghost use Rattle.svid_replay.specs.Parts.{PartsGiveRecord};
 ghost use Rattle.svid_wire.specs.BatchText.{BeginsOneBatch};
+ghost use Rattle.svid_wire.specs.Feed.{PushesJoin};
 ghost use Rattle.svid_wire.specs.Messages.{CutAnywhere, EachParses, NoTextIsLonger, ParseEnds, ParsesOneWay};
 ghost use Rattle.svid_wire.specs.RecordText.{TextTellsRecord};
 ghost use Rattle.svid_wire.specs.WireFault.{BeginsOrFaults, FaultIsUnique, FieldFaultStays, TextHasNoFault};
@@ -59,6 +60,11 @@ pub fn parse_ends()
 /// followed by the other bytes, make the parse of all, with the same rest.
 pub fn cut_anywhere()
     ensures { CutAnywhere }
+{}
+
+/// Two pushes that succeed do to a feed what one of both pieces together does.
+pub fn pushes_join()
+    ensures { PushesJoin }
 {}
 
 /// Two records are equal exactly if the texts of their parts, one after the other, are equal.
