@@ -150,32 +150,32 @@ fn a_full_batch_comes_in_pieces_of_any_length(rt: HostRuntime) -> Result<(), Fai
 
 #[test]
 fn a_fault_is_told_when_its_field_is_whole(rt: HostRuntime) -> Result<(), Fail> {
-    // the byte that is changed, what it becomes, the fault, and how many bytes end its field
-    for (at, byte, place, reason, whole) in [
-        (0usize, 0u8, 0usize, Reason::Magic, 4usize),
-        (3, 2, 0, Reason::Magic, 4),
-        (4, 3, 4, Reason::Kind, 5),
-        (15, 0x10, 13, Reason::Count, 17),
-        (24, 100, 17, Reason::UseExpired, 81),
-        (80, 101, 17, Reason::UseFuture, 81),
-        (121, 0x21, 81, Reason::UseOrder, 145),
+    // the byte that is changed, what it becomes, the fault, and the last byte of its field
+    for (at, byte, place, reason, last) in [
+        (0usize, 0u8, 0usize, Reason::Magic, 3usize),
+        (3, 2, 0, Reason::Magic, 3),
+        (4, 3, 4, Reason::Kind, 4),
+        (15, 0x10, 13, Reason::Count, 16),
+        (24, 100, 17, Reason::UseExpired, 80),
+        (80, 101, 17, Reason::UseFuture, 80),
+        (121, 0x21, 81, Reason::UseOrder, 144),
     ] {
         let mut bad = *TWO_USES;
-        assert!(rt; at < 145 && whole <= 145);
+        assert!(rt; at < 145 && last < 145);
         bad[at] = byte;
         let mut feed = Feed::new(rt.alloc());
         let mut out = Vec::new(rt.alloc());
         assert_eq!(rt; feed.push(NO_USES, &mut out), Ok(()));
-        for n in 0..whole - 1 {
+        for n in 0..last {
             assert_eq!(rt;
                 feed.push(&[bad[n]], &mut out),
                 Ok(()),
-                "byte {n} of {whole}"
+                "byte {n}"
             );
             assert_eq!(rt; feed.held(), n + 1);
         }
         let want = fault(place, reason);
-        assert_eq!(rt; feed.push(&[bad[whole - 1]], &mut out), want, "byte {at}");
+        assert_eq!(rt; feed.push(&[bad[last]], &mut out), want, "byte {at}");
         assert_eq!(rt; (feed.held(), out.len()), (0, 1));
         assert_eq!(rt; feed.push(&[], &mut out), Err(FAILED));
         assert_eq!(rt; feed.finish(), Err(FAILED));
