@@ -1,5 +1,5 @@
 -- A function that finds what bytes begin with, so that no bytes begin with two different things.
-use Rattle.std.proofs.Common.{◌≡◌, ◌≢◌, ℕ, zero, suc, ◌+◌, ◌-◌, ◌*◌, ◌^◌, ◌<◌, ◌≤◌, Bool, true, false, nat_lt, if◌then◌else◌, List, [], ◌∷◌, ◌++◌, length, take, drop, refl, sym, ap, ◌∙◌, subst, arith, append_assoc, append-nil, Option, None, Some, option_map, length-append}
+use Rattle.std.proofs.Common.{◌≡◌, ◌≢◌, ℕ, zero, suc, ◌+◌, ◌-◌, ◌*◌, ◌^◌, ◌<◌, ◌≤◌, Bool, true, false, nat_lt, if◌then◌else◌, List, [], ◌∷◌, ◌++◌, length, take, drop, refl, sym, ap, ◌∙◌, subst, arith, append_assoc, append-nil, Option, None, Some, length-append}
 use Rattle.std.specs.Int.{from_be_bytes, to_be_bytes, w32, w64}
 use Rattle.std.specs.List.{flat_map, AllByRecursion}
 use Rattle.std.specs.Str.{bytes_eq}
@@ -14,7 +14,7 @@ use Rattle.svid_replay.specs.Use.{IsUse, text_of}
 use Rattle.svid_replay.specs.Batches.{BatchData, IsBatch, AllGood, flaw, last_of}
 use Rattle.svid_replay.proofs.BatchesLemmas.{last_of-push}
 use Rattle.svid_wire.specs.BatchText.{magic, batch_kind, numbers_text, head_text, batch_text, BeginsOneBatch}
-use Rattle.svid_wire.specs.WireFault.{IsCut, in_magic, in_kind, in_numbers, in_uses, IsBegun, IsFaultFor, TextHasNoFault, FaultIsUnique, IsUseFault, IsKindFault, IsCountFault, flaw_reason}
+use Rattle.svid_wire.specs.WireFault.{IsUnfinished, in_magic, in_kind, in_numbers, in_uses, IsBegun, IsFaultFor, TextHasNoFault, FaultIsUnique, IsUseFault, IsKindFault, IsCountFault, flaw_reason}
 use Rattle.svid_wire.specs.declared.wire_fault.WireFault.{WireFault}
 use Rattle.svid_wire.specs.declared.reason.Reason.{Reason}
 use Rattle.svid_wire.specs.declared.reason.Reason.TheVariants as reason
@@ -28,35 +28,23 @@ pub data Found : Type 0 where
 abbrev pub fault_at : ℕ → Reason → Found
 fault_at place reason = fault (record { place = place; reason = reason })
 
--- the first n bytes, where there are as many, and those behind them
-unfoldable pub split_field : ℕ → List ℕ → Option (List ℕ × List ℕ)
-split_field zero x = Some ([], x)
-split_field (suc n) [] = None
-split_field (suc n) (b ∷ x) = option_map (λ p. (b ∷ p.0, p.1)) (split_field n x)
+-- looks at the first n bytes, where there are as many, and at those behind them
+unfoldable pub at_field : ℕ → List ℕ → (List ℕ → List ℕ → Found) → Found
+at_field n x next = if nat_lt (length x) n then cut else next (take n x) (drop n x)
 
-split_field-append : (n : ℕ) (a x : List ℕ) → length a ≡ n → split_field n (a ++ x) ≡ Some (a, x)
-unfolding split_field
-split_field-append zero [] x e = refl
-split_field-append zero (b ∷ a) x e = absurd (omega arith)
-split_field-append (suc n) [] x e = absurd (omega arith)
-split_field-append (suc n) (b ∷ a) x e = ap (option_map (λ p. (b ∷ p.0, p.1))) (split_field-append n a x (omega arith))
+at_whole : (n : ℕ) (a x : List ℕ) (next : List ℕ → List ℕ → Found) → length a ≡ n → at_field n (a ++ x) next ≡ next a x
+unfolding at_field
+at_whole n a x next e =
+    let long : nat_lt (length (a ++ x)) n ≡ false = grind (arith, nat_tests, length-append a x) in
+    ap (λ b. if b then cut else next (take n (a ++ x)) (drop n (a ++ x))) long
+    ∙ ap (λ f. next f (drop n (a ++ x))) (take_at a x n e)
+    ∙ ap (next a) (drop_at a x n e)
 
-split_field-short : (n : ℕ) (x : List ℕ) → length x < n → split_field n x ≡ None
-unfolding split_field
-split_field-short zero x h = absurd (omega arith)
-split_field-short (suc n) [] h = refl
-split_field-short (suc n) (b ∷ x) h = ap (option_map (λ p. (b ∷ p.0, p.1))) (split_field-short n x (omega arith))
-
--- looks at the next field, where it is whole
-abbrev pub at_field : Option (List ℕ × List ℕ) → (List ℕ → List ℕ → Found) → Found
-at_field None next = cut
-at_field (Some p) next = next p.0 p.1
-
-at_whole : (n : ℕ) (a x : List ℕ) (next : List ℕ → List ℕ → Found) → length a ≡ n → at_field (split_field n (a ++ x)) next ≡ next a x
-at_whole n a x next e = ap (λ o. at_field o next) (split_field-append n a x e)
-
-at_short : (n : ℕ) (x : List ℕ) (next : List ℕ → List ℕ → Found) → length x < n → at_field (split_field n x) next ≡ cut
-at_short n x next h = ap (λ o. at_field o next) (split_field-short n x h)
+at_short : (n : ℕ) (x : List ℕ) (next : List ℕ → List ℕ → Found) → length x < n → at_field n x next ≡ cut
+unfolding at_field
+at_short n x next h =
+    let short : nat_lt (length x) n ≡ true = grind (arith, nat_tests) in
+    ap (λ b. if b then cut else next (take n x) (drop n x)) short
 
 -- the use of these four pieces
 unfoldable pub use_of_pieces : List ℕ → List ℕ → List ℕ → List ℕ → Use
@@ -88,7 +76,7 @@ length_pieces : (e k p a : List ℕ) → length e ≡ 8 → length k ≡ 32 → 
 length_pieces e k p a le lk lp la =
     omega (arith, length-append e k, length-append (e ++ k) p, length-append (e ++ k ++ p) a)
 
-length-text_of : (u : Use) → IsUse u → length (text_of u) ≡ 64
+pub length-text_of : (u : Use) → IsUse u → length (text_of u) ≡ 64
 unfolding text_of
 length-text_of u h =
     length_pieces (to_be_bytes w64 u.exp) u.key u.place (to_be_bytes w64 u.at) refl h.key.size h.place.size refl
@@ -101,19 +89,19 @@ judged (Some f) us next = fault_at (17 + 64 * length us) (flaw_reason f)
 -- so many uses more, behind those that were found good
 unfoldable pub find_uses : ℕ → ℕ → List Use → List ℕ → Found
 find_uses zero m us x = batch (record { moment = m; uses = us }) x
-find_uses (suc n) m us x = at_field (split_field 64 x) (λ f rest. judged (flaw m (last_of None us) (use_of f)) us (find_uses n m (us ++ use_of f ∷ []) rest))
+find_uses (suc n) m us x = at_field 64 x (λ f rest. judged (flaw m (last_of None us) (use_of f)) us (find_uses n m (us ++ use_of f ∷ []) rest))
 
 unfoldable pub found_uses : ℕ → ℕ → List ℕ → Found
 found_uses m c rest = if nat_lt 4096 c then fault_at 13 reason.Count else find_uses c m [] rest
 
 unfoldable pub find_numbers : List ℕ → Found
-find_numbers x = at_field (split_field 12 x) (λ f rest. found_uses (from_be_bytes w64 (take 8 f)) (from_be_bytes w32 (drop 8 f)) rest)
+find_numbers x = at_field 12 x (λ f rest. found_uses (from_be_bytes w64 (take 8 f)) (from_be_bytes w32 (drop 8 f)) rest)
 
 unfoldable pub find_kind : List ℕ → Found
-find_kind x = at_field (split_field 1 x) (λ f rest. if bytes_eq f (batch_kind ∷ []) then find_numbers rest else fault_at 4 reason.Kind)
+find_kind x = at_field 1 x (λ f rest. if bytes_eq f (batch_kind ∷ []) then find_numbers rest else fault_at 4 reason.Kind)
 
 unfoldable pub find_magic : List ℕ → Found
-find_magic x = at_field (split_field 4 x) (λ f rest. if bytes_eq f magic then find_kind rest else fault_at 0 reason.Magic)
+find_magic x = at_field 4 x (λ f rest. if bytes_eq f magic then find_kind rest else fault_at 0 reason.Magic)
 
 -- bytes that end before a batch does have a fault at their end
 abbrev pub settled : List ℕ → Found → Found
@@ -189,7 +177,7 @@ find_begun m c us x begun =
     let left : c ≡ length us + suc k = omega arith in
     (k, find_head-few m c _ begun.moment_fits begun.few ∙ find_uses-begun m c (suc k) us x left begun.fields begun.good)
 
-find_cut : (bytes : List ℕ) → IsCut bytes → find_magic bytes ≡ cut
+find_cut : (bytes : List ℕ) → IsUnfinished bytes → find_magic bytes ≡ cut
 unfolding find_magic find_kind find_numbers find_uses
 find_cut bytes (in_magic short) = at_short 4 bytes _ short
 find_cut bytes (in_kind parts) = ap find_magic (parts ∙ sym (append-nil magic)) ∙ find_magic-good [] ∙ at_short 1 [] _ (omega arith)

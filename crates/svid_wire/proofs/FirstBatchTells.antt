@@ -1,5 +1,5 @@
 -- What `first_batch` finds is true of the bytes, so that all bytes begin with a batch or have a fault.
-use Rattle.std.proofs.Common.{◌≡◌, ◌≢◌, ℕ, zero, suc, ◌+◌, ◌*◌, ◌^◌, ◌<◌, ◌≤◌, ◌⊎◌, inl, inr, Bool, true, false, nat_lt, if◌then◌else◌, List, [], ◌∷◌, ◌++◌, length, take, drop, get_or, refl, sym, ap, ◌∙◌, subst, arith, append_assoc, length-append, length-drop, Option, None, Some, option_map, MatchOption, All}
+use Rattle.std.proofs.Common.{◌≡◌, ◌≢◌, ℕ, zero, suc, ◌+◌, ◌*◌, ◌^◌, ◌<◌, ◌≤◌, ◌⊎◌, inl, inr, Bool, true, false, nat_lt, if◌then◌else◌, List, [], ◌∷◌, ◌++◌, length, take, drop, get_or, refl, sym, ap, ◌∙◌, subst, arith, append_assoc, length-append, length-drop, Option, None, Some, All}
 use Rattle.std.specs.Int.{from_be_bytes, to_be_bytes, w32, w64}
 use Rattle.std.specs.List.{flat_map, AllByRecursion}
 use Rattle.std.specs.Str.{bytes_eq}
@@ -16,12 +16,12 @@ use Rattle.svid_replay.specs.Use.{IsUse, IsBytes, text_of}
 use Rattle.svid_replay.specs.Batches.{IsBatch, AllGood, flaw, last_of}
 use Rattle.svid_replay.proofs.BatchesLemmas.{AllGood-push, AllByRecursion-push}
 use Rattle.svid_wire.specs.BatchText.{magic, batch_kind, numbers_text, head_text, batch_text}
-use Rattle.svid_wire.specs.WireFault.{IsCut, in_magic, in_kind, in_numbers, in_uses, IsBegun, IsFault, IsFaultFor, IsUseFault, BeginsBatch, BeginsOrFaults}
+use Rattle.svid_wire.specs.WireFault.{IsUnfinished, in_magic, in_kind, in_numbers, in_uses, IsBegun, IsFault, IsFaultFor, IsUseFault, BeginsBatch, BeginsOrFaults}
 use Rattle.svid_wire.specs.declared.wire_fault.WireFault.{WireFault}
 use Rattle.svid_wire.specs.declared.reason.Reason.{Reason}
 use Rattle.svid_wire.specs.declared.reason.Reason.TheVariants as reason
 use Rattle.svid_wire.proofs.StageLemmas.{IsFieldFault-use}
-use Rattle.svid_wire.proofs.FirstBatch.{Found, batch, fault, cut, fault_at, split_field, at_field, use_of, use_of_pieces, judged, find_uses, found_uses, find_numbers, find_kind, find_magic}
+use Rattle.svid_wire.proofs.FirstBatch.{Found, batch, fault, cut, fault_at, at_field, use_of, use_of_pieces, judged, find_uses, found_uses, find_numbers, find_kind, find_magic}
 
 -- bytes as a slice knows them
 AreBytes : List ℕ → Type 0
@@ -37,31 +37,19 @@ AreBytes-at (b ∷ x) h (suc i) = AreBytes-at x (λ k d within. h (suc k) d (ome
 Tells : List ℕ → Found → Type 0
 Tells bytes (batch b rest) = IsBatch b × (bytes ≡ batch_text b ++ rest)
 Tells bytes (fault found) = IsFault bytes found
-Tells bytes cut = IsCut bytes
+Tells bytes cut = IsUnfinished bytes
 
--- where a field is split off
-IsSplit : ℕ → List ℕ → Option (List ℕ × List ℕ) → Type 0
-IsSplit n x o = MatchOption o (length x < n) (λ p. (x ≡ p.0 ++ p.1) × (length p.0 ≡ n))
+-- the next field, by whether it is whole
+Tells-test : (bytes : List ℕ) (n : ℕ) (x : List ℕ) (next : List ℕ → List ℕ → Found) (b : Bool) → nat_lt (length x) n ≡ b → (length x < n → IsUnfinished bytes) → ((f rest : List ℕ) → x ≡ f ++ rest → length f ≡ n → Tells bytes (next f rest)) → Tells bytes (if b then cut else next (take n x) (drop n x))
+unfolding Tells
+Tells-test bytes n x next true test ends goes = ends (grind (arith, nat_tests))
+Tells-test bytes n x next false test ends goes =
+    let long : n ≤ length x = grind (arith, nat_tests) in
+    goes (take n x) (drop n x) (sym (take-append-drop n x)) (length-take-le n x long)
 
-IsSplit-next : (n b : ℕ) (x : List ℕ) (o : Option (List ℕ × List ℕ)) → IsSplit n x o → IsSplit (suc n) (b ∷ x) (option_map (λ p. (b ∷ p.0, p.1)) o)
-unfolding IsSplit
-IsSplit-next n b x None short = omega arith
-IsSplit-next n b x (Some p) (parts, size) = (ap (λ y. b ∷ y) parts, omega arith)
-
-split_field-tells : (n : ℕ) (x : List ℕ) → IsSplit n x (split_field n x)
-unfolding IsSplit split_field
-split_field-tells zero x = (refl, refl)
-split_field-tells (suc n) [] = omega arith
-split_field-tells (suc n) (b ∷ x) = IsSplit-next n b x (split_field n x) (split_field-tells n x)
-
-at_split : (bytes : List ℕ) (n : ℕ) (x : List ℕ) (next : List ℕ → List ℕ → Found) (o : Option (List ℕ × List ℕ)) → IsSplit n x o → (length x < n → IsCut bytes) → ((f rest : List ℕ) → x ≡ f ++ rest → length f ≡ n → Tells bytes (next f rest)) → Tells bytes (at_field o next)
-unfolding IsSplit Tells
-at_split bytes n x next None short ends goes = ends short
-at_split bytes n x next (Some p) (parts, size) ends goes = goes p.0 p.1 parts size
-
--- the next field, where it is whole
-Tells-field : (bytes : List ℕ) (n : ℕ) (x : List ℕ) (next : List ℕ → List ℕ → Found) → (length x < n → IsCut bytes) → ((f rest : List ℕ) → x ≡ f ++ rest → length f ≡ n → Tells bytes (next f rest)) → Tells bytes (at_field (split_field n x) next)
-Tells-field bytes n x next = at_split bytes n x next (split_field n x) (split_field-tells n x)
+Tells-field : (bytes : List ℕ) (n : ℕ) (x : List ℕ) (next : List ℕ → List ℕ → Found) → (length x < n → IsUnfinished bytes) → ((f rest : List ℕ) → x ≡ f ++ rest → length f ≡ n → Tells bytes (next f rest)) → Tells bytes (at_field n x next)
+unfolding at_field
+Tells-field bytes n x next = Tells-test bytes n x next (nat_lt (length x) n) refl
 
 -- the bytes of a whole field
 field_bytes : (x f rest : List ℕ) → x ≡ f ++ rest → AreBytes x → AreBytes f × AreBytes rest

@@ -1,4 +1,5 @@
 pub mod BatchTextLemmas
+pub mod FeedLemmas
 pub mod FirstBatch
 pub mod FirstBatchTells
 pub mod MessagesLemmas

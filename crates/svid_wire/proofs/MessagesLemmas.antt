@@ -1,28 +1,45 @@
 use Rattle.std.proofs.Common.{◌≡◌, ℕ, zero, suc, ◌<◌, ◌≤◌, inl, inr, List, [], ◌∷◌, ◌++◌, length, drop, All, refl, sym, ap, ◌∙◌, subst, arith, append_assoc, append-nil, length-append}
 use Rattle.std.specs.List.{AllByRecursion, flat_map}
+use Rattle.std.proofs.lemmas.Grind.{flat_map-append}
 use Rattle.std.proofs.lemmas.List.{drop_at}
 use Rattle.std.proofs.lemmas.List.Elements.{All-drop, All-same}
-use Rattle.svid_replay.specs.Batches.{IsBatch}
+use Rattle.svid_replay.proofs.ListLemmas.{each_append}
 use Rattle.svid_wire.specs.BatchText.{batch_text}
 use Rattle.svid_wire.specs.WireFault.{BeginsBatch, IsFault}
-use Rattle.svid_wire.specs.Messages.{message_text, IsMessage, batches_of, BeginsMessage, Parses, HasFault, NoTextIsLonger, ParsesOneWay, EachParses, ParseEnds}
+use Rattle.svid_wire.specs.Messages.{message_text, IsMessage, batches_of, BeginsMessage, Splits, Appended, Parses, HasFault, NoTextIsLonger, ParsesOneWay, EachParses, ParseEnds, CutAnywhere}
 use Rattle.svid_wire.specs.declared.message.Message.{Message}
 use Rattle.svid_wire.specs.declared.message.Message.TheVariants.{Batch}
 use Rattle.svid_wire.proofs.FirstBatch.{begins_one_batch, text_has_no_fault}
 use Rattle.svid_wire.proofs.FirstBatchTells.{begins_or_faults}
 
--- the texts of messages are those of their batches
-pub flat_map-batches_of : (ms : List Message) → flat_map message_text ms ≡ flat_map batch_text (batches_of ms)
-flat_map-batches_of [] = refl
-flat_map-batches_of (Batch b ∷ ms) = ap (λ x. batch_text b ++ x) (flat_map-batches_of ms)
-
 pub batches_of-append : (ms ns : List Message) → batches_of (ms ++ ns) ≡ batches_of ms ++ batches_of ns
 batches_of-append [] ns = refl
 batches_of-append (Batch b ∷ ms) ns = ap (λ x. b ∷ x) (batches_of-append ms ns)
 
-pub batches_of-all : (ms : List Message) → AllByRecursion IsMessage ms → AllByRecursion IsBatch (batches_of ms)
-batches_of-all [] good = tt
-batches_of-all (Batch b ∷ ms) (good, more) = (good, batches_of-all ms more)
+-- messages behind messages
+Splits-append : (bytes : List ℕ) (ms ns : List Message) (mid rest : List ℕ) → Splits bytes ms mid → Splits mid ns rest → Splits bytes (ms ++ ns) rest
+Splits-append bytes ms ns mid rest p q = record {
+  good = each_append IsMessage ms ns p.good q.good;
+  parts = p.parts ∙ ap (λ x. flat_map message_text ms ++ x) q.parts ∙ sym (append_assoc (flat_map message_text ms) (flat_map message_text ns) rest) ∙ ap (λ x. x ++ rest) (sym (flat_map-append message_text ms ns));
+}
+
+-- more bytes behind the rest
+Splits-more : (bytes more : List ℕ) (ms : List Message) (rest : List ℕ) → Splits bytes ms rest → Splits (bytes ++ more) ms (rest ++ more)
+Splits-more bytes more ms rest p = record { good = p.good; parts = ap (λ x. x ++ more) p.parts ∙ append_assoc (flat_map message_text ms) rest more }
+
+pub cut_anywhere : CutAnywhere
+cut_anywhere first others ms ns rest last p q = record { splits = Splits-append (first ++ others) ms ns (rest ++ others) last (Splits-more first others ms rest p.splits) q.splits; ends = q.ends }
+
+-- messages came of some bytes, and others of their rest
+pub Appended-trans : (bytes mid rest : List ℕ) (a b c : List Message) → Appended bytes a b mid → Appended mid b c rest → Appended bytes a c rest
+Appended-trans bytes mid rest a b c p q = record {
+  came = p.came ++ q.came;
+  grown = q.grown ∙ ap (λ x. x ++ q.came) p.grown ∙ append_assoc a p.came q.came;
+  splits = Splits-append bytes p.came q.came mid rest p.splits q.splits;
+}
+
+pub Appended-more : (bytes more rest : List ℕ) (a b : List Message) → Appended bytes a b rest → Appended (bytes ++ more) a b (rest ++ more)
+Appended-more bytes more rest a b p = record { came = p.came; grown = p.grown; splits = Splits-more bytes more p.came rest p.splits }
 
 -- bytes begin with at most one message
 begins_one_message : (a b : Message) (x y : List ℕ) → IsMessage a → IsMessage b → message_text a ++ x ≡ message_text b ++ y → (a ≡ b) × (x ≡ y)

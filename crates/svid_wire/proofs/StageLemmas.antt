@@ -10,7 +10,7 @@ use Rattle.svid_wire.specs.BatchText.{magic, batch_kind, numbers_text, head_text
 use Rattle.svid_wire.specs.Stage.{IsStage, stage_text, field_len}
 use Rattle.svid_wire.specs.declared.stage.Stage.{Stage}
 use Rattle.svid_wire.specs.declared.stage.Stage.TheVariants.{Magic, Kind, Numbers, Uses}
-use Rattle.svid_wire.specs.WireFault.{IsCut, in_magic, in_kind, in_numbers, in_uses, IsBegun, IsFieldFault, IsUseFault, IsCountFault, flaw_reason}
+use Rattle.svid_wire.specs.WireFault.{IsUnfinished, in_magic, in_kind, in_numbers, in_uses, IsBegun, IsFieldFault, IsUseFault, IsCountFault, flaw_reason}
 
 pub last_of-read : (before : Option Use) (u : Use) (us : List Use) → last_of before (u ∷ us) ≡ slice_get (u ∷ us) (length us)
 last_of-read before u [] = refl
@@ -57,8 +57,8 @@ IsCountFault-last m c field e mf cf many = record {
 }
 
 -- a stage whose next field is not whole
-pub IsCut-stage : (stage : Stage) (rest bytes : List ℕ) → IsStage stage → bytes ≡ stage_text stage ++ rest → length rest < field_len stage → IsCut bytes
-IsCut-stage Magic rest bytes good parts short = in_magic (subst (λ (x : List ℕ). length x < 4) (sym parts) short)
-IsCut-stage Kind rest bytes good parts short = in_kind (parts ∙ ap (λ x. magic ++ x) (nil_from_length rest (omega arith)) ∙ append-nil magic)
-IsCut-stage Numbers rest bytes good parts short = in_numbers rest parts short
-IsCut-stage (Uses m c us) rest bytes good parts short = in_uses m c us.items rest good (parts ∙ append_assoc (head_text m c) (flat_map text_of us.items) rest) short
+pub IsUnfinished-stage : (stage : Stage) (rest bytes : List ℕ) → IsStage stage → bytes ≡ stage_text stage ++ rest → length rest < field_len stage → IsUnfinished bytes
+IsUnfinished-stage Magic rest bytes good parts short = in_magic (subst (λ (x : List ℕ). length x < 4) (sym parts) short)
+IsUnfinished-stage Kind rest bytes good parts short = in_kind (parts ∙ ap (λ x. magic ++ x) (nil_from_length rest (omega arith)) ∙ append-nil magic)
+IsUnfinished-stage Numbers rest bytes good parts short = in_numbers rest parts short
+IsUnfinished-stage (Uses m c us) rest bytes good parts short = in_uses m c us.items rest good (parts ∙ append_assoc (head_text m c) (flat_map text_of us.items) rest) short

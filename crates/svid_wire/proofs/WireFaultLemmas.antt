@@ -4,7 +4,7 @@ use Rattle.std.specs.List.{flat_map}
 use Rattle.svid_replay.specs.declared.flaw.Flaw.{Flaw}
 use Rattle.svid_replay.specs.Use.{text_of}
 use Rattle.svid_wire.specs.BatchText.{magic, head_text}
-use Rattle.svid_wire.specs.WireFault.{IsFaultFor, IsFault, IsFieldFault, IsRefusal, no_memory, IsUseFault, IsKindFault, IsCountFault}
+use Rattle.svid_wire.specs.WireFault.{IsFaultFor, IsFieldFault, IsFieldRefusal, IsUseFault, IsKindFault, IsCountFault}
 use Rattle.svid_wire.specs.declared.reason.Reason.{Reason}
 use Rattle.svid_wire.specs.declared.reason.Reason.TheVariants as reason
 use Rattle.svid_wire.specs.declared.wire_fault.WireFault.{WireFault}
@@ -62,8 +62,8 @@ IsFaultFor-append reason.Failed bytes more place h _ = h
 pub IsFieldFault-append : (bytes more : List ℕ) (fault : WireFault) → IsFieldFault bytes fault → IsFieldFault (bytes ++ more) fault
 IsFieldFault-append bytes more fault (h, early) = (IsFaultFor-append fault.reason bytes more fault.place h early, early)
 
--- a bad field behind the good ones is bad for all the bytes
-pub IsRefusal-append : (bytes front more : List ℕ) (fault : WireFault) → bytes ≡ front ++ more → IsFieldFault front fault ⊎ (fault ≡ no_memory) → IsRefusal bytes fault
-IsRefusal-append bytes front more fault parts (inl bad) =
-    inl (subst (λ (x : List ℕ). IsFault x fault) (sym parts) (IsFieldFault-append front more fault bad).0)
-IsRefusal-append bytes front more fault parts (inr none) = inr none
+-- what is refused stays refused when bytes follow
+pub IsFieldRefusal-append : (bytes front more : List ℕ) (fault : WireFault) → bytes ≡ front ++ more → IsFieldRefusal front fault → IsFieldRefusal bytes fault
+IsFieldRefusal-append bytes front more fault parts (inl bad) =
+    inl (subst (λ (x : List ℕ). IsFieldFault x fault) (sym parts) (IsFieldFault-append front more fault bad))
+IsFieldRefusal-append bytes front more fault parts (inr none) = inr none

@@ -1,8 +1,10 @@
 pub mod BatchText
 pub mod Counted
 pub mod Faults
+pub mod Feed
 pub mod Memory
 pub mod Messages
+pub mod Partial
 pub mod RecordText
 pub mod Stage
 pub mod Streams

@@ -3,7 +3,7 @@ use Rattle.std.specs.Prelude.{◌≡◌, ℕ, ◌<◌, ◌⊎◌, List, [], ◌�
 use Rattle.std.specs.List.{AllByRecursion, flat_map}
 use Rattle.svid_replay.specs.Batches.{BatchData, IsBatch}
 use Rattle.svid_wire.specs.BatchText.{batch_text}
-use Rattle.svid_wire.specs.WireFault.{IsFault, IsRefusal}
+use Rattle.svid_wire.specs.WireFault.{IsFault, IsFieldRefusal, IsRefusal}
 use Rattle.svid_wire.specs.declared.message.Message.{Message}
 use Rattle.svid_wire.specs.declared.message.Message.TheVariants.{Batch}
 use Rattle.svid_wire.specs.declared.wire_fault.WireFault.{WireFault}
@@ -39,6 +39,13 @@ pub record StopsAt (bytes : List ℕ) (old new : List Message) (fault : WireFaul
   pub read : Appended bytes old new rest
   pub why : IsRefusal rest fault
 
+-- behind the messages that came there are bytes of which a field is bad, or for which memory was refused
+pub record StopsIn (bytes : List ℕ) (old new : List Message) (fault : WireFault) : Type 0 where
+  pub rest : List ℕ
+  pub some : 0 < length rest
+  pub read : Appended bytes old new rest
+  pub why : IsFieldRefusal rest fault
+
 -- the bytes begin with a message
 pub record BeginsMessage (bytes : List ℕ) : Type 0 where
   pub message : Message
@@ -70,3 +77,7 @@ EachParses = (bytes : List ℕ) → All (λ b. b < 256) bytes → (messages : Li
 -- messages and then no bytes, or bytes that have a fault, are a parse
 abbrev pub ParseEnds : Type 0
 ParseEnds = (bytes : List ℕ) (messages : List Message) (rest : List ℕ) → Splits bytes messages rest → (rest ≡ []) ⊎ HasFault rest → Parses bytes messages rest
+
+-- however bytes are cut: a parse of the first, and one of its rest followed by the others, make the parse of all
+abbrev pub CutAnywhere : Type 0
+CutAnywhere = (first others : List ℕ) (messages more : List Message) (rest last : List ℕ) → Parses first messages rest → Parses (rest ++ others) more last → Parses (first ++ others) (messages ++ more) last

@@ -1,10 +1,10 @@
 -- How far the fields of a batch were judged.
-use Rattle.std.specs.Prelude.{◌≡◌, ℕ, ◌⊎◌, List, [], ◌∷◌, ◌++◌, Result, MatchResult}
+use Rattle.std.specs.Prelude.{◌≡◌, ℕ, List, [], ◌∷◌, ◌++◌, Result, MatchResult}
 use Rattle.std.specs.List.{flat_map}
 use Rattle.svid_replay.specs.Use.{text_of}
 use Rattle.svid_replay.specs.Batches.{IsBatch}
 use Rattle.svid_wire.specs.BatchText.{magic, batch_kind, head_text, batch_text}
-use Rattle.svid_wire.specs.WireFault.{IsBegun, IsFieldFault, no_memory}
+use Rattle.svid_wire.specs.WireFault.{IsBegun, IsFieldRefusal}
 use Rattle.svid_wire.specs.declared.stage.Stage.{Stage}
 use Rattle.svid_wire.specs.declared.stage.Stage.TheVariants.{Magic, Kind, Numbers, Uses}
 use Rattle.svid_wire.specs.declared.stage.Progress.{Progress}
@@ -39,4 +39,4 @@ Reaches bytes (Whole batch) = IsBatch batch × (batch_text batch ≡ bytes)
 
 -- what a judge says of these bytes, all of them in whole fields: how far they reach, or that the last field is bad
 abbrev pub Judges : List ℕ → Result Progress WireFault → Type 0
-Judges bytes r = MatchResult r (Reaches bytes) (λ fault. IsFieldFault bytes fault ⊎ (fault ≡ no_memory))
+Judges bytes r = MatchResult r (Reaches bytes) (IsFieldRefusal bytes)

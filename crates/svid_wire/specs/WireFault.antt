@@ -50,11 +50,11 @@ pub record IsCountFault (bytes : List ℕ) : Type 0 where
   pub many : 4096 < count
 
 -- Each field that lies whole in the bytes is good, and another one is to come.
-pub data IsCut (bytes : List ℕ) : Type 0 where
-  in_magic : length bytes < 4 → IsCut bytes
-  in_kind : bytes ≡ magic → IsCut bytes
-  in_numbers : (part : List ℕ) → bytes ≡ magic ++ batch_kind ∷ part → length part < 12 → IsCut bytes
-  in_uses : (moment count : ℕ) (uses : List Use) (part : List ℕ) → IsBegun moment count uses → bytes ≡ head_text moment count ++ (flat_map text_of uses ++ part) → length part < 64 → IsCut bytes
+pub data IsUnfinished (bytes : List ℕ) : Type 0 where
+  in_magic : length bytes < 4 → IsUnfinished bytes
+  in_kind : bytes ≡ magic → IsUnfinished bytes
+  in_numbers : (part : List ℕ) → bytes ≡ magic ++ batch_kind ∷ part → length part < 12 → IsUnfinished bytes
+  in_uses : (moment count : ℕ) (uses : List Use) (part : List ℕ) → IsBegun moment count uses → bytes ≡ head_text moment count ++ (flat_map text_of uses ++ part) → length part < 64 → IsUnfinished bytes
 
 -- The first field that lies whole in the bytes and is bad begins at this place, and is bad for this reason; or no
 -- such field is bad, and the bytes, of which there are so many, end before a batch does. Want of memory and an
@@ -66,7 +66,7 @@ IsFaultFor reason.Count bytes place = (place ≡ 13) × IsCountFault bytes
 IsFaultFor reason.UseExpired bytes place = IsUseFault bytes place Expired
 IsFaultFor reason.UseFuture bytes place = IsUseFault bytes place Future
 IsFaultFor reason.UseOrder bytes place = IsUseFault bytes place Order
-IsFaultFor reason.Truncated bytes place = (place ≡ length bytes) × (0 < length bytes) × IsCut bytes
+IsFaultFor reason.Truncated bytes place = (place ≡ length bytes) × (0 < length bytes) × IsUnfinished bytes
 IsFaultFor reason.OutOfMemory bytes place = ⊥
 IsFaultFor reason.Failed bytes place = ⊥
 
@@ -88,7 +88,11 @@ flaw_reason Order = reason.UseOrder
 abbrev pub no_memory : WireFault
 no_memory = record { place = 0; reason = reason.OutOfMemory }
 
--- what a reader of such bytes may refuse them for
+-- what a reader may refuse such bytes for, whatever follows them: a bad field, or want of memory
+abbrev pub IsFieldRefusal : List ℕ → WireFault → Type 0
+IsFieldRefusal bytes fault = IsFieldFault bytes fault ⊎ (fault ≡ no_memory)
+
+-- what a reader of such bytes may refuse them for, where none follow
 abbrev pub IsRefusal : List ℕ → WireFault → Type 0
 IsRefusal bytes fault = IsFault bytes fault ⊎ (fault ≡ no_memory)
 

@@ -1,40 +1,66 @@
-ghost use Rattle.std.specs.Prelude.{◌≡◌, ◌<◌, [], ◌++◌, length, OnOk, IfOk, IfErr};
-ghost use Rattle.svid_replay.specs.Batches.{IsBatch};
-ghost use Rattle.svid_wire.specs.BatchText.{batch_text};
-ghost use Rattle.svid_wire.specs.Messages.{Appended, StopsAt};
-ghost use Rattle.svid_wire.specs.WireFault.{IsRefusal};
+ghost use Rattle.std.specs.Prelude.{◌≡◌, ◌+◌, [], ◌++◌, length, OnOk, IfOk, IfErr};
+ghost use Rattle.svid_wire.specs.Messages.{Appended, StopsAt, StopsIn};
+ghost use Rattle.svid_wire.specs.Partial.{IsPartial, held_of};
+ghost use Rattle.svid_wire.specs.Stage.{field_len};
+ghost use Rattle.svid_wire.specs.WireFault.{IsFieldRefusal};
 
-use crate::judging::{NO_MEMORY, judge};
+use crate::judging::judge;
+use crate::partial::{Partial, put_behind};
 use crate::stage::{Progress, Stage};
-use crate::{Message, Reason, WireFault};
+use crate::{Feed, Message, WireFault};
 use std::alloc::Global;
-use svid_replay::Batch;
 
-/// The batch that `bytes` begin with, and the bytes behind it.
-///
-/// The fields are judged in their order, each when it is whole. Refused with the first that is bad,
-/// and the place where it begins, or with `Truncated` and the number of bytes where they end before
-/// the batch does; or for want of memory.
-pub fn decode_batch(alloc: Global, bytes: &[u8]) -> Result<(Batch, &[u8]), WireFault>
-    requires { 0 < length bytes.now }
-    ensures ok { IfOk result (λ d. IsBatch d.0 × (bytes.now ≡ batch_text d.0 ++ d.1.now)) }
-    ensures fault { IfErr result (IsRefusal bytes.now) }
+// Judges the field that `last` makes whole, and appends the message that it ends.
+fn end_field(
+    alloc: Global,
+    state: Partial,
+    last: &[u8],
+    out: &mut Vec<Message>,
+) -> Result<Partial, WireFault>
+    requires partial { IsPartial state }
+    requires whole { length last.now + state.filled ≡ field_len state.stage }
+    ensures ok { IfOk result (λ next. IsPartial next × Appended (held_of state ++ last.now) out.old.items out.new.items (held_of next)) }
+    ensures fault { IfErr result (λ fault. (out.new.items ≡ out.old.items) × IsFieldRefusal (held_of state ++ last.now) fault) }
 {
-    let mut stage = Stage::Magic;
-    let mut rest = bytes;
-    while rest.len() >= stage.field_len() {
-        let (field, after) = rest.split_at(stage.field_len());
-        rest = after;
-        match judge(alloc, stage, field) {
-            Ok(Progress::More(next)) => stage = next,
-            Ok(Progress::Whole(batch)) => return Ok((batch, rest)),
+    let Partial {
+        stage,
+        mut part,
+        filled,
+    } = state;
+    put_behind(&mut part, filled, last);
+    let (field, _) = part.split_at(filled + last.len());
+    match judge(alloc, stage, field) {
+        Ok(Progress::More(next)) => Ok(Partial::behind(next)),
+        Ok(Progress::Whole(batch)) => {
+            out.push(Message::Batch(batch))?;
+            Ok(Partial::behind(Stage::Magic))
+        }
+        Err(fault) => Err(fault),
+    }
+}
+
+/// Goes on with a piece, and appends each message that it makes whole.
+pub(crate) fn take_piece(
+    alloc: Global,
+    state: Partial,
+    piece: &[u8],
+    out: &mut Vec<Message>,
+) -> Result<Partial, WireFault>
+    requires { IsPartial state }
+    ensures ok { IfOk result (λ next. IsPartial next × Appended (held_of state ++ piece.now) out.old.items out.new.items (held_of next)) }
+    ensures fault { IfErr result (StopsIn (held_of state ++ piece.now) out.old.items out.new.items) }
+{
+    let mut state = state;
+    let mut rest = piece;
+    while state.missing() <= rest.len() {
+        let (last, after) = rest.split_at(state.missing());
+        match end_field(alloc, state, last, out) {
+            Ok(next) => state = next,
             Err(fault) => return Err(fault),
         }
+        rest = after;
     }
-    Err(WireFault {
-        place: bytes.len(),
-        reason: Reason::Truncated,
-    })
+    Ok(state.with(rest))
 }
 
 /// Reads bytes that are the texts of messages, one after the other, and appends the messages to `out`.
@@ -46,13 +72,7 @@ pub fn read_all(alloc: Global, bytes: &[u8], out: &mut Vec<Message>) -> Result<(
     ensures ok { OnOk result (Appended bytes.now out.old.items out.new.items []) }
     ensures fault { IfErr result (StopsAt bytes.now out.old.items out.new.items) }
 {
-    let mut rest = bytes;
-    while !rest.is_empty() {
-        let (batch, after) = decode_batch(alloc, rest)?;
-        if out.push(Message::Batch(batch)).is_err() {
-            return Err(NO_MEMORY);
-        }
-        rest = after;
-    }
-    Ok(())
+    let mut feed = Feed::new(alloc);
+    feed.push(bytes, out)?;
+    feed.finish()
 }

@@ -7,21 +7,11 @@ ghost use Rattle.svid_wire.specs.WireFault.{IsBegun, flaw_reason};
 ghost use Rattle.svid_wire.specs.Stage.{IsStage, Judges, Reaches, field_len, stage_text};
 
 use crate::field::{numbers_of, use_of};
+use crate::layout::{BATCH_KIND, COUNT_PLACE, HEAD_LEN, KIND_PLACE, MAGIC, USE_LEN};
 use crate::stage::{Progress, Stage};
 use crate::{Reason, WireFault};
 use std::alloc::Global;
 use svid_replay::{Batch, Flaw, MOST_USES, Use, flaw_of};
-
-// What every message begins with: `JSR`, and 1 for the version.
-pub(crate) const MAGIC: [u8; 4] = [b'J', b'S', b'R', 1];
-
-// The next byte of a batch.
-pub(crate) const BATCH_KIND: u8 = 1;
-
-pub(crate) const NO_MEMORY: WireFault = WireFault {
-    place: 0,
-    reason: Reason::OutOfMemory,
-};
 
 fn reason_of(flaw: Flaw) -> Reason
     ensures { result ≡ flaw_reason flaw }
@@ -55,7 +45,7 @@ fn judge_kind(field: &[u8]) -> Result<Progress, WireFault>
         Ok(Progress::More(Stage::Numbers))
     } else {
         Err(WireFault {
-            place: 4,
+            place: KIND_PLACE,
             reason: Reason::Kind,
         })
     }
@@ -87,7 +77,7 @@ fn judge_numbers(alloc: Global, field: &[u8]) -> Result<Progress, WireFault>
     let (moment, count) = numbers_of(field);
     if count as usize > MOST_USES {
         return Err(WireFault {
-            place: 13,
+            place: COUNT_PLACE,
             reason: Reason::Count,
         });
     }
@@ -113,14 +103,12 @@ fn judge_use(
     let used = use_of(field);
     if let Some(flaw) = flaw_of(moment, last_use(&uses), used) {
         return Err(WireFault {
-            place: 17 + 64 * uses.len(),
+            place: HEAD_LEN + USE_LEN * uses.len(),
             reason: reason_of(flaw),
         });
     }
-    match uses.push(used) {
-        Ok(()) => Ok(next(moment, count, uses)),
-        Err(_) => Err(NO_MEMORY),
-    }
+    uses.push(used)?;
+    Ok(next(moment, count, uses))
 }
 
 /// Judges the field that comes next.

@@ -3,7 +3,8 @@
 
 ghost use Rattle.svid_replay.specs.Parts.{PartsGiveRecord};
 ghost use Rattle.svid_wire.specs.BatchText.{BeginsOneBatch};
-ghost use Rattle.svid_wire.specs.Messages.{EachParses, NoTextIsLonger, ParseEnds, ParsesOneWay};
+ghost use Rattle.svid_wire.specs.Feed.{PushesJoin};
+ghost use Rattle.svid_wire.specs.Messages.{CutAnywhere, EachParses, NoTextIsLonger, ParseEnds, ParsesOneWay};
 ghost use Rattle.svid_wire.specs.RecordText.{TextTellsRecord};
 ghost use Rattle.svid_wire.specs.WireFault.{BeginsOrFaults, FaultIsUnique, FieldFaultStays, TextHasNoFault};
 
@@ -53,6 +54,17 @@ pub fn each_parses()
 /// begin with.
 pub fn parse_ends()
     ensures { ParseEnds }
+{}
+
+/// However bytes are cut, there is one parse: that of the first bytes, and then that of its rest
+/// followed by the other bytes, make the parse of all, with the same rest.
+pub fn cut_anywhere()
+    ensures { CutAnywhere }
+{}
+
+/// Two pushes that succeed do to a feed what one of both pieces together does.
+pub fn pushes_join()
+    ensures { PushesJoin }
 {}
 
 /// Two records are equal exactly if the texts of their parts, one after the other, are equal.

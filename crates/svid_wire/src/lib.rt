@@ -4,12 +4,12 @@
 //! [`Counted`] makes them of the readers and writers of `std`, [`MemSource`] and [`MemSink`] keep
 //! their bytes in memory. [`read_up_to`] reads a source to its end, [`put_all`] puts a whole piece.
 //!
-//! [`write_batch`] puts the text of a batch, and [`read_all`] reads the messages that bytes are the
-//! texts of, or finds the first that is bad, with its fault and its place. The grammar is a
-//! definition of its own, in `specs/BatchText.antt`, `specs/Messages.antt` and
-//! `specs/WireFault.antt`; [`laws`] says that it leaves no doubt: bytes are in exactly one way the
-//! texts of some messages and a rest that begins with none, and such a rest, unless it is empty, has
-//! one fault.
+//! [`write_batch`] puts the text of a batch. A [`Feed`] reads messages whose texts come in pieces, one
+//! after the other, or finds the first that is bad, with its fault and its place; [`read_all`] does
+//! so where all bytes are there. The grammar is a definition of its own, in `specs/BatchText.antt`,
+//! `specs/Messages.antt` and `specs/WireFault.antt`; [`laws`] says that it leaves no doubt: bytes are
+//! in exactly one way the texts of some messages and a rest that begins with none, and such a rest,
+//! unless it is empty, has one fault.
 //!
 //! ```rust
 //! let bytes = b"JSR\x01\x01\x00\x00\x00\x00\x00\x00\x00\x64\x00\x00\x00\x00";
@@ -28,12 +28,15 @@
 
 mod counted;
 mod decoding;
+mod feed;
 mod field;
 mod judging;
 pub mod laws;
+mod layout;
 mod mem_sink;
 mod mem_source;
 mod message;
+mod partial;
 mod read_fault;
 mod reading;
 mod reason;
@@ -48,7 +51,8 @@ mod write_fault;
 mod writing;
 
 pub use counted::Counted;
-pub use decoding::{decode_batch, read_all};
+pub use decoding::read_all;
+pub use feed::Feed;
 pub use mem_sink::MemSink;
 pub use mem_source::MemSource;
 pub use message::Message;

@@ -28,9 +28,7 @@ pub fn read_up_to<S: Source>(
         if limit - bytes.len() < given {
             return Err(ReadFault::TooMuch);
         }
-        if bytes.extend_from_slice(room.split_at(given).0).is_err() {
-            return Err(ReadFault::OutOfMemory);
-        }
+        bytes.extend_from_slice(room.split_at(given).0)?;
     }
     Err(ReadFault::Stopped)
 }

@@ -1,5 +1,6 @@
-ghost use Rattle.std.specs.Prelude.{◌≡◌, ◌<◌};
+ghost use Rattle.std.specs.Prelude.{◌≡◌, ◌+◌, ◌<◌, ◌≤◌, length};
 
+use crate::layout::{HEAD_LEN, KIND_LEN, MAGIC_LEN, NUMBERS_LEN, USE_LEN};
 use svid_replay::{Batch, Use};
 
 /// The field of a batch that comes next, with what the fields before it told.
@@ -16,7 +17,7 @@ pub(crate) enum Stage {
 }
 
 impl Stage {
-    ghost use Rattle.svid_wire.specs.Stage.{field_len};
+    ghost use Rattle.svid_wire.specs.Stage.{IsStage, field_len, stage_text};
 
     /// How many bytes that field has.
     pub(crate) fn field_len(&self) -> usize
@@ -24,10 +25,24 @@ impl Stage {
         ensures some { 0 < result }
     {
         match self {
-            Stage::Magic => 4,
-            Stage::Kind => 1,
-            Stage::Numbers => 12,
-            Stage::Uses { .. } => 64,
+            Stage::Magic => MAGIC_LEN,
+            Stage::Kind => KIND_LEN,
+            Stage::Numbers => NUMBERS_LEN,
+            Stage::Uses { .. } => USE_LEN,
+        }
+    }
+
+    /// How many bytes the good fields have.
+    pub(crate) fn text_len(&self) -> usize
+        requires { IsStage self.now }
+        ensures value { result ≡ length (stage_text self.now) }
+        ensures most { result + field_len self.now ≤ 262161 }
+    {
+        match self {
+            Stage::Magic => 0,
+            Stage::Kind => MAGIC_LEN,
+            Stage::Numbers => MAGIC_LEN + KIND_LEN,
+            Stage::Uses { uses, .. } => HEAD_LEN + USE_LEN * uses.len(),
         }
     }
 }

@@ -1,9 +1,12 @@
 mod decoding;
+mod feeding;
 mod messages;
+mod refusing;
 mod streams;
 mod sweep;
 mod writing;
 
+use crate::{Message, WireFault, read_all};
 use std::alloc::{AllocError, Global};
 use svid_replay::Use;
 
@@ -20,6 +23,36 @@ pub(crate) const TWO_USES: &[u8; 145] = b"JSR\x01\x01\
 \x11\x11\x11\x11\x11\x11\x11\x11\x11\x11\x11\x11\x11\x11\x11\x11\
 \x33\x33\x33\x33\x33\x33\x33\x33\x33\x33\x33\x33\x33\x33\x33\x33\
 \x00\x00\x00\x00\x00\x00\x00\x64";
+
+// What is wrong with such bytes.
+pub(crate) fn fault_of(alloc: Global, bytes: &[u8]) -> Option<WireFault> {
+    let mut out = Vec::new(alloc);
+    read_all(alloc, bytes, &mut out).err()
+}
+
+// A batch of moment 5 without uses.
+pub(crate) const NO_USES: &[u8; 17] =
+    b"JSR\x01\x01\x00\x00\x00\x00\x00\x00\x00\x05\x00\x00\x00\x00";
+
+// The moment and the number of uses of each message.
+pub(crate) fn summary_of(
+    alloc: Global,
+    messages: &[Message],
+) -> Result<Vec<(u64, usize)>, AllocError> {
+    let mut told = Vec::new(alloc);
+    for Message::Batch(batch) in messages {
+        told.push((batch.moment(), batch.uses().len()))?;
+    }
+    Ok(told)
+}
+
+pub(crate) fn joined(alloc: Global, texts: &[&[u8]]) -> Result<Vec<u8>, AllocError> {
+    let mut bytes = Vec::new(alloc);
+    for text in texts {
+        bytes.extend_from_slice(text)?;
+    }
+    Ok(bytes)
+}
 
 // The bytes of a batch of moment 5000 with this many uses, or of what would be one.
 pub(crate) fn many_uses(alloc: Global, count: u32) -> Result<Vec<u8>, AllocError> {

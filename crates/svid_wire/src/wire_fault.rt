@@ -1,4 +1,8 @@
+ghost use Rattle.std.specs.Prelude.{◌≡◌};
+ghost use Rattle.svid_wire.specs.WireFault.{no_memory};
+
 use crate::Reason;
+use std::alloc::{AllocError, AllocFailed};
 use thiserror::Error;
 
 /// Why bytes begin with no message.
@@ -10,4 +14,23 @@ pub struct WireFault {
     pub place: usize,
     /// What is wrong there.
     pub reason: Reason,
+}
+
+impl From<AllocError> for WireFault {
+    ghost from_gives = { λ _ e. e ≡ no_memory };
+
+    fn from(_error: AllocError) -> WireFault {
+        WireFault {
+            place: 0,
+            reason: Reason::OutOfMemory,
+        }
+    }
+}
+
+impl<T: Drop> From<AllocFailed<T>> for WireFault {
+    ghost from_gives = { λ _ e. e ≡ no_memory };
+
+    fn from(_error: AllocFailed<T>) -> WireFault {
+        AllocError.into()
+    }
 }

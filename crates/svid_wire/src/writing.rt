@@ -2,7 +2,7 @@ ghost use Rattle.std.specs.Prelude.{◌≡◌, length, OnOk, IfErr};
 ghost use Rattle.svid_wire.specs.BatchText.{batch_text, head_text};
 ghost use Rattle.svid_wire.specs.Streams.{StoppedAfter, TookAll, taken};
 
-use crate::judging::{BATCH_KIND, MAGIC};
+use crate::layout::{BATCH_KIND, COUNT_PLACE, HEAD_LEN, KIND_PLACE, MAGIC, MOMENT_PLACE, USE_LEN};
 use crate::{Sink, Stopped, WriteFault};
 use svid_replay::Batch;
 
@@ -24,14 +24,14 @@ pub fn put_all<K: Sink>(sink: &mut K, piece: &[u8]) -> Result<(), WriteFault>
 }
 
 // What stands before the first use.
-fn head_of(batch: &Batch) -> [u8; 17]
+fn head_of(batch: &Batch) -> [u8; HEAD_LEN]
     ensures { result ≡ head_text batch.now.moment (length batch.now.uses) }
 {
-    let mut head = [0; 17];
-    head[..4].copy_from_slice(&MAGIC);
-    head[4] = BATCH_KIND;
-    head[5..13].copy_from_slice(&batch.moment().to_be_bytes());
-    head[13..].copy_from_slice(&(batch.uses().len() as u32).to_be_bytes());
+    let mut head = [0; HEAD_LEN];
+    head[..KIND_PLACE].copy_from_slice(&MAGIC);
+    head[KIND_PLACE] = BATCH_KIND;
+    head[MOMENT_PLACE..COUNT_PLACE].copy_from_slice(&batch.moment().to_be_bytes());
+    head[COUNT_PLACE..].copy_from_slice(&(batch.uses().len() as u32).to_be_bytes());
     head
 }
 
@@ -52,7 +52,7 @@ pub fn write_batch<K: Sink>(batch: &Batch, sink: &mut K) -> Result<(), WriteFaul
                 written: written + fault.written,
             });
         }
-        written += 64;
+        written += USE_LEN;
     }
     Ok(())
 }

@@ -1,5 +1,5 @@
-use super::{TWO_USES, many_uses};
-use crate::{Reason, WireFault, decode_batch};
+use super::{TWO_USES, fault_of, many_uses};
+use crate::{Message, Reason, WireFault, read_all};
 use std::test::Fail;
 use svid_replay::Use;
 
@@ -8,46 +8,32 @@ fn fault(place: usize, reason: Reason) -> Option<WireFault> {
 }
 
 #[test]
-fn decodes_a_batch_and_leaves_what_follows(rt: HostRuntime) -> Result<(), Fail> {
-    for more in 0..3usize {
-        let mut bytes = TWO_USES.to_vec(rt.alloc())?;
-        for _ in 0..more {
-            bytes.push(7)?;
-        }
-        assert!(rt; !bytes.is_empty());
-        let (batch, rest) = decode_batch(rt.alloc(), &bytes)?;
+fn reads_the_fields_of_a_batch(rt: HostRuntime) -> Result<(), Fail> {
+    let mut out = Vec::new(rt.alloc());
+    read_all(rt.alloc(), TWO_USES, &mut out)?;
+    assert_eq!(rt; out.len(), 1);
+    let first = Use {
+        exp: 101,
+        key: [0x11; 32],
+        place: [0x22; 16],
+        at: 99,
+    };
+    let second = Use {
+        place: [0x33; 16],
+        at: 100,
+        ..first
+    };
+    for Message::Batch(batch) in &out {
         assert_eq!(rt; batch.moment(), 100);
-        let first = Use {
-            exp: 101,
-            key: [0x11; 32],
-            place: [0x22; 16],
-            at: 99,
-        };
-        let second = Use {
-            place: [0x33; 16],
-            at: 100,
-            ..first
-        };
         assert_eq!(rt; batch.uses(), [first, second].as_slice());
-        assert_eq!(rt; rest.len(), more);
     }
-    Ok(())
-}
-
-#[test]
-fn decodes_a_batch_of_no_uses(rt: HostRuntime) -> Result<(), Fail> {
-    let bytes = b"JSR\x01\x01\x00\x00\x00\x00\x00\x00\x00\x05\x00\x00\x00\x00";
-    let (batch, rest) = decode_batch(rt.alloc(), bytes)?;
-    assert_eq!(rt; batch.moment(), 5);
-    assert_eq!(rt; batch.uses().len(), 0);
-    assert_eq!(rt; rest.len(), 0);
     Ok(())
 }
 
 #[test]
 fn refuses_each_proper_prefix_at_its_end(rt: HostRuntime) {
     for n in 1..145usize {
-        let found = decode_batch(rt.alloc(), TWO_USES.split_at(n).0).err();
+        let found = fault_of(rt.alloc(), TWO_USES.split_at(n).0);
         assert_eq!(rt; found, fault(n, Reason::Truncated), "{n} bytes");
     }
 }
@@ -55,10 +41,7 @@ fn refuses_each_proper_prefix_at_its_end(rt: HostRuntime) {
 #[test]
 fn waits_for_the_uses_of_a_count_that_memory_may_not_hold(rt: HostRuntime) {
     let head = b"JSR\x01\x01\x00\x00\x00\x00\x00\x00\x00\x00\x00\x00\x10\x00";
-    assert_eq!(rt;
-        decode_batch(rt.alloc(), head).err(),
-        fault(17, Reason::Truncated)
-    );
+    assert_eq!(rt; fault_of(rt.alloc(), head), fault(17, Reason::Truncated));
 }
 
 #[test]
@@ -79,7 +62,7 @@ fn refuses_the_first_bad_field_at_its_place(rt: HostRuntime) {
         let mut bytes = *TWO_USES;
         assert!(rt; at < 145);
         bytes[at] = byte;
-        let found = decode_batch(rt.alloc(), &bytes).err();
+        let found = fault_of(rt.alloc(), &bytes);
         assert_eq!(rt; found, fault(place, reason), "byte {at}");
     }
 }
@@ -88,10 +71,7 @@ fn refuses_the_first_bad_field_at_its_place(rt: HostRuntime) {
 fn refuses_a_use_equal_to_the_one_before_it(rt: HostRuntime) {
     let mut bytes = *TWO_USES;
     bytes[81..].copy_from_slice(TWO_USES.split_at(81).0.split_at(17).1);
-    assert_eq!(rt;
-        decode_batch(rt.alloc(), &bytes).err(),
-        fault(81, Reason::UseOrder)
-    );
+    assert_eq!(rt; fault_of(rt.alloc(), &bytes), fault(81, Reason::UseOrder));
 }
 
 #[test]
@@ -99,23 +79,16 @@ fn judges_a_use_as_expired_before_it_is_from_the_future(rt: HostRuntime) {
     let mut bytes = *TWO_USES;
     bytes[24] = 100;
     bytes[80] = 101;
-    assert_eq!(rt;
-        decode_batch(rt.alloc(), &bytes).err(),
-        fault(17, Reason::UseExpired)
-    );
+    assert_eq!(rt; fault_of(rt.alloc(), &bytes), fault(17, Reason::UseExpired));
 }
 
 #[test]
 fn takes_4096_uses_and_no_more(rt: HostRuntime) -> Result<(), Fail> {
     let full = many_uses(rt.alloc(), 4096)?;
     assert_eq!(rt; full.len(), 262161);
-    let (batch, rest) = decode_batch(rt.alloc(), &full)?;
-    assert_eq!(rt; (batch.uses().len(), rest.len()), (4096, 0));
+    assert_eq!(rt; fault_of(rt.alloc(), &full), None);
     let more = many_uses(rt.alloc(), 4097)?;
     assert_eq!(rt; more.len(), 262225);
-    assert_eq!(rt;
-        decode_batch(rt.alloc(), &more).err(),
-        fault(13, Reason::Count)
-    );
+    assert_eq!(rt; fault_of(rt.alloc(), &more), fault(13, Reason::Count));
     Ok(())
 }

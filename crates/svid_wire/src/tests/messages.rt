@@ -1,27 +1,6 @@
-use super::{TWO_USES, many_uses};
+use super::{NO_USES, TWO_USES, joined, many_uses, summary_of};
 use crate::{Counted, MemSink, Message, Reason, WireFault, read_all, read_up_to, write_batch};
-use std::alloc::{AllocError, Global};
 use std::test::Fail;
-
-// A batch of moment 5 without uses.
-const NO_USES: &[u8; 17] = b"JSR\x01\x01\x00\x00\x00\x00\x00\x00\x00\x05\x00\x00\x00\x00";
-
-// The moment and the number of uses of each message.
-fn summary_of(alloc: Global, messages: &[Message]) -> Result<Vec<(u64, usize)>, AllocError> {
-    let mut told = Vec::new(alloc);
-    for Message::Batch(batch) in messages {
-        told.push((batch.moment(), batch.uses().len()))?;
-    }
-    Ok(told)
-}
-
-fn joined(alloc: Global, texts: &[&[u8]]) -> Result<Vec<u8>, AllocError> {
-    let mut bytes = Vec::new(alloc);
-    for text in texts {
-        bytes.extend_from_slice(text)?;
-    }
-    Ok(bytes)
-}
 
 #[test]
 fn reads_each_message_in_its_order(rt: HostRuntime) -> Result<(), Fail> {

@@ -1,58 +1,106 @@
 // Each growth of each call that takes memory is refused in turn, where `tools/failmalloc.c` is loaded.
 // Without it no growth is refused, and each loop ends with its first round, the happy one.
-ghost use Rattle.std.specs.Prelude.{◌<◌, ◌≤◌, ◌^◌};
+ghost use Rattle.std.specs.Prelude.{◌≤◌};
 
+use super::refusing::{refuse, was_refused};
 use super::{TWO_USES, many_uses};
 use crate::{
-    Counted, MemSink, MemSource, Message, ReadFault, Reason, Sink, WireFault, decode_batch,
-    read_all, read_up_to, write_batch,
+    Counted, Feed, MemSink, MemSource, Message, ReadFault, Reason, Sink, WireFault, read_all,
+    read_up_to, write_batch,
 };
-use std::alloc::Global;
+use std::alloc::{AllocError, Global};
 use std::test::Fail;
 
-// Sizes that no allocator can give: commands for that library.
-const ARM: usize = 1 << 62;
+const MOST_GROWTHS: usize = 1000;
 
-const ASK: usize = ARM + (1 << 61);
+const NO_MEMORY: WireFault = WireFault {
+    place: 0,
+    reason: Reason::OutOfMemory,
+};
 
-// Has the nth growth from here on refused, or none at 0.
-fn refuse(alloc: Global, nth: usize)
-    requires { nth < 2 ^ 32 }
-{
-    let _ = Vec::<u8>::with_capacity(alloc, ARM + nth);
+const FAILED: WireFault = WireFault {
+    place: 0,
+    reason: Reason::Failed,
+};
+
+// The moments and the numbers of uses of three batches.
+const THREE: [(u64, usize); 3] = [(5000, 10), (5000, 20), (100, 2)];
+
+// The bytes of those batches.
+fn three_batches(alloc: Global) -> Result<Vec<u8>, AllocError> {
+    let mut bytes = many_uses(alloc, 10)?;
+    bytes.extend_from_slice(&many_uses(alloc, 20)?)?;
+    bytes.extend_from_slice(TWO_USES)?;
+    Ok(bytes)
 }
 
-fn was_refused(alloc: Global) -> bool {
-    Vec::<u8>::with_capacity(alloc, ASK).is_ok()
+// Whether these are the first of those batches.
+fn are_first(messages: &[Message]) -> bool {
+    messages.len() <= 3
+        && messages.iter().zip(&THREE).all(|(Message::Batch(batch), told)| (
+            batch.moment(),
+            batch.uses().len(),
+        ) == *told)
 }
 
-#[test]
-fn decoding_answers_want_of_memory(rt: HostRuntime) -> Result<(), Fail> {
-    let bytes = many_uses(rt.alloc(), 100)?;
-    assert!(rt; !bytes.is_empty());
-    for nth in 1..100usize {
-        refuse(rt.alloc(), nth);
-        let found = decode_batch(rt.alloc(), &bytes);
-        let refused = was_refused(rt.alloc());
-        refuse(rt.alloc(), 0);
-        if !refused {
-            let (batch, rest) = found?;
-            assert_eq!(rt; (batch.uses().len(), rest.len()), (100, 0));
-            return Ok(());
-        }
-        let want = WireFault {
-            place: 0,
-            reason: Reason::OutOfMemory,
-        };
-        assert_eq!(rt; found.err(), Some(want), "growth {nth}");
-        assert_eq!(rt; decode_batch(rt.alloc(), &bytes).is_ok(), true);
+// Pushes the bytes in pieces of 100, the last as it is left.
+fn push_pieces(feed: &mut Feed, bytes: &[u8], out: &mut Vec<Message>) -> Result<(), WireFault> {
+    for piece in bytes.chunks(100) {
+        feed.push(piece, out)?;
     }
     Ok(())
 }
 
 #[test]
+fn pushing_answers_want_of_memory_and_then_failed(rt: HostRuntime) -> Result<(), Fail> {
+    let bytes = three_batches(rt.alloc())?;
+    for nth in 1..MOST_GROWTHS {
+        let mut feed = Feed::new(rt.alloc());
+        let mut out = Vec::new(rt.alloc());
+        refuse(rt.alloc(), nth);
+        let pushed = push_pieces(&mut feed, &bytes, &mut out);
+        let refused = was_refused(rt.alloc());
+        refuse(rt.alloc(), 0);
+        assert_eq!(rt; are_first(&out), true, "growth {nth}");
+        assert_eq!(rt; feed.held(), 0);
+        if !refused {
+            assert_eq!(rt; (pushed, out.len(), feed.finish()), (Ok(()), 3, Ok(())));
+            return Ok(());
+        }
+        assert_eq!(rt; pushed, Err(NO_MEMORY), "growth {nth}");
+        let came = out.len();
+        assert_eq!(rt; came < 3, true, "growth {nth}");
+        assert_eq!(rt; feed.push(TWO_USES, &mut out), Err(FAILED), "growth {nth}");
+        assert_eq!(rt; (feed.held(), out.len()), (0, came));
+        assert_eq!(rt; feed.finish(), Err(FAILED));
+    }
+    assert!(rt; false, "more than {MOST_GROWTHS} growths");
+    Ok(())
+}
+
+#[test]
+fn a_feed_is_made_and_ended_without_memory(rt: HostRuntime) {
+    let mut out = Vec::new(rt.alloc());
+    refuse(rt.alloc(), 1);
+    let empty = Feed::new(rt.alloc());
+    let mut cut = Feed::new(rt.alloc());
+    let pushed = cut.push(TWO_USES.split_at(16).0, &mut out);
+    let held = (empty.held(), cut.held());
+    let ends = (empty.finish(), cut.finish());
+    let refused = was_refused(rt.alloc());
+    refuse(rt.alloc(), 0);
+    let cut_at = WireFault {
+        place: 16,
+        reason: Reason::Truncated,
+    };
+    assert_eq!(rt; (pushed, held), (Ok(()), (0, 16)));
+    assert_eq!(rt; ends, (Ok(()), Err(cut_at)));
+    assert_eq!(rt; refused, false);
+}
+
+#[test]
 fn reading_answers_want_of_memory(rt: HostRuntime) -> Result<(), Fail> {
-    for nth in 1..100usize {
+    for nth in 1..MOST_GROWTHS {
         let mut source = MemSource::new(TWO_USES.to_vec(rt.alloc())?, 1, None);
         refuse(rt.alloc(), nth);
         let read = read_up_to(rt.alloc(), &mut source, 145);
@@ -69,6 +117,7 @@ fn reading_answers_want_of_memory(rt: HostRuntime) -> Result<(), Fail> {
             TWO_USES.as_slice()
         );
     }
+    assert!(rt; false, "more than {MOST_GROWTHS} growths");
     Ok(())
 }
 
@@ -76,47 +125,42 @@ fn reading_answers_want_of_memory(rt: HostRuntime) -> Result<(), Fail> {
 fn reading_messages_answers_want_of_memory_and_keeps_the_first(
     rt: HostRuntime,
 ) -> Result<(), Fail> {
-    let mut bytes = many_uses(rt.alloc(), 10)?;
-    bytes.extend_from_slice(&many_uses(rt.alloc(), 20)?)?;
-    bytes.extend_from_slice(TWO_USES)?;
-    let want = [(5000, 10), (5000, 20), (100, 2)];
-    for nth in 1..100usize {
+    let bytes = three_batches(rt.alloc())?;
+    for nth in 1..MOST_GROWTHS {
         let mut out = Vec::new(rt.alloc());
         refuse(rt.alloc(), nth);
         let read = read_all(rt.alloc(), &bytes, &mut out);
         let refused = was_refused(rt.alloc());
         refuse(rt.alloc(), 0);
-        for (Message::Batch(batch), told) in out.iter().zip(&want) {
-            assert_eq!(rt; (batch.moment(), batch.uses().len()), *told, "growth {nth}");
-        }
+        assert_eq!(rt; are_first(&out), true, "growth {nth}");
         if !refused {
             assert_eq!(rt; (read, out.len()), (Ok(()), 3));
             return Ok(());
         }
-        let no_memory = WireFault {
-            place: 0,
-            reason: Reason::OutOfMemory,
-        };
-        assert_eq!(rt; read, Err(no_memory), "growth {nth}");
+        assert_eq!(rt; read, Err(NO_MEMORY), "growth {nth}");
         assert_eq!(rt; out.len() < 3, true, "growth {nth}");
         let mut again = Vec::new(rt.alloc());
         assert_eq!(rt; read_all(rt.alloc(), &bytes, &mut again), Ok(()));
         assert_eq!(rt; again.len(), 3);
     }
+    assert!(rt; false, "more than {MOST_GROWTHS} growths");
     Ok(())
 }
 
 #[test]
 fn writing_takes_no_memory(rt: HostRuntime) -> Result<(), Fail> {
-    let (batch, _) = decode_batch(rt.alloc(), TWO_USES)?;
-    let mut room = [0; 145];
-    let mut sink = Counted::new(room.as_mut_slice());
-    refuse(rt.alloc(), 1);
-    let written = write_batch(&batch, &mut sink);
-    let refused = was_refused(rt.alloc());
-    refuse(rt.alloc(), 0);
-    assert_eq!(rt; (written, refused), (Ok(()), false));
-    assert_eq!(rt; room.as_slice(), TWO_USES.as_slice());
+    let mut messages = Vec::new(rt.alloc());
+    read_all(rt.alloc(), TWO_USES, &mut messages)?;
+    for Message::Batch(batch) in &messages {
+        let mut room = [0; 145];
+        let mut sink = Counted::new(room.as_mut_slice());
+        refuse(rt.alloc(), 1);
+        let written = write_batch(batch, &mut sink);
+        let refused = was_refused(rt.alloc());
+        refuse(rt.alloc(), 0);
+        assert_eq!(rt; (written, refused), (Ok(()), false));
+        assert_eq!(rt; room.as_slice(), TWO_USES.as_slice());
+    }
     Ok(())
 }
 
@@ -134,7 +178,7 @@ fn taken_one_by_one(sink: &mut MemSink) -> usize
 
 #[test]
 fn a_sink_without_memory_stops_and_keeps_what_it_has(rt: HostRuntime) {
-    for nth in 1..100usize {
+    for nth in 1..MOST_GROWTHS {
         let mut sink = MemSink::new(rt.alloc(), 1, None);
         refuse(rt.alloc(), nth);
         let taken = taken_one_by_one(&mut sink);
@@ -148,4 +192,5 @@ fn a_sink_without_memory_stops_and_keeps_what_it_has(rt: HostRuntime) {
         assert_eq!(rt; sink.faults(), 1, "growth {nth}");
         assert_eq!(rt; sink.put(TWO_USES.split_at(taken).1), Ok(1));
     }
+    assert!(rt; false, "more than {MOST_GROWTHS} growths");
 }

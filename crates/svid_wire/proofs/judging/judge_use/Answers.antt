@@ -16,4 +16,4 @@ pub next-requires-clause-good : goal.next-requires-clause-good
 next-requires-clause-good c =
     let us = c.args.uses.items in
     let fine = subst (λ (before : Option Use). flaw c.args.moment before c.use_of-used.result ≡ None) (c.last_use.ensures ∙ ap (last_of None) c.deref.ensures.value) (sym c.in_default.ensures.flaw) in
-    subst (AllGood c.args.moment None) (sym c.in-Ok.ensures.items) (AllGood-push c.args.moment None us c.use_of-used.result c.requires.begun.good fine)
+    subst (AllGood c.args.moment None) (sym c.in_ok-push.ensures.items) (AllGood-push c.args.moment None us c.use_of-used.result c.requires.begun.good fine)

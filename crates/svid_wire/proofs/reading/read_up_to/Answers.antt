@@ -1,5 +1,6 @@
 use Rattle.std.proofs.Common.{◌≡◌, ℕ, ◌+◌, ◌-◌, ◌<◌, ◌≤◌, List, ◌++◌, Option, length, take, ◌∙◌, arith, length-append}
 use Rattle.std.proofs.lemmas.List.{length-take-le}
+use Rattle.std.proofs.lemmas.Result.{err_from_is_err_and}
 use Rattle.std.specs.Io.KnownBytes.{Consumes}
 use Rattle.std.proofs.KnownBytes.{Consumes-trans}
 use Rattle.svid_wire.specs.Streams.{Drawn, GaveTooMuch, GaveWithin}
@@ -30,7 +31,8 @@ returns-then-limit-len-clause-fault g c =
     let (_, before, unstopped) = c.loop-given.invariant in
     too_much _ _ _ _ _ _ _ _ _ _ before c.in-Ok.ensures.bytes.0 c.in-Ok.ensures.count (omega arith) unstopped c.in-Ok.ensures.faults
 
-pub returns-then-is_err-clause-fault : goal.returns-then-is_err-clause-fault
-returns-then-is_err-clause-fault g c =
+pub returns-in_err-extend_from_slice-clause-fault : goal.returns-in_err-extend_from_slice-clause-fault
+returns-in_err-extend_from_slice-clause-fault g c =
     let (_, before, unstopped) = c.loop-given.invariant in
-    no_more _ _ _ _ _ _ _ _ _ _ before c.in-Ok.ensures.bytes.0 c.in-Ok.ensures.count (omega arith) unstopped c.in-Ok.ensures.faults
+    let p = err_from_is_err_and c.from_residual.result c.from_residual.ensures.1 in
+    rw (p.1, p.2) (no_more _ _ _ _ _ _ _ _ _ _ before c.in-Ok.ensures.bytes.0 c.in-Ok.ensures.count (omega arith) unstopped c.in-Ok.ensures.faults)

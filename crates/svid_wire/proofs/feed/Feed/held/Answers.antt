@@ -1,0 +1,4 @@
+use Rattle.svid_wire.proofs.feed.Feed.held.Goals as goal
+
+pub len-requires : goal.len-requires
+len-requires c = c.self.invariant c.in-Some.state c.in-Some.is

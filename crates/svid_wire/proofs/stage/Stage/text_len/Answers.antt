@@ -1,0 +1,10 @@
+use Rattle.std.proofs.Common.{arith}
+use Rattle.svid_wire.specs.Stage.{IsStage}
+use Rattle.svid_wire.specs.declared.stage.Stage.TheVariants.{Uses}
+use Rattle.svid_wire.proofs.FeedLemmas.{length-begun}
+use Rattle.svid_wire.proofs.stage.Stage.text_len.Goals as goal
+
+pub returns-in-Uses-clause-value : goal.returns-in-Uses-clause-value
+returns-in-Uses-clause-value c =
+    let begun : IsStage (Uses c.in-Uses.moment c.in-Uses.count c.in-Uses.uses) = rw c.in-Uses.is at c.requires in
+    rw c.in-Uses.is (omega (arith, c.len.ensures, length-begun c.in-Uses.moment c.in-Uses.count c.in-Uses.uses.items begun.fields))

@@ -1,0 +1,98 @@
+ghost use Rattle.std.specs.Prelude.{◌≡◌, ◌≤◌, [], None, Some, OnOk, OnErr, IfErr};
+ghost use Rattle.svid_wire.specs.Feed.{IsPushFault, Pushed, end_of, held_len};
+
+use crate::decoding::take_piece;
+use crate::partial::Partial;
+use crate::stage::Stage;
+use crate::{Message, Reason, WireFault};
+use std::alloc::Global;
+use std::marker::Model;
+
+const FAILED: WireFault = WireFault {
+    place: 0,
+    reason: Reason::Failed,
+};
+
+/// Reads the texts of messages, one after the other, that come in pieces of any lengths.
+///
+/// It holds the bytes of the message that is not whole yet, and nothing after a refusal.
+#[derive(Drop)]
+pub struct Feed {
+    alloc: Global,
+    // None after a refusal.
+    state: Option<Partial>,
+}
+
+impl Model for Feed {
+    ghost use Rattle.std.specs.Prelude.{List, ℕ, Option};
+    ghost use Rattle.std.specs.Option.{option_map, ForSome};
+    ghost use Rattle.svid_wire.specs.Partial.{IsPartial, held_of};
+
+    ghost Value = { Option (List ℕ) };
+
+    ghost view = { λ f. option_map held_of f.state };
+
+    ghost invariant = { λ f. ForSome f.state IsPartial };
+}
+
+impl Feed {
+    /// Before the first byte. Takes no memory.
+    pub fn new(alloc: Global) -> Feed
+        ensures { result ≡ Some [] }
+    {
+        Feed {
+            alloc,
+            state: Some(Partial::behind(Stage::Magic)),
+        }
+    }
+
+    /// Takes the next piece, and appends to `out` each message that it makes whole.
+    ///
+    /// Refused with the first field that is bad, by the push that makes it whole, and the place where it
+    /// begins, counted from the first byte of its message; or for want of memory. The messages before it
+    /// are appended. From then on nothing is held, and each push answers `Failed` at place 0 and appends
+    /// nothing. `out` only grows.
+    pub fn push(&mut self, piece: &[u8], out: &mut Vec<Message>) -> Result<(), WireFault>
+        ensures ok { OnOk result (Pushed self.old self.new out.old.items out.new.items piece.now) }
+        ensures fault { IfErr result (IsPushFault self.old out.old.items out.new.items piece.now) }
+        ensures failed { OnErr result (self.new ≡ None) }
+    {
+        let Some(state) = self.state.take() else {
+            return Err(FAILED);
+        };
+        let next = take_piece(self.alloc, state, piece, out)?;
+        self.state = Some(next);
+        Ok(())
+    }
+
+    /// Says that no more bytes come. Takes no memory.
+    ///
+    /// Refused where a message is not whole, with `Truncated` and the number of its bytes that came; and
+    /// with `Failed` at place 0 after a refusal.
+    pub fn finish(self) -> Result<(), WireFault>
+        ensures { result ≡ end_of self }
+    {
+        match &self.state {
+            None => Err(FAILED),
+            Some(state) => match state.len() {
+                0 => Ok(()),
+                place => Err(WireFault {
+                    place,
+                    reason: Reason::Truncated,
+                }),
+            },
+        }
+    }
+
+    /// How many bytes are held of the message that is not whole: at most 262,160, and none after a
+    /// refusal. Takes no memory.
+    pub fn held(&self) -> usize
+        ensures value { result ≡ held_len self.now }
+        ensures most { result ≤ 262160 }
+    {
+        match &self.state {
+            None => 0,
+            Some(state) => state.len(),
+        }
+    }
+}

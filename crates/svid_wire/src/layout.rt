@@ -1,0 +1,31 @@
+//! Where the fields of a batch's text stand, and how long they are.
+
+/// What every message begins with: `JSR`, and 1 for the version.
+pub(crate) const MAGIC: [u8; 4] = [b'J', b'S', b'R', 1];
+
+/// The next byte of a batch.
+pub(crate) const BATCH_KIND: u8 = 1;
+
+/// How many bytes that has which every message begins with.
+pub(crate) const MAGIC_LEN: usize = 4;
+
+/// How many bytes the kind has.
+pub(crate) const KIND_LEN: usize = 1;
+
+/// How many bytes the moment and the number of uses have.
+pub(crate) const NUMBERS_LEN: usize = 12;
+
+/// How many bytes a use has.
+pub(crate) const USE_LEN: usize = 64;
+
+/// How many bytes stand before the first use.
+pub(crate) const HEAD_LEN: usize = 17;
+
+/// Where the kind stands.
+pub(crate) const KIND_PLACE: usize = 4;
+
+/// Where the moment stands.
+pub(crate) const MOMENT_PLACE: usize = 5;
+
+/// Where the number of uses stands.
+pub(crate) const COUNT_PLACE: usize = 13;
