@@ -161,6 +161,28 @@ def good_questions(lines, entries, text):
     return good
 
 
+def check(svid, folder, texts, *options):
+    """What `svid check` says of tokens, one after the other: its lines."""
+    words = [svid, "check", "--bundles", folder / "bundles.json", "--table", folder / "table.txt", "--now", "1767225600"]
+    words += ["--place", "00112233445566778899aabbccddeeff", *options, "ledger"]
+    ran = subprocess.run(words, input="".join(text + "\n" for text in texts).encode(), stdout=subprocess.PIPE)
+    if ran.returncode not in (0, 1):
+        sys.exit(f"svid check failed with status {ran.returncode}")
+    return ran.stdout.decode().splitlines()
+
+
+def with_payload(text, claims):
+    """The token with another payload, under the signature that it had."""
+    header, _, signature = text.split(".")
+    return ".".join([header, base64url(json.dumps(claims).encode()), signature])
+
+
+def say(what, lines, due):
+    """Prints what was said, and answers whether it was due."""
+    print(f"{what}: {', '.join(lines)}{'' if lines == due else '  <-- WRONG'}")
+    return lines == due
+
+
 def main(svid, folder):
     folder = pathlib.Path(folder)
     with tempfile.TemporaryDirectory() as keys:
@@ -197,7 +219,17 @@ def main(svid, folder):
     (folder / "tokens.txt").write_text("".join(text + "\n" for text in texts))
     (folder / "table.txt").write_text("".join(asked + "\n" for asked in table))
     print(f"the table has {len(table)} questions")
-    return 1 if failed else 0
+
+    accepted = [f"accepted spiffe://{DOMAIN}/billing/api 4102444800"]
+    record = folder / "record"
+    changed = with_payload(texts[0], dict(claims, jti="9"))
+    told = [
+        say("checked", check(svid, folder, texts), 3 * accepted + ["refused BadSignature", "refused NoKey", "refused UnknownDomain"]),
+        say("the same token twice", check(svid, folder, [texts[0], texts[0]], "--out", record), accepted + ["refused Replayed"]),
+        say("again, with the record that was kept", check(svid, folder, [texts[0]], "--record", record), ["refused Replayed"]),
+        say("with another payload", check(svid, folder, [changed]), ["refused BadSignature"]),
+    ]
+    return 0 if all(told) and not failed else 1
 
 
 if __name__ == "__main__":

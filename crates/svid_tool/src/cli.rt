@@ -2,6 +2,7 @@
 
 use crate::ToolFault;
 use crate::candidates::run_candidates;
+use crate::check::{CheckSetting, run_check};
 use crate::failure::Failure;
 use crate::id::run_id;
 use crate::input::Input;
@@ -9,6 +10,7 @@ use crate::report::run_report;
 use crate::words::{bytes_of_text, words};
 use clap::error::ErrorKind;
 use clap::{Arg, ArgAction, ArgMatches, Command, Error};
+use hex::FromHex;
 use std::alloc::{AllocError, Global};
 use std::fs::File;
 use std::{io, str};
@@ -63,15 +65,62 @@ fn candidates_command<'a>(alloc: Global) -> Result<Command<'a>, AllocError> {
         .arg(bundles)
 }
 
+// An option of `check` that names a file.
+fn file_option<'a>(alloc: Global, name: &'static str, is_required: bool) -> Arg<'a> {
+    Arg::new(alloc, name)
+        .long(name)
+        .value_name("FILE")
+        .required(is_required)
+}
+
+fn check_command<'a>(alloc: Global) -> Result<Command<'a>, AllocError> {
+    let now = Arg::new(alloc, "now")
+        .long("now")
+        .value_name("N")
+        .required(true)
+        .value_parser(clap::value_parser!(u64))
+        .help("The moment of the checks, in seconds");
+    let place = Arg::new(alloc, "place")
+        .long("place")
+        .value_name("P")
+        .required(true)
+        .help("What tells this validator from every other one: 32 hexadecimal digits");
+    let audience = Arg::new(alloc, "audience")
+        .value_name("AUD")
+        .required(true)
+        .num_args(1..)
+        .action(ArgAction::Append)
+        .help("The validator's own audiences");
+    Command::new(alloc, "check")
+        .about("Checks each token of standard input: accepted, or the first refusal")
+        .after_help(
+            "Standard input is read to its end: each line that is not empty is a token.{n}{n}Exit status: 0 each token is accepted; 1 a token or an input is refused; 2 usage, the place, a file, a write or memory.",
+        )
+        .arg(file_option(alloc, "bundles", true).help("A file of trust bundles"))?
+        .arg(file_option(alloc, "table", true).help(
+            "A file of the questions to which a verifier said yes",
+        ))?
+        .arg(now)?
+        .arg(place)?
+        .arg(file_option(alloc, "record", false).help(
+            "A file of messages: the record that the checks begin with",
+        ))?
+        .arg(file_option(alloc, "out", false).help(
+            "The file that gets the record after the last check",
+        ))?
+        .arg(audience)
+}
+
 /// The commands and their arguments.
 pub fn command<'a>(alloc: Global) -> Result<Command<'a>, AllocError> {
     Command::new(alloc, "svid")
         .bin_name("svid")?
         .about("Checks SPIFFE JWT-SVIDs, and keeps the record of those that were used")
         .after_help(
-            "Standard input is read by report where no FILE is named, and by candidates.{n}{n}Exit status: 0 the answer is yes; 1 something was refused; 2 usage, a file, a write or memory.",
+            "Standard input is read by check and candidates, and by report where no FILE is named.{n}{n}Exit status: 0 the answer is yes; 1 something was refused; 2 usage, a file, a write or memory.",
         )
         .subcommand_required(true)
+        .subcommand(check_command(alloc)?)?
         .subcommand(id_command(alloc)?)?
         .subcommand(report_command(alloc)?)?
         .subcommand(candidates_command(alloc)?)
@@ -100,6 +149,11 @@ fn open_beyond_streams(rt: &HostRuntime, path: &str) -> io::Result<File> {
     File::open(rt, path)?.try_clone()
 }
 
+// Likewise a file that is made or emptied.
+fn create_beyond_streams(rt: &HostRuntime, path: &str) -> io::Result<File> {
+    File::create(rt, path)?.try_clone()
+}
+
 // The file of this name. A name that is not UTF-8 is none that can be opened.
 fn open(rt: &HostRuntime, name: &str) -> Result<Input, Failure> {
     let bytes = bytes_of_text(rt.alloc(), name)?;
@@ -111,6 +165,39 @@ fn open(rt: &HostRuntime, name: &str) -> Result<Input, Failure> {
         Some(file) => Ok(Input::File(file)),
         None => Err(Failure::CannotOpen(bytes)),
     }
+}
+
+// The file of this name, made or emptied.
+fn create(rt: &HostRuntime, name: &str) -> Result<File, Failure> {
+    let bytes = bytes_of_text(rt.alloc(), name)?;
+    let file = match str::from_utf8(&bytes) {
+        Ok(path) => create_beyond_streams(rt, path).ok(),
+        Err(_) => None,
+    };
+    match file {
+        Some(file) => Ok(file),
+        None => Err(Failure::CannotOpen(bytes)),
+    }
+}
+
+// The place that a word is: 32 hexadecimal digits.
+fn place_of(alloc: Global, word: &str) -> Result<[u8; 16], Failure> {
+    let digits = bytes_of_text(alloc, word)?;
+    match <[u8; 16]>::from_hex(digits.as_slice()) {
+        Ok(place) => Ok(place),
+        Err(_) => Err(Failure::BadPlace),
+    }
+}
+
+// The audiences that words are. One that is not UTF-8 is no audience of any token, and is left out.
+fn audiences(alloc: Global, words: &[&str]) -> Result<Vec<String>, Failure> {
+    let mut own = Vec::new(alloc);
+    for word in words {
+        if let Ok(name) = String::from_utf8(bytes_of_text(alloc, word)?) {
+            own.push(name)?;
+        }
+    }
+    Ok(own)
 }
 
 // The files of these names in their order, or standard input where there is none.
@@ -147,8 +234,43 @@ fn candidates(rt: &HostRuntime, matches: &ArgMatches<'_>) -> Result<u8, Failure>
     Ok(status_of(accepted))
 }
 
+fn check_setting(rt: &HostRuntime, matches: &ArgMatches<'_>) -> Result<CheckSetting, Failure> {
+    let place = place_of(rt.alloc(), matches.get_str("place").unwrap_or(""))?;
+    let own = audiences(rt.alloc(), matches.get_strs("audience").unwrap_or(&[]))?;
+    let now = matches.get_one::<u64>("now").unwrap_or(0);
+    Ok(CheckSetting { own, place, now })
+}
+
+fn check(rt: &HostRuntime, matches: &ArgMatches<'_>) -> Result<u8, Failure> {
+    let given = check_setting(rt, matches)?;
+    let mut bundles = Counted::new(open(rt, matches.get_str("bundles").unwrap_or(""))?);
+    let mut table = Counted::new(open(rt, matches.get_str("table").unwrap_or(""))?);
+    let mut tokens = Counted::new(Input::Stdin(rt.stdin()));
+    let mut earlier = match matches.get_str("record") {
+        Some(name) => Some(Counted::new(open(rt, name)?)),
+        None => None,
+    };
+    let mut kept = match matches.get_str("out") {
+        Some(name) => Some(Counted::new(create(rt, name)?)),
+        None => None,
+    };
+    let mut out = Counted::new(io::writer(rt));
+    let accepted = run_check(
+        rt.alloc(),
+        given,
+        &mut bundles,
+        &mut table,
+        &mut tokens,
+        &mut earlier,
+        &mut kept,
+        &mut out,
+    )?;
+    Ok(status_of(accepted))
+}
+
 fn dispatch(rt: &HostRuntime, matches: &ArgMatches<'_>) -> Result<u8, Failure> {
     match matches.subcommand() {
+        Some(("check", inner)) => check(rt, inner),
         Some(("id", inner)) => id(rt, inner),
         Some(("report", inner)) => report(rt, inner),
         Some(("candidates", inner)) => candidates(rt, inner),

@@ -10,6 +10,8 @@ pub enum Failure {
     Tool(ToolFault),
     /// A file with this name could not be opened.
     CannotOpen(Vec<u8>),
+    /// A place is not 32 hexadecimal digits.
+    BadPlace,
 }
 
 impl Failure {
@@ -17,7 +19,7 @@ impl Failure {
     pub fn status(&self) -> u8 {
         match self {
             Failure::Tool(fault) => fault.status(),
-            Failure::CannotOpen(_) => 2,
+            Failure::CannotOpen(_) | Failure::BadPlace => 2,
         }
     }
 
@@ -25,6 +27,7 @@ impl Failure {
     pub fn tell(&self, rt: &HostRuntime) -> io::Result<()> {
         match self {
             Failure::Tool(fault) => eprintln!(rt; "{fault}"),
+            Failure::BadPlace => eprintln!(rt; "svid: bad place"),
             Failure::CannotOpen(name) => {
                 let mut to = rt.stderr();
                 to.write_all(b"svid: cannot open ")?;
