@@ -1,3 +1,4 @@
+pub mod LawfulLemmas
 pub mod RowsLemmas
 pub mod SaidLemmas
 pub mod VerdictLemmas

@@ -1,5 +1,5 @@
 -- Tables of refusals, one after the other.
-use Rattle.std.proofs.Common.{◌≡◌, ◌⊎◌, inl, inr, List, ◌++◌, Option, None, Some, refl, ap, ◌∙◌}
+use Rattle.std.proofs.Common.{◌≡◌, ◌⊎◌, inl, inr, List, ◌++◌, Option, None, Some, refl, sym, ap, ◌∙◌}
 use Rattle.std.specs.Prelude.{Result, Ok, Err}
 use Rattle.std.specs.Option.{option_or}
 use Rattle.svid_token.specs.Rows.{Row, Refuses, first_row, judged}
@@ -30,6 +30,14 @@ passes first second none = first_row-append first second ∙ ap (λ found. optio
 -- the first table that refuses is followed
 pub stops : (first second : List Row) (refusal : Refusal) → first_row first ≡ Some refusal → first_row (first ++ second) ≡ Some refusal
 stops first second refusal is = first_row-append first second ∙ ap (λ found. option_or found (first_row second)) is
+
+neither : (one other : Option Refusal) → option_or one other ≡ None → (one ≡ None) × (other ≡ None)
+neither None other none = (refl, none)
+neither (Some refusal) other none = absurd (cc)
+
+-- where two tables refuse nothing, neither does
+pub none_of_both : (first second : List Row) → first_row (first ++ second) ≡ None → (first_row first ≡ None) × (first_row second ≡ None)
+none_of_both first second none = neither (first_row first) (first_row second) (sym (first_row-append first second) ∙ none)
 
 -- what a refusal says where it is answered: that it is due, or nothing where memory ran out
 told : {A B : Type 0} (refusal : Refusal) (one : Result A Refusal) (other : Result B Refusal) → (Refuses refusal one → (refusal ≡ token.OutOfMemory) ⊎ (one ≡ Err refusal)) × (other ≡ Err refusal → Refuses refusal other)

@@ -1,14 +1,15 @@
 -- The verdict, one table after the other.
-use Rattle.std.proofs.Common.{◌≡◌, ◌<◌, ℕ, Bool, true, false, List, [], ◌∷◌, ◌++◌, Option, Some, None, refl, sym, ap, ◌∙◌, if◌then◌else◌}
+use Rattle.std.proofs.Common.{◌≡◌, ◌<◌, ℕ, Bool, true, false, List, [], ◌∷◌, ◌++◌, take, drop, Option, Some, None, refl, sym, ap, ◌∙◌, if◌then◌else◌}
 use Rattle.std.specs.Prelude.{Result, Ok, Err, option_map, not, nat_lt}
 use Rattle.std.proofs.lemmas.Bool.{ltb-true}
 use Rattle.svid_token.specs.Rows.{Row, Refuses, first_row, judged}
 use Rattle.svid_token.specs.declared.refusal.Refusal.{Refusal}
-use Rattle.svid_replay.specs.Uses.{Uses}
+use Rattle.svid_token.specs.declared.refusal.Refusal.TheVariants.{Replayed}
+use Rattle.svid_replay.specs.Uses.{Uses, has_use_of}
 use Rattle.svid_check.specs.Said.{Said, reading_of, said_of, token_rows}
 use Rattle.svid_check.specs.Setting.{Setting}
-use Rattle.svid_check.specs.Verdict.{acceptance, rows_if_said, setting_rows, verdict, verdict_rows}
-use Rattle.svid_check.proofs.RowsLemmas.{judged-Err, judged-None, judged-Ok, judged-Some, passes, refused, refused_through, stops}
+use Rattle.svid_check.specs.Verdict.{acceptance, key_of, rows_if_said, setting_rows, verdict, verdict_rows}
+use Rattle.svid_check.proofs.RowsLemmas.{judged-Err, judged-None, judged-Ok, judged-Some, none_of_both, passes, refused, refused_through, stops}
 
 module _ (s : Setting) (moment : ℕ) (uses : Uses) (token : List ℕ) where
   abbrev later : Option Said → List Row
@@ -48,3 +49,9 @@ lives s moment uses t none = by_test (nat_lt moment t.exp) refl (passed _ _ _ (p
     by_test : (test : Bool) → nat_lt moment t.exp ≡ test → not test ≡ false → moment < t.exp
     by_test true later unheld = ltb-true moment t.exp later
     by_test false later unheld = cc
+
+-- nor is its key used: the last row does not hold
+pub unused : (s : Setting) (moment : ℕ) (uses : Uses) (t : Said) → first_row (setting_rows s moment uses t) ≡ None → has_use_of uses (key_of t) ≡ false
+unused s moment uses t none =
+    let rows = setting_rows s moment uses t in
+    (passed (has_use_of uses (key_of t)) Replayed None (none_of_both (take 6 rows) (drop 6 rows) none).1).0

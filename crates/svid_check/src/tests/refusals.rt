@@ -249,7 +249,7 @@ fn refuses_a_token_of_65537_bytes(rt: HostRuntime) -> Result<(), Fail> {
         (49_109, 65_537, Some(Refusal::TooLong)),
     ] {
         let mut payload = String::from_str(alloc, PAYLOAD)?;
-        while payload.len() < payload_len {
+        for _ in payload.len()..payload_len {
             payload.push(' ')?;
         }
         let token = signed(alloc, payload.as_str())?;
@@ -261,7 +261,7 @@ fn refuses_a_token_of_65537_bytes(rt: HostRuntime) -> Result<(), Fail> {
     }
     let mut text = String::new(alloc);
     for (len, refusal) in [(65_536, Refusal::NotThreeParts), (65_537, Refusal::TooLong)] {
-        while text.len() < len {
+        for _ in text.len()..len {
             text.push('a')?;
         }
         assert_refused(&rt, &mut validator(alloc)?, 1000, text.as_str(), refusal, 0);
