@@ -167,11 +167,7 @@ fn a_fault_is_told_when_its_field_is_whole(rt: HostRuntime) -> Result<(), Fail> 
         let mut out = Vec::new(rt.alloc());
         assert_eq!(rt; feed.push(NO_USES, &mut out), Ok(()));
         for n in 0..last {
-            assert_eq!(rt;
-                feed.push(&[bad[n]], &mut out),
-                Ok(()),
-                "byte {n}"
-            );
+            assert_eq!(rt; feed.push(&[bad[n]], &mut out), Ok(()), "byte {n}");
             assert_eq!(rt; feed.held(), n + 1);
         }
         let want = fault(place, reason);
