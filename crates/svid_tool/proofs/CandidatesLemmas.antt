@@ -1,4 +1,4 @@
-use Rattle.std.proofs.Common.{◌≡◌, ℕ, List, ◌++◌, Option, None, Some, inl, inr, refl, sym, ap, subst, arith, ◌∙◌}
+use Rattle.std.proofs.Common.{◌≡◌, ℕ, List, ◌++◌, Option, None, Some, inl, inr, refl, sym, ap, ◌∙◌}
 use Rattle.std.specs.Prelude.{Result, Ok, Err, option_and_then}
 use Rattle.std.specs.List.{flat_map}
 use Rattle.std.specs.Option.{option_or}
@@ -21,7 +21,7 @@ use Rattle.svid_keys.specs.Key.{KeyData}
 use Rattle.svid_keys.specs.declared.bundle_fault.BundleFault.{BundleFault}
 use Rattle.svid_tool.specs.declared.tool_fault.ToolFault.{ToolFault}
 use Rattle.svid_tool.specs.declared.tool_fault.ToolFault.TheVariants as tool
-use Rattle.svid_tool.specs.Candidates.{AreBundlesRead, AreRefused, Inputs, IsCandidatesFault, IsFirstFault, IsOfFirst, Signing, candidate_line, keys_due, keys_for, keys_rows, lines_due, lines_if_said, parts_rows, parts_signing, rows_if_said, rows_if_three, signing, signing_due, signing_of, token_rows}
+use Rattle.svid_tool.specs.Candidates.{AreBundlesRead, AreRefused, Inputs, IsCandidatesFault, IsFirstFault, Signing, candidate_line, keys_due, keys_for, keys_rows, lines_due, lines_if_said, parts_rows, parts_signing, rows_if_said, rows_if_three, signing, signing_due, signing_of, token_rows}
 use Rattle.svid_tool.specs.Inputs.{IsUnread, read_fault_of}
 use Rattle.svid_wire.specs.Streams.{Drawn, Taken}
 use Rattle.svid_wire.specs.declared.read_fault.ReadFault.{ReadFault}
@@ -188,15 +188,6 @@ pub second_refused : (inputs : Inputs) (fault : ToolFault) (bundles : List Bundl
 second_refused inputs (tool.Bundles fault) bundles read unread = absurd (not_bundles 2 unread.why fault unread.is)
 second_refused inputs tool.OutOfMemory bundles read unread = tt
 second_refused inputs given bundles read unread = inr (record { bundles = bundles; bundles_read = read; why = unread })
-
-not_of_first : (why : ReadFault) → IsOfFirst (read_fault_of 2 why) → ⊥
-not_of_first reading.Stopped is = let no : ◌≡◌ {A = ℕ} 2 1 = is in omega arith
-not_of_first reading.TooMuch is = let no : ◌≡◌ {A = ℕ} 2 1 = is in omega arith
-not_of_first reading.OutOfMemory is = is
-
--- a fault of the second input is none of the first
-pub second_not_first : (input : Drawn) (fault : ToolFault) → IsUnread 2 input fault → IsOfFirst fault → ⊥
-second_not_first input fault unread is = not_of_first unread.why (subst IsOfFirst unread.is is)
 
 not_write : (number : ℕ) (why : ReadFault) → tool.Write ≡ read_fault_of number why → ⊥
 not_write number reading.Stopped is = cc
