@@ -1,4 +1,4 @@
-use Rattle.std.proofs.Common.{◌≡◌, ℕ, List, ◌++◌, Option, None, Some, inl, inr, refl, sym, ap, ◌∙◌, subst, arith}
+use Rattle.std.proofs.Common.{◌≡◌, ℕ, List, ◌++◌, Option, None, Some, inl, inr, refl, sym, ap, ◌∙◌}
 use Rattle.std.specs.Prelude.{Result, Ok, Err}
 use Rattle.std.specs.List.{flat_map}
 use Rattle.svid_token.specs.Rows.{Refuses, first_row}
@@ -6,14 +6,14 @@ use Rattle.svid_token.specs.declared.refusal.Refusal.{Refusal}
 use Rattle.svid_keys.specs.Bundles.{Bundle}
 use Rattle.svid_keys.specs.Key.{KeyData}
 use Rattle.svid_keys.specs.declared.bundle_fault.BundleFault.{BundleFault}
-use Rattle.svid_wire.specs.Streams.{Drawn, Taken}
+use Rattle.svid_wire.specs.Streams.{Taken}
 use Rattle.svid_wire.specs.declared.read_fault.ReadFault.{ReadFault}
 use Rattle.svid_wire.specs.declared.read_fault.ReadFault.TheVariants as reading
 use Rattle.svid_check.specs.Said.{Said, reading_of, said_of, token_rows}
 use Rattle.svid_check.specs.Verdict.{keys_due, keys_for, keys_rows, rows_if_said}
 use Rattle.svid_check.proofs.RowsLemmas.{judged-Err, judged-None, judged-Ok, judged-Some, passes, refused, refused_through, stops}
 use Rattle.svid_tool.specs.Bundles.{AreBundlesRead, IsBundlesFault}
-use Rattle.svid_tool.specs.Candidates.{AreRefused, Inputs, IsCandidatesFault, IsOfFirst, candidate_line, lines_due, lines_if_said}
+use Rattle.svid_tool.specs.Candidates.{AreRefused, Inputs, IsCandidatesFault, candidate_line, lines_due, lines_if_said}
 use Rattle.svid_tool.specs.Inputs.{IsUnread, read_fault_of}
 use Rattle.svid_tool.proofs.InputsLemmas.{not_write}
 use Rattle.svid_tool.specs.declared.tool_fault.ToolFault.{ToolFault}
@@ -62,15 +62,6 @@ pub second_refused : (inputs : Inputs) (fault : ToolFault) (bundles : List Bundl
 second_refused inputs (tool.Bundles fault) bundles read unread = absurd (not_bundles 2 unread.why fault unread.is)
 second_refused inputs tool.OutOfMemory bundles read unread = tt
 second_refused inputs given bundles read unread = inr (record { bundles = bundles; bundles_read = read; why = unread })
-
-not_of_first : (why : ReadFault) → IsOfFirst (read_fault_of 2 why) → ⊥
-not_of_first reading.Stopped is = let no : ◌≡◌ {A = ℕ} 2 1 = is in omega arith
-not_of_first reading.TooMuch is = let no : ◌≡◌ {A = ℕ} 2 1 = is in omega arith
-not_of_first reading.OutOfMemory is = is
-
--- a fault of the second input is none of the first
-pub second_not_first : (input : Drawn) (fault : ToolFault) → IsUnread 2 input fault → IsOfFirst fault → ⊥
-second_not_first input fault unread is = not_of_first unread.why (subst IsOfFirst unread.is is)
 
 -- no input is refused as a write is
 no_write : (inputs : Inputs) → AreRefused inputs tool.Write → ⊥

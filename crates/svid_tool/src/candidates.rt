@@ -89,8 +89,11 @@ fn text_of_inputs<B: Source, T: Source>(
     bundles: &mut B,
     tokens: &mut T,
 ) -> Result<(bool, String), ToolFault>
-    ensures ok { IfOk result (λ a. IsCandidatesAnswer (record { bundles = drawn B.left B.stops bundles.old bundles.new; tokens = drawn T.left T.stops tokens.old tokens.new }) a.0 (string_bytes a.1)) }
-    ensures fault { IfErr result (AreRefused (record { bundles = drawn B.left B.stops bundles.old bundles.new; tokens = drawn T.left T.stops tokens.old tokens.new })) }
+    ensures ok { IfOk result (λ a. IsCandidatesAnswer
+        (record { bundles = drawn B.left B.stops bundles.old bundles.new; tokens = drawn T.left T.stops tokens.old tokens.new })
+        a.0 (string_bytes a.1)) }
+    ensures fault { IfErr result (AreRefused
+        (record { bundles = drawn B.left B.stops bundles.old bundles.new; tokens = drawn T.left T.stops tokens.old tokens.new })) }
     ensures tokens_kept { IfErr result (λ fault. IsOfFirst fault → tokens.new ≡ tokens.old) }
 {
     let bundles = read_bundles(alloc, bundles)?;
@@ -106,7 +109,8 @@ fn text_of_inputs<B: Source, T: Source>(
 /// where there is no other, the token is empty. They are read and judged in this order, before anything
 /// is written. Refused for bundles that are none (`Bundles`), for an input that could not be read
 /// (`Read`) or has more than 67,108,864 bytes (`TooMuch`), for want of memory, and where the sink
-/// stopped (`Write`): then a part of the text went out, and else nothing did.
+/// stopped (`Write`): then a part of the text went out, and else nothing did. Where the first input is
+/// at fault, the second is as it was.
 #[tactic(auto, using(crate::proofs::CandidatesLemmas::inputs_refused))]
 pub fn run_candidates<B: Source, T: Source, K: Sink>(
     alloc: Global,
@@ -114,8 +118,12 @@ pub fn run_candidates<B: Source, T: Source, K: Sink>(
     tokens: &mut T,
     out: &mut K,
 ) -> Result<bool, ToolFault>
-    ensures ok { IfOk result (AreCandidatesPrinted (record { bundles = drawn B.left B.stops bundles.old bundles.new; tokens = drawn T.left T.stops tokens.old tokens.new }) (taken K.told K.stops out.old out.new)) }
-    ensures fault { IfErr result (IsCandidatesFault (record { bundles = drawn B.left B.stops bundles.old bundles.new; tokens = drawn T.left T.stops tokens.old tokens.new }) (taken K.told K.stops out.old out.new)) }
+    ensures ok { IfOk result (AreCandidatesPrinted
+        (record { bundles = drawn B.left B.stops bundles.old bundles.new; tokens = drawn T.left T.stops tokens.old tokens.new })
+        (taken K.told K.stops out.old out.new)) }
+    ensures fault { IfErr result (IsCandidatesFault
+        (record { bundles = drawn B.left B.stops bundles.old bundles.new; tokens = drawn T.left T.stops tokens.old tokens.new })
+        (taken K.told K.stops out.old out.new)) }
     ensures tokens_kept { IfErr result (λ fault. IsOfFirst fault → tokens.new ≡ tokens.old) }
     ensures kept { IfErr result (λ fault. fault ≢ ToolFault.Write → out.new ≡ out.old) }
 {

@@ -50,7 +50,7 @@ fn text_of_inputs<S: Source>(
 /// The inputs are read and judged in their order, before anything is written. Refused for the first
 /// that is not a row of whole messages (`Wire`), could not be read (`Read`) or has more than 67,108,864
 /// bytes (`TooMuch`), for want of memory, and where the sink stopped (`Write`): then a part of the text
-/// went out, and else nothing did.
+/// went out, and else nothing did. The inputs behind a refused one are as they were.
 pub fn run_report<S: Source, K: Sink>(
     alloc: Global,
     inputs: &mut [S],

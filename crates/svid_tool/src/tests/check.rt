@@ -25,8 +25,7 @@ const KEPT: &[u8; 81] = b"JSR\x01\x01\
 \x00\x00\x00\x00\x00\x00\x03\xe8";
 
 // The record of moment 0 with no use.
-const NOTHING_KEPT: &[u8; 17] =
-    b"JSR\x01\x01\x00\x00\x00\x00\x00\x00\x00\x00\x00\x00\x00\x00";
+const NOTHING_KEPT: &[u8; 17] = b"JSR\x01\x01\x00\x00\x00\x00\x00\x00\x00\x00\x00\x00\x00\x00";
 
 const ACCEPTED_ONCE: &[u8] = b"accepted spiffe://a/b 1001\nrefused Replayed\n";
 
@@ -163,7 +162,14 @@ fn accepts_a_token_once(rt: HostRuntime) -> Result<(), Fail> {
     let tokens = twice(alloc)?;
     assert_run(&rt, alloc, &Given::of(&tokens), false, ACCEPTED_ONCE, KEPT)?;
     let once = Given::of(TOKEN);
-    assert_run(&rt, alloc, &once, true, b"accepted spiffe://a/b 1001\n", KEPT)
+    assert_run(
+        &rt,
+        alloc,
+        &once,
+        true,
+        b"accepted spiffe://a/b 1001\n",
+        KEPT,
+    )
 }
 
 #[test]
@@ -213,7 +219,13 @@ fn tells_the_first_refused_input(rt: HostRuntime) -> Result<(), Fail> {
     given.table = b"x";
     assert_refused(&rt, alloc, &given, 100, ToolFault::Table(1))?;
     given.bundles = b"[]";
-    assert_refused(&rt, alloc, &given, 100, ToolFault::Bundles(BundleFault::NotObject))
+    assert_refused(
+        &rt,
+        alloc,
+        &given,
+        100,
+        ToolFault::Bundles(BundleFault::NotObject),
+    )
 }
 
 #[test]
@@ -259,12 +271,18 @@ fn keeps_the_record_before_the_first_line(rt: HostRuntime) -> Result<(), Fail> {
     let given = Given::of(&tokens);
     let mut kept = Some(MemSink::new(alloc, 10, Some(2)));
     let mut out = MemSink::new(alloc, 100, None);
-    assert_eq!(rt; answer(alloc, &given, &mut kept, &mut out)?, Err(ToolFault::Write));
+    assert_eq!(rt;
+        answer(alloc, &given, &mut kept, &mut out)?,
+        Err(ToolFault::Write)
+    );
     assert!(rt; matches!(&kept, Some(sink) if sink.bytes() == &KEPT[..10]));
     assert!(rt; out.bytes().is_empty());
     let mut kept = Some(MemSink::new(alloc, 10, None));
     let mut out = MemSink::new(alloc, 100, Some(1));
-    assert_eq!(rt; answer(alloc, &given, &mut kept, &mut out)?, Err(ToolFault::Write));
+    assert_eq!(rt;
+        answer(alloc, &given, &mut kept, &mut out)?,
+        Err(ToolFault::Write)
+    );
     assert!(rt; matches!(&kept, Some(sink) if sink.bytes() == KEPT.as_slice()));
     assert!(rt; out.bytes().is_empty());
     Ok(())
@@ -287,7 +305,9 @@ fn tells_each_failed_write(rt: HostRuntime) -> Result<(), Fail> {
                 fault => {
                     assert_eq!(rt; fault, Err(ToolFault::Write));
                     assert!(rt; out.bytes().is_empty());
-                    assert!(rt; matches!(&kept, Some(sink) if sink.bytes().len() < KEPT.len() && KEPT.starts_with(sink.bytes())));
+                    assert!(rt;
+                        matches!(&kept, Some(sink) if sink.bytes().len() < KEPT.len() && KEPT.starts_with(sink.bytes()))
+                    );
                 }
             }
         }
@@ -300,7 +320,10 @@ fn tells_each_failed_write(rt: HostRuntime) -> Result<(), Fail> {
                 }
                 fault => {
                     assert_eq!(rt; fault, Err(ToolFault::Write));
-                    assert!(rt; out.bytes().len() < ACCEPTED_ONCE.len() && ACCEPTED_ONCE.starts_with(out.bytes()));
+                    assert!(rt;
+                        out.bytes().len() < ACCEPTED_ONCE.len()
+                            && ACCEPTED_ONCE.starts_with(out.bytes())
+                    );
                 }
             }
         }

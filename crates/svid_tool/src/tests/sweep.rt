@@ -162,11 +162,15 @@ fn a_word_tells_want_of_memory(rt: HostRuntime) -> Result<(), Fail> {
 }
 
 // Reads a command line: whether it is understood, or is to be told to the user.
-fn is_understood(alloc: Global, words: &[&str]) -> Result<bool, AllocError> {
+fn is_understood<'a>(alloc: Global, words: &'a [&'a str]) -> Result<bool, AllocError> {
     match command(alloc)?.try_get_matches_from(words) {
         Ok(_) => Ok(true),
-        Err(error) if error.kind() == ErrorKind::OutOfMemory => Err(AllocError),
-        Err(_) => Ok(false),
+        Err(error) => {
+            if error.kind() == ErrorKind::OutOfMemory {
+                return Err(AllocError);
+            }
+            Ok(false)
+        }
     }
 }
 
