@@ -142,14 +142,11 @@ fn assert_refused(
     rt: &impl Abort,
     alloc: Global,
     given: &Given<'_>,
-    step: usize,
     fault: ToolFault,
-) -> Result<(), Fail>
-    requires { 0 < step }
-{
+) -> Result<(), Fail> {
     let mut kept = Some(MemSink::new(alloc, 100, None));
     let mut out = MemSink::new(alloc, 100, None);
-    let (answer, _) = run(alloc, given, step, 0, &mut kept, &mut out)?;
+    let answer = answer(alloc, given, &mut kept, &mut out)?;
     assert_eq!(rt; answer, Err(fault));
     assert!(rt; out.bytes().is_empty());
     assert!(rt; matches!(&kept, Some(sink) if sink.bytes().is_empty()));
@@ -215,9 +212,9 @@ fn tells_the_first_refused_input(rt: HostRuntime) -> Result<(), Fail> {
         place: 1,
         reason: Reason::Truncated,
     };
-    assert_refused(&rt, alloc, &given, 100, truncated)?;
+    assert_refused(&rt, alloc, &given, truncated)?;
     given.table = b"x";
-    assert_refused(&rt, alloc, &given, 100, ToolFault::Table(1))?;
+    assert_refused(&rt, alloc, &given, ToolFault::Table(1))?;
     given.bundles = b"[]";
     assert_refused(
         &rt,
@@ -241,8 +238,39 @@ fn tells_a_cut_record(rt: HostRuntime) -> Result<(), Fail> {
             place: length,
             reason: Reason::Truncated,
         };
-        assert_refused(&rt, alloc, &given, 100, fault)?;
+        assert_refused(&rt, alloc, &given, fault)?;
     }
+    Ok(())
+}
+
+// Each call of an input of a run fails in turn, until one that the run does not make.
+fn assert_failed_reads(
+    rt: &impl Abort,
+    alloc: Global,
+    given: &mut Given<'_>,
+    input: usize,
+    step: usize,
+) -> Result<(), Fail>
+    requires step { 0 < step }
+    requires input { input < 4 }
+{
+    let mut met = false;
+    for call in 1..1000u64 {
+        given.fails[input] = Some(call);
+        let mut kept = Some(MemSink::new(alloc, 100, None));
+        let mut out = MemSink::new(alloc, 100, None);
+        let (answer, _) = run(alloc, given, step, 0, &mut kept, &mut out)?;
+        if answer == Ok(false) {
+            assert_eq!(rt; out.bytes(), BOTH_REPLAYED);
+            met = true;
+            break;
+        }
+        assert_eq!(rt; answer, Err(ToolFault::Read { input: input + 1 }));
+        assert!(rt; out.bytes().is_empty());
+        assert!(rt; matches!(&kept, Some(sink) if sink.bytes().is_empty()));
+    }
+    given.fails[input] = None;
+    assert!(rt; met);
     Ok(())
 }
 
@@ -250,16 +278,12 @@ fn tells_a_cut_record(rt: HostRuntime) -> Result<(), Fail> {
 fn tells_each_failed_read(rt: HostRuntime) -> Result<(), Fail> {
     let alloc = rt.alloc();
     let tokens = twice(alloc)?;
-    for (step, calls) in [(1usize, 40u64), (7, 10), (100, 1)] {
-        for call in 1..calls + 1 {
-            for input in 0..4usize {
-                let mut given = Given::of(&tokens);
-                given.earlier = Some(KEPT);
-                given.fails[input] = Some(call);
-                let fault = ToolFault::Read { input: input + 1 };
-                assert_refused(&rt, alloc, &given, step.max(1), fault)?;
-            }
-        }
+    let mut given = Given::of(&tokens);
+    given.earlier = Some(KEPT);
+    for input in 0..4usize {
+        assert_failed_reads(&rt, alloc, &mut given, input, 1)?;
+        assert_failed_reads(&rt, alloc, &mut given, input, 7)?;
+        assert_failed_reads(&rt, alloc, &mut given, input, 100)?;
     }
     Ok(())
 }
@@ -288,47 +312,59 @@ fn keeps_the_record_before_the_first_line(rt: HostRuntime) -> Result<(), Fail> {
     Ok(())
 }
 
+// Each call of the kept record's sink, and then of the lines', fails in turn, until one that the run
+// does not make.
+fn assert_failed_writes(
+    rt: &impl Abort,
+    alloc: Global,
+    given: &Given<'_>,
+    step: usize,
+) -> Result<(), Fail>
+    requires { 0 < step }
+{
+    let mut met = 0;
+    for call in 1..1000u64 {
+        let mut kept = Some(MemSink::new(alloc, step, Some(call)));
+        let mut out = MemSink::new(alloc, 100, None);
+        let answer = answer(alloc, given, &mut kept, &mut out)?;
+        if answer == Ok(false) {
+            assert_eq!(rt; out.bytes(), ACCEPTED_ONCE);
+            met += 1;
+            break;
+        }
+        assert_eq!(rt; answer, Err(ToolFault::Write));
+        assert!(rt; out.bytes().is_empty());
+        assert!(rt;
+            matches!(&kept, Some(sink) if sink.bytes().len() < KEPT.len() && KEPT.starts_with(sink.bytes()))
+        );
+    }
+    for call in 1..1000u64 {
+        let mut kept = Some(MemSink::new(alloc, 100, None));
+        let mut out = MemSink::new(alloc, step, Some(call));
+        let answer = answer(alloc, given, &mut kept, &mut out)?;
+        assert!(rt; matches!(&kept, Some(sink) if sink.bytes() == KEPT.as_slice()));
+        if answer == Ok(false) {
+            assert_eq!(rt; out.bytes(), ACCEPTED_ONCE);
+            met += 1;
+            break;
+        }
+        assert_eq!(rt; answer, Err(ToolFault::Write));
+        assert!(rt;
+            out.bytes().len() < ACCEPTED_ONCE.len() && ACCEPTED_ONCE.starts_with(out.bytes())
+        );
+    }
+    assert_eq!(rt; met, 2);
+    Ok(())
+}
+
 #[test]
 fn tells_each_failed_write(rt: HostRuntime) -> Result<(), Fail> {
     let alloc = rt.alloc();
     let tokens = twice(alloc)?;
     let given = Given::of(&tokens);
-    for step in [1usize, 7, 100] {
-        for call in 1..200u64 {
-            let mut kept = Some(MemSink::new(alloc, step.max(1), Some(call)));
-            let mut out = MemSink::new(alloc, 100, None);
-            match answer(alloc, &given, &mut kept, &mut out)? {
-                Ok(accepted) => {
-                    assert!(rt; !accepted && out.bytes() == ACCEPTED_ONCE);
-                    break;
-                }
-                fault => {
-                    assert_eq!(rt; fault, Err(ToolFault::Write));
-                    assert!(rt; out.bytes().is_empty());
-                    assert!(rt;
-                        matches!(&kept, Some(sink) if sink.bytes().len() < KEPT.len() && KEPT.starts_with(sink.bytes()))
-                    );
-                }
-            }
-        }
-        for call in 1..200u64 {
-            let mut out = MemSink::new(alloc, step.max(1), Some(call));
-            match answer(alloc, &given, &mut None, &mut out)? {
-                Ok(accepted) => {
-                    assert!(rt; !accepted && out.bytes() == ACCEPTED_ONCE);
-                    break;
-                }
-                fault => {
-                    assert_eq!(rt; fault, Err(ToolFault::Write));
-                    assert!(rt;
-                        out.bytes().len() < ACCEPTED_ONCE.len()
-                            && ACCEPTED_ONCE.starts_with(out.bytes())
-                    );
-                }
-            }
-        }
-    }
-    Ok(())
+    assert_failed_writes(&rt, alloc, &given, 1)?;
+    assert_failed_writes(&rt, alloc, &given, 7)?;
+    assert_failed_writes(&rt, alloc, &given, 100)
 }
 
 #[test]
