@@ -17,7 +17,7 @@ use crate::output::put_text;
 use std::alloc::{AllocError, Global};
 use svid_check::Validator;
 use svid_keys::{Bundles, TableVerifier};
-use svid_replay::{Batch, Record, SortedUses};
+use svid_replay::{Batch, IndexedUses, Record};
 use svid_wire::{Sink, Source};
 
 /// What a run of checks is told.
@@ -51,11 +51,11 @@ fn read_table<S: Source>(alloc: Global, source: &mut S) -> Result<TableVerifier,
 
 // What the earlier record comes to.
 #[tactic(auto, using(crate::proofs::CheckLemmas::begins_with))]
-fn join_earlier<S: Source>(alloc: Global, source: &mut S) -> Result<Record<SortedUses>, ToolFault>
+fn join_earlier<S: Source>(alloc: Global, source: &mut S) -> Result<Record<IndexedUses>, ToolFault>
     ensures ok { IfOk result (IsEarlier (Some (drawn S.left S.stops source.old source.new))) }
     ensures fault { IfErr result (IsInputFault 4 (drawn S.left S.stops source.old source.new)) }
 {
-    let mut begun = Record::new(SortedUses::new(alloc));
+    let mut begun = Record::new(IndexedUses::new(alloc));
     let mut messages = Vec::new(alloc);
     join_input(alloc, source, 4, &mut messages, &mut begun)?;
     Ok(begun)
@@ -66,13 +66,13 @@ fn join_earlier<S: Source>(alloc: Global, source: &mut S) -> Result<Record<Sorte
 fn read_earlier<S: Source>(
     alloc: Global,
     earlier: &mut Option<S>,
-) -> Result<Record<SortedUses>, ToolFault>
+) -> Result<Record<IndexedUses>, ToolFault>
     ensures ok { IfOk result (IsEarlier (drawn_if S.left S.stops earlier.old earlier.new)) }
     ensures fault { IfErr result (IsEarlierFault (drawn_if S.left S.stops earlier.old earlier.new)) }
 {
     match earlier {
         Some(source) => join_earlier(alloc, source),
-        None => Ok(Record::new(SortedUses::new(alloc))),
+        None => Ok(Record::new(IndexedUses::new(alloc))),
     }
 }
 
@@ -82,7 +82,7 @@ fn check_all(
     given: CheckSetting,
     bundles: Bundles,
     table: TableVerifier,
-    begun: Record<SortedUses>,
+    begun: Record<IndexedUses>,
     tokens: &[u8],
 ) -> Result<Outcome, AllocError>
     ensures { IfOk result (λ outcome. outcome_view outcome

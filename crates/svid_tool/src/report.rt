@@ -9,7 +9,7 @@ use crate::inputs::join_inputs;
 use crate::output::put_text;
 use crate::report_text::report_text;
 use std::alloc::{AllocError, Global};
-use svid_replay::{Record, SortedUses, UseStore};
+use svid_replay::{IndexedUses, Record, UseStore};
 use svid_wire::{Sink, Source};
 
 fn text_of_record<T: UseStore>(alloc: Global, state: &Record<T>) -> Result<String, AllocError>
@@ -38,7 +38,7 @@ fn text_of_inputs<S: Source>(
     ensures ok { IfOk result (λ text. IsReportOf (inputs_of (sources S.left S.stops inputs.old inputs.new)) now (string_bytes text)) }
     ensures fault { IfErr result (λ fault. fault ≢ ToolFault.OutOfMemory → IsRefused (sources S.left S.stops inputs.old inputs.new) fault) }
 {
-    let mut record = Record::new(SortedUses::new(alloc));
+    let mut record = Record::new(IndexedUses::new(alloc));
     join_inputs(alloc, inputs, &mut record)?;
     raise_to(&mut record, now);
     Ok(text_of_record(alloc, &record)?)
