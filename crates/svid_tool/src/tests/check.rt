@@ -32,6 +32,7 @@ const ACCEPTED_ONCE: &[u8] = b"accepted spiffe://a/b 1001\nrefused Replayed\n";
 const BOTH_REPLAYED: &[u8] = b"refused Replayed\nrefused Replayed\n";
 
 // The inputs of a run, and which call of each fails.
+#[derive(Clone, Copy)]
 struct Given<'a> {
     bundles: &'a [u8],
     table: &'a [u8],
@@ -220,7 +221,6 @@ fn tells_the_first_refused_input(rt: HostRuntime) -> Result<(), Fail> {
         &rt,
         alloc,
         &given,
-        100,
         ToolFault::Bundles(BundleFault::NotObject),
     )
 }
@@ -322,14 +322,14 @@ fn assert_failed_writes(
 ) -> Result<(), Fail>
     requires { 0 < step }
 {
-    let mut met = 0;
+    let mut met = false;
     for call in 1..1000u64 {
         let mut kept = Some(MemSink::new(alloc, step, Some(call)));
         let mut out = MemSink::new(alloc, 100, None);
         let answer = answer(alloc, given, &mut kept, &mut out)?;
         if answer == Ok(false) {
             assert_eq!(rt; out.bytes(), ACCEPTED_ONCE);
-            met += 1;
+            met = true;
             break;
         }
         assert_eq!(rt; answer, Err(ToolFault::Write));
@@ -338,6 +338,8 @@ fn assert_failed_writes(
             matches!(&kept, Some(sink) if sink.bytes().len() < KEPT.len() && KEPT.starts_with(sink.bytes()))
         );
     }
+    assert!(rt; met);
+    met = false;
     for call in 1..1000u64 {
         let mut kept = Some(MemSink::new(alloc, 100, None));
         let mut out = MemSink::new(alloc, step, Some(call));
@@ -345,7 +347,7 @@ fn assert_failed_writes(
         assert!(rt; matches!(&kept, Some(sink) if sink.bytes() == KEPT.as_slice()));
         if answer == Ok(false) {
             assert_eq!(rt; out.bytes(), ACCEPTED_ONCE);
-            met += 1;
+            met = true;
             break;
         }
         assert_eq!(rt; answer, Err(ToolFault::Write));
@@ -353,7 +355,7 @@ fn assert_failed_writes(
             out.bytes().len() < ACCEPTED_ONCE.len() && ACCEPTED_ONCE.starts_with(out.bytes())
         );
     }
-    assert_eq!(rt; met, 2);
+    assert!(rt; met);
     Ok(())
 }
 
