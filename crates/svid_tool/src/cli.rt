@@ -1,12 +1,7 @@
 //! The command line: which command is asked for, and what it reads.
 
-use crate::ToolFault;
-use crate::candidates::run_candidates;
-use crate::check::{CheckSetting, run_check};
 use crate::failure::Failure;
-use crate::id::run_id;
 use crate::input::Input;
-use crate::report::run_report;
 use crate::words::{bytes_of_text, words};
 use clap::error::ErrorKind;
 use clap::{Arg, ArgAction, ArgMatches, Command, Error};
@@ -14,6 +9,8 @@ use hex::FromHex;
 use std::alloc::{AllocError, Global};
 use std::fs::File;
 use std::{io, str};
+use svid_lines::{CheckSetting, run_candidates, run_check, run_id};
+use svid_share::{ToolFault, run_report};
 use svid_wire::Counted;
 
 fn id_command<'a>(alloc: Global) -> Result<Command<'a>, AllocError> {

@@ -1,7 +1,7 @@
-use crate::ToolFault;
 use std::alloc::{AllocError, AllocFailed};
 use std::io;
 use std::io::Write;
+use svid_share::ToolFault;
 
 /// Why the program ends with a line on standard error.
 #[derive(Drop)]

@@ -1,0 +1,3 @@
+pub mod CandidatesLemmas
+pub mod CheckLemmas
+pub mod IdLemmas

@@ -1,0 +1,6 @@
+pub mod Bundles
+pub mod Candidates
+pub mod Check
+pub mod Checks
+pub mod Id
+pub mod Refused

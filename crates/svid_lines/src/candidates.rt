@@ -1,0 +1,131 @@
+ghost use Rattle.std.specs.Prelude.{◌≡◌, ◌≢◌, ◌≤◌, ◌++◌, IfOk, IfErr, OnOk, Some, length, string_bytes};
+ghost use Rattle.std.specs.List.{flat_map};
+ghost use Rattle.svid_token.specs.Rows.{Answers};
+ghost use Rattle.svid_keys.specs.Candidates.{candidates_left};
+ghost use Rattle.svid_check.specs.Said.{said_in};
+ghost use Rattle.svid_wire.specs.Streams.{drawn, taken};
+ghost use Rattle.svid_lines.specs.Candidates.{AreCandidatesPrinted, AreRefused, IsCandidatesAnswer, IsCandidatesFault, IsOfFirst, accepts, candidate_line, first_token, lines_due, printed};
+
+use crate::bundles::read_bundles;
+use crate::refused::refusal_line;
+use serde_json::Value;
+use std::alloc::{AllocError, Global};
+use std::fmt::Write;
+use svid_check::Reading;
+use svid_keys::{Bundles, Candidates, JwtKey, Lines, question};
+use svid_share::{ToolFault, put_text, read_input};
+use svid_token::Refusal;
+use svid_wire::{Sink, Source};
+
+fn push_line(
+    alloc: Global,
+    text: &mut String,
+    key: &JwtKey,
+    reading: &Reading<'_>,
+) -> Result<(), AllocError>
+    requires input_len { length reading.now.input.now ≤ 65536 }
+    requires signature_len { length reading.now.signature.items ≤ 65536 }
+    ensures { OnOk result (string_bytes text.new ≡ string_bytes text.old ++ candidate_line (said_in reading.now) key.now) }
+{
+    let asked = question(key, reading.header.alg, reading.input, &reading.signature);
+    let asked = hex::encode(alloc, asked.as_slice())?;
+    let kid = Value::String(String::from_str(alloc, key.kid())?).to_string(alloc)?;
+    writeln!(text, "{asked} {kid}")
+}
+
+fn candidate_lines(
+    alloc: Global,
+    candidates: Candidates<'_>,
+    reading: &Reading<'_>,
+) -> Result<String, AllocError>
+    requires input_len { length reading.now.input.now ≤ 65536 }
+    requires signature_len { length reading.now.signature.items ≤ 65536 }
+    ensures { IfOk result (λ text. string_bytes text ≡ flat_map (candidate_line (said_in reading.now)) (candidates_left candidates.entry)) }
+{
+    let mut text = String::new(alloc);
+    for key in candidates {
+        push_line(alloc, &mut text, key, reading)?;
+    }
+    Ok(text)
+}
+
+// The lines of the candidates for a token, or why there are none.
+fn token_lines(alloc: Global, bundles: &Bundles, token: &[u8]) -> Result<String, Refusal>
+    ensures { Answers string_bytes result (lines_due bundles.now token.now) }
+{
+    let reading = Reading::of(alloc, token)?;
+    let candidates = reading.candidates(bundles)?;
+    Ok(candidate_lines(alloc, candidates, &reading)?)
+}
+
+// What is printed for a token, and whether there are candidates.
+fn answer(alloc: Global, bundles: &Bundles, token: &[u8]) -> Result<(bool, String), AllocError>
+    ensures { IfOk result (λ a. (a.0 ≡ accepts (lines_due bundles.now token.now)) × (printed (lines_due bundles.now token.now) ≡ Some (string_bytes a.1))) }
+{
+    match token_lines(alloc, bundles, token) {
+        Ok(lines) => Ok((true, lines)),
+        Err(refusal) => Ok((false, refusal_line(alloc, refusal)?)),
+    }
+}
+
+// The first line that is not empty, or no bytes.
+fn first_token(text: &[u8]) -> &[u8]
+    ensures { result.now ≡ first_token text.now }
+{
+    for line in Lines::of(text) {
+        if !line.is_empty() {
+            return line;
+        }
+    }
+    &[]
+}
+
+// What is printed for both inputs, and whether there are candidates.
+#[tactic(auto, using(crate::proofs::CandidatesLemmas::first_refused, crate::proofs::CandidatesLemmas::second_refused))]
+fn text_of_inputs<B: Source, T: Source>(
+    alloc: Global,
+    bundles: &mut B,
+    tokens: &mut T,
+) -> Result<(bool, String), ToolFault>
+    ensures ok { IfOk result (λ a. IsCandidatesAnswer
+        (record { bundles = drawn B.left B.stops bundles.old bundles.new; tokens = drawn T.left T.stops tokens.old tokens.new })
+        a.0 (string_bytes a.1)) }
+    ensures fault { IfErr result (AreRefused
+        (record { bundles = drawn B.left B.stops bundles.old bundles.new; tokens = drawn T.left T.stops tokens.old tokens.new })) }
+    ensures tokens_kept { IfErr result (λ fault. IsOfFirst fault → tokens.new ≡ tokens.old) }
+{
+    let bundles = read_bundles(alloc, bundles)?;
+    let lines = read_input(alloc, tokens, 2)?;
+    Ok(answer(alloc, &bundles, first_token(&lines))?)
+}
+
+/// Writes a line for each candidate key of the first token: the question whether the token's signature
+/// is good for it, in hexadecimal digits, and the key's name as JSON. Where there is none, writes
+/// the one line that tells why. Says whether there are candidates.
+///
+/// The first input is trust bundles, the second one tokens in lines; empty lines are passed over, and
+/// where there is no other, the token is empty. They are read and judged in this order, before anything
+/// is written. Refused for bundles that are none (`Bundles`), for an input that could not be read
+/// (`Read`) or has more than 67,108,864 bytes (`TooMuch`), for want of memory, and where the sink
+/// stopped (`Write`): then a part of the text went out, and else nothing did. Where the first input is
+/// at fault, the second is as it was.
+#[tactic(auto, using(crate::proofs::CandidatesLemmas::inputs_refused))]
+pub fn run_candidates<B: Source, T: Source, K: Sink>(
+    alloc: Global,
+    bundles: &mut B,
+    tokens: &mut T,
+    out: &mut K,
+) -> Result<bool, ToolFault>
+    ensures ok { IfOk result (AreCandidatesPrinted
+        (record { bundles = drawn B.left B.stops bundles.old bundles.new; tokens = drawn T.left T.stops tokens.old tokens.new })
+        (taken K.told K.stops out.old out.new)) }
+    ensures fault { IfErr result (IsCandidatesFault
+        (record { bundles = drawn B.left B.stops bundles.old bundles.new; tokens = drawn T.left T.stops tokens.old tokens.new })
+        (taken K.told K.stops out.old out.new)) }
+    ensures tokens_kept { IfErr result (λ fault. IsOfFirst fault → tokens.new ≡ tokens.old) }
+    ensures kept { IfErr result (λ fault. fault ≢ ToolFault.Write → out.new ≡ out.old) }
+{
+    let (accepted, text) = text_of_inputs(alloc, bundles, tokens)?;
+    put_text(out, text.as_str())?;
+    Ok(accepted)
+}

@@ -1,0 +1,190 @@
+ghost use Rattle.std.specs.Prelude.{◌≡◌, ◌≢◌, IfOk, IfErr, OnOk, OnErr, Some, map, string_bytes};
+ghost use Rattle.std.specs.List.{flat_map};
+ghost use Rattle.svid_keys.specs.Lines.{lines_of};
+ghost use Rattle.svid_keys.specs.Table.{table_says};
+ghost use Rattle.svid_wire.specs.BatchText.{batch_text};
+ghost use Rattle.svid_wire.specs.Streams.{drawn, taken};
+ghost use Rattle.svid_lines.specs.Checks.{tokens_of};
+ghost use Rattle.svid_share.specs.Inputs.{IsInputFault};
+ghost use Rattle.svid_lines.specs.Check.{AreChecked, IsCheckFault, IsEarlier, IsEarlierFault, IsOfInput, IsOneRefused, IsOutcome, IsTableFault, IsTableOf, TookAllIf, TookPartIf, drawn_if, outcome_from, outcome_view, taken_if};
+
+use crate::bundles::read_bundles;
+use crate::checks::check_lines;
+use std::alloc::{AllocError, Global};
+use svid_check::Validator;
+use svid_keys::{Bundles, TableVerifier};
+use svid_replay::{Batch, IndexedUses, Record};
+use svid_share::{ToolFault, join_input, put_batches, put_text, read_input};
+use svid_wire::{Sink, Source};
+
+/// What a run of checks is told.
+#[derive(Debug, Drop)]
+pub struct CheckSetting {
+    /// The validator's own audiences.
+    pub own: Vec<String>,
+    /// What tells the validator from every other one.
+    pub place: [u8; 16],
+    /// The moment at which the tokens are checked, in seconds.
+    pub now: u64,
+}
+
+// What a run of checks comes to: whether all are accepted, the record after the last one, and a line for each.
+#[derive(Drop)]
+struct Outcome {
+    accepted: bool,
+    kept: Vec<Batch>,
+    lines: String,
+}
+
+// The table that the second input is.
+#[tactic(auto, using(crate::proofs::CheckLemmas::table_of))]
+fn read_table<S: Source>(alloc: Global, source: &mut S) -> Result<TableVerifier, ToolFault>
+    ensures ok { IfOk result (λ table. IsTableOf (drawn S.left S.stops source.old source.new) table) }
+    ensures fault { IfErr result (IsTableFault (drawn S.left S.stops source.old source.new)) }
+{
+    let bytes = read_input(alloc, source, 2)?;
+    Ok(TableVerifier::read(alloc, &bytes)?)
+}
+
+// What the earlier record comes to.
+#[tactic(auto, using(crate::proofs::CheckLemmas::begins_with))]
+fn join_earlier<S: Source>(alloc: Global, source: &mut S) -> Result<Record<IndexedUses>, ToolFault>
+    ensures ok { IfOk result (IsEarlier (Some (drawn S.left S.stops source.old source.new))) }
+    ensures fault { IfErr result (IsInputFault 4 (drawn S.left S.stops source.old source.new)) }
+{
+    let mut begun = Record::new(IndexedUses::new(alloc));
+    let mut messages = Vec::new(alloc);
+    join_input(alloc, source, 4, &mut messages, &mut begun)?;
+    Ok(begun)
+}
+
+// The record that the run begins with: what the earlier one comes to, where there is one.
+#[tactic(auto, using(svid_share::proofs::JoinedLemmas::joined_none))]
+fn read_earlier<S: Source>(
+    alloc: Global,
+    earlier: &mut Option<S>,
+) -> Result<Record<IndexedUses>, ToolFault>
+    ensures ok { IfOk result (IsEarlier (drawn_if S.left S.stops earlier.old earlier.new)) }
+    ensures fault { IfErr result (IsEarlierFault (drawn_if S.left S.stops earlier.old earlier.new)) }
+{
+    match earlier {
+        Some(source) => join_earlier(alloc, source),
+        None => Ok(Record::new(IndexedUses::new(alloc))),
+    }
+}
+
+// Checks all tokens.
+fn check_all(
+    alloc: Global,
+    given: CheckSetting,
+    bundles: Bundles,
+    table: TableVerifier,
+    begun: Record<IndexedUses>,
+    tokens: &[u8],
+) -> Result<Outcome, AllocError>
+    ensures { IfOk result (λ outcome. outcome_view outcome
+        ≡ outcome_from (record { own = map string_bytes given.own.items; place = given.place; bundles = bundles; says = table_says table }) given.now begun (tokens_of (lines_of tokens.now))) }
+{
+    let CheckSetting { own, place, now } = given;
+    let mut validator = Validator::new(alloc, own, place, 0, bundles, table, begun);
+    let (accepted, lines) = check_lines(alloc, &mut validator, now, tokens)?;
+    let kept = validator.replay().parts(alloc)?;
+    Ok(Outcome {
+        accepted,
+        kept,
+        lines,
+    })
+}
+
+// Reads all inputs and checks all tokens.
+#[tactic(auto, using(crate::proofs::CheckLemmas::comes_to, crate::proofs::CheckLemmas::first_refused, crate::proofs::CheckLemmas::second_refused, crate::proofs::CheckLemmas::third_refused, crate::proofs::CheckLemmas::fourth_refused))]
+fn outcome_of_inputs<B: Source, T: Source, L: Source, R: Source>(
+    alloc: Global,
+    given: CheckSetting,
+    bundles: &mut B,
+    table: &mut T,
+    tokens: &mut L,
+    earlier: &mut Option<R>,
+) -> Result<Outcome, ToolFault>
+    ensures ok { IfOk result (λ outcome. IsOutcome given (record {
+      bundles = drawn B.left B.stops bundles.old bundles.new;
+      table = drawn T.left T.stops table.old table.new;
+      tokens = drawn L.left L.stops tokens.old tokens.new;
+      earlier = drawn_if R.left R.stops earlier.old earlier.new;
+    }) (outcome_view outcome)) }
+    ensures fault { IfErr result (λ fault. fault ≢ ToolFault.OutOfMemory → IsOneRefused (record {
+      bundles = drawn B.left B.stops bundles.old bundles.new;
+      table = drawn T.left T.stops table.old table.new;
+      tokens = drawn L.left L.stops tokens.old tokens.new;
+      earlier = drawn_if R.left R.stops earlier.old earlier.new;
+    }) fault) }
+    ensures behind_bundles { IfErr result (λ fault. IsOfInput 1 fault → (table.new ≡ table.old) × (tokens.new ≡ tokens.old) × (earlier.new ≡ earlier.old)) }
+    ensures behind_table { IfErr result (λ fault. IsOfInput 2 fault → (tokens.new ≡ tokens.old) × (earlier.new ≡ earlier.old)) }
+    ensures behind_tokens { IfErr result (λ fault. IsOfInput 3 fault → earlier.new ≡ earlier.old) }
+{
+    let bundles = read_bundles(alloc, bundles)?;
+    let table = read_table(alloc, table)?;
+    let text = read_input(alloc, tokens, 3)?;
+    let begun = read_earlier(alloc, earlier)?;
+    Ok(check_all(alloc, given, bundles, table, begun, &text)?)
+}
+
+// Writes the record, where it is kept.
+fn put_kept<P: Sink>(kept: &mut Option<P>, parts: &[Batch]) -> Result<(), ToolFault>
+    ensures ok { OnOk result (TookAllIf (taken_if P.told P.stops kept.old kept.new) (flat_map batch_text parts.now)) }
+    ensures fault { IfErr result (λ e. e ≡ ToolFault.Write) }
+    ensures part { OnErr result (TookPartIf (taken_if P.told P.stops kept.old kept.new) (flat_map batch_text parts.now)) }
+{
+    match kept {
+        Some(sink) => put_batches(sink, parts),
+        None => Ok(()),
+    }
+}
+
+/// Checks each token of the lines of `tokens` that are not empty, at the moment that `given` tells, and
+/// writes a line for each: `accepted`, the ID of its subject and its expiry, or `refused` and the first
+/// refusal that holds. Says whether all are accepted.
+///
+/// The verifier says yes to the questions of the table. The record of used tokens begins with what the
+/// batches of `earlier` come to, where it is there, and else new; each acceptance adds its use, so a
+/// token that comes again is refused. Where there is `kept`, the record after the last check goes there
+/// whole before the first line goes out.
+///
+/// The inputs are read and judged in this order, before anything is written: the bundles, the table, the
+/// tokens, the earlier record. Refused for the first that could not be read (`Read`), has more than
+/// 67,108,864 bytes (`TooMuch`) or is not what it is to be (`Bundles`, `Table`, `Wire`), for want of
+/// memory, a check's among them, and where a sink stopped (`Write`): then a part went out, and else
+/// nothing did.
+#[tactic(auto, using(crate::proofs::CheckLemmas::inputs_refused))]
+pub fn run_check<B: Source, T: Source, L: Source, R: Source, P: Sink, K: Sink>(
+    alloc: Global,
+    given: CheckSetting,
+    bundles: &mut B,
+    table: &mut T,
+    tokens: &mut L,
+    earlier: &mut Option<R>,
+    kept: &mut Option<P>,
+    out: &mut K,
+) -> Result<bool, ToolFault>
+    ensures ok { IfOk result (AreChecked given (record {
+      bundles = drawn B.left B.stops bundles.old bundles.new;
+      table = drawn T.left T.stops table.old table.new;
+      tokens = drawn L.left L.stops tokens.old tokens.new;
+      earlier = drawn_if R.left R.stops earlier.old earlier.new;
+    }) (record { kept = taken_if P.told P.stops kept.old kept.new; out = taken K.told K.stops out.old out.new })) }
+    ensures fault { IfErr result (IsCheckFault given (record {
+      bundles = drawn B.left B.stops bundles.old bundles.new;
+      table = drawn T.left T.stops table.old table.new;
+      tokens = drawn L.left L.stops tokens.old tokens.new;
+      earlier = drawn_if R.left R.stops earlier.old earlier.new;
+    }) (record { kept = taken_if P.told P.stops kept.old kept.new; out = taken K.told K.stops out.old out.new })) }
+    ensures behind_bundles { IfErr result (λ fault. IsOfInput 1 fault → (table.new ≡ table.old) × (tokens.new ≡ tokens.old) × (earlier.new ≡ earlier.old)) }
+    ensures behind_table { IfErr result (λ fault. IsOfInput 2 fault → (tokens.new ≡ tokens.old) × (earlier.new ≡ earlier.old)) }
+    ensures behind_tokens { IfErr result (λ fault. IsOfInput 3 fault → earlier.new ≡ earlier.old) }
+    ensures unwritten { IfErr result (λ fault. fault ≢ ToolFault.Write → (kept.new ≡ kept.old) × (out.new ≡ out.old)) }
+{
+    let outcome = outcome_of_inputs(alloc, given, bundles, table, tokens, earlier)?;
+    put_kept(kept, &outcome.kept)?;
+    put_text(out, outcome.lines.as_str())?;
+    Ok(outcome.accepted)
+}

@@ -1,0 +1,28 @@
+//! The engines that answer for lines: what a SPIFFE ID consists of, which keys may have signed a token,
+//! and whether a validator accepts the tokens of a text.
+//!
+//! An engine is generic over the sources it reads and the sinks it writes to, and its contract says
+//! what it writes of what it reads, which fault it answers, and what it leaves as it was.
+//!
+//! ```rust
+//! use svid_lines::run_id;
+//! use svid_wire::MemSink;
+//!
+//! let mut out = MemSink::new(alloc, 4096, None);
+//! assert!(rt; run_id(alloc, b"spiffe://example.org/billing", &mut out)?);
+//! assert_eq!(rt; out.bytes(), b"domain example.org\npath /billing\n");
+//! ```
+#![tactic(auto)]
+
+mod bundles;
+mod candidates;
+mod check;
+mod checks;
+mod id;
+mod refused;
+#[cfg(test)]
+mod tests;
+
+pub use candidates::run_candidates;
+pub use check::{CheckSetting, run_check};
+pub use id::run_id;

@@ -1,0 +1,3 @@
+pub mod InputsLemmas
+pub mod JoinedLemmas
+pub mod ReportLemmas

@@ -1,0 +1,100 @@
+-- What an engine read of its inputs, and why one of them was refused.
+use Rattle.std.specs.Prelude.{◌≡◌, ℕ, ◌+◌, List, [], ◌∷◌, ◌++◌, length, drop, Option}
+use Rattle.std.specs.List.{flat_map}
+use Rattle.svid_replay.specs.Batches.{BatchData}
+use Rattle.svid_wire.specs.Messages.{Splits, batches_of}
+use Rattle.svid_wire.specs.Streams.{Drawn, IsRead, IsReadFault, drawn}
+use Rattle.svid_wire.specs.WireFault.{IsFault}
+use Rattle.svid_wire.specs.declared.message.Message.{Message}
+use Rattle.svid_wire.specs.declared.reason.Reason.{Reason}
+use Rattle.svid_wire.specs.declared.reason.Reason.TheVariants as wire
+use Rattle.svid_wire.specs.declared.read_fault.ReadFault.{ReadFault}
+use Rattle.svid_wire.specs.declared.read_fault.ReadFault.TheVariants as reading
+use Rattle.svid_share.specs.declared.tool_fault.ToolFault.{ToolFault}
+use Rattle.svid_share.specs.declared.tool_fault.ToolFault.TheVariants as fault
+
+-- how many bytes an input has at the most
+abbrev pub most_bytes : ℕ
+most_bytes = 67108864
+
+-- the fault of an input with this number that could not be read
+abbrev pub read_fault_of : ℕ → ReadFault → ToolFault
+read_fault_of number reading.Stopped = fault.Read number
+read_fault_of number reading.TooMuch = fault.TooMuch number
+read_fault_of number reading.OutOfMemory = fault.OutOfMemory
+
+-- the input with this number could not be read, and this is its fault
+pub record IsUnread (number : ℕ) (input : Drawn) (fault : ToolFault) : Type 0 where
+  pub why : ReadFault
+  pub due : IsReadFault input most_bytes why
+  pub is : fault ≡ read_fault_of number why
+
+-- the fault of bytes that are refused: want of memory has no place
+abbrev pub wire_fault_at : Reason → ℕ → ℕ → ℕ → ToolFault
+wire_fault_at wire.OutOfMemory input message place = fault.OutOfMemory
+wire_fault_at reason input message place = fault.Wire input message place reason
+
+-- the input was read to its end, and its bytes are these messages, one after the other
+pub record IsWhole (input : Drawn) (messages : List Message) : Type 0 where
+  pub bytes : List ℕ
+  pub read : IsRead input most_bytes bytes
+  pub splits : Splits bytes messages []
+
+-- the input was read to its end, and behind some messages something is wrong with its bytes, for this reason at this
+-- place of the message with this number
+pub record IsBroken (input : Drawn) (message place : ℕ) (reason : Reason) : Type 0 where
+  pub bytes : List ℕ
+  pub read : IsRead input most_bytes bytes
+  pub messages : List Message
+  pub rest : List ℕ
+  pub splits : Splits bytes messages rest
+  pub number : message ≡ length messages + 1
+  pub why : IsFault rest (record { place = place; reason = reason })
+
+-- why the input with this number was refused: its bytes are broken, it could not be read, or memory was wanted
+abbrev pub IsInputFault : ℕ → Drawn → ToolFault → Type 0
+IsInputFault number input (fault.Wire told message place reason) = (told ≡ number) × IsBroken input message place reason
+IsInputFault number input fault.OutOfMemory = Unit {0}
+IsInputFault number input given = IsUnread number input given
+
+-- the sources that a call goes over, before and after it, with the words by which such a source tells of itself
+pub record Sources (S : Type 0) : Type 0 where
+  pub left : S → Option (List ℕ)
+  pub stops : S → ℕ
+  pub old : List S
+  pub new : List S
+
+-- that of sources, by their own words `left` and `stops`
+abbrev pub sources : {S : Type 0} → (S → Option (List ℕ)) → (S → ℕ) → List S → List S → Sources S
+sources left stops old new = record { left = left; stops = stops; old = old; new = new }
+
+-- what was done to each source
+abbrev pub each_drawn : {S : Type 0} → (S → Option (List ℕ)) → (S → ℕ) → List S → List S → List Drawn
+each_drawn left stops [] news = []
+each_drawn left stops (old ∷ olds) [] = []
+each_drawn left stops (old ∷ olds) (new ∷ news) = drawn left stops old new ∷ each_drawn left stops olds news
+
+-- what was done to the inputs of an engine, in their order
+abbrev pub inputs_of : {S : Type 0} → Sources S → List Drawn
+inputs_of s = each_drawn s.left s.stops s.old s.new
+
+-- each input was read to its end, and its bytes are the messages of its list
+abbrev pub AreWhole : List Drawn → List (List Message) → Type 0
+AreWhole [] [] = Unit {0}
+AreWhole (input ∷ inputs) (told ∷ others) = IsWhole input told × AreWhole inputs others
+AreWhole _ _ = ⊥
+
+-- the batches of all inputs, in their order
+abbrev pub all_of : List (List Message) → List BatchData
+all_of told = flat_map batches_of told
+
+-- an input was refused: those before it are whole, and the sources behind it are as they were
+pub record IsRefused {S : Type 0} (s : Sources S) (fault : ToolFault) : Type 0 where
+  pub before : List Drawn
+  pub refused : Drawn
+  pub behind : List Drawn
+  pub parts : inputs_of s ≡ before ++ refused ∷ behind
+  pub told : List (List Message)
+  pub whole : AreWhole before told
+  pub why : IsInputFault (length before + 1) refused fault
+  pub untouched : drop (length before + 1) s.new ≡ drop (length before + 1) s.old

@@ -1,0 +1,33 @@
+//! What validators share: the engines that read messages, join their batches to a record, and write
+//! what it comes to.
+//!
+//! An engine is generic over the sources it reads and the sinks it writes to, and its contract says
+//! what it writes of what it reads, which fault it answers, and what it leaves as it was.
+//! [`run_report`] writes a record for people to read. [`join_input`] and [`join_inputs`] serve the engines
+//! of the crates above, as [`read_input`], [`put_text`] and [`put_batches`] do.
+//!
+//! ```rust
+//! use svid_share::run_report;
+//! use svid_wire::{MemSink, MemSource};
+//!
+//! let mut inputs = [MemSource::new(bytes, 4096, None)];
+//! let mut out = MemSink::new(alloc, 4096, None);
+//! run_report(alloc, &mut inputs, None, &mut out)?;
+//! assert_eq!(rt; out.bytes(), b"moment 0\nuses 0\ntwice 0\n");
+//! ```
+#![tactic(auto)]
+
+mod batches;
+mod inputs;
+mod output;
+mod report;
+mod report_text;
+#[cfg(test)]
+mod tests;
+mod tool_fault;
+
+pub use batches::put_batches;
+pub use inputs::{MOST_BYTES, join_input, join_inputs, read_input};
+pub use output::put_text;
+pub use report::run_report;
+pub use tool_fault::ToolFault;

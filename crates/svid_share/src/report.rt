@@ -1,0 +1,66 @@
+ghost use Rattle.std.specs.Prelude.{◌≡◌, ◌≢◌, OnOk, IfOk, IfErr, string_bytes};
+ghost use Rattle.svid_wire.specs.Streams.{taken};
+ghost use Rattle.svid_share.specs.Report.{IsReportOf, IsReported, IsReportFault, report_of};
+ghost use Rattle.svid_share.specs.Inputs.{IsRefused, inputs_of, sources};
+ghost use Rattle.svid_share.specs.Joined.{raised_to};
+
+use crate::ToolFault;
+use crate::inputs::join_inputs;
+use crate::output::put_text;
+use crate::report_text::report_text;
+use std::alloc::{AllocError, Global};
+use svid_replay::{IndexedUses, Record, UseStore};
+use svid_wire::{Sink, Source};
+
+fn text_of_record<T: UseStore>(alloc: Global, state: &Record<T>) -> Result<String, AllocError>
+    ensures { IfOk result (λ text. string_bytes text ≡ report_of state.now) }
+{
+    let uses = state.uses(alloc)?;
+    let twice = state.report(alloc)?;
+    report_text(alloc, state.moment(), &uses, &twice)
+}
+
+// Raises a record to a moment, where one is given.
+fn raise_to<T: UseStore>(target: &mut Record<T>, now: Option<u64>)
+    ensures { target.new ≡ raised_to now target.old }
+{
+    if let Some(now) = now {
+        target.raise(now);
+    }
+}
+
+// The report of what all inputs tell.
+fn text_of_inputs<S: Source>(
+    alloc: Global,
+    inputs: &mut [S],
+    now: Option<u64>,
+) -> Result<String, ToolFault>
+    ensures ok { IfOk result (λ text. IsReportOf (inputs_of (sources S.left S.stops inputs.old inputs.new)) now (string_bytes text)) }
+    ensures fault { IfErr result (λ fault. fault ≢ ToolFault.OutOfMemory → IsRefused (sources S.left S.stops inputs.old inputs.new) fault) }
+{
+    let mut record = Record::new(IndexedUses::new(alloc));
+    join_inputs(alloc, inputs, &mut record)?;
+    raise_to(&mut record, now);
+    Ok(text_of_record(alloc, &record)?)
+}
+
+/// Joins the batches of all inputs, raises what they come to to the moment `now` (in seconds) where one is
+/// given, and writes its moment, its uses, and the keys that are used more than once.
+///
+/// The inputs are read and judged in their order, before anything is written. Refused for the first
+/// that is not a row of whole messages (`Wire`), could not be read (`Read`) or has more than 67,108,864
+/// bytes (`TooMuch`), for want of memory, and where the sink stopped (`Write`): then a part of the text
+/// went out, and else nothing did. The inputs behind a refused one are as they were.
+pub fn run_report<S: Source, K: Sink>(
+    alloc: Global,
+    inputs: &mut [S],
+    now: Option<u64>,
+    out: &mut K,
+) -> Result<(), ToolFault>
+    ensures ok { OnOk result (IsReported (inputs_of (sources S.left S.stops inputs.old inputs.new)) now (taken K.told K.stops out.old out.new)) }
+    ensures fault { IfErr result (IsReportFault (sources S.left S.stops inputs.old inputs.new) now (taken K.told K.stops out.old out.new)) }
+    ensures kept { IfErr result (λ fault. fault ≢ ToolFault.Write → out.new ≡ out.old) }
+{
+    let text = text_of_inputs(alloc, inputs, now)?;
+    put_text(out, text.as_str())
+}

@@ -1,0 +1,352 @@
+ghost use Rattle.std.specs.Prelude.{◌+◌, ◌≤◌, IfOk, length, None};
+ghost use Rattle.std.specs.Io.KnownBytes.{ReadConsumes};
+ghost use Rattle.svid_wire.specs.Faults.{CountsFault};
+
+use super::{EMPTY_REPORT, TWO_USES, TWO_USES_REPORT};
+use crate::{ToolFault, run_report};
+use std::alloc::{AllocError, Global};
+use std::fmt::Write;
+use std::test::Fail;
+use svid_wire::{MemSink, MemSource, Reason, Sink, Source, Stopped};
+
+// The batch of two uses with one byte changed.
+fn with_byte(alloc: Global, place: usize, byte: u8) -> Result<Vec<u8>, AllocError> {
+    let mut bytes = TWO_USES.to_vec(alloc)?;
+    if let Some(at) = bytes.get_mut(place) {
+        *at = byte;
+    }
+    Ok(bytes)
+}
+
+fn report(alloc: Global, bytes: Vec<u8>, out: &mut MemSink) -> Result<(), ToolFault> {
+    let mut inputs = [MemSource::new(bytes, 1000, None)];
+    run_report(alloc, &mut inputs, None, out)
+}
+
+fn refusal(message: usize, place: usize, reason: Reason) -> Result<(), ToolFault> {
+    Err(ToolFault::Wire {
+        input: 1,
+        message,
+        place,
+        reason,
+    })
+}
+
+#[test]
+fn reports_two_uses_of_one_key(rt: HostRuntime) -> Result<(), Fail> {
+    let alloc = rt.alloc();
+    for step in [1, 7, 145, 1000] {
+        let mut inputs = [MemSource::new(TWO_USES.to_vec(alloc)?, step, None)];
+        let mut out = MemSink::new(alloc, 10, None);
+        assert_eq!(rt; run_report(alloc, &mut inputs, None, &mut out), Ok(()));
+        assert_eq!(rt; out.bytes(), TWO_USES_REPORT);
+    }
+    Ok(())
+}
+
+#[test]
+fn reports_nothing_of_an_empty_input(rt: HostRuntime) {
+    let mut out = MemSink::new(rt.alloc(), 1000, None);
+    assert_eq!(rt; report(rt.alloc(), Vec::new(rt.alloc()), &mut out), Ok(()));
+    assert_eq!(rt; out.bytes(), EMPTY_REPORT);
+}
+
+#[test]
+fn refuses_each_part_of_a_batch(rt: HostRuntime) -> Result<(), Fail> {
+    let alloc = rt.alloc();
+    for length in 1..145 {
+        let mut out = MemSink::new(alloc, 1000, None);
+        let part = TWO_USES.split_at(length).0.to_vec(alloc)?;
+        assert_eq!(rt;
+            report(alloc, part, &mut out),
+            refusal(1, length, Reason::Truncated)
+        );
+        assert!(rt; out.bytes().is_empty());
+    }
+    Ok(())
+}
+
+#[test]
+fn refuses_the_first_bad_field(rt: HostRuntime) -> Result<(), Fail> {
+    let alloc = rt.alloc();
+    for (place, byte, at, reason) in [
+        (0, 0, 0, Reason::Magic),
+        (4, 3, 4, Reason::Kind),
+        (4, 2, 4, Reason::Kind),
+        (24, 100, 17, Reason::UseExpired),
+        (80, 101, 17, Reason::UseFuture),
+        (88, 100, 81, Reason::UseExpired),
+        (144, 101, 81, Reason::UseFuture),
+        // the second use is less than the first
+        (121, 0, 81, Reason::UseOrder),
+    ] {
+        let mut out = MemSink::new(alloc, 1000, None);
+        assert_eq!(rt;
+            report(alloc, with_byte(alloc, place, byte)?, &mut out),
+            refusal(1, at, reason),
+            "byte {place}"
+        );
+        assert!(rt; out.bytes().is_empty());
+    }
+    Ok(())
+}
+
+#[test]
+fn refuses_a_count_over_the_limit(rt: HostRuntime) -> Result<(), Fail> {
+    let alloc = rt.alloc();
+    let mut bytes = with_byte(alloc, 15, 16)?;
+    if let Some(at) = bytes.get_mut(16) {
+        *at = 1;
+    }
+    let mut out = MemSink::new(alloc, 1000, None);
+    assert_eq!(rt;
+        report(alloc, bytes, &mut out),
+        refusal(1, 13, Reason::Count)
+    );
+    Ok(())
+}
+
+#[test]
+fn refuses_equal_uses(rt: HostRuntime) -> Result<(), Fail> {
+    let alloc = rt.alloc();
+    let mut bytes = TWO_USES.split_at(81).0.to_vec(alloc)?;
+    bytes.extend_from_slice(TWO_USES.split_at(17).1.split_at(64).0)?;
+    let mut out = MemSink::new(alloc, 1000, None);
+    assert_eq!(rt;
+        report(alloc, bytes, &mut out),
+        refusal(1, 81, Reason::UseOrder)
+    );
+    Ok(())
+}
+
+// The batch of moment 100 with one of the two uses alone, which begins at this place.
+fn with_one_use(alloc: Global, place: usize) -> Result<Vec<u8>, AllocError>
+    requires { place + 64 ≤ 145 }
+{
+    let mut bytes = TWO_USES.split_at(13).0.to_vec(alloc)?;
+    bytes.extend_from_slice(&[0, 0, 0, 1])?;
+    bytes.extend_from_slice(TWO_USES.split_at(place).1.split_at(64).0)?;
+    Ok(bytes)
+}
+
+#[test]
+fn counts_messages_and_places_anew(rt: HostRuntime) -> Result<(), Fail> {
+    let alloc = rt.alloc();
+    for (behind, place, reason) in [
+        (b"\x00".as_slice(), 1, Reason::Truncated),
+        (b"JSR\x01".as_slice(), 4, Reason::Truncated),
+        (b"JSR\x02".as_slice(), 0, Reason::Magic),
+        (b"JSR\x01\x02".as_slice(), 4, Reason::Kind),
+    ] {
+        let mut bytes = with_one_use(alloc, 17)?;
+        bytes.extend_from_slice(&with_one_use(alloc, 17)?)?;
+        bytes.extend_from_slice(behind)?;
+        let mut out = MemSink::new(alloc, 1000, None);
+        assert_eq!(rt; report(alloc, bytes, &mut out), refusal(3, place, reason));
+        assert!(rt; out.bytes().is_empty());
+    }
+    Ok(())
+}
+
+#[test]
+fn joins_inputs_in_any_order(rt: HostRuntime) -> Result<(), Fail> {
+    let alloc = rt.alloc();
+    for (first, second) in [(17, 81), (81, 17)] {
+        let mut inputs = [
+            MemSource::new(with_one_use(alloc, first)?, 7, None),
+            MemSource::new(with_one_use(alloc, second)?, 100, None),
+            MemSource::new(with_one_use(alloc, first)?, 1, None),
+            MemSource::new(Vec::new(alloc), 1, None),
+        ];
+        let mut out = MemSink::new(alloc, 1, None);
+        assert_eq!(rt; run_report(alloc, &mut inputs, None, &mut out), Ok(()));
+        assert_eq!(rt; out.bytes(), TWO_USES_REPORT);
+    }
+    Ok(())
+}
+
+#[test]
+fn joins_the_batches_of_one_input(rt: HostRuntime) -> Result<(), Fail> {
+    let alloc = rt.alloc();
+    let mut bytes = with_one_use(alloc, 81)?;
+    bytes.extend_from_slice(TWO_USES)?;
+    bytes.extend_from_slice(&with_one_use(alloc, 17)?)?;
+    let mut out = MemSink::new(alloc, 1000, None);
+    assert_eq!(rt; report(alloc, bytes, &mut out), Ok(()));
+    assert_eq!(rt; out.bytes(), TWO_USES_REPORT);
+    Ok(())
+}
+
+// The text of use n of many: it expires at 1,000 + n, two of them after each other have one key, and it was
+// made at 7.
+fn push_use(bytes: &mut Vec<u8>, n: u32) -> Result<(), AllocError> {
+    bytes.extend_from_slice(&(1000 + u64::from(n)).to_be_bytes())?;
+    bytes.extend_from_slice(&[0; 28])?;
+    bytes.extend_from_slice(&(n / 2).to_be_bytes())?;
+    bytes.extend_from_slice(&[0; 16])?;
+    Ok(bytes.extend_from_slice(&7u64.to_be_bytes())?)
+}
+
+// A batch of moment 100 with `count` of these uses from use `first` on.
+fn part(alloc: Global, first: u32, count: u32) -> Result<MemSource, AllocError>
+    requires { first + count ≤ 10000 }
+{
+    let mut bytes = b"JSR\x01\x01".to_vec(alloc)?;
+    bytes.extend_from_slice(&100u64.to_be_bytes())?;
+    bytes.extend_from_slice(&count.to_be_bytes())?;
+    for n in first..first + count {
+        push_use(&mut bytes, n)?;
+    }
+    Ok(MemSource::new(bytes, 100_000, None))
+}
+
+// The report of the first 5,000 of these uses.
+fn report_of_5000(alloc: Global) -> Result<String, AllocError> {
+    let mut text = String::from_str(alloc, "moment 100\nuses 5000\n")?;
+    for n in 0..5000u32 {
+        let (exp, key) = (1000 + n, n / 2);
+        writeln!(text, "{exp} {key:064x} 00000000000000000000000000000000 7")?;
+    }
+    text.push_str("twice 2500\n")?;
+    for key in 0..2500u32 {
+        writeln!(text, "{key:064x} 2")?;
+    }
+    Ok(text)
+}
+
+// A batch has 4,096 uses at the most.
+#[test]
+fn reports_more_uses_than_a_batch_has(rt: HostRuntime) -> Result<(), Fail> {
+    let alloc = rt.alloc();
+    for mut inputs in [
+        [part(alloc, 0, 4096)?, part(alloc, 4096, 904)?],
+        [part(alloc, 2501, 2499)?, part(alloc, 0, 2501)?],
+    ] {
+        let mut out = MemSink::new(alloc, 1_000_000, None);
+        assert_eq!(rt; run_report(alloc, &mut inputs, None, &mut out), Ok(()));
+        assert!(rt; out.bytes() == report_of_5000(alloc)?.as_bytes());
+    }
+    Ok(())
+}
+
+#[test]
+fn reports_no_inputs(rt: HostRuntime) {
+    let mut inputs: [MemSource; 0] = [];
+    let mut out = MemSink::new(rt.alloc(), 1000, None);
+    assert_eq!(rt; run_report(rt.alloc(), &mut inputs, None, &mut out), Ok(()));
+    assert_eq!(rt; out.bytes(), EMPTY_REPORT);
+}
+
+#[test]
+fn raises_to_the_moment_that_is_given(rt: HostRuntime) -> Result<(), Fail> {
+    let alloc = rt.alloc();
+    for (now, whole) in [
+        (0, TWO_USES_REPORT),
+        (100, TWO_USES_REPORT),
+        (101, b"moment 101\nuses 0\ntwice 0\n".as_slice()),
+        (
+            18_446_744_073_709_551_615,
+            b"moment 18446744073709551615\nuses 0\ntwice 0\n".as_slice(),
+        ),
+    ] {
+        let mut inputs = [MemSource::new(TWO_USES.to_vec(alloc)?, 1000, None)];
+        let mut out = MemSink::new(alloc, 1000, None);
+        assert_eq!(rt; run_report(alloc, &mut inputs, Some(now), &mut out), Ok(()));
+        assert_eq!(rt; out.bytes(), whole);
+    }
+    Ok(())
+}
+
+#[test]
+fn tells_the_first_faulty_input(rt: HostRuntime) -> Result<(), Fail> {
+    let alloc = rt.alloc();
+    let mut inputs = [
+        MemSource::new(TWO_USES.to_vec(alloc)?, 1000, None),
+        MemSource::new(with_byte(alloc, 4, 3)?, 1000, None),
+        MemSource::new(with_byte(alloc, 0, 0)?, 1000, None),
+    ];
+    let mut out = MemSink::new(alloc, 1000, None);
+    let fault = ToolFault::Wire {
+        input: 2,
+        message: 1,
+        place: 4,
+        reason: Reason::Kind,
+    };
+    assert_eq!(rt; run_report(alloc, &mut inputs, None, &mut out), Err(fault));
+    assert!(rt; out.bytes().is_empty());
+    Ok(())
+}
+
+// Each `get` and each `put` fails in turn, in pieces of 1, 7 and 100 bytes, until a run has none left to fail.
+#[test]
+fn tells_each_failed_call(rt: HostRuntime) -> Result<(), Fail> {
+    let alloc = rt.alloc();
+    for step in [1, 7, 100] {
+        for fail_at in 1..1000u64 {
+            let mut inputs = [
+                MemSource::new(TWO_USES.to_vec(alloc)?, 100, None),
+                MemSource::new(TWO_USES.to_vec(alloc)?, step, Some(fail_at)),
+            ];
+            let mut out = MemSink::new(alloc, 1000, None);
+            match run_report(alloc, &mut inputs, None, &mut out) {
+                Ok(()) => break,
+                answer => {
+                    assert_eq!(rt; answer, Err(ToolFault::Read { input: 2 }));
+                    assert!(rt; out.bytes().is_empty());
+                }
+            }
+        }
+        for fail_at in 1..1000u64 {
+            let mut out = MemSink::new(alloc, step, Some(fail_at));
+            match report(alloc, TWO_USES.to_vec(alloc)?, &mut out) {
+                Ok(()) => break,
+                answer => {
+                    assert_eq!(rt; answer, Err(ToolFault::Write));
+                    assert!(rt; out.bytes().len() < TWO_USES_REPORT.len());
+                    assert!(rt; TWO_USES_REPORT.starts_with(out.bytes()));
+                }
+            }
+        }
+    }
+    Ok(())
+}
+
+// A source of so many bytes 0, which holds none.
+#[derive(Drop)]
+struct Zeros {
+    left: usize,
+}
+
+impl Source for Zeros {
+    ghost left = { λ _. None };
+
+    ghost stops = { λ _. 0 };
+
+    fn get(&mut self, room: &mut [u8]) -> Result<usize, Stopped>
+        ensures count { IfOk result (λ k. k ≤ length room.new) }
+        ensures bytes { ReadConsumes None None result room.new }
+        ensures faults { CountsFault 0 0 result }
+    {
+        let given = self.left.min(room.len());
+        room.split_at_mut(given).0.fill(0);
+        self.left -= given;
+        Ok(given)
+    }
+
+    fn faults(&self) -> u64 {
+        0
+    }
+}
+
+#[test]
+fn refuses_an_input_past_the_limit(rt: HostRuntime) {
+    for (left, fault) in [
+        (67_108_864, refusal(1, 0, Reason::Magic)),
+        (67_108_865, Err(ToolFault::TooMuch { input: 1 })),
+    ] {
+        let mut inputs = [Zeros { left }];
+        let mut out = MemSink::new(rt.alloc(), 1000, None);
+        assert_eq!(rt; run_report(rt.alloc(), &mut inputs, None, &mut out), fault);
+        assert!(rt; out.bytes().is_empty());
+    }
+}
