@@ -15,17 +15,6 @@ use Rattle.svid_share.specs.declared.tool_fault.ToolFault.TheVariants as fault
 use Rattle.svid_share.specs.Inputs.{AreWhole, IsInputFault, IsRefused, IsUnread, IsWhole, Sources, all_of, each_drawn, inputs_of, read_fault_of, sources}
 use Rattle.svid_share.specs.Joined.{Joins, JoinsAll, joined}
 
-not_wire : (number : ℕ) (why : ReadFault) (input message place : ℕ) (reason : Reason) → fault.Wire input message place reason ≡ read_fault_of number why → ⊥
-not_wire number reading.Stopped input message place reason is = cc
-not_wire number reading.TooMuch input message place reason is = cc
-not_wire number reading.OutOfMemory input message place reason is = cc
-
--- an input that could not be read is refused
-pub unread_refused : (number : ℕ) (input : Drawn) (given : ToolFault) → IsUnread number input given → IsInputFault number input given
-unread_refused number input (fault.Wire told message place reason) unread = absurd (not_wire number unread.why told message place reason unread.is)
-unread_refused number input fault.OutOfMemory unread = tt
-unread_refused number input given unread = unread
-
 -- an input that could not be read is not refused as a write is
 pub not_write : (number : ℕ) (input : Drawn) → IsUnread number input fault.Write → ⊥
 not_write number input unread = by_kind unread.why unread.is

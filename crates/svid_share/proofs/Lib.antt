@@ -1,3 +1,4 @@
 pub mod InputsLemmas
 pub mod JoinedLemmas
-pub mod ReportLemmas
+pub mod PiecesLemmas
+pub mod WrittenLemmas

@@ -1,11 +1,13 @@
 -- What an engine read of its inputs, and why one of them was refused.
-use Rattle.std.specs.Prelude.{◌≡◌, ℕ, ◌+◌, List, [], ◌∷◌, ◌++◌, length, drop, Option}
+use Rattle.std.specs.Prelude.{◌≡◌, ℕ, ◌+◌, ◌<◌, ◌≤◌, List, [], ◌∷◌, ◌++◌, length, drop, Option}
 use Rattle.std.specs.List.{flat_map}
 use Rattle.svid_replay.specs.Batches.{BatchData}
-use Rattle.svid_wire.specs.Messages.{Splits, batches_of}
-use Rattle.svid_wire.specs.Streams.{Drawn, IsRead, IsReadFault, drawn}
-use Rattle.svid_wire.specs.WireFault.{IsFault}
+use Rattle.svid_wire.specs.Messages.{Appended, Splits, batches_of}
+use Rattle.svid_wire.specs.Faults.{raised}
+use Rattle.svid_wire.specs.Streams.{Drawn, Gave, IsRead, IsReadFault, drawn}
+use Rattle.svid_wire.specs.WireFault.{IsFieldFault, IsFieldRefusal, IsUnfinished}
 use Rattle.svid_wire.specs.declared.message.Message.{Message}
+use Rattle.svid_wire.specs.declared.wire_fault.WireFault.{WireFault}
 use Rattle.svid_wire.specs.declared.reason.Reason.{Reason}
 use Rattle.svid_wire.specs.declared.reason.Reason.TheVariants as wire
 use Rattle.svid_wire.specs.declared.read_fault.ReadFault.{ReadFault}
@@ -23,7 +25,7 @@ read_fault_of number reading.Stopped = fault.Read number
 read_fault_of number reading.TooMuch = fault.TooMuch number
 read_fault_of number reading.OutOfMemory = fault.OutOfMemory
 
--- the input with this number could not be read, and this is its fault
+-- the input with this number, which is to be no messages, could not be read, and this is its fault
 pub record IsUnread (number : ℕ) (input : Drawn) (fault : ToolFault) : Type 0 where
   pub why : ReadFault
   pub due : IsReadFault input most_bytes why
@@ -40,22 +42,79 @@ pub record IsWhole (input : Drawn) (messages : List Message) : Type 0 where
   pub read : IsRead input most_bytes bytes
   pub splits : Splits bytes messages []
 
--- the input was read to its end, and behind some messages something is wrong with its bytes, for this reason at this
--- place of the message with this number
-pub record IsBroken (input : Drawn) (message place : ℕ) (reason : Reason) : Type 0 where
+-- the bytes are these messages, one after the other, and a rest in which each whole field is good: nothing is wrong
+-- with them, whatever follows
+pub record IsGoodSoFar (bytes : List ℕ) (messages : List Message) (rest : List ℕ) : Type 0 where
+  pub splits : Splits bytes messages rest
+  pub unfinished : IsUnfinished rest
+
+-- behind some messages among the first bytes of the input, at most as many as it may have, a field is bad: for this
+-- reason, at this place of the message with this number
+pub record HasBadField (input : Drawn) (message place : ℕ) (reason : Reason) : Type 0 where
   pub bytes : List ℕ
-  pub read : IsRead input most_bytes bytes
+  pub others : List ℕ
+  pub given : Gave input (bytes ++ others)
+  pub unstopped : input.stops_after ≡ input.stops_before
+  pub within : length bytes ≤ most_bytes
   pub messages : List Message
   pub rest : List ℕ
   pub splits : Splits bytes messages rest
   pub number : message ≡ length messages + 1
-  pub why : IsFault rest (record { place = place; reason = reason })
+  pub why : IsFieldFault rest (record { place = place; reason = reason })
 
--- why the input with this number was refused: its bytes are broken, it could not be read, or memory was wanted
+-- the input was read to its end, and ends within the message with this number, at this place of it
+pub record EndsWithin (input : Drawn) (message place : ℕ) : Type 0 where
+  pub bytes : List ℕ
+  pub read : IsRead input most_bytes bytes
+  pub messages : List Message
+  pub rest : List ℕ
+  pub good : IsGoodSoFar bytes messages rest
+  pub number : message ≡ length messages + 1
+  pub some : 0 < length rest
+  pub at : place ≡ length rest
+
+-- what is wrong with the message of this number, for this reason: where the input ends within it, and else a field
+abbrev pub IsBroken : Drawn → ℕ → ℕ → Reason → Type 0
+IsBroken input message place wire.Truncated = EndsWithin input message place
+IsBroken input message place reason = HasBadField input message place reason
+
+-- the input stopped, and nothing is wrong with the bytes that it gave before, at most as many as it may have
+pub record StopsWithin (input : Drawn) : Type 0 where
+  pub bytes : List ℕ
+  pub given : Gave input bytes
+  pub stopped : input.stops_after ≡ raised input.stops_before
+  pub within : length bytes ≤ most_bytes
+  pub messages : List Message
+  pub rest : List ℕ
+  pub good : IsGoodSoFar bytes messages rest
+
+-- the input gave more bytes than it may have, and nothing is wrong with the first ones, as many as it may have
+pub record IsTooLong (input : Drawn) : Type 0 where
+  pub bytes : List ℕ
+  pub others : List ℕ
+  pub given : Gave input (bytes ++ others)
+  pub unstopped : input.stops_after ≡ input.stops_before
+  pub full : length bytes ≡ most_bytes
+  pub some : 0 < length others
+  pub messages : List Message
+  pub rest : List ℕ
+  pub good : IsGoodSoFar bytes messages rest
+
+-- why the input with this number, which is to be messages, was refused: something is wrong with its bytes, it could not
+-- be read to its end and nothing is wrong with what came, or memory was wanted
 abbrev pub IsInputFault : ℕ → Drawn → ToolFault → Type 0
 IsInputFault number input (fault.Wire told message place reason) = (told ≡ number) × IsBroken input message place reason
+IsInputFault number input (fault.Read told) = (told ≡ number) × StopsWithin input
+IsInputFault number input (fault.TooMuch told) = (told ≡ number) × IsTooLong input
 IsInputFault number input fault.OutOfMemory = Unit {0}
-IsInputFault number input given = IsUnread number input given
+IsInputFault number input _ = ⊥
+
+-- a piece of an input went wrong: behind the messages that the bytes held and the piece make whole a field is bad, or
+-- memory was wanted
+pub record IsPieceFault (held piece : List ℕ) (messages : List Message) (fault : WireFault) : Type 0 where
+  pub rest : List ℕ
+  pub came : Appended (held ++ piece) [] messages rest
+  pub why : IsFieldRefusal rest fault
 
 -- the sources that a call goes over, before and after it, with the words by which such a source tells of itself
 pub record Sources (S : Type 0) : Type 0 where

@@ -1,6 +1,6 @@
 -- What the batches of all inputs come to.
-use Rattle.std.specs.Prelude.{◌≡◌, ℕ, List, [], ◌∷◌, ◌++◌, max, Option, None, Some}
-use Rattle.std.specs.List.{flat_map}
+use Rattle.std.specs.Prelude.{◌≡◌, ◌↔◌, ℕ, List, [], ◌∷◌, ◌++◌, max, Option, None, Some}
+use Rattle.std.specs.List.{Contains, flat_map}
 use Rattle.svid_replay.specs.Batches.{BatchData}
 use Rattle.svid_replay.specs.Records.{State, join, state_of}
 use Rattle.svid_replay.specs.Uses.{uses_in, live}
@@ -17,6 +17,14 @@ greatest (batch ∷ batches) = max batch.moment (greatest batches)
 -- the record that the batches come to: their greatest moment, and of all their uses those that expire later
 unfoldable pub joined : List BatchData → State
 joined batches = record { moment = greatest batches; uses = live (uses_in (flat_map (λ batch. batch.uses) batches)) (greatest batches) }
+
+-- the same batches are among both, in whatever order, and however often
+abbrev pub HaveSame : List BatchData → List BatchData → Type 0
+HaveSame batches others = (batch : BatchData) → Contains batches batch ↔ Contains others batch
+
+-- what batches come to depends on nothing but which there are
+abbrev pub JoinedByWhich : Type 0
+JoinedByWhich = (batches others : List BatchData) → HaveSame batches others → joined batches ≡ joined others
 
 -- a record raised to a moment, where one is given
 abbrev pub raised_to : Option ℕ → State → State

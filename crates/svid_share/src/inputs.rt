@@ -1,17 +1,21 @@
-ghost use Rattle.std.specs.Prelude.{◌≡◌, ◌++◌, ◌∷◌, [], List, OnOk, IfOk, IfErr};
+ghost use Rattle.std.specs.Prelude.{◌≡◌, ℕ, ◌++◌, ◌∷◌, [], List, Some, OnOk, IfOk, IfErr};
 ghost use Rattle.svid_replay.specs.Batches.{BatchData};
+ghost use Rattle.svid_wire.specs.Feed.{Pushed};
 ghost use Rattle.svid_wire.specs.Messages.{batches_of};
 ghost use Rattle.svid_wire.specs.Streams.{IsRead, drawn};
-ghost use Rattle.svid_share.specs.Inputs.{IsInputFault, IsRefused, IsUnread, inputs_of, most_bytes, read_fault_of, sources, wire_fault_at};
+ghost use Rattle.svid_share.specs.Inputs.{IsInputFault, IsPieceFault, IsRefused, IsUnread, inputs_of, most_bytes, read_fault_of, sources, wire_fault_at};
 ghost use Rattle.svid_share.specs.Joined.{Joins, JoinsAll, joined};
 
 use crate::ToolFault;
 use std::alloc::{AllocError, Global};
 use svid_replay::{Batch, Record, UseStore};
-use svid_wire::{Message, ReadFault, Reason, Source, WireFault, read_all, read_up_to};
+use svid_wire::{Feed, Message, ReadFault, Reason, Source, WireFault, read_up_to};
 
 /// How many bytes an input has at the most.
 pub const MOST_BYTES: usize = 67_108_864;
+
+// How many bytes are asked of a source in one call.
+const ROOM: usize = 65536;
 
 // (no `From`: a fault of the program has the number of the input)
 fn read_fault(fault: ReadFault, input: usize) -> ToolFault
@@ -74,9 +78,31 @@ fn join_messages<T: UseStore>(
     Ok(())
 }
 
-/// Reads the messages of the input with this number, and joins its batches. `messages` is room that is
-/// used anew for each input.
-#[tactic(auto, using(crate::proofs::InputsLemmas::unread_refused))]
+// Takes the next piece of an input: its messages are those that come to stand in `messages`, and their
+// batches are joined.
+fn join_piece<T: UseStore>(
+    feed: &mut Feed,
+    piece: &[u8],
+    messages: &mut Vec<Message>,
+    target: &mut Record<T>,
+) -> Result<(), WireFault>
+    ensures came { OnOk result (Pushed feed.old feed.new [] messages.new.items piece.now) }
+    ensures joined { OnOk result ((before : List BatchData) → target.old ≡ joined before → target.new ≡ joined (before ++ batches_of messages.new.items)) }
+    ensures fault { IfErr result (λ fault. (held : List ℕ) → feed.old ≡ Some held → IsPieceFault held piece.now messages.new.items fault) }
+{
+    messages.clear();
+    feed.push(piece, messages)?;
+    join_messages(target, messages)?;
+    Ok(())
+}
+
+/// Reads the messages of the input with this number piece by piece, and joins their batches. `messages`
+/// is room that is used anew for each piece: beside it and the record, the memory that is taken is that of
+/// one message.
+///
+/// Refused for the first field that is bad, in the bytes that come before a call of the source stops,
+/// and before the limit; then for a source that stopped, for one that gives more than 67,108,864
+/// bytes, and for one that ends within a message; and for want of memory.
 pub fn join_input<S: Source, T: UseStore>(
     alloc: Global,
     source: &mut S,
@@ -87,19 +113,34 @@ pub fn join_input<S: Source, T: UseStore>(
     ensures ok { OnOk result (Joins (drawn S.left S.stops source.old source.new) target.old target.new) }
     ensures fault { IfErr result (IsInputFault input (drawn S.left S.stops source.old source.new)) }
 {
-    let bytes = read_input(alloc, source, input)?;
-    messages.clear();
-    if let Err(fault) = read_all(alloc, &bytes, messages) {
-        return Err(wire_fault(fault, input, messages.len() + 1));
+    let mut feed = Feed::new(alloc);
+    let mut room = [0; ROOM];
+    let mut still = MOST_BYTES;
+    let mut whole = 0;
+    while let Ok(given) = source.get(&mut room) {
+        if given == 0 {
+            return match feed.finish() {
+                Ok(()) => Ok(()),
+                Err(fault) => Err(wire_fault(fault, input, whole + 1)),
+            };
+        }
+        let (piece, _) = room.split_at(given.min(still));
+        if let Err(fault) = join_piece(&mut feed, piece, messages, target) {
+            return Err(wire_fault(fault, input, whole + messages.len() + 1));
+        }
+        if still < given {
+            return Err(ToolFault::TooMuch { input });
+        }
+        still -= given;
+        whole += messages.len();
     }
-    join_messages(target, messages)?;
-    Ok(())
+    Err(ToolFault::Read { input })
 }
 
 /// Reads the messages of all inputs, one input after the other, and joins their batches to a record.
 ///
-/// Refused for the first input that is no row of messages, or could not be read; those behind it are not
-/// read then.
+/// Refused for the first input that is no row of messages, or could not be read, as [`join_input`] says;
+/// those behind it are not read then.
 pub fn join_inputs<S: Source, T: UseStore>(
     alloc: Global,
     inputs: &mut [S],

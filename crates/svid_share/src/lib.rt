@@ -3,7 +3,8 @@
 //!
 //! An engine is generic over the sources it reads and the sinks it writes to, and its contract says
 //! what it writes of what it reads, which fault it answers, and what it leaves as it was.
-//! [`run_report`] writes a record for people to read. [`join_input`] and [`join_inputs`] serve the engines
+//! [`run_report`] writes a record for people to read, and [`run_merge`] for validators, as the texts of
+//! its parts. [`join_input`] and [`join_inputs`] serve the engines
 //! of the crates above, as [`read_input`], [`put_text`] and [`put_batches`] do.
 //!
 //! ```rust
@@ -19,6 +20,8 @@
 
 mod batches;
 mod inputs;
+pub mod laws;
+mod merge;
 mod output;
 mod report;
 mod report_text;
@@ -28,6 +31,7 @@ mod tool_fault;
 
 pub use batches::put_batches;
 pub use inputs::{MOST_BYTES, join_input, join_inputs, read_input};
+pub use merge::run_merge;
 pub use output::put_text;
 pub use report::run_report;
 pub use tool_fault::ToolFault;

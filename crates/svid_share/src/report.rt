@@ -1,8 +1,9 @@
 ghost use Rattle.std.specs.Prelude.{◌≡◌, ◌≢◌, OnOk, IfOk, IfErr, string_bytes};
 ghost use Rattle.svid_wire.specs.Streams.{taken};
-ghost use Rattle.svid_share.specs.Report.{IsReportOf, IsReported, IsReportFault, report_of};
+ghost use Rattle.svid_share.specs.Report.{report_due, report_of};
 ghost use Rattle.svid_share.specs.Inputs.{IsRefused, inputs_of, sources};
 ghost use Rattle.svid_share.specs.Joined.{raised_to};
+ghost use Rattle.svid_share.specs.Written.{IsDue, IsEngineFault, IsWritten};
 
 use crate::ToolFault;
 use crate::inputs::join_inputs;
@@ -35,7 +36,7 @@ fn text_of_inputs<S: Source>(
     inputs: &mut [S],
     now: Option<u64>,
 ) -> Result<String, ToolFault>
-    ensures ok { IfOk result (λ text. IsReportOf (inputs_of (sources S.left S.stops inputs.old inputs.new)) now (string_bytes text)) }
+    ensures ok { IfOk result (λ text. IsDue (report_due now) (inputs_of (sources S.left S.stops inputs.old inputs.new)) (string_bytes text)) }
     ensures fault { IfErr result (λ fault. fault ≢ ToolFault.OutOfMemory → IsRefused (sources S.left S.stops inputs.old inputs.new) fault) }
 {
     let mut record = Record::new(IndexedUses::new(alloc));
@@ -50,15 +51,16 @@ fn text_of_inputs<S: Source>(
 /// The inputs are read and judged in their order, before anything is written. Refused for the first
 /// that is not a row of whole messages (`Wire`), could not be read (`Read`) or has more than 67,108,864
 /// bytes (`TooMuch`), for want of memory, and where the sink stopped (`Write`): then a part of the text
-/// went out, and else nothing did. The inputs behind a refused one are as they were.
+/// went out, and else nothing did. A bad field in what came before a failed read or the limit is answered
+/// before these. The inputs behind a refused one are as they were.
 pub fn run_report<S: Source, K: Sink>(
     alloc: Global,
     inputs: &mut [S],
     now: Option<u64>,
     out: &mut K,
 ) -> Result<(), ToolFault>
-    ensures ok { OnOk result (IsReported (inputs_of (sources S.left S.stops inputs.old inputs.new)) now (taken K.told K.stops out.old out.new)) }
-    ensures fault { IfErr result (IsReportFault (sources S.left S.stops inputs.old inputs.new) now (taken K.told K.stops out.old out.new)) }
+    ensures ok { OnOk result (IsWritten (report_due now) (inputs_of (sources S.left S.stops inputs.old inputs.new)) (taken K.told K.stops out.old out.new)) }
+    ensures fault { IfErr result (IsEngineFault (report_due now) (sources S.left S.stops inputs.old inputs.new) (taken K.told K.stops out.old out.new)) }
     ensures kept { IfErr result (λ fault. fault ≢ ToolFault.Write → out.new ≡ out.old) }
 {
     let text = text_of_inputs(alloc, inputs, now)?;

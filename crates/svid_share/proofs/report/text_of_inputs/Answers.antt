@@ -1,4 +1,4 @@
-use Rattle.svid_share.proofs.ReportLemmas.{reported}
+use Rattle.svid_share.proofs.WrittenLemmas.{reported}
 use Rattle.svid_share.proofs.report.text_of_inputs.Goals as goal
 
 pub returns-clause-ok : goal.returns-clause-ok

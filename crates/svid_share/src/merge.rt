@@ -1,0 +1,47 @@
+ghost use Rattle.std.specs.Prelude.{◌≡◌, ◌≢◌, OnOk, IfOk, IfErr};
+ghost use Rattle.std.specs.List.{flat_map};
+ghost use Rattle.svid_wire.specs.BatchText.{batch_text};
+ghost use Rattle.svid_wire.specs.Streams.{taken};
+ghost use Rattle.svid_share.specs.Inputs.{IsRefused, inputs_of, sources};
+ghost use Rattle.svid_share.specs.Merge.{merge_due};
+ghost use Rattle.svid_share.specs.Written.{IsDue, IsEngineFault, IsWritten};
+
+use crate::ToolFault;
+use crate::batches::put_batches;
+use crate::inputs::join_inputs;
+use std::alloc::Global;
+use svid_replay::{Batch, IndexedUses, Record};
+use svid_wire::{Sink, Source};
+
+// The parts of what all inputs tell.
+fn parts_of_inputs<S: Source>(alloc: Global, inputs: &mut [S]) -> Result<Vec<Batch>, ToolFault>
+    ensures ok { IfOk result (λ parts. IsDue merge_due (inputs_of (sources S.left S.stops inputs.old inputs.new)) (flat_map batch_text parts.items)) }
+    ensures fault { IfErr result (λ fault. fault ≢ ToolFault.OutOfMemory → IsRefused (sources S.left S.stops inputs.old inputs.new) fault) }
+{
+    let mut record = Record::new(IndexedUses::new(alloc));
+    join_inputs(alloc, inputs, &mut record)?;
+    Ok(record.parts(alloc)?)
+}
+
+/// Joins the batches of all inputs, and writes the record that they come to as the texts of its parts:
+/// batches of its moment that hold its uses in rising order, 4,096 in each but the last; one with no use
+/// where the record has none.
+///
+/// What is written depends on nothing but which batches there are. The inputs are read and judged in their
+/// order, before anything is written. Refused for the first that is not a row of whole messages (`Wire`),
+/// could not be read (`Read`) or has more than 67,108,864 bytes (`TooMuch`), for want of memory, and where
+/// the sink stopped (`Write`): then a part of the texts went out, and else nothing did. A bad field in what
+/// came before a failed read or the limit is answered before these. The inputs behind a refused one are as
+/// they were.
+pub fn run_merge<S: Source, K: Sink>(
+    alloc: Global,
+    inputs: &mut [S],
+    out: &mut K,
+) -> Result<(), ToolFault>
+    ensures ok { OnOk result (IsWritten merge_due (inputs_of (sources S.left S.stops inputs.old inputs.new)) (taken K.told K.stops out.old out.new)) }
+    ensures fault { IfErr result (IsEngineFault merge_due (sources S.left S.stops inputs.old inputs.new) (taken K.told K.stops out.old out.new)) }
+    ensures kept { IfErr result (λ fault. fault ≢ ToolFault.Write → out.new ≡ out.old) }
+{
+    let parts = parts_of_inputs(alloc, inputs)?;
+    put_batches(out, &parts)
+}
