@@ -56,7 +56,7 @@ fourth_refused inputs fault bundles table tokens first second third why = inr (i
 
 earlier_not_write : (earlier : Option Drawn) → IsEarlierFault earlier tool.Write → ⊥
 earlier_not_write None is = cc
-earlier_not_write (Some input) why = not_write 4 input why
+earlier_not_write (Some input) why = why
 
 -- no input is refused as a write is
 no_write : (inputs : CheckInputs) → IsOneRefused inputs tool.Write → ⊥

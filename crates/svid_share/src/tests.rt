@@ -1,4 +1,7 @@
 mod faults;
+mod long;
+mod made;
+mod merge;
 mod refusing;
 mod report;
 mod sweep;

@@ -10,7 +10,7 @@ use std::alloc::{AllocError, Global};
 use std::fs::File;
 use std::{io, str};
 use svid_lines::{CheckSetting, run_candidates, run_check, run_id};
-use svid_share::{ToolFault, run_report};
+use svid_share::{ToolFault, run_merge, run_report};
 use svid_wire::Counted;
 
 fn id_command<'a>(alloc: Global) -> Result<Command<'a>, AllocError> {
@@ -26,24 +26,37 @@ fn id_command<'a>(alloc: Global) -> Result<Command<'a>, AllocError> {
         .arg(text)
 }
 
+// The files of messages that a command joins.
+fn files_argument<'a>(alloc: Global) -> Arg<'a> {
+    Arg::new(alloc, "file")
+        .value_name("FILE")
+        .num_args(0..)
+        .action(ArgAction::Append)
+        .help("Files of messages; standard input where there is none")
+}
+
+fn merge_command<'a>(alloc: Global) -> Result<Command<'a>, AllocError> {
+    Command::new(alloc, "merge")
+        .about("Joins the batches of the inputs, and writes the record as the texts of its batches")
+        .after_help(
+            "Standard input is read where no FILE is named: messages, to their end.{n}{n}Exit status: 0 the record was written; 1 an input was refused; 2 usage, a file, a write or memory.",
+        )
+        .arg(files_argument(alloc))
+}
+
 fn report_command<'a>(alloc: Global) -> Result<Command<'a>, AllocError> {
     let now = Arg::new(alloc, "now")
         .long("now")
         .value_name("N")
         .value_parser(clap::value_parser!(u64))
         .help("A moment in seconds, to which the record is raised");
-    let file = Arg::new(alloc, "file")
-        .value_name("FILE")
-        .num_args(0..)
-        .action(ArgAction::Append)
-        .help("Files of messages; standard input where there is none");
     Command::new(alloc, "report")
         .about("Joins the batches of the inputs, and prints the uses and the keys used twice")
         .after_help(
             "Standard input is read where no FILE is named: messages, to their end.{n}{n}Exit status: 0 the report was printed; 1 an input was refused; 2 usage, a file, a write or memory.",
         )
         .arg(now)?
-        .arg(file)
+        .arg(files_argument(alloc))
 }
 
 fn candidates_command<'a>(alloc: Global) -> Result<Command<'a>, AllocError> {
@@ -114,12 +127,13 @@ pub fn command<'a>(alloc: Global) -> Result<Command<'a>, AllocError> {
         .bin_name("svid")?
         .about("Checks SPIFFE JWT-SVIDs, and keeps the record of those that were used")
         .after_help(
-            "Standard input is read by check and candidates, and by report where no FILE is named.{n}{n}Exit status: 0 the answer is yes; 1 something was refused; 2 usage, a file, a write or memory.",
+            "Standard input is read by check and candidates, and by report and merge where no FILE is named.{n}{n}Exit status: 0 the answer is yes; 1 something was refused; 2 usage, a file, a write or memory.",
         )
         .subcommand_required(true)
         .subcommand(check_command(alloc)?)?
         .subcommand(id_command(alloc)?)?
         .subcommand(report_command(alloc)?)?
+        .subcommand(merge_command(alloc)?)?
         .subcommand(candidates_command(alloc)?)
 }
 
@@ -223,6 +237,13 @@ fn report(rt: &HostRuntime, matches: &ArgMatches<'_>) -> Result<u8, Failure> {
     Ok(0)
 }
 
+fn merge(rt: &HostRuntime, matches: &ArgMatches<'_>) -> Result<u8, Failure> {
+    let mut inputs = open_all(rt, matches.get_strs("file").unwrap_or(&[]))?;
+    let mut out = Counted::new(io::writer(rt));
+    run_merge(rt.alloc(), inputs.as_mut_slice(), &mut out)?;
+    Ok(0)
+}
+
 fn candidates(rt: &HostRuntime, matches: &ArgMatches<'_>) -> Result<u8, Failure> {
     let mut bundles = Counted::new(open(rt, matches.get_str("bundles").unwrap_or(""))?);
     let mut tokens = Counted::new(Input::Stdin(rt.stdin()));
@@ -270,6 +291,7 @@ fn dispatch(rt: &HostRuntime, matches: &ArgMatches<'_>) -> Result<u8, Failure> {
         Some(("check", inner)) => check(rt, inner),
         Some(("id", inner)) => id(rt, inner),
         Some(("report", inner)) => report(rt, inner),
+        Some(("merge", inner)) => merge(rt, inner),
         Some(("candidates", inner)) => candidates(rt, inner),
         _ => Ok(2),
     }

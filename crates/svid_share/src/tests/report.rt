@@ -1,22 +1,10 @@
-ghost use Rattle.std.specs.Prelude.{◌+◌, ◌≤◌, IfOk, length, None};
-ghost use Rattle.std.specs.Io.KnownBytes.{ReadConsumes};
-ghost use Rattle.svid_wire.specs.Faults.{CountsFault};
-
+use super::made::{part, with_byte, with_one_use};
 use super::{EMPTY_REPORT, TWO_USES, TWO_USES_REPORT};
 use crate::{ToolFault, run_report};
 use std::alloc::{AllocError, Global};
 use std::fmt::Write;
 use std::test::Fail;
-use svid_wire::{MemSink, MemSource, Reason, Sink, Source, Stopped};
-
-// The batch of two uses with one byte changed.
-fn with_byte(alloc: Global, place: usize, byte: u8) -> Result<Vec<u8>, AllocError> {
-    let mut bytes = TWO_USES.to_vec(alloc)?;
-    if let Some(at) = bytes.get_mut(place) {
-        *at = byte;
-    }
-    Ok(bytes)
-}
+use svid_wire::{MemSink, MemSource, Reason};
 
 fn report(alloc: Global, bytes: Vec<u8>, out: &mut MemSink) -> Result<(), ToolFault> {
     let mut inputs = [MemSource::new(bytes, 1000, None)];
@@ -119,16 +107,6 @@ fn refuses_equal_uses(rt: HostRuntime) -> Result<(), Fail> {
     Ok(())
 }
 
-// The batch of moment 100 with one of the two uses alone, which begins at this place.
-fn with_one_use(alloc: Global, place: usize) -> Result<Vec<u8>, AllocError>
-    requires { place + 64 ≤ 145 }
-{
-    let mut bytes = TWO_USES.split_at(13).0.to_vec(alloc)?;
-    bytes.extend_from_slice(&[0, 0, 0, 1])?;
-    bytes.extend_from_slice(TWO_USES.split_at(place).1.split_at(64).0)?;
-    Ok(bytes)
-}
-
 #[test]
 fn counts_messages_and_places_anew(rt: HostRuntime) -> Result<(), Fail> {
     let alloc = rt.alloc();
@@ -175,29 +153,6 @@ fn joins_the_batches_of_one_input(rt: HostRuntime) -> Result<(), Fail> {
     assert_eq!(rt; report(alloc, bytes, &mut out), Ok(()));
     assert_eq!(rt; out.bytes(), TWO_USES_REPORT);
     Ok(())
-}
-
-// The text of use n of many: it expires at 1,000 + n, two of them after each other have one key, and it was
-// made at 7.
-fn push_use(bytes: &mut Vec<u8>, n: u32) -> Result<(), AllocError> {
-    bytes.extend_from_slice(&(1000 + u64::from(n)).to_be_bytes())?;
-    bytes.extend_from_slice(&[0; 28])?;
-    bytes.extend_from_slice(&(n / 2).to_be_bytes())?;
-    bytes.extend_from_slice(&[0; 16])?;
-    Ok(bytes.extend_from_slice(&7u64.to_be_bytes())?)
-}
-
-// A batch of moment 100 with `count` of these uses from use `first` on.
-fn part(alloc: Global, first: u32, count: u32) -> Result<MemSource, AllocError>
-    requires { first + count ≤ 10000 }
-{
-    let mut bytes = b"JSR\x01\x01".to_vec(alloc)?;
-    bytes.extend_from_slice(&100u64.to_be_bytes())?;
-    bytes.extend_from_slice(&count.to_be_bytes())?;
-    for n in first..first + count {
-        push_use(&mut bytes, n)?;
-    }
-    Ok(MemSource::new(bytes, 100_000, None))
 }
 
 // The report of the first 5,000 of these uses.
@@ -309,44 +264,4 @@ fn tells_each_failed_call(rt: HostRuntime) -> Result<(), Fail> {
         }
     }
     Ok(())
-}
-
-// A source of so many bytes 0, which holds none.
-#[derive(Drop)]
-struct Zeros {
-    left: usize,
-}
-
-impl Source for Zeros {
-    ghost left = { λ _. None };
-
-    ghost stops = { λ _. 0 };
-
-    fn get(&mut self, room: &mut [u8]) -> Result<usize, Stopped>
-        ensures count { IfOk result (λ k. k ≤ length room.new) }
-        ensures bytes { ReadConsumes None None result room.new }
-        ensures faults { CountsFault 0 0 result }
-    {
-        let given = self.left.min(room.len());
-        room.split_at_mut(given).0.fill(0);
-        self.left -= given;
-        Ok(given)
-    }
-
-    fn faults(&self) -> u64 {
-        0
-    }
-}
-
-#[test]
-fn refuses_an_input_past_the_limit(rt: HostRuntime) {
-    for (left, fault) in [
-        (67_108_864, refusal(1, 0, Reason::Magic)),
-        (67_108_865, Err(ToolFault::TooMuch { input: 1 })),
-    ] {
-        let mut inputs = [Zeros { left }];
-        let mut out = MemSink::new(rt.alloc(), 1000, None);
-        assert_eq!(rt; run_report(rt.alloc(), &mut inputs, None, &mut out), fault);
-        assert!(rt; out.bytes().is_empty());
-    }
 }

@@ -2,7 +2,7 @@
 // runs alone.
 use super::refusing::{refuse, was_refused};
 use super::{TWO_USES, TWO_USES_REPORT};
-use crate::{ToolFault, run_report};
+use crate::{ToolFault, run_merge, run_report};
 use std::process::Abort;
 use std::test::Fail;
 use svid_wire::{MemSink, MemSource};
@@ -36,6 +36,34 @@ fn report_tells_want_of_memory(rt: HostRuntime) -> Result<(), Fail> {
         let mut out = MemSink::new(alloc, 1000, None);
         assert_eq!(rt; run_report(alloc, &mut inputs, None, &mut out), Ok(()));
         assert_eq!(rt; out.bytes(), TWO_USES_REPORT);
+        if !refused {
+            assert_eq!(rt; answer, Ok(()));
+            met = true;
+            break;
+        }
+    }
+    assert!(rt; met);
+    Ok(())
+}
+
+#[test]
+fn merge_tells_want_of_memory(rt: HostRuntime) -> Result<(), Fail> {
+    let alloc = rt.alloc();
+    let mut met = false;
+    for nth in 1..10000usize {
+        let mut inputs = [MemSource::new(TWO_USES.to_vec(alloc)?, 50, None)];
+        let mut out = MemSink::new(alloc, 1000, None);
+        refuse(alloc, nth);
+        let answer = run_merge(alloc, &mut inputs, &mut out);
+        let refused = was_refused(alloc);
+        refuse(alloc, 0);
+        if refused {
+            assert_refused(&rt, answer, &out, TWO_USES);
+        }
+        let mut inputs = [MemSource::new(TWO_USES.to_vec(alloc)?, 50, None)];
+        let mut out = MemSink::new(alloc, 1000, None);
+        assert_eq!(rt; run_merge(alloc, &mut inputs, &mut out), Ok(()));
+        assert_eq!(rt; out.bytes(), TWO_USES.as_slice());
         if !refused {
             assert_eq!(rt; answer, Ok(()));
             met = true;
