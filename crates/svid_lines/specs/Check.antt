@@ -130,8 +130,8 @@ pub record IsWritten (outputs : CheckOutputs) (outcome : Outcome) : Type 0 where
   pub out : TookAll outputs.out outcome.lines
 
 -- a part went out: of the record, and then no line; or the whole record, and then a part of the lines
-abbrev pub IsCut : CheckOutputs → Outcome → Type 0
-IsCut outputs outcome =
+abbrev pub IsWrittenInPart : CheckOutputs → Outcome → Type 0
+IsWrittenInPart outputs outcome =
     (TookPartIf outputs.kept outcome.kept × TookAll outputs.out [])
     ⊎ (TookAllIf outputs.kept outcome.kept × TookPart outputs.out outcome.lines)
 
@@ -143,10 +143,10 @@ pub record AreChecked (given : CheckSetting) (inputs : CheckInputs) (outputs : C
   pub answer : accepted ≡ outcome.accepted
 
 -- a part of what the run comes to was written
-pub record AreCut (given : CheckSetting) (inputs : CheckInputs) (outputs : CheckOutputs) : Type 0 where
+pub record AreCheckedInPart (given : CheckSetting) (inputs : CheckInputs) (outputs : CheckOutputs) : Type 0 where
   pub outcome : Outcome
   pub due : IsOutcome given inputs outcome
-  pub cut : IsCut outputs outcome
+  pub part : IsWrittenInPart outputs outcome
 
 -- why the table is refused: a line is no question, it could not be read, or memory was wanted
 abbrev pub IsTableFault : Drawn → ToolFault → Type 0
@@ -191,7 +191,7 @@ IsOneRefused inputs fault =
 
 -- when the run gives up: since a sink stopped, for want of memory, or for the first of its inputs that is refused
 abbrev pub IsCheckFault : CheckSetting → CheckInputs → CheckOutputs → ToolFault → Type 0
-IsCheckFault given inputs outputs tool.Write = AreCut given inputs outputs
+IsCheckFault given inputs outputs tool.Write = AreCheckedInPart given inputs outputs
 IsCheckFault given inputs outputs tool.OutOfMemory = Unit {0}
 IsCheckFault given inputs outputs fault = IsOneRefused inputs fault
 

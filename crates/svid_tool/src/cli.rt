@@ -8,6 +8,7 @@ use clap::{Arg, ArgAction, ArgMatches, Command, Error};
 use hex::FromHex;
 use std::alloc::{AllocError, Global};
 use std::fs::File;
+use std::io::{BufWriter, Write};
 use std::{io, str};
 use svid_lines::{CheckSetting, run_candidates, run_check, run_id};
 use svid_share::{ToolFault, run_merge, run_report};
@@ -239,9 +240,15 @@ fn report(rt: &HostRuntime, matches: &ArgMatches<'_>) -> Result<u8, Failure> {
 
 fn merge(rt: &HostRuntime, matches: &ArgMatches<'_>) -> Result<u8, Failure> {
     let mut inputs = open_all(rt, matches.get_strs("file").unwrap_or(&[]))?;
-    let mut out = Counted::new(io::writer(rt));
-    run_merge(rt.alloc(), inputs.as_mut_slice(), &mut out)?;
-    Ok(0)
+    // (a batch is put use by use)
+    let Ok(mut writer) = BufWriter::new(rt.alloc(), io::writer(rt)) else {
+        return Err(Failure::Tool(ToolFault::OutOfMemory));
+    };
+    run_merge(rt.alloc(), inputs.as_mut_slice(), &mut Counted::new(&mut writer))?;
+    match writer.flush() {
+        Ok(()) => Ok(0),
+        Err(_) => Err(Failure::Tool(ToolFault::Write)),
+    }
 }
 
 fn candidates(rt: &HostRuntime, matches: &ArgMatches<'_>) -> Result<u8, Failure> {
