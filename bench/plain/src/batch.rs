@@ -1,0 +1,95 @@
+use crate::fault::{Fault, Reason};
+use crate::record::Record;
+use crate::token_use::{take, Use};
+use std::io::{self, Write};
+
+/// What every message begins with: `JSR`, and the version.
+const MAGIC: [u8; 4] = *b"JSR\x01";
+
+/// The kind of message that a batch is.
+const KIND: u8 = 1;
+
+/// How many uses a batch has at most.
+const MOST_USES: usize = 4096;
+
+/// How many bytes stand before the first use, and how many a use has.
+const HEAD_LEN: usize = 17;
+const USE_LEN: usize = 64;
+
+/// Where the fields of the head stand.
+const MAGIC_PLACE: usize = 0;
+const KIND_PLACE: usize = 4;
+const COUNT_PLACE: usize = 13;
+
+/// A moment, and uses in rising order that were made by then and expire later.
+#[derive(Debug, PartialEq, Eq)]
+pub struct Batch {
+    pub moment: u64,
+    pub uses: Vec<Use>,
+}
+
+impl Batch {
+    /// Takes the batch that stands first in what is left, or answers the first field that is bad.
+    pub fn read(rest: &mut &[u8]) -> Result<Batch, Fault> {
+        let truncated = Fault {
+            place: rest.len(),
+            reason: Reason::Truncated,
+        };
+        if take(rest).ok_or(truncated)? != MAGIC {
+            return Err(fault(MAGIC_PLACE, Reason::Magic));
+        }
+        if take(rest).ok_or(truncated)? != [KIND] {
+            return Err(fault(KIND_PLACE, Reason::Kind));
+        }
+        let moment = u64::from_be_bytes(take(rest).ok_or(truncated)?);
+        let count = u32::from_be_bytes(take(rest).ok_or(truncated)?) as usize;
+        if count > MOST_USES {
+            return Err(fault(COUNT_PLACE, Reason::Count));
+        }
+        let mut uses: Vec<Use> = Vec::with_capacity(count);
+        for index in 0..count {
+            let used = Use::read(rest).ok_or(truncated)?;
+            if let Some(reason) = flaw(moment, uses.last(), &used) {
+                return Err(fault(HEAD_LEN + USE_LEN * index, reason));
+            }
+            uses.push(used);
+        }
+        Ok(Batch { moment, uses })
+    }
+}
+
+fn fault(place: usize, reason: Reason) -> Fault {
+    Fault { place, reason }
+}
+
+/// What is wrong with a use behind another one in a batch of this moment, if anything is.
+fn flaw(moment: u64, before: Option<&Use>, used: &Use) -> Option<Reason> {
+    if used.exp <= moment {
+        Some(Reason::UseExpired)
+    } else if used.at > moment {
+        Some(Reason::UseFuture)
+    } else if before.is_some_and(|before| used <= before) {
+        Some(Reason::UseOrder)
+    } else {
+        None
+    }
+}
+
+fn write(moment: u64, uses: &[Use], out: &mut impl Write) -> io::Result<()> {
+    out.write_all(&MAGIC)?;
+    out.write_all(&[KIND])?;
+    out.write_all(&moment.to_be_bytes())?;
+    out.write_all(&(uses.len() as u32).to_be_bytes())?;
+    uses.iter().try_for_each(|used| used.write(out))
+}
+
+/// Writes a record as batches of its moment, each of 4,096 uses but the last; an empty record as one
+/// empty batch.
+pub fn write_parts(record: &Record, out: &mut impl Write) -> io::Result<()> {
+    let uses: Vec<Use> = record.uses().copied().collect();
+    if uses.is_empty() {
+        return write(record.moment(), &[], out);
+    }
+    uses.chunks(MOST_USES)
+        .try_for_each(|part| write(record.moment(), part, out))
+}

@@ -1,0 +1,77 @@
+use crate::batch::Batch;
+use crate::token_use::Use;
+use std::collections::hash_map::Entry;
+use std::collections::{BTreeSet, HashMap};
+
+/// A moment, and the uses of all batches that expire after it.
+#[derive(Default)]
+pub struct Record {
+    moment: u64,
+    uses: BTreeSet<Use>,
+    /// How many of the uses each key has.
+    keys: HashMap<[u8; 32], usize>,
+}
+
+impl Record {
+    /// The record's moment, in seconds.
+    pub fn moment(&self) -> u64 {
+        self.moment
+    }
+
+    /// The uses, in rising order.
+    pub fn uses(&self) -> impl ExactSizeIterator<Item = &Use> {
+        self.uses.iter()
+    }
+
+    /// The keys that two or more uses have, in rising order, with their number.
+    pub fn twice(&self) -> Vec<([u8; 32], usize)> {
+        let mut twice: Vec<_> = self
+            .keys
+            .iter()
+            .filter(|(_, &count)| count > 1)
+            .map(|(&key, &count)| (key, count))
+            .collect();
+        twice.sort_unstable();
+        twice
+    }
+
+    /// Joins a batch: the greater moment, and the uses of both that expire after it.
+    pub fn absorb(&mut self, batch: &Batch) {
+        self.raise(batch.moment);
+        for used in &batch.uses {
+            if used.exp > self.moment {
+                self.insert(*used);
+            }
+        }
+    }
+
+    /// Raises the moment to this one where it is less, and drops the uses that expired by it.
+    pub fn raise(&mut self, moment: u64) {
+        self.moment = self.moment.max(moment);
+        while self
+            .uses
+            .first()
+            .is_some_and(|used| used.exp <= self.moment)
+        {
+            self.drop_first();
+        }
+    }
+
+    fn insert(&mut self, used: Use) {
+        if self.uses.insert(used) {
+            *self.keys.entry(used.key).or_insert(0) += 1;
+        }
+    }
+
+    fn drop_first(&mut self) {
+        let Some(used) = self.uses.pop_first() else {
+            return;
+        };
+        if let Entry::Occupied(mut count) = self.keys.entry(used.key) {
+            *count.get_mut() -= 1;
+            if *count.get() == 0 {
+                count.remove();
+            }
+        }
+    }
+}

@@ -1,0 +1,20 @@
+use crate::hex::Hex;
+use crate::record::Record;
+use std::io::{self, Write};
+
+/// Writes the report of a record: its moment, its uses, and the keys that are used more than once.
+pub fn write(record: &Record, out: &mut impl Write) -> io::Result<()> {
+    let uses = record.uses();
+    writeln!(out, "moment {}", record.moment())?;
+    writeln!(out, "uses {}", uses.len())?;
+    for used in uses {
+        let (key, place) = (Hex(used.key), Hex(used.place));
+        writeln!(out, "{} {key} {place} {}", used.exp, used.at)?;
+    }
+    let twice = record.twice();
+    writeln!(out, "twice {}", twice.len())?;
+    for (key, count) in twice {
+        writeln!(out, "{} {count}", Hex(key))?;
+    }
+    Ok(())
+}
