@@ -7,6 +7,8 @@ mod hex;
 mod inputs;
 mod record;
 mod report;
+#[cfg(test)]
+mod tests;
 mod token_use;
 
 use record::Record;
