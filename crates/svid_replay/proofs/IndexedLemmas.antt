@@ -1,4 +1,4 @@
-use Rattle.std.proofs.Common.{◌≡◌, ℕ, zero, suc, ◌<◌, ◌≤◌, ◌+◌, Bool, true, false, cond, not, ◌&&◌, ◌||◌, List, [], ◌∷◌, map, ap, refl, sym, ◌∙◌, subst, arith, length, find, Option, Some, None, is_some, Bor, MatchOption, nat_lt, replicate, inl, inr}
+use Rattle.std.proofs.Common.{◌≡◌, ℕ, zero, suc, ◌<◌, ◌≤◌, ◌+◌, Bool, true, false, cond, ◌&&◌, ◌||◌, List, [], ◌∷◌, ap, refl, sym, ◌∙◌, subst, arith, length, find, Option, Some, None, is_some, Bor, MatchOption, nat_lt, replicate, inl, inr}
 use Rattle.std.proofs.lemmas.Bool.{true≢false, or_right, or_cases, false_from_ne_true, true_from_ne_false}
 use Rattle.std.proofs.lemmas.Bool.Decides.{nat_tests}
 use Rattle.std.proofs.lemmas.Cmp.{on_total, then_total, nat_cmp_total, nat_list_cmp_total, tied_itself}
@@ -10,18 +10,17 @@ use Rattle.std.specs.Cmp.Lexicographic.{slice_cmp}
 use Rattle.std.specs.List.{AllByRecursion, list_any, filter}
 use Rattle.std.specs.List.Sorted.{IsStrictlySortedBy}
 use Rattle.std.specs.Option.{option_copied}
-use Rattle.std.specs.Ordering.{is_lt, is_eq, is_gt, eq_by_cmp, nat_cmp, ordering_reverse, ordering_then}
+use Rattle.std.specs.Ordering.{is_eq, is_gt, eq_by_cmp, nat_cmp, ordering_reverse, ordering_then}
 use Rattle.std.specs.Set.{remove_key}
 use Rattle.std.specs.declared.cmp.Ordering.{Ordering}
 use Rattle.std.specs.declared.cmp.Ordering.TheVariants.{Less, Equal, Greater}
 use Rattle.svid_replay.specs.declared.token_use.Use.{Use}
 use Rattle.svid_replay.specs.declared.key_first.KeyFirst.{KeyFirst}
-use Rattle.svid_replay.specs.Batches.{is_after}
 use Rattle.svid_replay.specs.Indexed.{key_first_cmp, key_first, has_use, has_key_first, IsIndexed, first_expired}
 use Rattle.svid_replay.specs.Sets.{holds, with}
 use Rattle.svid_replay.specs.Twice.{has_key}
 use Rattle.svid_replay.specs.Use.{bytes_cmp, use_cmp, IsRising}
-use Rattle.svid_replay.specs.Uses.{Uses, uses_in, live, count}
+use Rattle.svid_replay.specs.Uses.{uses_in, live, count}
 use Rattle.svid_replay.proofs.ListLemmas.{all_same}
 use Rattle.svid_replay.proofs.SetsLemmas.{holds-with}
 use Rattle.svid_replay.proofs.TestsLemmas.{equal}

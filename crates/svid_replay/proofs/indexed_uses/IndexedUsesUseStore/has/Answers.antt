@@ -1,4 +1,4 @@
-use Rattle.std.proofs.Common.{◌≡◌, true, false, List, [], ◌∷◌, IfSome, slice_get, sym, ap, ◌∙◌, subst}
+use Rattle.std.proofs.Common.{◌≡◌, true, false, List, ◌∷◌, IfSome, slice_get, sym, ap, ◌∙◌, subst}
 use Rattle.std.specs.Bool.{⊤}
 use Rattle.std.specs.List.{list_any}
 use Rattle.std.specs.Ordering.{is_gt}
