@@ -1,5 +1,5 @@
 -- What is held between pieces, and what a piece does to it.
-use Rattle.std.proofs.Common.{◌≡◌, ℕ, ◌+◌, ◌*◌, ◌<◌, ◌≤◌, List, [], ◌∷◌, ◌++◌, length, take, refl, sym, ap, ◌∙◌, subst, arith, append_assoc, append-nil, length-append, Option, None, Some, IfErr, inl}
+use Rattle.std.proofs.Common.{◌≡◌, ℕ, ◌+◌, ◌*◌, ◌<◌, ◌≤◌, List, [], ◌∷◌, ◌++◌, length, take, refl, sym, ap, ◌∙◌, subst, arith, append_assoc, length-append, Option, None, Some, IfErr, inl}
 use Rattle.std.proofs.lemmas.List.{length-take}
 use Rattle.std.specs.List.{flat_map, AllByRecursion}
 use Rattle.svid_replay.specs.declared.token_use.Use.{Use}

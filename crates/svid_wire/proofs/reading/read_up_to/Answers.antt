@@ -3,7 +3,7 @@ use Rattle.std.proofs.lemmas.List.{length-take-le}
 use Rattle.std.proofs.lemmas.Result.{err_from_is_err_and}
 use Rattle.std.specs.Io.KnownBytes.{Consumes}
 use Rattle.std.proofs.KnownBytes.{Consumes-trans}
-use Rattle.svid_wire.specs.Streams.{Drawn, GaveTooMuch, GaveWithin}
+use Rattle.svid_wire.specs.Streams.{GaveTooMuch, GaveWithin}
 use Rattle.svid_wire.proofs.reading.read_up_to.Goals as goal
 
 -- as many bytes as came before and came now
