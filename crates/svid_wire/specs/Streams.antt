@@ -42,9 +42,10 @@ pub record GaveTooMuch (source : Drawn) (limit : ℕ) : Type 0 where
   pub beyond : limit < length bytes
   pub unstopped : source.stops_after ≡ source.stops_before
 
--- the source gave some bytes, at most so many, without a stop
+-- the source gave bytes, at least one and at most so many, without a stop
 pub record GaveWithin (source : Drawn) (limit : ℕ) : Type 0 where
   pub bytes : List ℕ
+  pub some : 0 < length bytes
   pub given : Gave source bytes
   pub within : length bytes ≤ limit
   pub unstopped : source.stops_after ≡ source.stops_before

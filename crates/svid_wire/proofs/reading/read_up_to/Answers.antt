@@ -1,4 +1,4 @@
-use Rattle.std.proofs.Common.{◌≡◌, ℕ, ◌+◌, ◌-◌, ◌<◌, ◌≤◌, List, ◌++◌, Option, length, take, ◌∙◌, arith, length-append}
+use Rattle.std.proofs.Common.{◌≡◌, ◌≢◌, ℕ, ◌+◌, ◌-◌, ◌<◌, ◌≤◌, List, ◌++◌, Option, length, take, ◌∙◌, arith, length-append}
 use Rattle.std.proofs.lemmas.List.{length-take-le}
 use Rattle.std.proofs.lemmas.Result.{err_from_is_err_and}
 use Rattle.std.specs.Io.KnownBytes.{Consumes}
@@ -18,9 +18,10 @@ too_much a b c bytes room k limit first before after came now fits many same uns
   unstopped = unstopped ∙ same;
 }
 
-no_more : (a b c : Option (List ℕ)) (bytes room : List ℕ) (k limit first before after : ℕ) → Consumes a b bytes → Consumes b c (take k room) → k ≤ length room → length bytes + k ≤ limit → before ≡ first → after ≡ before → GaveWithin (record { left_before = a; left_after = c; stops_before = first; stops_after = after }) limit
-no_more a b c bytes room k limit first before after came now fits few same unstopped = record {
+no_more : (a b c : Option (List ℕ)) (bytes room : List ℕ) (k limit first before after : ℕ) → Consumes a b bytes → Consumes b c (take k room) → k ≢ 0 → k ≤ length room → length bytes + k ≤ limit → before ≡ first → after ≡ before → GaveWithin (record { left_before = a; left_after = c; stops_before = first; stops_after = after }) limit
+no_more a b c bytes room k limit first before after came now more fits few same unstopped = record {
   bytes = bytes ++ take k room;
+  some = omega (arith, length-more bytes room k fits);
   given = Consumes-trans a b c bytes (take k room) came now;
   within = omega (arith, length-more bytes room k fits);
   unstopped = unstopped ∙ same;
@@ -35,4 +36,4 @@ pub returns-in_err-extend_from_slice-clause-fault : goal.returns-in_err-extend_f
 returns-in_err-extend_from_slice-clause-fault g c =
     let (_, before, unstopped) = c.loop-given.invariant in
     let p = err_from_is_err_and c.from_residual.result c.from_residual.ensures.1 in
-    rw (p.1, p.2) (no_more _ _ _ _ _ _ _ _ _ _ before c.in-Ok.ensures.bytes.0 c.in-Ok.ensures.count (omega arith) unstopped c.in-Ok.ensures.faults)
+    rw (p.1, p.2) (no_more _ _ _ _ _ _ _ _ _ _ before c.in-Ok.ensures.bytes.0 (omega arith) c.in-Ok.ensures.count (omega arith) unstopped c.in-Ok.ensures.faults)
