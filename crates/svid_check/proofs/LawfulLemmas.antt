@@ -17,7 +17,7 @@ use Rattle.sha2.specs.Sha256.{digest_bytes, final_hash, initial_hash_256, sha256
 use Rattle.sha2.proofs.Facts256.{length-sha256}
 use Rattle.svid_id.specs.Id.{IdParts}
 use Rattle.svid_token.specs.Claims.{ClaimsSaid, claims_said}
-use Rattle.svid_token.specs.Compact.{HasNoPeriod, Parts, parts_of, signing_input, three}
+use Rattle.svid_token.specs.Compact.{Parts, parts_of, signing_input}
 use Rattle.svid_token.specs.Header.{header_said}
 use Rattle.svid_token.specs.Json.{as_time, time_at}
 use Rattle.svid_token.specs.Object.{part_object}
@@ -25,7 +25,7 @@ use Rattle.svid_token.specs.Part.{part_bytes}
 use Rattle.svid_token.specs.Rows.{first_row}
 use Rattle.svid_token.specs.TokenKey.{token_text}
 use Rattle.svid_token.specs.declared.alg.Alg.{Alg}
-use Rattle.svid_token.proofs.CompactLemmas.{parts_of-three}
+use Rattle.svid_token.proofs.CompactLemmas.{IsCompact-parts_of, parts_of-three}
 use Rattle.svid_replay.specs.declared.token_use.Use.{Use}
 use Rattle.svid_replay.specs.Sets.{rising}
 use Rattle.svid_replay.specs.Twice.{has_key}
@@ -179,45 +179,17 @@ in_range s moment uses token u a place now =
     let by = is_said_by of.parts is.said of.says in
     subst IsUse is.is_used (record { exp = exp_below (part_object of.parts.payload) is.said.exp by.exp; key = is_digest _; place = place; at = now })
 
--- no period stands in the header and the payload of a token
-record HasWholeParts (p : Parts) : Type 0 where
-  header : HasNoPeriod p.header
-  payload : HasNoPeriod p.payload
-
-first_piece : (b : ℕ) (cut : List (List ℕ)) → b ≢ 46 → AllByRecursion HasNoPeriod cut → AllByRecursion HasNoPeriod (onto_first b cut)
-first_piece b [] other whole = (All-cons (λ x. x ≢ 46) b [] other (All-nil (λ x. x ≢ 46)), tt)
-first_piece b (piece ∷ cut) other whole = (All-cons (λ x. x ≢ 46) b piece other whole.0, whole.1)
-
-next_piece : (b : ℕ) (here : Bool) (cut : List (List ℕ)) → (b == 46) ≡ here → AllByRecursion HasNoPeriod cut
-    → AllByRecursion HasNoPeriod (cond here ([] ∷ cut) (onto_first b cut))
-next_piece b true cut is whole = (All-nil (λ x. x ≢ 46), whole)
-next_piece b false cut is whole = first_piece b cut (eqb-false b 46 is) whole
-
-whole_pieces : (token : List ℕ) → AllByRecursion HasNoPeriod (slice_split (λ b. b == 46) token)
-whole_pieces [] = (All-nil (λ x. x ≢ 46), tt)
-whole_pieces (b ∷ token) = next_piece b (b == 46) _ refl (whole_pieces token)
-
-of_three : (cut : List (List ℕ)) (p : Parts) → AllByRecursion HasNoPeriod cut → three cut ≡ Some p → HasWholeParts p
-of_three [] p whole is = absurd (cc)
-of_three (h ∷ []) p whole is = absurd (cc)
-of_three (h ∷ b ∷ []) p whole is = absurd (cc)
-of_three (h ∷ b ∷ s ∷ []) p whole is = subst HasWholeParts (some_same _ p is) (record { header = whole.0; payload = whole.1.0 })
-of_three (h ∷ b ∷ s ∷ next ∷ more) p whole is = absurd (cc)
-
-whole_parts : (token : List ℕ) (p : Parts) → parts_of token ≡ Some p → HasWholeParts p
-unfolding parts_of
-whole_parts token p is = of_three (slice_split (λ b. b == 46) token) p (whole_pieces token) is
-
 -- an input and one more period are cut into the parts that the input is made of
-input_parts : (p : Parts) → HasWholeParts p → parts_of (signing_input p.header p.payload ++ 46 ∷ []) ≡ Some (record { header = p.header; payload = p.payload; signature = [] })
-input_parts p whole =
+input_parts : (token : List ℕ) (p : Parts) → parts_of token ≡ Some p → parts_of (signing_input p.header p.payload ++ 46 ∷ []) ≡ Some (record { header = p.header; payload = p.payload; signature = [] })
+input_parts token p is =
+    let whole = IsCompact-parts_of token p is in
     parts_of-three (signing_input p.header p.payload ++ 46 ∷ []) p.header p.payload []
-    (record { joined = append_assoc p.header (46 ∷ p.payload) (46 ∷ []); header_whole = whole.header; payload_whole = whole.payload; signature_whole = All-nil (λ x. x ≢ 46) })
+    (record { joined = append_assoc p.header (46 ∷ p.payload) (46 ∷ []); header_whole = whole.header_whole; payload_whole = whole.payload_whole; signature_whole = All-nil (λ x. x ≢ 46) })
 
 -- so that equal inputs are of equal payloads
-same_payload : (p q : Parts) → HasWholeParts p → HasWholeParts q → signing_input p.header p.payload ≡ signing_input q.header q.payload → p.payload ≡ q.payload
-same_payload p q whole other e =
-    ap (λ (x : Parts). x.payload) (some_same _ _ (sym (input_parts p whole) ∙ ap (λ (i : List ℕ). parts_of (i ++ 46 ∷ [])) e ∙ input_parts q other))
+same_payload : (token again : List ℕ) (p q : Parts) → parts_of token ≡ Some p → parts_of again ≡ Some q → signing_input p.header p.payload ≡ signing_input q.header q.payload → p.payload ≡ q.payload
+same_payload token again p q one two e =
+    ap (λ (x : Parts). x.payload) (some_same _ _ (sym (input_parts token p one) ∙ ap (λ (i : List ℕ). parts_of (i ++ 46 ∷ [])) e ∙ input_parts again q two))
 
 abbrev input_in : Parts → List ℕ
 input_in p = signing_input p.header p.payload
@@ -234,7 +206,7 @@ of_its_input s other moment later uses others token again u v a b e =
     let of = is_of token one.said one.is_said in
     let on = is_of again two.said two.is_said in
     let input = same_input token again of.parts on.parts of.is_parts on.is_parts e in
-    let payload = same_payload of.parts on.parts (whole_parts token of.parts of.is_parts) (whole_parts again on.parts on.is_parts) input in
+    let payload = same_payload token again of.parts on.parts of.is_parts on.is_parts input in
     let same = same_said of.parts on.parts one.said two.said of.says on.says payload input in (
       sym (ap (λ (x : Use). x.key) one.is_used) ∙ same.0 ∙ ap (λ (x : Use). x.key) two.is_used,
       sym (ap (λ (x : Use). x.exp) one.is_used) ∙ same.1 ∙ ap (λ (x : Use). x.exp) two.is_used,

@@ -1,8 +1,8 @@
 -- Tables of refusals, one after the other.
-use Rattle.std.proofs.Common.{◌≡◌, ◌⊎◌, inl, inr, List, ◌++◌, Option, None, Some, refl, sym, ap, ◌∙◌}
-use Rattle.std.specs.Prelude.{Result, Ok, Err}
+use Rattle.std.proofs.Common.{◌≡◌, ◌⊎◌, inl, inr, Bool, true, false, List, ◌++◌, Option, None, Some, refl, sym, ap, ◌∙◌, if◌then◌else◌}
+use Rattle.std.specs.Prelude.{IsSome, Result, Ok, Err, is_none, option_and_then}
 use Rattle.std.specs.Option.{option_or}
-use Rattle.svid_token.specs.Rows.{Row, Refuses, first_row, judged}
+use Rattle.svid_token.specs.Rows.{Row, Refuses, fails, first_row, judged}
 use Rattle.svid_token.specs.declared.refusal.Refusal.{Refusal}
 use Rattle.svid_token.specs.declared.refusal.Refusal.TheVariants as token
 use Rattle.svid_token.proofs.RowsLemmas.{first_row-append}
@@ -38,6 +38,21 @@ neither (Some refusal) other none = absurd (cc)
 -- where two tables refuse nothing, neither does
 pub none_of_both : (first second : List Row) → first_row (first ++ second) ≡ None → (first_row first ≡ None) × (first_row second ≡ None)
 none_of_both first second none = neither (first_row first) (first_row second) (sym (first_row-append first second) ∙ none)
+
+-- a row that does not hold leaves it to the others
+pub passed : (test : Bool) (refusal : Refusal) (others : Option Refusal) → (if test then Some refusal else others) ≡ None → (test ≡ false) × (others ≡ None)
+passed true refusal others none = cc
+passed false refusal others none = (refl, none)
+
+-- what is not missing is there
+pub there : {A : Type 0} (thing : Option A) → is_none thing ≡ false → IsSome thing
+there None held = sym held
+there (Some x) held = refl
+
+-- and a reading that does not fail gives something
+pub read_there : {A B : Type 0} (read : A → Option B) (thing : Option A) → IsSome thing → fails read thing ≡ false → IsSome (option_and_then read thing)
+read_there read None is held = is
+read_there read (Some x) is held = there (read x) held
 
 -- what a refusal says where it is answered: that it is due, or nothing where memory ran out
 told : {A B : Type 0} (refusal : Refusal) (one : Result A Refusal) (other : Result B Refusal) → (Refuses refusal one → (refusal ≡ token.OutOfMemory) ⊎ (one ≡ Err refusal)) × (other ≡ Err refusal → Refuses refusal other)

@@ -1,18 +1,21 @@
 -- What a token says, one part after the other.
-use Rattle.std.proofs.Common.{◌≡◌, ℕ, List, ◌++◌, Option, None, Some, refl, sym, ap, ◌∙◌}
-use Rattle.std.specs.Prelude.{Ok, Err, option_and_then}
+use Rattle.std.proofs.Common.{◌≡◌, ℕ, Bool, true, false, ◌||◌, List, ◌++◌, Option, None, Some, refl, sym, ap, ◌∙◌}
+use Rattle.std.specs.Prelude.{IsSome, Ok, Err, codes, option_and_then}
 use Rattle.serde_json.specs.Data.{Data}
-use Rattle.svid_token.specs.Claims.{ClaimsSaid, claims_of, claims_rows, claims_said}
+use Rattle.svid_id.specs.Id.{IdParts}
+use Rattle.svid_token.specs.Claims.{ClaimsSaid, audiences_at, claims_of, claims_rows, claims_said, subject_at}
 use Rattle.svid_token.specs.Compact.{Parts, compact_of, compact_rows, parts_of, signing_input}
-use Rattle.svid_token.specs.Header.{HeaderSaid, header_of, header_rows, header_said}
+use Rattle.svid_token.specs.Header.{HeaderSaid, alg_at, header_of, header_rows, header_said}
+use Rattle.svid_token.specs.Json.{object_of, time_at}
 use Rattle.svid_token.specs.Object.{part_object}
 use Rattle.svid_token.specs.Part.{part_bytes}
 use Rattle.svid_token.specs.Payload.{payload_of, payload_rows}
 use Rattle.svid_token.specs.Rows.{Refuses, first_row}
 use Rattle.svid_token.specs.Signature.{signature_of, signature_rows}
+use Rattle.svid_token.specs.declared.alg.Alg.{Alg}
 use Rattle.svid_token.specs.declared.refusal.Refusal.{Refusal}
-use Rattle.svid_check.specs.Said.{parts_rows, parts_say, reading_of, rows_if_three, said_by, said_of, token_rows}
-use Rattle.svid_check.proofs.RowsLemmas.{judged-Err, judged-None, judged-Ok, judged-Some, passes, refused_through, stops}
+use Rattle.svid_check.specs.Said.{UnrefusedIsSaid, parts_rows, parts_say, reading_of, rows_if_three, said_by, said_of, token_rows}
+use Rattle.svid_check.proofs.RowsLemmas.{judged-Err, judged-None, judged-Ok, judged-Some, none_of_both, passed, passes, read_there, refused_through, stops, there}
 
 -- of a token with three parts, these are judged
 split_rows : (token : List ℕ) (p : Parts) → Ok (Some p) ≡ compact_of token → (first_row (token_rows token) ≡ first_row (parts_rows p)) × (said_of token ≡ parts_say p)
@@ -80,3 +83,48 @@ all_said token p h object signature claims input split header payload signs clai
     judged-None (first_row (token_rows token)) (said_of token) _
     (signature_rows-pass token p h object signature split header payload signs ∙ says.0)
     ((split_rows token p split).1 ∙ same_said _ _ _ _ _ _ _ _ read.1 (ap claims_said body.1 ∙ says.1) bytes.1 (sym made))
+
+neither_holds : (one other : Bool) → (one || other) ≡ false → (one ≡ false) × (other ≡ false)
+neither_holds false other none = (refl, none)
+neither_holds true other none = cc
+
+-- all is said where each part of it is
+all_there : (alg : Option Alg) (bytes : Option (List ℕ)) (sub : Option IdParts) (aud : Option (List (List ℕ))) (exp nbf : Option ℕ) (kid jti : Option (List ℕ)) (input : List ℕ)
+    → IsSome alg → IsSome bytes → IsSome sub → IsSome aud → IsSome exp
+    → IsSome (said_by (record { alg = alg; kid = kid }) (record { sub = sub; aud = aud; exp = exp; nbf = nbf; jti = jti }) bytes input)
+all_there None bytes sub aud exp nbf kid jti input one two three four five = one
+all_there (Some a) None sub aud exp nbf kid jti input one two three four five = two
+all_there (Some a) (Some b) None aud exp nbf kid jti input one two three four five = three
+all_there (Some a) (Some b) (Some c) None exp nbf kid jti input one two three four five = four
+all_there (Some a) (Some b) (Some c) (Some d) None nbf kid jti input one two three four five = five
+all_there (Some a) (Some b) (Some c) (Some d) (Some e) nbf kid jti input one two three four five = refl
+
+-- three parts that nothing refuses say all
+parts_there : (p : Parts) → first_row (parts_rows p) ≡ None → IsSome (parts_say p)
+parts_there p none =
+    let object = part_object p.payload in
+    let one = none_of_both (header_rows p.header) (payload_rows p.payload ++ (signature_rows p.signature ++ claims_rows object)) none in
+    let two = none_of_both (payload_rows p.payload) (signature_rows p.signature ++ claims_rows object) one.1 in
+    let three = none_of_both (signature_rows p.signature) (claims_rows object) two.1 in
+    let spelled = passed _ _ _ one.0 in
+    let is_object = passed _ _ _ spelled.1 in
+    let no_crit = passed _ _ _ is_object.1 in
+    let header = read_there object_of (part_bytes p.header) (there _ spelled.0) is_object.0 in
+    let spelled = passed _ _ _ two.0 in
+    let payload = read_there object_of (part_bytes p.payload) (there _ spelled.0) (passed _ _ _ spelled.1).0 in
+    let sub = passed _ _ _ three.1 in
+    let aud = passed _ _ _ sub.1 in
+    let exp = passed _ _ _ aud.1 in
+    all_there _ (part_bytes p.signature) _ _ _ _ _ _ (signing_input p.header p.payload)
+    (read_there alg_at (part_object p.header) header (passed _ _ _ no_crit.1).0) (there _ (neither_holds _ _ (passed _ _ _ three.0).0).1)
+    (read_there subject_at object payload sub.0) (read_there audiences_at object payload aud.0) (read_there (time_at (codes "exp")) object payload exp.0)
+
+-- a token that nothing refuses says all
+pub unrefused_is_said : UnrefusedIsSaid
+unrefused_is_said token none = by_parts (parts_of token) (there (parts_of token) (passed _ _ _ (passed _ _ _ both.0).1).0) both.1
+  where
+    both : (first_row (compact_rows token) ≡ None) × (first_row (rows_if_three (parts_of token)) ≡ None)
+    both = none_of_both (compact_rows token) (rows_if_three (parts_of token)) none
+    by_parts : (parts : Option Parts) → IsSome parts → first_row (rows_if_three parts) ≡ None → IsSome (option_and_then parts_say parts)
+    by_parts None is rest = is
+    by_parts (Some p) is rest = parts_there p rest

@@ -1,7 +1,7 @@
 -- The verdict, one table after the other.
-use Rattle.std.proofs.Common.{◌≡◌, ◌<◌, ℕ, Bool, true, false, List, [], ◌∷◌, ◌++◌, take, drop, Option, Some, None, refl, sym, ap, ◌∙◌, if◌then◌else◌}
-use Rattle.std.specs.Prelude.{Result, Ok, Err, option_map, not, nat_lt}
-use Rattle.std.proofs.lemmas.Bool.{ltb-true}
+use Rattle.std.proofs.Common.{◌≡◌, ◌≢◌, ◌<◌, ℕ, Bool, true, false, List, [], ◌∷◌, ◌++◌, take, drop, Option, Some, None, refl, sym, ap, ◌∙◌, if◌then◌else◌}
+use Rattle.std.specs.Prelude.{IsSome, Result, Ok, Err, option_map, not, nat_lt}
+use Rattle.std.proofs.lemmas.Bool.{false≢true, ltb-true}
 use Rattle.svid_token.specs.Rows.{Row, Refuses, first_row, judged}
 use Rattle.svid_token.specs.declared.refusal.Refusal.{Refusal}
 use Rattle.svid_token.specs.declared.refusal.Refusal.TheVariants.{Replayed}
@@ -9,7 +9,8 @@ use Rattle.svid_replay.specs.Uses.{Uses, has_use_of}
 use Rattle.svid_check.specs.Said.{Said, reading_of, said_of, token_rows}
 use Rattle.svid_check.specs.Setting.{Setting}
 use Rattle.svid_check.specs.Verdict.{acceptance, key_of, rows_if_said, setting_rows, verdict, verdict_rows}
-use Rattle.svid_check.proofs.RowsLemmas.{judged-Err, judged-None, judged-Ok, judged-Some, none_of_both, passes, refused, refused_through, stops}
+use Rattle.svid_check.proofs.RowsLemmas.{judged-Err, judged-None, judged-Ok, judged-Some, none_of_both, passed, passes, refused, refused_through, stops}
+use Rattle.svid_check.proofs.SaidLemmas.{unrefused_is_said}
 
 module _ (s : Setting) (moment : ℕ) (uses : Uses) (token : List ℕ) where
   abbrev later : Option Said → List Row
@@ -37,10 +38,16 @@ module _ (s : Setting) (moment : ℕ) (uses : Uses) (token : List ℕ) where
   unfolding verdict
   accepted t good none = judged-None _ (option_map (acceptance s moment) (said_of token)) _ ((found t good).0 ∙ none) (ap (λ o. option_map (acceptance s moment) o) (found t good).1)
 
--- a row that does not hold leaves it to the others
-passed : (test : Bool) (refusal : Refusal) (others : Option Refusal) → (if test then Some refusal else others) ≡ None → (test ≡ false) × (others ≡ None)
-passed true refusal others none = cc
-passed false refusal others none = (refl, none)
+  -- and never is nothing accepted
+  pub not_of_nothing : verdict s moment uses token ≢ Ok None
+  unfolding verdict
+  not_of_nothing is =
+      let j = judged-Ok (first_row (verdict_rows s moment uses token)) (option_map (acceptance s moment) (said_of token)) None is in
+      by_said (said_of token) (unrefused_is_said token (none_of_both (token_rows token) (later (said_of token)) j.0).0) j.1
+    where
+      by_said : (said : Option Said) → IsSome said → option_map (acceptance s moment) said ≢ None
+      by_said None is none = false≢true is
+      by_said (Some t) is none = absurd (cc)
 
 -- a use that nothing refuses expires after the moment
 pub lives : (s : Setting) (moment : ℕ) (uses : Uses) (t : Said) → first_row (setting_rows s moment uses t) ≡ None → moment < t.exp

@@ -1,5 +1,5 @@
 -- What a token says, and the refusals of a token by itself (RFC 7515, RFC 7519; JWT-SVID).
-use Rattle.std.specs.Prelude.{ℕ, List, [], ◌++◌, Option, Some, None, option_and_then, option_map, string_bytes, map, Result}
+use Rattle.std.specs.Prelude.{◌≡◌, ℕ, List, [], ◌++◌, Option, Some, None, IsSome, option_and_then, option_map, string_bytes, map, Result}
 use Rattle.svid_id.specs.Id.{IdParts}
 use Rattle.svid_token.specs.Claims.{ClaimsSaid, claims_rows, claims_said}
 use Rattle.svid_token.specs.Compact.{Parts, compact_rows, parts_of, signing_input}
@@ -60,6 +60,10 @@ token_rows token = compact_rows token ++ rows_if_three (parts_of token)
 -- the answer that is due to a token by itself
 abbrev pub reading_of : List ℕ → Result (Option Said) Refusal
 reading_of token = judged (first_row (token_rows token)) (said_of token)
+
+-- a token that nothing refuses by itself says all that must be there
+abbrev pub UnrefusedIsSaid : Type 0
+UnrefusedIsSaid = (token : List ℕ) → first_row (token_rows token) ≡ None → IsSome (said_of token)
 
 -- what contracts see of a token that was read
 abbrev pub said_in : Reading → Said

@@ -1,5 +1,5 @@
 -- The verdict on a token: a table of 23 refusals, and the acceptance where none of them holds.
-use Rattle.std.specs.Prelude.{ℕ, Bool, not, nat_lt, ◌==◌, List, [], ◌∷◌, ◌++◌, length, bytes_eq, Option, Some, None, is_none, option_map, Result}
+use Rattle.std.specs.Prelude.{◌≢◌, ℕ, Bool, not, nat_lt, ◌==◌, List, [], ◌∷◌, ◌++◌, length, bytes_eq, Option, Some, None, is_none, option_map, Result, Ok}
 use Rattle.std.specs.List.{list_any}
 use Rattle.sha2.specs.Sha256.{sha256}
 use Rattle.svid_token.specs.declared.refusal.Refusal.{Refusal}
@@ -79,3 +79,7 @@ acceptance s moment t = record { id = t.sub; used = use_of s moment t }
 -- the verdict: the first refusal that holds, and else the acceptance of what is said, which then is there
 unfoldable pub verdict : Setting → ℕ → Uses → List ℕ → Result (Option Accepted) Refusal
 verdict s moment uses token = judged (first_row (verdict_rows s moment uses token)) (option_map (acceptance s moment) (said_of token))
+
+-- no verdict accepts a token that does not say all
+abbrev pub AcceptsNoSilence : Type 0
+AcceptsNoSilence = (s : Setting) (moment : ℕ) (uses : Uses) (token : List ℕ) → verdict s moment uses token ≢ Ok None
