@@ -1,4 +1,6 @@
+pub mod BoundsLemmas
 pub mod LawfulLemmas
 pub mod RowsLemmas
+pub mod RunsLemmas
 pub mod SaidLemmas
 pub mod VerdictLemmas

@@ -1,8 +1,11 @@
 -- What the calls of a validator leave of its record.
-use Rattle.std.specs.Prelude.{ℕ, ◌+◌, ◌-◌, ◌^◌, min, List, [], ◌∷◌, Result, Ok, Err}
+use Rattle.std.specs.Prelude.{◌≡◌, ℕ, ◌+◌, ◌-◌, ◌^◌, ◌<◌, ◌≤◌, min, List, [], ◌∷◌, Result, Ok, Err}
 use Rattle.svid_token.specs.declared.refusal.Refusal.{Refusal}
-use Rattle.svid_replay.specs.Records.{State, join, state_of}
+use Rattle.svid_replay.specs.Batches.{BatchData}
+use Rattle.svid_replay.specs.Records.{State, IsPartlyJoined, batch_state, join, state_of}
 use Rattle.svid_check.specs.declared.accepted.Accepted.{Accepted}
+use Rattle.svid_check.specs.declared.take_fault.TakeFault.{TakeFault}
+use Rattle.svid_check.specs.declared.take_fault.TakeFault.TheVariants.{TooFarAhead, OutOfMemory}
 
 -- a record raised to a moment
 abbrev pub raised : State → ℕ → State
@@ -16,3 +19,9 @@ settled x (Err refusal) = x
 -- the moment up to which messages are taken: so many seconds ahead of now, held at the greatest moment
 abbrev pub horizon : ℕ → ℕ → ℕ
 horizon now ahead = min (now + ahead) (2 ^ 64 - 1)
+
+-- what a take leaves of a raised record: of a batch within the horizon the join, or a part of it where memory was refused; else nothing more
+abbrev pub Takes : State → ℕ → BatchData → Result (Unit {0}) TakeFault → State → Type 0
+Takes x far b (Ok taken) y = (b.moment ≤ far) × (y ≡ join x (batch_state b))
+Takes x far b (Err TooFarAhead) y = (far < b.moment) × (y ≡ x)
+Takes x far b (Err OutOfMemory) y = (b.moment ≤ far) × IsPartlyJoined x y b.moment b.uses

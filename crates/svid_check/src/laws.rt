@@ -1,7 +1,9 @@
-//! Laws of the verdicts, carried by functions that compute nothing.
+//! Laws of the verdicts and of runs, carried by functions that compute nothing.
 
+ghost use Rattle.svid_check.specs.Bounds.{ChecksAreBounded, RunsAreBounded, TakesAreBounded, TicksAreBounded};
 ghost use Rattle.svid_check.specs.Lawful.{IsAlive, IsFresh, IsInRange, IsMadeNow, IsOfItsInput};
 ghost use Rattle.svid_check.specs.Said.{UnrefusedIsSaid};
+ghost use Rattle.svid_check.specs.Told.{BeginsAsGiven};
 ghost use Rattle.svid_check.specs.Verdict.{AcceptsNoSilence};
 
 /// A token that nothing refuses by itself says all that must be there, so that no verdict is 'accepted'
@@ -20,4 +22,22 @@ pub fn verdicts_are_lawful()
     ensures fresh { IsFresh }
     ensures of_its_input { IsOfItsInput }
     ensures in_range { IsInRange }
+{}
+
+/// A validator that is given a record begins as one that was told the record's moment and its uses.
+pub fn validators_begin_as_given()
+    ensures { BeginsAsGiven }
+{}
+
+/// No call leaves the record's moment past the greater of what it was and the call's own moment plus
+/// `ahead`, held at 2^64-1.
+pub fn calls_are_bounded()
+    ensures checks { ChecksAreBounded }
+    ensures ticks { TicksAreBounded }
+    ensures takes { TakesAreBounded }
+{}
+
+/// Nor does a run, with the greatest moment of its events.
+pub fn runs_are_bounded()
+    ensures { RunsAreBounded }
 {}

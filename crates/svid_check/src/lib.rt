@@ -22,14 +22,21 @@
 #![tactic(auto)]
 
 mod accepted;
+mod answer;
+mod event;
 mod given;
 mod judging;
 pub mod laws;
 mod reading;
+mod run;
+mod take_fault;
 #[cfg(test)]
 mod tests;
 mod validator;
 
 pub use accepted::Accepted;
+pub use answer::Answer;
+pub use event::Event;
 pub use reading::Reading;
+pub use take_fault::TakeFault;
 pub use validator::Validator;

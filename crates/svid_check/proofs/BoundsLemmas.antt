@@ -1,0 +1,94 @@
+-- Where a run begins, and how far it can get.
+use Rattle.std.proofs.Common.{◌≡◌, ◌<◌, ◌≤◌, ◌+◌, ◌-◌, ◌^◌, ℕ, min, max, Bool, true, false, ◌&&◌, nat_lt, List, [], ◌∷◌, refl, sym, ap, ◌∙◌, subst, arith}
+use Rattle.std.specs.Prelude.{Result, Ok, Err}
+use Rattle.std.proofs.lemmas.Bool.{lt-ltb}
+use Rattle.svid_token.specs.declared.refusal.Refusal.{Refusal}
+use Rattle.svid_replay.specs.Batches.{BatchData}
+use Rattle.svid_replay.specs.Records.{IsRecord, State, batch_state, join, state_of}
+use Rattle.svid_replay.specs.Sets.{holds}
+use Rattle.svid_replay.specs.Uses.{Uses, live}
+use Rattle.svid_replay.proofs.RecordsLemmas.{moment-join}
+use Rattle.svid_replay.proofs.UsesLemmas.{holds-live, same_uses}
+use Rattle.svid_check.specs.declared.accepted.Accepted.{Accepted}
+use Rattle.svid_check.specs.declared.answer.Answer.{Answer}
+use Rattle.svid_check.specs.declared.answer.Answer.TheVariants.{Checked, Ticked, Taken}
+use Rattle.svid_check.specs.declared.event.Event.{Event}
+use Rattle.svid_check.specs.declared.event.Event.TheVariants.{Check, Tick, Take}
+use Rattle.svid_check.specs.declared.take_fault.TakeFault.{TakeFault}
+use Rattle.svid_check.specs.declared.take_fault.TakeFault.TheVariants.{TooFarAhead, OutOfMemory}
+use Rattle.svid_check.specs.Bounds.{AreMoments, ChecksAreBounded, RunsAreBounded, TakesAreBounded, TicksAreBounded, latest, now_of, reach}
+use Rattle.svid_check.specs.Changes.{Takes, horizon, raised, settled}
+use Rattle.svid_check.specs.Runs.{Runs, Step, Terms}
+use Rattle.svid_check.specs.Told.{BeginsAsGiven, TellsBatch, Told, record_of, tell, tell_now, tell_use}
+
+held_live : (lives held : Bool) → (held ≡ true → lives ≡ true) → (lives && held) ≡ held
+held_live true held so = refl
+held_live false true so = so refl
+held_live false false so = refl
+
+pub begins_as_given : BeginsAsGiven
+begins_as_given a is =
+    ap (λ (s : Uses). record { moment = a.moment; uses = s }) (same_uses (live a.uses a.moment) a.uses (λ u.
+    holds-live a.uses a.moment u ∙ held_live (nat_lt a.moment u.exp) (holds a.uses u) (λ held. lt-ltb a.moment u.exp (is.each u held).live)))
+
+at_now : (m now ahead : ℕ) → now < 2 ^ 64 → max m now ≤ reach m now ahead
+at_now m now ahead small = omega arith
+
+at_batch : (m now b ahead : ℕ) → now < 2 ^ 64 → b ≤ horizon now ahead → max (max m now) b ≤ reach m now ahead
+at_batch m now b ahead small within = omega arith
+
+next : (x y z now later ahead : ℕ) → y ≤ reach x now ahead → z ≤ reach y later ahead → z ≤ reach x (max now later) ahead
+next x y z now later ahead one other = omega arith
+
+unmoved : (m ahead : ℕ) → m ≤ reach m 0 ahead
+unmoved m ahead = omega arith
+
+pub ticks_are_bounded : TicksAreBounded
+ticks_are_bounded x now ahead small = subst (λ n. n ≤ reach x.moment now ahead) (sym (moment-join x (state_of now []))) (at_now x.moment now ahead small)
+
+-- a use of the record's own moment leaves the moment
+same_moment : (x : State) (accepted : Accepted) → (settled x (Ok accepted)).moment ≡ x.moment
+same_moment x accepted = moment-join x (state_of x.moment (accepted.used ∷ [])) ∙ omega arith
+
+pub checks_are_bounded : ChecksAreBounded
+checks_are_bounded x now ahead (Ok accepted) small = subst (λ n. n ≤ reach x.moment now ahead) (sym (same_moment (raised x now) accepted)) (ticks_are_bounded x now ahead small)
+checks_are_bounded x now ahead (Err refusal) small = ticks_are_bounded x now ahead small
+
+-- a join with what lies within the horizon
+within : (x : State) (now ahead moment : ℕ) (y b : State) → now < 2 ^ 64 → b.moment ≤ horizon now ahead → y ≡ join (raised x now) b → y.moment ≤ reach x.moment now ahead
+within x now ahead moment y b small far is =
+    let moments : y.moment ≡ max (max x.moment now) b.moment =
+        ap (λ (r : State). r.moment) is ∙ moment-join (raised x now) b ∙ ap (λ n. max n b.moment) (moment-join x (state_of now [])) in
+    subst (λ n. n ≤ reach x.moment now ahead) (sym moments) (at_batch x.moment now b.moment ahead small far)
+
+pub takes_are_bounded : TakesAreBounded
+takes_are_bounded x y now ahead b (Ok taken) small h = within x now ahead b.moment y (batch_state b) small h.0 h.1
+takes_are_bounded x y now ahead b (Err TooFarAhead) small h = subst (λ (r : State). r.moment ≤ reach x.moment now ahead) (sym h.1) (ticks_are_bounded x now ahead small)
+takes_are_bounded x y now ahead b (Err OutOfMemory) small h = within x now ahead b.moment y (state_of b.moment h.1.front) small h.0 h.1.joined
+
+told_check : (x : Told) (now ahead : ℕ) (answer : Result Accepted Refusal) → now < 2 ^ 64 → (tell_use (tell_now x now) answer).greatest ≤ reach x.greatest now ahead
+told_check x now ahead (Ok accepted) small = at_now x.greatest now ahead small
+told_check x now ahead (Err refusal) small = at_now x.greatest now ahead small
+
+told_take : (x y : Told) (now ahead : ℕ) (b : BatchData) (answer : Result (Unit {0}) TakeFault) → now < 2 ^ 64 → TellsBatch (tell_now x now) (horizon now ahead) b answer y → y.greatest ≤ reach x.greatest now ahead
+told_take x y now ahead b (Ok taken) small h = subst (λ (z : Told). z.greatest ≤ reach x.greatest now ahead) (sym h.1) (at_batch x.greatest now b.moment ahead small h.0)
+told_take x y now ahead b (Err TooFarAhead) small h = subst (λ (z : Told). z.greatest ≤ reach x.greatest now ahead) (sym h.1) (at_now x.greatest now ahead small)
+told_take x y now ahead b (Err OutOfMemory) small h = subst (λ (z : Told). z.greatest ≤ reach x.greatest now ahead) (sym h.1.told) (at_batch x.greatest now b.moment ahead small h.0)
+
+step_is_bounded : (t : Terms) (x y : Told) (event : Event) (answer : Answer) → now_of event < 2 ^ 64 → Step t x event answer y → y.greatest ≤ reach x.greatest (now_of event) t.ahead
+step_is_bounded t x y (Check now token) (Checked answer) small h = subst (λ (z : Told). z.greatest ≤ reach x.greatest now t.ahead) (sym h.1) (told_check x now t.ahead answer small)
+step_is_bounded t x y (Tick now) Ticked small h = subst (λ (z : Told). z.greatest ≤ reach x.greatest now t.ahead) (sym h) (at_now x.greatest now t.ahead small)
+step_is_bounded t x y (Take now batch) (Taken answer) small h = told_take x y now t.ahead batch.now answer small h
+step_is_bounded t x y (Check now token) Ticked small h = absurd h
+step_is_bounded t x y (Check now token) (Taken answer) small h = absurd h
+step_is_bounded t x y (Tick now) (Checked answer) small h = absurd h
+step_is_bounded t x y (Tick now) (Taken answer) small h = absurd h
+step_is_bounded t x y (Take now batch) (Checked answer) small h = absurd h
+step_is_bounded t x y (Take now batch) Ticked small h = absurd h
+
+pub runs_are_bounded : RunsAreBounded
+runs_are_bounded t x y [] [] small h = subst (λ (z : Told). z.greatest ≤ reach x.greatest 0 t.ahead) (sym h) (unmoved x.greatest t.ahead)
+runs_are_bounded t x y (event ∷ events) (answer ∷ answers) small h =
+    next x.greatest h.0.greatest y.greatest (now_of event) (latest events) t.ahead (step_is_bounded t x h.0 event answer small.0 h.1) (runs_are_bounded t h.0 y events answers small.1 h.2)
+runs_are_bounded t x y [] (answer ∷ answers) small h = absurd h
+runs_are_bounded t x y (event ∷ events) [] small h = absurd h

@@ -1,0 +1,51 @@
+-- How far ahead of its calls a validator's record can get.
+use Rattle.std.specs.Prelude.{ℕ, ◌<◌, ◌≤◌, ◌^◌, max, List, [], ◌∷◌, Result}
+use Rattle.std.specs.List.{AllByRecursion}
+use Rattle.svid_token.specs.declared.refusal.Refusal.{Refusal}
+use Rattle.svid_replay.specs.Batches.{BatchData}
+use Rattle.svid_replay.specs.Records.{State}
+use Rattle.svid_check.specs.declared.accepted.Accepted.{Accepted}
+use Rattle.svid_check.specs.declared.answer.Answer.{Answer}
+use Rattle.svid_check.specs.declared.event.Event.{Event}
+use Rattle.svid_check.specs.declared.event.Event.TheVariants.{Check, Tick, Take}
+use Rattle.svid_check.specs.declared.take_fault.TakeFault.{TakeFault}
+use Rattle.svid_check.specs.Changes.{Takes, horizon, raised, settled}
+use Rattle.svid_check.specs.Runs.{Runs, Terms}
+use Rattle.svid_check.specs.Told.{Told}
+
+-- the greater of a moment and the horizon
+abbrev pub reach : ℕ → ℕ → ℕ → ℕ
+reach moment now ahead = max moment (horizon now ahead)
+
+-- the moment of an event
+abbrev pub now_of : Event → ℕ
+now_of (Check now token) = now
+now_of (Tick now) = now
+now_of (Take now batch) = now
+
+-- the greatest moment of events, 0 for none
+abbrev pub latest : List Event → ℕ
+latest [] = 0
+latest (event ∷ events) = max (now_of event) (latest events)
+
+-- each event has a moment
+abbrev pub AreMoments : List Event → Type 0
+AreMoments events = AllByRecursion (λ event. now_of event < 2 ^ 64) events
+
+-- whatever it answers, a check leaves the record within its reach
+abbrev pub ChecksAreBounded : Type 0
+ChecksAreBounded = (x : State) (now ahead : ℕ) (answer : Result Accepted Refusal) → now < 2 ^ 64 → (settled (raised x now) answer).moment ≤ reach x.moment now ahead
+
+-- so does a tick
+abbrev pub TicksAreBounded : Type 0
+TicksAreBounded = (x : State) (now ahead : ℕ) → now < 2 ^ 64 → (raised x now).moment ≤ reach x.moment now ahead
+
+-- and a take
+abbrev pub TakesAreBounded : Type 0
+TakesAreBounded = (x y : State) (now ahead : ℕ) (b : BatchData) (answer : Result (Unit {0}) TakeFault) → now < 2 ^ 64
+    → Takes (raised x now) (horizon now ahead) b answer y → y.moment ≤ reach x.moment now ahead
+
+-- and a run, of its latest event
+abbrev pub RunsAreBounded : Type 0
+RunsAreBounded = (t : Terms) (x y : Told) (events : List Event) (answers : List Answer) → AreMoments events
+    → Runs t x events answers y → y.greatest ≤ reach x.greatest (latest events) t.ahead

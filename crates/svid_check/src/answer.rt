@@ -1,0 +1,14 @@
+use crate::accepted::Accepted;
+use crate::take_fault::TakeFault;
+use svid_token::Refusal;
+
+/// What a validator answers to an event.
+#[derive(Debug, Drop)]
+pub enum Answer {
+    /// To a check.
+    Checked(Result<Accepted, Refusal>),
+    /// To a tick.
+    Ticked,
+    /// To a take.
+    Taken(Result<(), TakeFault>),
+}

@@ -1,0 +1,25 @@
+use svid_replay::Batch;
+
+/// A call of a validator, as a part of a run.
+#[derive(Clone, Copy, Debug)]
+pub enum Event<'a> {
+    /// [`Validator::check`](crate::Validator::check).
+    Check {
+        /// The moment, in seconds.
+        now: u64,
+        /// The token.
+        token: &'a [u8],
+    },
+    /// [`Validator::tick`](crate::Validator::tick).
+    Tick {
+        /// The moment, in seconds.
+        now: u64,
+    },
+    /// [`Validator::take`](crate::Validator::take).
+    Take {
+        /// The moment, in seconds.
+        now: u64,
+        /// The batch.
+        batch: &'a Batch,
+    },
+}
