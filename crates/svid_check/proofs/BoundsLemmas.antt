@@ -58,7 +58,7 @@ checks_are_bounded x now ahead (Err refusal) small = ticks_are_bounded x now ahe
 within : (x : State) (now ahead moment : ℕ) (y b : State) → now < 2 ^ 64 → b.moment ≤ horizon now ahead → y ≡ join (raised x now) b → y.moment ≤ reach x.moment now ahead
 within x now ahead moment y b small far is =
     let moments : y.moment ≡ max (max x.moment now) b.moment =
-        ap (λ (r : State). r.moment) is ∙ moment-join (raised x now) b ∙ ap (λ n. max n b.moment) (moment-join x (state_of now [])) in
+    ap (λ (r : State). r.moment) is ∙ moment-join (raised x now) b ∙ ap (λ n. max n b.moment) (moment-join x (state_of now [])) in
     subst (λ n. n ≤ reach x.moment now ahead) (sym moments) (at_batch x.moment now b.moment ahead small far)
 
 pub takes_are_bounded : TakesAreBounded

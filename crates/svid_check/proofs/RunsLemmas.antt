@@ -70,10 +70,11 @@ pub checks : (t : Terms) (a b : State) (now : ℕ) (event : Event) (answer : Res
     → RunsFrom t a (event ∷ []) (Checked answer ∷ []) b
 checks t a b now event answer token due left step x is =
     let y = tell_now x now in
-    let told = told_now x a now is in
-    (tell_use y answer,
-     (tell_use y answer, step x (subst (λ (r : State). Answers Some answer (verdict t.setting r.moment r.uses token)) (sym told) due), refl),
-     told_use y answer ∙ ap (λ (r : State). settled r answer) told ∙ sym left)
+    let told = told_now x a now is in (
+      tell_use y answer,
+      (tell_use y answer, step x (subst (λ (r : State). Answers Some answer (verdict t.setting r.moment r.uses token)) (sym told) due), refl),
+      told_use y answer ∙ ap (λ (r : State). settled r answer) told ∙ sym left,
+    )
 
 -- a tick
 pub ticks : (t : Terms) (a b : State) (now : ℕ) (event : Event) → b ≡ raised a now
@@ -88,18 +89,22 @@ told_batch x a b far batch (Err TooFarAhead) is h = (x, (h.0, refl), is ∙ sym 
 told_batch x a b far batch (Err OutOfMemory) is h =
     let part = h.1 in
     let y = tell x (state_of batch.moment part.front) in
-    let left : record_of y ≡ b = told_all x (state_of batch.moment part.front) ∙ ap (λ (r : State). join r (state_of batch.moment part.front)) is ∙ sym part.joined in
-    (y,
-     (h.0, record {
-       front = part.front;
-       refused = part.refused;
-       rest = part.rest;
-       parts = part.parts;
-       told = refl;
-       live = subst (λ (r : State). r.moment < part.refused.exp) (sym left) part.live;
-       absent = ap (λ (r : State). holds r.uses part.refused) left ∙ part.absent;
-     }),
-     left)
+    let left : record_of y ≡ b = told_all x (state_of batch.moment part.front) ∙ ap (λ (r : State). join r (state_of batch.moment part.front)) is ∙ sym part.joined in (
+      y,
+      (
+        h.0,
+        record {
+          front = part.front;
+          refused = part.refused;
+          rest = part.rest;
+          parts = part.parts;
+          told = refl;
+          live = subst (λ (r : State). r.moment < part.refused.exp) (sym left) part.live;
+          absent = ap (λ (r : State). holds r.uses part.refused) left ∙ part.absent;
+        },
+      ),
+      left,
+    )
 
 pub takes : (t : Terms) (a b : State) (now : ℕ) (event : Event) (batch : BatchData) (answer : Result (Unit {0}) TakeFault)
     → Takes (raised a now) (horizon now t.ahead) batch answer b
@@ -137,14 +142,15 @@ has_run_more t s a b c events i event answer old new newer same within is h item
       answers = h.answers ++ answer ∷ [];
       added = items ∙ ap (λ l. l ++ answer ∷ []) h.added ∙ append_assoc old h.answers (answer ∷ []);
       run = λ x told.
-        let first = h.run x told in
-        let last = next first.0 first.2 in
-        (last.0, runs_on t (take i events) (event ∷ []) h.answers (answer ∷ []) x first.0 last.0 first.1 last.1, last.2);
+          let first = h.run x told in
+          let last = next first.0 first.2 in
+          (last.0, runs_on t (take i events) (event ∷ []) h.answers (answer ∷ []) x first.0 last.0 first.1 last.1, last.2);
     })
 
 pub has_run_all : (t : Terms) (a b : State) (events : List Event) (i : ℕ) (old new : List Answer) → length events ≤ i → HasRun t a b (take i events) old new
     → RunsFrom t a events (drop (length old) new) b × (take (length old) new ≡ old)
-has_run_all t a b events i old new past h =
-    (subst (λ (es : List Event). RunsFrom t a es (drop (length old) new) b) (take_all i events past)
-     (subst (λ (l : List Answer). RunsFrom t a (take i events) l b) (sym (ap (λ l. drop (length old) l) h.added ∙ drop-append_seam old h.answers)) h.run),
-     ap (λ l. take (length old) l) h.added ∙ take-append_seam old h.answers)
+has_run_all t a b events i old new past h = (
+  subst (λ (es : List Event). RunsFrom t a es (drop (length old) new) b) (take_all i events past)
+      (subst (λ (l : List Answer). RunsFrom t a (take i events) l b) (sym (ap (λ l. drop (length old) l) h.added ∙ drop-append_seam old h.answers)) h.run),
+  ap (λ l. take (length old) l) h.added ∙ take-append_seam old h.answers,
+)

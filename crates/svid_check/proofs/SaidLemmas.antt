@@ -125,6 +125,7 @@ unrefused_is_said token none = by_parts (parts_of token) (there (parts_of token)
   where
     both : (first_row (compact_rows token) ≡ None) × (first_row (rows_if_three (parts_of token)) ≡ None)
     both = none_of_both (compact_rows token) (rows_if_three (parts_of token)) none
+
     by_parts : (parts : Option Parts) → IsSome parts → first_row (rows_if_three parts) ≡ None → IsSome (option_and_then parts_say parts)
     by_parts None is rest = is
     by_parts (Some p) is rest = parts_there p rest

@@ -30,6 +30,7 @@ pub mod laws;
 mod reading;
 mod run;
 mod take_fault;
+mod taking;
 #[cfg(test)]
 mod tests;
 mod validator;

@@ -42,11 +42,7 @@ impl<V: Verifier, S: UseStore> Validator<V, S> {
     ///
     /// The room for the answers is made first: where that is refused, nothing has changed. Where memory
     /// is refused inside an event, its answer says so and the run goes on.
-    pub fn run(
-        &mut self,
-        events: &[Event<'_>],
-        answers: &mut Vec<Answer>,
-    ) -> Result<(), AllocError>
+    pub fn run(&mut self, events: &[Event<'_>], answers: &mut Vec<Answer>) -> Result<(), AllocError>
         ensures ran { OnOk result (RunsFrom (terms_of V.says self.old) self.old.state events.now (drop (length answers.old.items) answers.new.items) self.new.state) }
         ensures kept { OnOk result (take (length answers.old.items) answers.new.items ≡ answers.old.items) }
         ensures rest { self.new ≡ with_state self.old self.new.state }

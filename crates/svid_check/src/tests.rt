@@ -5,14 +5,16 @@ mod acceptances;
 mod keys;
 mod refusals;
 mod refusing;
+mod runs;
 mod sweep;
+mod taking;
 
 use crate::Validator;
 use base64::engine::general_purpose::URL_SAFE_NO_PAD;
 use std::alloc::{AllocError, Global};
 use std::test::Fail;
 use svid_keys::{Bundles, JwtKey, Verifier};
-use svid_replay::{Record, SortedUses};
+use svid_replay::{IndexedUses, Record, SortedUses};
 use svid_token::Alg;
 
 const HEADER: &str = "{\"alg\":\"ES256\",\"kid\":\"k01\",\"typ\":\"JWT\"}";
@@ -92,4 +94,17 @@ fn validator_of<V: Verifier + Drop>(
 // A validator with the audience `s`, one key and an empty record.
 fn validator(alloc: Global) -> Result<Validator<Sig, SortedUses>, Fail> {
     validator_of(alloc, &["s"], ONE_KEY, Sig)
+}
+
+// One of several validators that share their records, each with a place of its own; with the audience
+// `s`, one key and an empty record.
+fn sharing(
+    alloc: Global,
+    place: [u8; 16],
+    ahead: u64,
+) -> Result<Validator<Sig, IndexedUses>, Fail> {
+    let own = vec![in alloc; String::from_str(alloc, "s")?]?;
+    let bundles = Bundles::read(alloc, ONE_KEY)?;
+    let record = Record::new(IndexedUses::new(alloc));
+    Ok(Validator::new(alloc, own, place, ahead, bundles, Sig, record))
 }

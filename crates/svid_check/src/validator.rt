@@ -1,21 +1,19 @@
-ghost use Rattle.std.specs.Prelude.{◌≡◌, ◌≢◌, ◌<◌, ◌≤◌, Err, Some, IfOk, map, string_bytes};
+ghost use Rattle.std.specs.Prelude.{◌≡◌, ◌<◌, ◌≤◌, Err, Some, IfOk, map, string_bytes};
 ghost use Rattle.svid_token.specs.Compact.{compact_rows};
 ghost use Rattle.svid_token.specs.Rows.{Answers, first_row};
-ghost use Rattle.svid_replay.specs.Records.{HasNoNew, IsRecord};
-ghost use Rattle.svid_check.specs.Changes.{Takes, horizon, raised, settled};
+ghost use Rattle.svid_replay.specs.Records.{IsRecord};
+ghost use Rattle.svid_check.specs.Changes.{raised, settled};
 ghost use Rattle.svid_check.specs.Setting.{given_setting, setting_of, with_state};
 ghost use Rattle.svid_check.specs.Verdict.{verdict};
-ghost use Rattle.svid_check.specs.declared.take_fault.TakeFault.TheVariants.{OutOfMemory};
 
 use crate::accepted::Accepted;
 use crate::given::Given;
 use crate::judging::refusal;
 use crate::reading::Reading;
-use crate::take_fault::TakeFault;
 use std::alloc::Global;
 use std::marker::Model;
 use svid_keys::{Bundles, Verifier};
-use svid_replay::{Batch, Record, Use, UseStore};
+use svid_replay::{Record, Use, UseStore};
 use svid_token::{Claims, Refusal};
 
 /// What checks tokens: its own audiences, its place, trust bundles, a verifier of signatures, and the
@@ -25,8 +23,8 @@ use svid_token::{Claims, Refusal};
 #[derive(Drop)]
 pub struct Validator<V: Verifier, S: UseStore> {
     alloc: Global,
-    given: Given<V>,
-    replay: Record<S>,
+    pub(crate) given: Given<V>,
+    pub(crate) replay: Record<S>,
 }
 
 impl<V: Verifier, S: UseStore> Model for Validator<V, S> {
@@ -108,35 +106,6 @@ impl<V: Verifier, S: UseStore> Validator<V, S> {
             Ok(()) => Ok(accepted),
             Err(_) => Err(Refusal::OutOfMemory),
         }
-    }
-
-    /// Raises the record to a moment, in seconds. No memory is taken.
-    pub fn tick(&mut self, now: u64)
-        ensures { self.new ≡ with_state self.old (raised self.old.state now) }
-    {
-        self.replay.raise(now);
-    }
-
-    /// Takes a batch that another validator sent, at a moment, in seconds.
-    ///
-    /// The record is raised to the moment first, whatever the answer is. A batch whose own moment lies
-    /// more than `ahead` seconds past it (their sum held at 2^64-1) is answered `TooFarAhead`, and nothing
-    /// of it is joined; any other is joined. Where memory is refused, the batch's moment and the uses in
-    /// front of one that is new are joined; where no use is new and live, no memory is taken.
-    pub fn take(&mut self, now: u64, batch: &Batch) -> Result<(), TakeFault>
-        ensures taken { Takes (raised self.old.state now) (horizon now self.old.ahead) batch.now result self.new.state }
-        ensures rest { self.new ≡ with_state self.old self.new.state }
-        ensures nothing_new { HasNoNew (raised self.old.state now) batch.now.moment batch.now.uses
-            → result ≢ Err OutOfMemory }
-    {
-        self.replay.raise(now);
-        if batch.moment() > now.saturating_add(self.given.ahead) {
-            return Err(TakeFault::TooFarAhead);
-        }
-        if let Err(_) = self.replay.absorb(batch) {
-            return Err(TakeFault::OutOfMemory);
-        }
-        Ok(())
     }
 }
 

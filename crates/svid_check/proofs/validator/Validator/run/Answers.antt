@@ -10,12 +10,13 @@ loop-event-init g c =
 
 pub loop-event-preserved : goal.loop-event-preserved
 loop-event-preserved g c =
-    let inv = c.loop-event.invariant in
-    (has_run_more (terms_of g.V.Verifier.says c.args.self.now) (terms_of g.V.Verifier.says c.loop-event.self) c.args.self.now.state c.loop-event.self.state c.step-answer.new.self.state
-      c.args.events.now c.loop-event.event-index c.event-item.result c.step-answer.result c.args.answers.now.items c.loop-event.answers.items c.put.new.answers.items
-      (ap (terms_of g.V.Verifier.says) inv.1) c.loop-event-test.true c.event-item.is inv.0 c.put.ensures.items c.step-answer.ensures.step,
-     c.step-answer.ensures.rest ∙ ap (λ h. with_state h c.step-answer.new.self.state) inv.1,
-     let room = inv.2 in let len = c.put.ensures.len in let capacity = c.put.ensures.capacity in omega arith)
+    let inv = c.loop-event.invariant in (
+      has_run_more (terms_of g.V.Verifier.says c.args.self.now) (terms_of g.V.Verifier.says c.loop-event.self) c.args.self.now.state c.loop-event.self.state c.step-answer.new.self.state
+          c.args.events.now c.loop-event.event-index c.event-item.result c.step-answer.result c.args.answers.now.items c.loop-event.answers.items c.put.new.answers.items
+          (ap (terms_of g.V.Verifier.says) inv.1) c.loop-event-test.true c.event-item.is inv.0 c.put.ensures.items c.step-answer.ensures.step,
+      c.step-answer.ensures.rest ∙ ap (λ h. with_state h c.step-answer.new.self.state) inv.1,
+      let room = inv.2 in let len = c.put.ensures.len in let capacity = c.put.ensures.capacity in omega arith,
+    )
 
 pub returns-clause-ran : goal.returns-clause-ran
 returns-clause-ran g c = (has_run_all (terms_of g.V.Verifier.says c.args.self.now) c.args.self.now.state c.loop-event.self.state c.args.events.now c.loop-event.event-index c.args.answers.now.items c.loop-event.answers.items c.loop-event-test.false c.loop-event.invariant.0).0
