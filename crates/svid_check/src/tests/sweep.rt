@@ -172,15 +172,21 @@ fn a_run_tells_want_of_memory(rt: HostRuntime) -> Result<(), Fail> {
     let alloc = rt.alloc();
     let token = signed(alloc, PAYLOAD)?;
     let batch = batch_of(alloc, 100)?;
-    let check = Event::Check {
-        now: 1000,
-        token: token.as_bytes(),
-    };
-    let take = Event::Take {
-        now: 4990,
-        batch: &batch,
-    };
-    let events = [check, check, take, Event::Tick { now: 5001 }];
+    let events = [
+        Event::Check {
+            now: 1000,
+            token: token.as_bytes(),
+        },
+        Event::Check {
+            now: 1000,
+            token: token.as_bytes(),
+        },
+        Event::Take {
+            now: 4990,
+            batch: &batch,
+        },
+        Event::Tick { now: 5001 },
+    ];
     let mut refused = true;
     for nth in 1..MOST_ALLOCATIONS {
         let mut v = sharing(alloc, PLACE, 10)?;
