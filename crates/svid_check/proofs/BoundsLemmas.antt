@@ -55,16 +55,16 @@ checks_are_bounded x now ahead (Ok accepted) small = subst (λ n. n ≤ reach x.
 checks_are_bounded x now ahead (Err refusal) small = ticks_are_bounded x now ahead small
 
 -- a join with what lies within the horizon
-within : (x : State) (now ahead moment : ℕ) (y b : State) → now < 2 ^ 64 → b.moment ≤ horizon now ahead → y ≡ join (raised x now) b → y.moment ≤ reach x.moment now ahead
-within x now ahead moment y b small far is =
+within : (x y b : State) (now ahead : ℕ) → now < 2 ^ 64 → b.moment ≤ horizon now ahead → y ≡ join (raised x now) b → y.moment ≤ reach x.moment now ahead
+within x y b now ahead small far is =
     let moments : y.moment ≡ max (max x.moment now) b.moment =
     ap (λ (r : State). r.moment) is ∙ moment-join (raised x now) b ∙ ap (λ n. max n b.moment) (moment-join x (state_of now [])) in
     subst (λ n. n ≤ reach x.moment now ahead) (sym moments) (at_batch x.moment now b.moment ahead small far)
 
 pub takes_are_bounded : TakesAreBounded
-takes_are_bounded x y now ahead b (Ok taken) small h = within x now ahead b.moment y (batch_state b) small h.0 h.1
+takes_are_bounded x y now ahead b (Ok taken) small h = within x y (batch_state b) now ahead small h.0 h.1
 takes_are_bounded x y now ahead b (Err TooFarAhead) small h = subst (λ (r : State). r.moment ≤ reach x.moment now ahead) (sym h.1) (ticks_are_bounded x now ahead small)
-takes_are_bounded x y now ahead b (Err OutOfMemory) small h = within x now ahead b.moment y (state_of b.moment h.1.front) small h.0 h.1.joined
+takes_are_bounded x y now ahead b (Err OutOfMemory) small h = within x y (state_of b.moment h.1.front) now ahead small h.0 h.1.joined
 
 told_check : (x : Told) (now ahead : ℕ) (answer : Result Accepted Refusal) → now < 2 ^ 64 → (tell_use (tell_now x now) answer).greatest ≤ reach x.greatest now ahead
 told_check x now ahead (Ok accepted) small = at_now x.greatest now ahead small

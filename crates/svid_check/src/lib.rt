@@ -3,7 +3,9 @@
 //! A [`Validator`] is given its own audiences, its place, trust bundles, a verifier of signatures and
 //! the record of the tokens that were used. [`Validator::check`] answers for a token at a moment that
 //! is handed in: no clock is looked at. An accepted token is added to the record, so that it is
-//! refused as `Replayed` from then on, and the record can be told to other validators.
+//! refused as `Replayed` from then on, and the record can be told to other validators: they take its
+//! parts by [`Validator::take`], as far as these lie at most so many seconds ahead of the moment of the
+//! call. [`Validator::run`] makes a list of such calls.
 //!
 //! ```rust
 //! use svid_check::Validator;
@@ -17,6 +19,9 @@
 //! match validator.check(now, token) {
 //!     Ok(accepted) => println!(rt; "{}", accepted.id.as_str())?,
 //!     Err(refusal) => println!(rt; "{refusal}")?,
+//! }
+//! for batch in &other.replay().parts(alloc)? {
+//!     validator.take(now, batch)?;
 //! }
 //! ```
 #![tactic(auto)]

@@ -167,26 +167,24 @@ fn assert_run(
     assert_eq!(rt; v.replay().moment(), 5001);
 }
 
+// Two checks of a token, a take and a tick.
+fn events_of<'a>(token: &'a str, batch: &'a Batch) -> [Event<'a>; 4] {
+    let now = 1000;
+    let token = token.as_bytes();
+    [
+        Event::Check { now, token },
+        Event::Check { now, token },
+        Event::Take { now: 4990, batch },
+        Event::Tick { now: 5001 },
+    ]
+}
+
 #[test]
 fn a_run_tells_want_of_memory(rt: HostRuntime) -> Result<(), Fail> {
     let alloc = rt.alloc();
     let token = signed(alloc, PAYLOAD)?;
     let batch = batch_of(alloc, 100)?;
-    let events = [
-        Event::Check {
-            now: 1000,
-            token: token.as_bytes(),
-        },
-        Event::Check {
-            now: 1000,
-            token: token.as_bytes(),
-        },
-        Event::Take {
-            now: 4990,
-            batch: &batch,
-        },
-        Event::Tick { now: 5001 },
-    ];
+    let events = events_of(token.as_str(), &batch);
     let mut refused = true;
     for nth in 1..MOST_ALLOCATIONS {
         let mut v = sharing(alloc, PLACE, 10)?;

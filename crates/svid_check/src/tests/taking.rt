@@ -1,28 +1,40 @@
-use super::{KEY, PAYLOAD, PLACE, sharing, signed};
-use crate::TakeFault;
+use super::{PAYLOAD, PLACE, Sig, sharing, signed};
+use crate::{TakeFault, Validator};
 use std::alloc::Global;
 use std::process::Abort;
 use std::test::Fail;
-use svid_replay::{Batch, Use};
+use svid_replay::{Batch, IndexedUses, Use};
 use svid_token::Refusal;
 
 const LAST: u64 = 18446744073709551615;
 
 // Two uses of one key, as two other validators make them.
-const TWO: [Use; 2] = [
-    Use {
-        exp: 101,
-        key: [0x11; 32],
-        place: [0x22; 16],
-        at: 99,
-    },
-    Use {
-        exp: 101,
-        key: [0x11; 32],
-        place: [0x33; 16],
-        at: 100,
-    },
-];
+const FIRST: Use = Use {
+    exp: 101,
+    key: [0x11; 32],
+    place: [0x22; 16],
+    at: 99,
+};
+
+const SECOND: Use = Use {
+    exp: 101,
+    key: [0x11; 32],
+    place: [0x33; 16],
+    at: 100,
+};
+
+// A validator's record has this moment and these uses.
+fn assert_record(
+    rt: &impl Abort,
+    alloc: Global,
+    v: &Validator<Sig, IndexedUses>,
+    moment: u64,
+    uses: &[Use],
+) -> Result<(), Fail> {
+    assert_eq!(rt; v.replay().moment(), moment);
+    assert_eq!(rt; v.replay().uses(alloc)?.as_slice(), uses);
+    Ok(())
+}
 
 // The batch of a moment and a use that expires a second later, where there is a later second.
 fn batch_of(alloc: Global, moment: u64) -> Result<Batch, Fail> {
@@ -107,19 +119,27 @@ fn a_record_that_is_ahead_moves_no_horizon(rt: HostRuntime) -> Result<(), Fail> 
 #[test]
 fn takes_what_it_does_not_have(rt: HostRuntime) -> Result<(), Fail> {
     let alloc = rt.alloc();
-    let batch = Batch::make(100, TWO.as_slice().to_vec(alloc)?)?;
+    let mut uses = Vec::new(alloc);
+    uses.push(FIRST)?;
+    uses.push(SECOND)?;
+    let batch = Batch::make(100, uses)?;
     let mut v = sharing(alloc, PLACE, 10)?;
-    for _ in 0..2 {
-        v.take(100, &batch)?;
-        assert_eq!(rt; v.replay().moment(), 100);
-        assert_eq!(rt; v.replay().uses(alloc)?.as_slice(), TWO.as_slice());
-    }
-    v.tick(101);
-    assert_eq!(rt; v.replay().moment(), 101);
-    assert_eq!(rt; v.replay().len(), 0);
+    v.take(100, &batch)?;
+    assert_record(&rt, alloc, &v, 100, batch.uses())?;
+    v.take(100, &batch)?;
+    assert_record(&rt, alloc, &v, 100, batch.uses())
+}
+
+#[test]
+fn a_tick_raises_the_record(rt: HostRuntime) -> Result<(), Fail> {
+    let alloc = rt.alloc();
+    let mut v = sharing(alloc, PLACE, 10)?;
+    let batch = batch_of(alloc, 100)?;
+    v.take(100, &batch)?;
     v.tick(50);
-    assert_eq!(rt; v.replay().moment(), 101);
-    Ok(())
+    assert_record(&rt, alloc, &v, 100, batch.uses())?;
+    v.tick(101);
+    assert_record(&rt, alloc, &v, 101, &[])
 }
 
 // A batch that is ahead of the clock raises the record, and a token expires by it.
@@ -127,15 +147,26 @@ fn takes_what_it_does_not_have(rt: HostRuntime) -> Result<(), Fail> {
 fn a_batch_raises_the_record(rt: HostRuntime) -> Result<(), Fail> {
     let alloc = rt.alloc();
     let token = signed(alloc, PAYLOAD)?;
+    let ahead = Batch::make(1001, Vec::new(alloc))?;
     let mut v = sharing(alloc, PLACE, 10)?;
     v.check(1000, token.as_bytes())?;
-    v.take(1000, &Batch::make(1001, Vec::new(alloc))?)?;
-    assert_eq!(rt; v.replay().moment(), 1001);
-    assert_eq!(rt; v.replay().len(), 0);
-    assert_eq!(rt;
-        v.check(1000, token.as_bytes()).err(),
-        Some(Refusal::Expired)
-    );
+    v.take(1000, &ahead)?;
+    assert_record(&rt, alloc, &v, 1001, &[])?;
+    let answer = v.check(1000, token.as_bytes());
+    assert_eq!(rt; answer.err(), Some(Refusal::Expired));
+    Ok(())
+}
+
+// Gives all parts of one validator's record to another.
+fn pass_on(
+    alloc: Global,
+    from: &Validator<Sig, IndexedUses>,
+    to: &mut Validator<Sig, IndexedUses>,
+) -> Result<(), Fail> {
+    let parts = from.replay().parts(alloc)?;
+    for batch in &parts {
+        to.take(1000, batch)?;
+    }
     Ok(())
 }
 
@@ -147,24 +178,11 @@ fn an_acceptance_is_passed_along_twice(rt: HostRuntime) -> Result<(), Fail> {
     let mut first = sharing(alloc, PLACE, 10)?;
     let mut second = sharing(alloc, [0xBB; 16], 10)?;
     let mut third = sharing(alloc, [0xCC; 16], 10)?;
-    first.check(1000, token.as_bytes())?;
-    for batch in &first.replay().parts(alloc)? {
-        second.take(1000, batch)?;
-    }
-    for batch in &second.replay().parts(alloc)? {
-        third.take(1000, batch)?;
-    }
-    assert_eq!(rt;
-        third.check(1000, token.as_bytes()).err(),
-        Some(Refusal::Replayed)
-    );
+    let accepted = first.check(1000, token.as_bytes())?;
+    pass_on(alloc, &first, &mut second)?;
+    pass_on(alloc, &second, &mut third)?;
+    let answer = third.check(1000, token.as_bytes());
+    assert_eq!(rt; answer.err(), Some(Refusal::Replayed));
     assert_eq!(rt; third.replay().report(alloc)?.len(), 0);
-    let used = Use {
-        exp: 1001,
-        key: KEY,
-        place: PLACE,
-        at: 1000,
-    };
-    assert_eq!(rt; third.replay().uses(alloc)?.as_slice(), [used].as_slice());
-    Ok(())
+    assert_record(&rt, alloc, &third, 1000, &[accepted.used])
 }
