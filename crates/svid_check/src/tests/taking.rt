@@ -36,6 +36,10 @@ fn assert_record(
     Ok(())
 }
 
+fn batch_with(alloc: Global, moment: u64, uses: &[Use]) -> Result<Batch, Fail> {
+    Ok(Batch::make(moment, uses.to_vec(alloc)?)?)
+}
+
 // The batch of a moment and a use that expires a second later, where there is a later second.
 fn batch_of(alloc: Global, moment: u64) -> Result<Batch, Fail> {
     let mut uses = Vec::new(alloc);
@@ -119,10 +123,7 @@ fn a_record_that_is_ahead_moves_no_horizon(rt: HostRuntime) -> Result<(), Fail> 
 #[test]
 fn takes_what_it_does_not_have(rt: HostRuntime) -> Result<(), Fail> {
     let alloc = rt.alloc();
-    let mut uses = Vec::new(alloc);
-    uses.push(FIRST)?;
-    uses.push(SECOND)?;
-    let batch = Batch::make(100, uses)?;
+    let batch = batch_with(alloc, 100, &[FIRST, SECOND])?;
     let mut v = sharing(alloc, PLACE, 10)?;
     v.take(100, &batch)?;
     assert_record(&rt, alloc, &v, 100, batch.uses())?;
