@@ -10,11 +10,11 @@
 //! ```rust
 //! use svid_check::Validator;
 //! use svid_keys::{Bundles, TableVerifier};
-//! use svid_replay::{Record, SortedUses};
+//! use svid_replay::{IndexedUses, Record};
 //!
 //! let bundles = Bundles::read(alloc, bundles_json)?;
 //! let verifier = TableVerifier::read(alloc, table_text)?;
-//! let record = Record::new(SortedUses::new(alloc));
+//! let record = Record::new(IndexedUses::new(alloc));
 //! let mut validator = Validator::new(alloc, audiences, place, 10, bundles, verifier, record);
 //! match validator.check(now, token) {
 //!     Ok(accepted) => println!(rt; "{}", accepted.id.as_str())?,

@@ -14,7 +14,7 @@ use base64::engine::general_purpose::URL_SAFE_NO_PAD;
 use std::alloc::{AllocError, Global};
 use std::test::Fail;
 use svid_keys::{Bundles, JwtKey, Verifier};
-use svid_replay::{IndexedUses, Record, SortedUses};
+use svid_replay::{IndexedUses, Record};
 use svid_token::Alg;
 
 const HEADER: &str = "{\"alg\":\"ES256\",\"kid\":\"k01\",\"typ\":\"JWT\"}";
@@ -81,18 +81,18 @@ fn validator_of<V: Verifier + Drop>(
     own: &[&str],
     bundles: &[u8],
     verifier: V,
-) -> Result<Validator<V, SortedUses>, Fail> {
+) -> Result<Validator<V, IndexedUses>, Fail> {
     let mut names = Vec::new(alloc);
     for name in own {
         names.push(String::from_str(alloc, name)?)?;
     }
     let bundles = Bundles::read(alloc, bundles)?;
-    let record = Record::new(SortedUses::new(alloc));
+    let record = Record::new(IndexedUses::new(alloc));
     Ok(Validator::new(alloc, names, PLACE, 10, bundles, verifier, record))
 }
 
 // A validator with the audience `s`, one key and an empty record.
-fn validator(alloc: Global) -> Result<Validator<Sig, SortedUses>, Fail> {
+fn validator(alloc: Global) -> Result<Validator<Sig, IndexedUses>, Fail> {
     validator_of(alloc, &["s"], ONE_KEY, Sig)
 }
 

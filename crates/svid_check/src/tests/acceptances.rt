@@ -5,7 +5,7 @@ use super::{
 use crate::Validator;
 use std::test::Fail;
 use svid_keys::{Bundles, JwtKey, Verifier};
-use svid_replay::{Record, SortedUses, Use};
+use svid_replay::{IndexedUses, Record, Use};
 use svid_token::{Alg, Refusal};
 
 // Digests of the byte 00 and the signing input.
@@ -171,7 +171,7 @@ fn begins_with_the_record_that_it_is_given(rt: HostRuntime) -> Result<(), Fail> 
         place: [0xBB; 16],
         at: 400,
     };
-    let mut record = Record::new(SortedUses::new(alloc));
+    let mut record = Record::new(IndexedUses::new(alloc));
     record.raise(500);
     assert!(rt; held.at <= record.moment());
     assert!(rt; record.moment() < held.exp);

@@ -5,7 +5,7 @@ use crate::Validator;
 use std::process::Abort;
 use std::test::Fail;
 use svid_keys::Verifier;
-use svid_replay::{SortedUses, UseStore};
+use svid_replay::{IndexedUses, UseStore};
 use svid_token::Refusal;
 
 // A check is refused: the record is of its moment, and has so many uses.
