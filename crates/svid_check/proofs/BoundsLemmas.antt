@@ -1,10 +1,10 @@
 -- Where a run begins, and how far it can get.
-use Rattle.std.proofs.Common.{◌≡◌, ◌<◌, ◌≤◌, ◌+◌, ◌-◌, ◌^◌, ℕ, min, max, Bool, true, false, ◌&&◌, nat_lt, List, [], ◌∷◌, refl, sym, ap, ◌∙◌, subst, arith}
+use Rattle.std.proofs.Common.{◌≡◌, ◌<◌, ◌≤◌, ◌^◌, ℕ, max, Bool, true, false, ◌&&◌, nat_lt, [], ◌∷◌, refl, sym, ap, ◌∙◌, subst, arith}
 use Rattle.std.specs.Prelude.{Result, Ok, Err}
 use Rattle.std.proofs.lemmas.Bool.{lt-ltb}
 use Rattle.svid_token.specs.declared.refusal.Refusal.{Refusal}
 use Rattle.svid_replay.specs.Batches.{BatchData}
-use Rattle.svid_replay.specs.Records.{IsRecord, State, batch_state, join, state_of}
+use Rattle.svid_replay.specs.Records.{State, batch_state, join, state_of}
 use Rattle.svid_replay.specs.Sets.{holds}
 use Rattle.svid_replay.specs.Uses.{Uses, live}
 use Rattle.svid_replay.proofs.RecordsLemmas.{moment-join}
@@ -16,10 +16,10 @@ use Rattle.svid_check.specs.declared.event.Event.{Event}
 use Rattle.svid_check.specs.declared.event.Event.TheVariants.{Check, Tick, Take}
 use Rattle.svid_check.specs.declared.take_fault.TakeFault.{TakeFault}
 use Rattle.svid_check.specs.declared.take_fault.TakeFault.TheVariants.{TooFarAhead, OutOfMemory}
-use Rattle.svid_check.specs.Bounds.{AreMoments, ChecksAreBounded, RunsAreBounded, TakesAreBounded, TicksAreBounded, latest, now_of, reach}
-use Rattle.svid_check.specs.Changes.{Takes, horizon, raised, settled}
-use Rattle.svid_check.specs.Runs.{Runs, Step, Terms}
-use Rattle.svid_check.specs.Told.{BeginsAsGiven, TellsBatch, Told, record_of, tell, tell_now, tell_use}
+use Rattle.svid_check.specs.Bounds.{ChecksAreBounded, RunsAreBounded, TakesAreBounded, TicksAreBounded, latest, now_of, reach}
+use Rattle.svid_check.specs.Changes.{horizon, raised, settled}
+use Rattle.svid_check.specs.Runs.{Step, Terms}
+use Rattle.svid_check.specs.Told.{BeginsAsGiven, TellsBatch, Told, tell_now, tell_use}
 
 held_live : (lives held : Bool) → (held ≡ true → lives ≡ true) → (lives && held) ≡ held
 held_live true held so = refl

@@ -1,8 +1,8 @@
 -- The verdict, one table after the other.
-use Rattle.std.proofs.Common.{◌≡◌, ◌≢◌, ◌<◌, ℕ, Bool, true, false, List, [], ◌∷◌, ◌++◌, take, drop, Option, Some, None, refl, sym, ap, ◌∙◌, if◌then◌else◌}
-use Rattle.std.specs.Prelude.{IsSome, Result, Ok, Err, option_map, not, nat_lt}
+use Rattle.std.proofs.Common.{◌≡◌, ◌≢◌, ◌<◌, ℕ, Bool, true, false, List, take, drop, Option, Some, None, refl, ap, ◌∙◌}
+use Rattle.std.specs.Prelude.{IsSome, Ok, option_map, not, nat_lt}
 use Rattle.std.proofs.lemmas.Bool.{false≢true, ltb-true}
-use Rattle.svid_token.specs.Rows.{Row, Refuses, first_row, judged}
+use Rattle.svid_token.specs.Rows.{Row, Refuses, first_row}
 use Rattle.svid_token.specs.declared.refusal.Refusal.{Refusal}
 use Rattle.svid_token.specs.declared.refusal.Refusal.TheVariants.{Replayed}
 use Rattle.svid_replay.specs.Uses.{Uses, has_use_of}

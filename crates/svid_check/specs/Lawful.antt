@@ -1,7 +1,6 @@
 -- What a group of validators needs of their verdicts.
-use Rattle.std.specs.Prelude.{◌≡◌, ◌≢◌, ℕ, ◌<◌, ◌^◌, List, IsTrue, Option, Some, None, option_map, Result, Ok, Err}
+use Rattle.std.specs.Prelude.{◌≡◌, ◌≢◌, ℕ, ◌<◌, ◌^◌, List, IsTrue, Option, Some, option_map, Ok}
 use Rattle.svid_token.specs.Compact.{parts_of, signing_input}
-use Rattle.svid_token.specs.declared.refusal.Refusal.{Refusal}
 use Rattle.svid_replay.specs.declared.token_use.Use.{Use}
 use Rattle.svid_replay.specs.Sets.{holds}
 use Rattle.svid_replay.specs.Use.{IsBytes, IsUse}

@@ -1,4 +1,4 @@
-use Rattle.std.proofs.Common.{◌≡◌, ◌≤◌, length}
+use Rattle.std.proofs.Common.{◌≡◌}
 use Rattle.std.specs.List.{list_any}
 use Rattle.svid_keys.specs.Candidates.{candidates_left}
 use Rattle.svid_check.specs.Said.{said_in}

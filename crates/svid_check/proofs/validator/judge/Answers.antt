@@ -1,4 +1,4 @@
-use Rattle.std.proofs.Common.{◌≡◌, ◌≤◌, Ok, Some, sym, ◌∙◌, arith}
+use Rattle.std.proofs.Common.{Ok, Some, sym, ◌∙◌}
 use Rattle.svid_check.specs.Said.{said_in}
 use Rattle.svid_check.specs.Setting.{given_setting}
 use Rattle.svid_check.proofs.VerdictLemmas.{accepted, lives, refused_reading, refused_setting}

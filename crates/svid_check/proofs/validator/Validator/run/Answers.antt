@@ -1,4 +1,4 @@
-use Rattle.std.proofs.Common.{◌≡◌, ◌≤◌, ◌+◌, ◌-◌, length, refl, ap, ◌∙◌, arith}
+use Rattle.std.proofs.Common.{refl, ap, ◌∙◌, arith}
 use Rattle.svid_check.specs.Runs.{terms_of}
 use Rattle.svid_check.specs.Setting.{with_state}
 use Rattle.svid_check.proofs.RunsLemmas.{has_run_all, has_run_more, has_run_none}
