@@ -27,7 +27,7 @@ kty_named name = if bytes_eq name (codes "RSA") then Some Rsa else if bytes_eq n
 abbrev pub kty_in : Data → Option Kty
 kty_in entry = option_and_then kty_named (text_at (codes "kty") entry)
 
--- an entry is for JWT-SVIDs (RFC 7517, section 4.2; SPIFFE Trust Domain and Bundle, section 4.2.2; JWT-SVID, section 6.2)
+-- an entry is for JWT-SVIDs (RFC 7517, section 4.2; SPIFFE Trust Domain and Bundle, section 4.2.2)
 abbrev pub is_for_svids : Data → Bool
 is_for_svids entry = option_map_or (λ use_. bytes_eq use_ (codes "jwt-svid")) (text_at (codes "use") entry) false
 
