@@ -1,7 +1,5 @@
-use Rattle.std.proofs.Common.{◌≡◌, ◌≢◌, ℕ, List, [], map, string_bytes, Option, None, Some, inl, inr, refl, sym, ap, ◌∙◌, subst, arith}
-use Rattle.svid_token.specs.declared.alg.Alg.{Alg}
+use Rattle.std.proofs.Common.{◌≡◌, ◌≢◌, ℕ, List, [], map, string_bytes, Option, None, Some, inl, inr, refl, ap, ◌∙◌}
 use Rattle.svid_keys.specs.Bundles.{Bundle}
-use Rattle.svid_keys.specs.Key.{KeyData}
 use Rattle.svid_keys.specs.Lines.{lines_of}
 use Rattle.svid_keys.specs.Question.{question_of}
 use Rattle.svid_keys.specs.Table.{is_among, questions_in, table_fault, table_says}

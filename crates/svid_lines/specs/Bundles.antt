@@ -1,8 +1,7 @@
 -- The first input of the engines that read trust bundles.
-use Rattle.std.specs.Prelude.{◌≡◌, ℕ, List, Option, Some}
+use Rattle.std.specs.Prelude.{◌≡◌, ℕ, List, Some}
 use Rattle.svid_keys.specs.Bundles.{Bundle, bundles_fault, bundles_in}
 use Rattle.svid_keys.specs.declared.bundle_fault.BundleFault.{BundleFault}
-use Rattle.svid_keys.specs.declared.bundle_fault.BundleFault.TheVariants as bundles
 use Rattle.svid_wire.specs.Streams.{Drawn, IsRead}
 use Rattle.svid_share.specs.Inputs.{IsUnread, most_bytes}
 use Rattle.svid_share.specs.declared.tool_fault.ToolFault.{ToolFault}

@@ -13,7 +13,7 @@ use Rattle.svid_keys.specs.Question.{question_of}
 use Rattle.svid_check.specs.Said.{Said, said_of, token_rows}
 use Rattle.svid_check.specs.Verdict.{keys_for, keys_rows, rows_if_said}
 use Rattle.svid_wire.specs.Streams.{Drawn, IsRead, Taken, TookAll, TookPart}
-use Rattle.svid_lines.specs.Bundles.{AreBundlesRead, AreBundlesRefused, IsBundlesFault}
+use Rattle.svid_lines.specs.Bundles.{AreBundlesRead, AreBundlesRefused}
 use Rattle.svid_share.specs.Inputs.{IsUnread, most_bytes}
 use Rattle.svid_lines.specs.Refused.{refusal_line}
 use Rattle.svid_share.specs.declared.tool_fault.ToolFault.{ToolFault}

@@ -4,7 +4,6 @@ use Rattle.std.specs.List.{flat_map}
 use Rattle.svid_keys.specs.Bundles.{Bundle}
 use Rattle.svid_keys.specs.Lines.{lines_of}
 use Rattle.svid_keys.specs.Table.{is_among, questions_in, table_fault, table_says}
-use Rattle.svid_keys.specs.declared.table_fault.TableFault.{TableFault}
 use Rattle.svid_keys.specs.declared.table_fault.TableFault.TheVariants as table
 use Rattle.svid_replay.specs.Records.{State}
 use Rattle.svid_wire.specs.BatchText.{batch_text}

@@ -4,7 +4,6 @@ use Rattle.std.specs.Fmt.{decimal}
 use Rattle.std.specs.List.{flat_map}
 use Rattle.svid_id.specs.Id.{id_text}
 use Rattle.svid_token.specs.declared.refusal.Refusal.{Refusal}
-use Rattle.svid_keys.specs.Lines.{lines_of}
 use Rattle.svid_replay.specs.Records.{State, join, state_of}
 use Rattle.svid_check.specs.Changes.{raised}
 use Rattle.svid_check.specs.Setting.{Setting}

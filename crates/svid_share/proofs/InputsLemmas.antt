@@ -9,7 +9,6 @@ use Rattle.svid_wire.specs.Streams.{Drawn, drawn}
 use Rattle.svid_wire.specs.declared.message.Message.{Message}
 use Rattle.svid_wire.specs.declared.read_fault.ReadFault.{ReadFault}
 use Rattle.svid_wire.specs.declared.read_fault.ReadFault.TheVariants as reading
-use Rattle.svid_wire.specs.declared.reason.Reason.{Reason}
 use Rattle.svid_share.specs.declared.tool_fault.ToolFault.{ToolFault}
 use Rattle.svid_share.specs.declared.tool_fault.ToolFault.TheVariants as fault
 use Rattle.svid_share.specs.Inputs.{AreWhole, IsInputFault, IsRefused, IsUnread, IsWhole, Sources, all_of, each_drawn, inputs_of, read_fault_of, sources}

@@ -81,6 +81,7 @@ among x xs y is = by (Contains-append_cases (x ∷ []) xs y is)
     first : Contains [] y ⊎ (x ≡ y) → (x ≡ y) ⊎ Contains xs y
     first (inl none) = absurd (let no : none.0 < 0 = none.1 in omega arith)
     first (inr same) = inl same
+
     by : Contains (x ∷ []) y ⊎ Contains xs y → (x ≡ y) ⊎ Contains xs y
     by (inl one) = first (Contains-push_cases [] x y one)
     by (inr other) = inr other
@@ -134,13 +135,13 @@ joined_by_which batches others same =
     let vs = flat_map (λ (b : BatchData). b.uses) others in
     let found = λ (u : Use). λ (b : BatchData). list_any (eq_by_cmp use_cmp u) b.uses in
     same_state (joined batches) (joined others) m
-      (same_uses (live (uses_in us) (greatest batches)) (live (uses_in vs) (greatest others)) (λ u.
-        holds-live (uses_in us) (greatest batches) u
-        ∙ ap (λ n. nat_lt n u.exp && holds (uses_in us) u) m
-        ∙ ap (λ h. nat_lt (greatest others) u.exp && h) (holds-uses_in us u ∙ any-flat (eq_by_cmp use_cmp u) batches
-          ∙ agree _ _ (any-within (found u) batches others there) (any-within (found u) others batches back)
-          ∙ sym (holds-uses_in vs u ∙ any-flat (eq_by_cmp use_cmp u) others))
-        ∙ sym (holds-live (uses_in vs) (greatest others) u)))
+    (same_uses (live (uses_in us) (greatest batches)) (live (uses_in vs) (greatest others)) (λ u.
+    holds-live (uses_in us) (greatest batches) u
+    ∙ ap (λ n. nat_lt n u.exp && holds (uses_in us) u) m
+    ∙ ap (λ h. nat_lt (greatest others) u.exp && h) (holds-uses_in us u ∙ any-flat (eq_by_cmp use_cmp u) batches
+    ∙ agree _ _ (any-within (found u) batches others there) (any-within (found u) others batches back)
+    ∙ sym (holds-uses_in vs u ∙ any-flat (eq_by_cmp use_cmp u) others))
+    ∙ sym (holds-live (uses_in vs) (greatest others) u)))
 
 -- what the same batches come to has one text
 pub merged_by_which : MergedByWhich

@@ -1,6 +1,6 @@
 -- Piece after piece of an input.
-use Rattle.std.proofs.Common.{◌≡◌, ◌≢◌, ℕ, suc, ◌+◌, ◌-◌, ◌<◌, ◌≤◌, List, [], ◌∷◌, ◌++◌, length, take, drop, Option, Some, None, Result, Ok, Err, refl, sym, ap, subst, ◌∙◌, append_assoc, append-nil, length-append, arith, inl, inr}
-use Rattle.std.specs.List.{flat_map, AllByRecursion}
+use Rattle.std.proofs.Common.{◌≡◌, ◌≢◌, ℕ, ◌+◌, ◌-◌, ◌<◌, ◌≤◌, List, [], ◌∷◌, ◌++◌, length, take, drop, Option, Some, None, Ok, Err, refl, sym, ap, subst, ◌∙◌, append_assoc, append-nil, length-append, arith, inl, inr}
+use Rattle.std.specs.List.{flat_map}
 use Rattle.std.proofs.lemmas.List.{take-append-drop, take-take, length-take, length-drop}
 use Rattle.std.proofs.lemmas.List.Concat.{flat_map-cons}
 use Rattle.std.specs.Io.KnownBytes.{Consumes, Keeps, IsAtEnd}
@@ -9,17 +9,15 @@ use Rattle.svid_replay.specs.Batches.{BatchData}
 use Rattle.svid_replay.specs.Records.{State}
 use Rattle.svid_wire.specs.Faults.{raised}
 use Rattle.svid_wire.specs.Feed.{Pushed, end_of}
-use Rattle.svid_wire.specs.Messages.{Appended, IsMessage, Splits, batches_of, message_text}
+use Rattle.svid_wire.specs.Messages.{Appended, Splits, batches_of, message_text}
 use Rattle.svid_wire.specs.Streams.{Drawn, Gave, IsRead}
-use Rattle.svid_wire.specs.WireFault.{IsFieldFault, IsFieldRefusal, IsUnfinished, in_magic, no_memory}
+use Rattle.svid_wire.specs.WireFault.{IsFieldRefusal, in_magic}
 use Rattle.svid_wire.specs.declared.message.Message.{Message}
 use Rattle.svid_wire.specs.declared.message.Message.TheVariants as message
 use Rattle.svid_wire.specs.declared.reason.Reason.{Reason}
 use Rattle.svid_wire.specs.declared.reason.Reason.TheVariants as wire
 use Rattle.svid_wire.specs.declared.wire_fault.WireFault.{WireFault}
 use Rattle.svid_wire.proofs.MessagesLemmas.{Appended-more, Appended-trans, batches_of-append}
-use Rattle.svid_share.specs.declared.tool_fault.ToolFault.{ToolFault}
-use Rattle.svid_share.specs.declared.tool_fault.ToolFault.TheVariants as fault
 use Rattle.svid_share.specs.Inputs.{HasBadField, IsGoodSoFar, IsInputFault, IsPieceFault, IsTooLong, StopsWithin, most_bytes, wire_fault_at}
 use Rattle.svid_share.specs.Joined.{Joins, joined}
 
@@ -76,14 +74,20 @@ few_messages bytes rest messages splits = omega (arith, ap length splits.parts, 
 splits_on : (bytes piece rest last : List ℕ) (messages came : List Message) → Splits bytes messages rest → Appended (rest ++ piece) [] came last → Splits (bytes ++ piece) (messages ++ came) last
 splits_on bytes piece rest last messages came splits more =
     Splits-of (bytes ++ piece) last (messages ++ came)
-      (Appended-trans (bytes ++ piece) (rest ++ piece) last [] messages (messages ++ came) (Appended-more bytes piece rest [] messages (Appended-of bytes rest messages splits))
-        (record { came = came; grown = refl; splits = Splits-of (rest ++ piece) last came more }))
+    (Appended-trans (bytes ++ piece) (rest ++ piece) last [] messages (messages ++ came) (Appended-more bytes piece rest [] messages (Appended-of bytes rest messages splits))
+    (record { came = came; grown = refl; splits = Splits-of (rest ++ piece) last came more }))
 
 -- there are no more messages than bytes may come
 pub few_came : (input : Drawn) (held : Option (List ℕ)) (still whole : ℕ) (old new : State) (piece last : List ℕ) (came : List Message) (so_far : HasCome input held still whole old new) → Appended (so_far.rest ++ piece) [] came last → length piece ≤ still → whole + length came ≤ most_bytes
 few_came input held still whole old new piece last came so_far more fits =
-    omega (arith, few_messages (so_far.bytes ++ piece) last (so_far.messages ++ came) (splits_on so_far.bytes piece so_far.rest last so_far.messages came so_far.good.splits more),
-      length-append so_far.bytes piece, length-append so_far.messages came, so_far.few, so_far.count)
+    omega (
+      arith,
+      few_messages (so_far.bytes ++ piece) last (so_far.messages ++ came) (splits_on so_far.bytes piece so_far.rest last so_far.messages came so_far.good.splits more),
+      length-append so_far.bytes piece,
+      length-append so_far.messages came,
+      so_far.few,
+      so_far.count,
+    )
 
 pub few_piece : (input : Drawn) (held : Option (List ℕ)) (still whole : ℕ) (old new : State) (piece : List ℕ) (came : List Message) (why : WireFault) → HasCome input held still whole old new → ((rest : List ℕ) → held ≡ Some rest → IsPieceFault rest piece came why) → length piece ≤ still → whole + length came ≤ most_bytes
 few_piece input held still whole old new piece came why so_far wrong fits = let p = wrong so_far.rest so_far.holds in few_came input held still whole old new piece p.rest came so_far p.came fits
@@ -112,6 +116,7 @@ module _ (a b c : Option (List ℕ)) (first before after : ℕ) where
     where
       whole_piece : Consumes b c piece
       whole_piece = subst (Consumes b c) (ap (λ n. take n room) (sym all) ∙ sym is) took
+
       go : (next : Option (List ℕ)) → Pushed (Some h.rest) next [] came piece → HasCome now next (still - given) (whole + count) old new
       go None p = absurd p
       go (Some last) p = record {
@@ -134,7 +139,7 @@ module _ (a b c : Option (List ℕ)) (first before after : ℕ) where
   given_on : (bytes room piece : List ℕ) (given fits : ℕ) → Consumes a b bytes → Consumes b c (take given room) → fits ≤ given → piece ≡ take fits room → Consumes a c ((bytes ++ piece) ++ drop fits (take given room))
   given_on bytes room piece given fits before now le is =
       subst (λ x. Consumes a c x) (ap (λ t. bytes ++ t) (took_piece room piece given fits le is) ∙ sym (append_assoc bytes piece (drop fits (take given room))))
-        (Consumes-trans a b c bytes (take given room) before now)
+      (Consumes-trans a b c bytes (take given room) before now)
 
   named : (number number_of : ℕ) (reason : Reason) (place : ℕ) → reason ≢ wire.Truncated → HasBadField now number_of place reason → IsInputFault number now (wire_fault_at reason number number_of place)
   named number number_of wire.OutOfMemory place not bad = tt
@@ -233,13 +238,16 @@ module _ (a b c : Option (List ℕ)) (first before after : ℕ) where
       go [] same is = absurd cc
       go (x ∷ rest) same is =
           let cut : why ≡ record { place = length (x ∷ rest); reason = wire.Truncated } = cc in
-          rw cut (refl, record {
-            bytes = h.bytes;
-            read = read_to_end held still whole old mid room given h took unstopped none end;
-            messages = h.messages;
-            rest = h.rest;
-            good = h.good;
-            number = ap (λ n. n + 1) h.count;
-            some = rw same (omega arith);
-            at = sym (ap length same);
-          })
+          rw cut (
+            refl,
+            record {
+              bytes = h.bytes;
+              read = read_to_end held still whole old mid room given h took unstopped none end;
+              messages = h.messages;
+              rest = h.rest;
+              good = h.good;
+              number = ap (λ n. n + 1) h.count;
+              some = rw same (omega arith);
+              at = sym (ap length same);
+            },
+          )

@@ -5,8 +5,7 @@ use Rattle.svid_replay.specs.Parts.{parts_of}
 use Rattle.svid_replay.specs.Records.{State, state_of}
 use Rattle.svid_wire.specs.BatchText.{batch_text}
 use Rattle.svid_wire.specs.Streams.{Drawn}
-use Rattle.svid_wire.specs.declared.message.Message.{Message}
-use Rattle.svid_share.specs.Inputs.{AreWhole, all_of}
+use Rattle.svid_share.specs.Inputs.{all_of}
 use Rattle.svid_share.specs.Joined.{JoinsAll, joined, raised_to}
 use Rattle.svid_share.specs.Merge.{merge_due}
 use Rattle.svid_share.specs.Report.{report_due, report_of}

@@ -244,7 +244,11 @@ fn merge(rt: &HostRuntime, matches: &ArgMatches<'_>) -> Result<u8, Failure> {
     let Ok(mut writer) = BufWriter::new(rt.alloc(), io::writer(rt)) else {
         return Err(Failure::Tool(ToolFault::OutOfMemory));
     };
-    run_merge(rt.alloc(), inputs.as_mut_slice(), &mut Counted::new(&mut writer))?;
+    run_merge(
+        rt.alloc(),
+        inputs.as_mut_slice(),
+        &mut Counted::new(&mut writer),
+    )?;
     match writer.flush() {
         Ok(()) => Ok(0),
         Err(_) => Err(Failure::Tool(ToolFault::Write)),
