@@ -1,4 +1,5 @@
 pub mod BatchesLemmas
+pub mod BucketsLemmas
 pub mod IndexedLemmas
 pub mod ListLemmas
 pub mod PartsLemmas

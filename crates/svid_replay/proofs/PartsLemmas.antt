@@ -52,7 +52,7 @@ pub held_is_batch : (m : ℕ) (us : List Use) → m < 2 ^ 64 → length us ≤ 4
 held_is_batch m us fits few up held = record { few = few; moment = fits; fields = each_weaker (IsHeldAt m) IsUse (λ u h. h.fields) us held; good = good m us up held }
 
 -- ---- how uses are cut
-cut_few : (m : ℕ) (us : List Use) → length us ≤ 4096 → cut m us ≡ record { moment = m; uses = us } ∷ []
+pub cut_few : (m : ℕ) (us : List Use) → length us ≤ 4096 → cut m us ≡ record { moment = m; uses = us } ∷ []
 unfolding cut full_batches
 cut_few m us few = let none : (length us - 1) / 4096 ≡ 0 = omega arith in ap (λ n. full_batches n m us) none
 

@@ -9,12 +9,12 @@ use Rattle.std.specs.List.{list_any, filter, find}
 use Rattle.std.specs.Ordering.{eq_by_cmp}
 use Rattle.svid_replay.specs.declared.token_use.Use.{Use}
 use Rattle.svid_replay.specs.Batches.{BatchData, AllGood, IsBatch, is_after}
-use Rattle.svid_replay.specs.Sets.{holds, rising, with, union}
+use Rattle.svid_replay.specs.Sets.{holds, keep, rising, with, union}
 use Rattle.svid_replay.specs.Use.{IsUse, use_cmp}
 use Rattle.svid_replay.specs.Uses.{Uses, no_uses, live}
 use Rattle.svid_replay.specs.Records.{State, IsHeldAt, IsRecord, IsPartlyJoined, HasNoNew, join, state_of, batch_state, JoinHoldsUnexpired, JoinIsCommutative, JoinIsAssociative, JoinIsIdempotent, JoinIsClosed}
 use Rattle.svid_replay.proofs.BatchesLemmas.{made_at}
-use Rattle.svid_replay.proofs.SetsLemmas.{rising_rises, holds-with}
+use Rattle.svid_replay.proofs.SetsLemmas.{rising_rises, holds-keep, holds-with}
 use Rattle.svid_replay.proofs.UseLemmas.{use_total, use_exact}
 use Rattle.svid_replay.proofs.UsesLemmas.{IsWalked, walk_none, walk_more, walk_parts, walk_end, found_held, holds-uses_in, holds-live, holds-union, same_uses, uses_in-rising}
 use Rattle.svid_replay.proofs.TestsLemmas.{equal, or-true, or-false, or-comm, and-false, and-comm}
@@ -112,7 +112,7 @@ join_closed a b is_a is_b = record {
 holds-state_of : (moment : ℕ) (us : List Use) (u : Use) → holds (state_of moment us).uses u ≡ list_any (eq_by_cmp use_cmp u) us
 holds-state_of moment us u = holds-uses_in us u
 
-nothing_held : (moment : ℕ) → moment < 2 ^ 64 → IsRecord (state_of moment [])
+pub nothing_held : (moment : ℕ) → moment < 2 ^ 64 → IsRecord (state_of moment [])
 nothing_held moment fits = record { moment = fits; each = λ u held. absurd (false≢true (sym (holds-state_of moment [] u) ∙ held)) }
 
 pub new_is_record : (s : Uses) → s ≡ no_uses → IsRecord (record { moment = 0; uses = s })
@@ -125,6 +125,22 @@ raised r now moment s m kept =
 
 pub raised_is_record : (r : State) (now moment : ℕ) (s : Uses) → IsRecord r → now < 2 ^ 64 → moment ≡ max r.moment now → s ≡ live r.uses moment → IsRecord (record { moment = moment; uses = s })
 raised_is_record r now moment s is fits m kept = subst IsRecord (sym (raised r now moment s m kept)) (join_closed r (state_of now []) is (nothing_held now fits))
+
+still_live : (r : State) (u : Use) → IsRecord r → (h : Bool) → holds r.uses u ≡ h → (nat_lt r.moment u.exp && h) ≡ h
+still_live r u is true e = let later : r.moment < u.exp = (is.each u e).live in let test : nat_lt r.moment u.exp ≡ true = grind (arith, nat_tests) in ap (λ l. l && true) test
+still_live r u is false e = and-false (nat_lt r.moment u.exp)
+
+-- raising a record to its own moment changes nothing
+pub raised_to_own : (r : State) → IsRecord r → join r (state_of r.moment []) ≡ r
+raised_to_own r is =
+    sym (raised r r.moment r.moment r.uses (omega arith) (same_uses r.uses (live r.uses r.moment) (λ u. sym (holds-live r.uses r.moment u ∙ still_live r u is (holds r.uses u) refl))))
+
+-- a record keeps some of its uses
+pub kept_is_record : (test : Use → Bool) (r : State) → IsRecord r → IsRecord (record { moment = r.moment; uses = keep test r.uses })
+kept_is_record test r is = record {
+  moment = is.moment;
+  each = λ u held. is.each u (both_true (test u) (holds r.uses u) (sym (holds-keep use_total use_exact test r.uses u) ∙ held)).1;
+}
 
 only_one : (moment : ℕ) (u : Use) → moment < 2 ^ 64 → IsHeldAt moment u → IsRecord (state_of moment (u ∷ []))
 only_one moment u fits is = record {

@@ -109,6 +109,12 @@ any-filter test u (v ∷ vs) =
 pub uses_in-filter : (test : Use → Bool) (us : List Use) → uses_in (filter test us) ≡ keep test (uses_in us)
 uses_in-filter test us = same_uses (uses_in (filter test us)) (keep test (uses_in us)) (λ u. holds-uses_in (filter test us) u ∙ any-filter test u us ∙ sym (holds-keep use_total use_exact test (uses_in us) u ∙ ap (λ b. test u && b) (holds-uses_in us u)))
 
+-- the uses that are kept of a set, rising
+pub rising-keep : (test : Use → Bool) (s : Uses) → rising (keep test s) ≡ filter test (rising s)
+rising-keep test s =
+    ap (λ (t : Uses). rising (keep test t)) (sym (uses_in-rising s)) ∙ ap rising (sym (uses_in-filter test (rising s)))
+    ∙ rising-uses_in (filter test (rising s)) (IsStrictlySortedBy-filter use_cmp test (rising s) (rising_rises use_cmp s))
+
 pub uses_in-insert : (us : List Use) (i : ℕ) (new : Use) → uses_in (insert us i new) ≡ with (uses_in us) new
 uses_in-insert us i new = same_uses (uses_in (insert us i new)) (with (uses_in us) new) (λ u.
     let tied = eq_by_cmp use_cmp u in

@@ -1,8 +1,11 @@
 pub mod Batches
+pub mod Buckets
+pub mod Hashers
 pub mod Indexed
 pub mod Parts
 pub mod Records
 pub mod Sets
+pub mod Summary
 pub mod Twice
 pub mod Use
 pub mod Uses

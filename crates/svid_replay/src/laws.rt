@@ -1,6 +1,7 @@
 //! Laws of the definitions that this crate's contracts cite. Each is the contract of a function with
 //! nothing in it, so that the check proves it like any other promise.
 
+ghost use Rattle.svid_replay.specs.Buckets.{AnswerIsBatches, BucketHoldsItsUses, OwnSummaryAsksNothing, RaisedIsRecord, StaleHoldsDiffering};
 ghost use Rattle.svid_replay.specs.Parts.{CutGivesParts, PartsAreBatches, PartsGiveRecord, SamePartsSameRecord};
 ghost use Rattle.svid_replay.specs.Records.{JoinHoldsUnexpired, JoinIsAssociative, JoinIsClosed, JoinIsCommutative, JoinIsIdempotent};
 ghost use Rattle.svid_replay.specs.Use.{OrderIsTextOrder};
@@ -50,4 +51,19 @@ pub fn parts_tell_the_record()
     ensures batches { PartsAreBatches }
     ensures same { SamePartsSameRecord }
     ensures absorbed { PartsGiveRecord }
+{}
+
+/// A bucket holds the uses of its set whose keys begin with its byte, and an answer is cut from the
+/// uses of all buckets whose digest differs from the summary's.
+pub fn buckets_hold()
+    ensures bucket { BucketHoldsItsUses }
+    ensures stale { StaleHoldsDiffering }
+{}
+
+/// A record that answers a summary is raised to a record, and its answer is batches: one without a use
+/// where the summary is its own.
+pub fn answers_are_batches()
+    ensures raised { RaisedIsRecord }
+    ensures batches { AnswerIsBatches }
+    ensures own { OwnSummaryAsksNothing }
 {}

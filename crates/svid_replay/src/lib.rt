@@ -9,6 +9,10 @@
 //! a part that the contract names. Of the two stores [`SortedUses`] is for few uses, or uses that come
 //! in their order, and [`IndexedUses`] for many and for look-ups by key.
 //!
+//! Two records that mostly agree need not tell each other all: a [`Summary`] has a digest for each of
+//! 256 buckets, one for each first byte of a key, and a record answers one with the uses of the buckets
+//! whose digest differs. What a record loses after it made its summary no answer brings back.
+//!
 //! ```rust
 //! use svid_replay::{Batch, Record, SortedUses, Use};
 //!
@@ -24,12 +28,19 @@
 //! record.absorb(&batch)?;
 //! assert_eq!(rt; record.len(), 2);
 //! assert_eq!(rt; record.report(alloc)?.len(), 1);
+//!
+//! let mut other = Record::new(SortedUses::new(alloc));
+//! for part in &record.answer(alloc, &other.summary())? {
+//!     other.absorb(part)?;
+//! }
+//! assert_eq!(rt; other.len(), 2);
 //! assert_eq!(rt; record.raise(101).dropped, 2);
 //! ```
 #![tactic(auto)]
 
 mod batch;
 mod batch_fault;
+mod buckets;
 mod flaw;
 mod indexed_uses;
 mod key_first;
@@ -39,6 +50,7 @@ mod parts;
 mod record;
 mod sorted;
 mod store;
+mod summary;
 #[cfg(test)]
 mod tests;
 mod token_use;
@@ -53,6 +65,7 @@ pub use layout::{MOST_USES, USE_LEN};
 pub use record::Record;
 pub use sorted::SortedUses;
 pub use store::{Raised, UseStore};
+pub use summary::Summary;
 pub use token_use::Use;
 pub use twice::Twice;
 pub use use_list::UseList;

@@ -1,14 +1,16 @@
 ghost use Rattle.std.specs.Prelude.{◌≡◌, ◌↔◌, ◌+◌, ◌<◌, ◌≤◌, [], ◌∷◌, false, IsTrue, IsOk, IfOk, OnOk, OnErr};
+ghost use Rattle.svid_replay.specs.Buckets.{answer_to, raised_to, summary_of};
 ghost use Rattle.svid_replay.specs.Parts.{cut};
 ghost use Rattle.svid_replay.specs.Records.{HasNoNew, IsPartlyJoined, IsRecord, batch_state, join, state_of};
 ghost use Rattle.svid_replay.specs.Sets.{holds, rising};
 ghost use Rattle.svid_replay.specs.Twice.{IsTwice, twice_of};
 ghost use Rattle.svid_replay.specs.Uses.{count, has_use_of, next_above, no_uses};
 
+use crate::buckets::{digests_of, stale_uses};
 use crate::parts::cut;
 use crate::store::{Raised, UseStore};
 use crate::twice::twice_in;
-use crate::{Batch, Twice, Use};
+use crate::{Batch, Summary, Twice, Use};
 use std::alloc::{AllocError, Global};
 use std::marker::Model;
 
@@ -180,5 +182,29 @@ impl<S: UseStore> Record<S> {
     {
         let uses = self.uses(alloc)?;
         cut(alloc, self.moment(), &uses)
+    }
+
+    /// The summary of the record: its moment, and the digest of each of its 256 buckets.
+    ///
+    /// Takes no memory, and looks at each use once.
+    #[tactic(auto, unfolding(crate::specs::Buckets::summary_of))]
+    pub fn summary(&self) -> Summary
+        ensures { result ≡ summary_of self.now }
+    {
+        Summary::make(self.moment, digests_of(&self.store))
+    }
+
+    /// Raises the record to the summary's moment, and answers the uses of all buckets whose digest then
+    /// differs from the summary's, as batches of the record's moment: 4,096 uses in rising order in each
+    /// but the last. One batch with no use where no bucket differs.
+    ///
+    /// Where memory is refused only the raise stands. Looks at each use twice.
+    pub fn answer(&mut self, alloc: Global, summary: &Summary) -> Result<Vec<Batch>, AllocError>
+        ensures raised { self.new ≡ raised_to self.old summary.now.moment }
+        ensures answer { IfOk result (λ batches. batches.items ≡ answer_to self.old summary.now) }
+    {
+        self.raise(summary.moment());
+        let uses = stale_uses(alloc, &self.store, summary)?;
+        cut(alloc, self.moment, &uses)
     }
 }

@@ -1,6 +1,7 @@
 mod batch;
 mod record;
 mod refusing;
+mod summary;
 mod sweep;
 
 use crate::{Batch, IndexedUses, Record, SortedUses, Use, UseStore};

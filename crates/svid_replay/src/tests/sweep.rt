@@ -3,7 +3,7 @@ ghost use Rattle.std.specs.Prelude.{◌<◌};
 
 use super::refusing::{refuse, was_refused};
 use super::{FIRST, SECOND, absorb, add, at, indexed, sorted, uses_to};
-use crate::{Batch, IndexedUses, Record, SortedUses, Use, UseStore};
+use crate::{Batch, IndexedUses, Record, SortedUses, Summary, Use, UseStore};
 use std::alloc::{AllocError, Global};
 use std::process::Abort;
 use std::test::Fail;
@@ -256,6 +256,51 @@ fn lists_tell_want_of_memory(rt: HostRuntime) -> Result<(), Fail> {
             assert_eq!(rt; told?.as_slice(), uses.as_slice());
             assert_eq!(rt; listed?.len(), 1);
             assert_eq!(rt; parts?.len(), 1);
+            break;
+        }
+    }
+    assert!(rt; !refused);
+    Ok(())
+}
+
+// Has a record answer while the nth allocation is refused, and says whether one was. Its use that expires
+// at the summary's moment is gone in either case.
+fn answers_or_is_only_raised<S: UseStore>(
+    rt: &impl Abort,
+    alloc: Global,
+    nth: usize,
+    record: &mut Record<S>,
+    uses: &[Use],
+) -> Result<bool, Fail>
+    requires { nth < 4294967296 }
+{
+    let summary = Summary::make(101, [[0; 32]; 256]);
+    absorb(record, alloc, 100, &[FIRST])?;
+    absorb(record, alloc, 100, uses)?;
+    refuse(alloc, nth);
+    let answer = record.answer(alloc, &summary);
+    let refused = was_refused(alloc);
+    refuse(alloc, 0);
+    assert_eq!(rt; answer.is_err(), refused);
+    assert_eq!(rt; record.moment(), 101);
+    assert_eq!(rt; record.uses(alloc)?.as_slice(), uses);
+    let answer = record.answer(alloc, &summary)?;
+    assert_eq!(rt; answer.len(), 1);
+    assert_eq!(rt; answer[0].moment(), 101);
+    assert_eq!(rt; answer[0].uses(), uses);
+    Ok(refused)
+}
+
+#[test]
+fn a_record_answers_or_is_only_raised(rt: HostRuntime) -> Result<(), Fail> {
+    let alloc = rt.alloc();
+    let uses = uses_to(alloc, 100)?;
+    let mut refused = true;
+    for nth in 1..10000usize {
+        let one = answers_or_is_only_raised(&rt, alloc, nth, &mut sorted(alloc), &uses)?;
+        let two = answers_or_is_only_raised(&rt, alloc, nth, &mut indexed(alloc), &uses)?;
+        refused = one || two;
+        if !refused {
             break;
         }
     }

@@ -1,0 +1,95 @@
+ghost use Rattle.std.specs.Prelude.{◌≡◌, ◌∷◌, [], ◌++◌, ℕ, List, IfOk};
+ghost use Rattle.sha2.specs.Hashers.{Holds256};
+ghost use Rattle.sha2.specs.Sha256.{sha256};
+ghost use Rattle.svid_replay.specs.declared.token_use.Use.{Use};
+ghost use Rattle.svid_replay.specs.Buckets.{bucket_of, differs, digests_of, stale};
+ghost use Rattle.svid_replay.specs.Hashers.{HoldBuckets, digests_in};
+ghost use Rattle.svid_replay.specs.Sets.{rising};
+ghost use Rattle.svid_replay.specs.Use.{text_of};
+ghost use Rattle.svid_replay.specs.Uses.{Uses};
+
+use crate::store::UseStore;
+use crate::{Summary, Use};
+use sha2::{Digest, Sha256};
+use std::alloc::{AllocError, Global};
+use std::array;
+
+// A hasher for each bucket.
+fn new_hashers() -> [Sha256; 256]
+    ensures { HoldBuckets result [] }
+{
+    array::from_fn(|_| Sha256::new())
+}
+
+fn feed(hasher: &mut Sha256, used: &Use)
+    ensures { (text : List ℕ) → Holds256 hasher.old text → Holds256 hasher.new (text ++ text_of used.now) }
+{
+    hasher.update(&used.text());
+}
+
+fn bucket_of(used: &Use) -> u8
+    ensures { result ≡ bucket_of used.now }
+{
+    used.key[0]
+}
+
+// Feeds the use to the hasher of its bucket.
+fn take_use(hashers: &mut [Sha256; 256], used: &Use)
+    ensures { (us : List Use) → HoldBuckets hashers.old us → HoldBuckets hashers.new (us ++ used.now ∷ []) }
+{
+    feed(&mut hashers[bucket_of(used) as usize], used);
+}
+
+fn finish(hasher: Sha256) -> [u8; 32]
+    ensures { (text : List ℕ) → Holds256 hasher text → result ≡ sha256 text }
+{
+    hasher.finalize()
+}
+
+fn finish_all(hashers: [Sha256; 256]) -> [[u8; 32]; 256]
+    ensures { (us : List Use) → HoldBuckets hashers us → result ≡ digests_in us }
+{
+    hashers.map(finish)
+}
+
+// The digests of the buckets 0 to 255, in one pass over the uses.
+pub(crate) fn digests_of<S: UseStore>(store: &S) -> [[u8; 32]; 256]
+    ensures { result ≡ digests_of (S.content store.now) }
+{
+    let mut hashers = new_hashers();
+    let mut after = None;
+    while let Some(used) = store.next_after(after) {
+        take_use(&mut hashers, &used);
+        after = Some(used);
+    }
+    finish_all(hashers)
+}
+
+// Whether the digest of the use's bucket is another than the summary's.
+fn differs(digests: &[[u8; 32]; 256], summary: &Summary, used: &Use) -> bool
+    ensures { (uses : Uses) → digests.now ≡ digests_of uses → result ≡ differs summary.now uses used.now }
+{
+    let bucket = bucket_of(used);
+    !digests[bucket as usize].cmp(summary.digest(bucket)).is_eq()
+}
+
+// The uses of all buckets whose digest differs from the summary's, rising. One pass over the uses for
+// the digests, and one for the uses.
+pub(crate) fn stale_uses<S: UseStore>(
+    alloc: Global,
+    store: &S,
+    summary: &Summary,
+) -> Result<Vec<Use>, AllocError>
+    ensures { IfOk result (λ uses. uses.items ≡ rising (stale summary.now (S.content store.now))) }
+{
+    let digests = digests_of(store);
+    let mut uses = Vec::new(alloc);
+    let mut after = None;
+    while let Some(used) = store.next_after(after) {
+        if differs(&digests, summary, &used) {
+            uses.push(used)?;
+        }
+        after = Some(used);
+    }
+    Ok(uses)
+}

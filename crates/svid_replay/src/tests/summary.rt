@@ -1,0 +1,201 @@
+// The digests are those that hashlib of Python gives for the texts.
+use super::{FIRST, SECOND, absorb, indexed, sorted, uses_to};
+use crate::{Batch, IndexedUses, Record, SortedUses, Summary, Use, UseStore};
+use std::alloc::{AllocError, Global};
+use std::process::Abort;
+use std::test::Fail;
+
+// The digest of no bytes.
+const NONE: [u8; 32] = [
+    0xe3, 0xb0, 0xc4, 0x42, 0x98, 0xfc, 0x1c, 0x14, 0x9a, 0xfb, 0xf4, 0xc8, 0x99, 0x6f, 0xb9, 0x24,
+    0x27, 0xae, 0x41, 0xe4, 0x64, 0x9b, 0x93, 0x4c, 0xa4, 0x95, 0x99, 0x1b, 0x78, 0x52, 0xb8, 0x55,
+];
+
+// The digest of the texts of FIRST and SECOND.
+const BOTH: [u8; 32] = [
+    0x69, 0x16, 0xa6, 0x82, 0xa6, 0x60, 0x34, 0x2e, 0x05, 0x93, 0x87, 0x27, 0x75, 0x73, 0xa7, 0xaa,
+    0x0f, 0x44, 0xb3, 0xc0, 0x36, 0x19, 0x5f, 0xdb, 0xb4, 0xe7, 0xeb, 0x4c, 0x52, 0x0d, 0x9e, 0x35,
+];
+
+// The use like FIRST that expires later.
+const LATER: Use = Use { exp: 200, ..FIRST };
+
+fn summary_of_nothing(moment: u64) -> Summary {
+    Summary::make(moment, [NONE; 256])
+}
+
+// An answer is one batch of this moment and these uses.
+fn assert_one_batch(rt: &impl Abort, answer: &[Batch], moment: u64, uses: &[Use]) {
+    assert_eq!(rt; answer.len(), 1);
+    assert_eq!(rt; answer[0].moment(), moment);
+    assert_eq!(rt; answer[0].uses(), uses);
+}
+
+// Each bucket has the digest of no bytes, but for that of the key of FIRST and SECOND.
+fn assert_digests(rt: &impl Abort, summary: &Summary, of_both: &[u8; 32]) {
+    for bucket in 0..=255u8 {
+        let digest = if bucket == 0x11 { of_both } else { &NONE };
+        assert_eq!(rt; summary.digest(bucket), digest);
+    }
+}
+
+fn tells_its_buckets<S: UseStore>(
+    rt: &impl Abort,
+    alloc: Global,
+    record: &mut Record<S>,
+) -> Result<(), Fail> {
+    assert_eq!(rt; record.summary().moment(), 0);
+    assert_digests(rt, &record.summary(), &NONE);
+    absorb(record, alloc, 100, &[FIRST, SECOND])?;
+    assert_eq!(rt; record.summary().moment(), 100);
+    assert_digests(rt, &record.summary(), &BOTH);
+    Ok(())
+}
+
+fn answers_what_differs<S: UseStore>(
+    rt: &impl Abort,
+    alloc: Global,
+    record: &mut Record<S>,
+) -> Result<(), Fail> {
+    absorb(record, alloc, 100, &[FIRST, SECOND])?;
+    let answer = record.answer(alloc, &summary_of_nothing(0))?;
+    assert_one_batch(rt, &answer, 100, &[FIRST, SECOND]);
+    let own = record.summary();
+    let answer = record.answer(alloc, &own)?;
+    assert_one_batch(rt, &answer, 100, &[]);
+    let answer = record.answer(alloc, &summary_of_nothing(101))?;
+    assert_one_batch(rt, &answer, 101, &[]);
+    assert_eq!(rt; record.len(), 0);
+    Ok(())
+}
+
+fn raises_before_it_compares<S: UseStore, T: UseStore>(
+    rt: &impl Abort,
+    alloc: Global,
+    record: &mut Record<S>,
+    other: &mut Record<T>,
+) -> Result<(), Fail> {
+    absorb(record, alloc, 100, &[FIRST, LATER])?;
+    absorb(other, alloc, 101, &[LATER])?;
+    let answer = record.answer(alloc, &other.summary())?;
+    assert_one_batch(rt, &answer, 101, &[]);
+    assert_eq!(rt; record.moment(), 101);
+    let answer = record.answer(alloc, &summary_of_nothing(102))?;
+    assert_one_batch(rt, &answer, 102, &[LATER]);
+    assert_eq!(rt; record.moment(), 102);
+    Ok(())
+}
+
+// A record that was lost is not told again what its summary had.
+fn does_not_bring_back<S: UseStore, T: UseStore>(
+    rt: &impl Abort,
+    alloc: Global,
+    record: &mut Record<S>,
+    new: &mut Record<T>,
+) -> Result<(), Fail> {
+    absorb(record, alloc, 100, &[FIRST, SECOND])?;
+    let lost = record.summary();
+    for part in &record.answer(alloc, &lost)? {
+        new.absorb(part)?;
+    }
+    assert_eq!(rt; new.moment(), 100);
+    assert!(rt; new.is_empty());
+    Ok(())
+}
+
+// The use whose key has this byte first.
+fn in_bucket(bucket: u8) -> Use {
+    let mut key = [0x44; 32];
+    key[0] = bucket;
+    Use { key, ..LATER }
+}
+
+fn one_in_each_bucket(alloc: Global) -> Result<Vec<Use>, AllocError> {
+    let mut uses = Vec::new(alloc);
+    for bucket in 0..=255u8 {
+        uses.push(in_bucket(bucket))?;
+    }
+    Ok(uses)
+}
+
+fn answers_bucket_by_bucket<S: UseStore>(
+    rt: &impl Abort,
+    alloc: Global,
+    record: &mut Record<S>,
+) -> Result<(), Fail> {
+    let uses = one_in_each_bucket(alloc)?;
+    absorb(record, alloc, 100, &uses)?;
+    let answer = record.answer(alloc, &summary_of_nothing(0))?;
+    assert_one_batch(rt, &answer, 100, &uses);
+    let own = record.summary();
+    for bucket in 0..=255u8 {
+        let mut digests = *own.digests();
+        digests[bucket as usize] = NONE;
+        let answer = record.answer(alloc, &Summary::make(100, digests))?;
+        assert_one_batch(rt, &answer, 100, &[in_bucket(bucket)]);
+    }
+    Ok(())
+}
+
+fn answers_in_full_batches<S: UseStore>(
+    rt: &impl Abort,
+    alloc: Global,
+    record: &mut Record<S>,
+) -> Result<(), Fail> {
+    let uses = uses_to(alloc, 5000)?;
+    let (full, rest) = uses.split_at_checked(4096).ok_or(AllocError)?;
+    absorb(record, alloc, 5000, full)?;
+    absorb(record, alloc, 5000, rest)?;
+    let answer = record.answer(alloc, &summary_of_nothing(0))?;
+    assert_eq!(rt; answer.len(), 2);
+    assert_eq!(rt; answer[0].moment(), 5000);
+    assert_eq!(rt; answer[0].uses(), full);
+    assert_eq!(rt; answer[1].moment(), 5000);
+    assert_eq!(rt; answer[1].uses(), rest);
+    Ok(())
+}
+
+// Two stores of the same uses tell the same.
+fn assert_same<S: UseStore, T: UseStore>(
+    rt: &impl Abort,
+    alloc: Global,
+    one: &mut Record<S>,
+    other: &mut Record<T>,
+) -> Result<(), Fail> {
+    absorb(one, alloc, 100, &[FIRST, SECOND, in_bucket(3)])?;
+    other.merge(one)?;
+    assert_eq!(rt; one.summary().moment(), other.summary().moment());
+    assert_eq!(rt; one.summary().digests(), other.summary().digests());
+    let answer = one.answer(alloc, &other.summary())?;
+    assert_one_batch(rt, &answer, 100, &[]);
+    let answer = other.answer(alloc, &one.summary())?;
+    assert_one_batch(rt, &answer, 100, &[]);
+    Ok(())
+}
+
+#[test]
+fn a_summary_tells_the_digest_of_each_bucket(rt: HostRuntime) -> Result<(), Fail> {
+    let alloc = rt.alloc();
+    tells_its_buckets(&rt, alloc, &mut sorted(alloc))?;
+    tells_its_buckets(&rt, alloc, &mut indexed(alloc))?;
+    assert_same(&rt, alloc, &mut sorted(alloc), &mut indexed(alloc))
+}
+
+#[test]
+fn an_answer_has_what_differs_after_the_raise(rt: HostRuntime) -> Result<(), Fail> {
+    let alloc = rt.alloc();
+    answers_what_differs(&rt, alloc, &mut sorted(alloc))?;
+    answers_what_differs(&rt, alloc, &mut indexed(alloc))?;
+    raises_before_it_compares(&rt, alloc, &mut sorted(alloc), &mut indexed(alloc))?;
+    raises_before_it_compares(&rt, alloc, &mut indexed(alloc), &mut sorted(alloc))?;
+    does_not_bring_back(&rt, alloc, &mut sorted(alloc), &mut indexed(alloc))
+}
+
+#[test]
+fn an_answer_has_whole_buckets_in_full_batches(rt: HostRuntime) -> Result<(), Fail> {
+    let alloc = rt.alloc();
+    answers_bucket_by_bucket(&rt, alloc, &mut sorted(alloc))?;
+    answers_bucket_by_bucket(&rt, alloc, &mut indexed(alloc))?;
+    answers_in_full_batches(&rt, alloc, &mut sorted(alloc))?;
+    answers_in_full_batches(&rt, alloc, &mut indexed(alloc))
+}
