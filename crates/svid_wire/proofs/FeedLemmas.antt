@@ -3,8 +3,9 @@ use Rattle.std.proofs.Common.{◌≡◌, ℕ, ◌+◌, ◌*◌, ◌<◌, ◌≤�
 use Rattle.std.proofs.lemmas.List.{length-take}
 use Rattle.std.specs.List.{flat_map, AllByRecursion}
 use Rattle.svid_replay.specs.declared.token_use.Use.{Use}
-use Rattle.svid_replay.specs.Use.{IsUse, text_of}
+use Rattle.svid_replay.specs.Use.{IsBytes, IsUse, text_of}
 use Rattle.svid_wire.specs.BatchText.{numbers_text, head_text}
+use Rattle.svid_wire.specs.SummaryText.{moment_text, summary_head, digest_text}
 use Rattle.svid_wire.specs.Feed.{IsHeld, Pushed, PushesJoin, end_of}
 use Rattle.svid_wire.specs.Messages.{Appended, StopsAt, StopsIn}
 use Rattle.svid_wire.specs.Partial.{IsPartial, held_of}
@@ -13,9 +14,9 @@ use Rattle.svid_wire.specs.WireFault.{IsFieldRefusal}
 use Rattle.svid_wire.specs.declared.message.Message.{Message}
 use Rattle.svid_wire.specs.declared.partial.Partial.{Partial}
 use Rattle.svid_wire.specs.declared.stage.Stage.{Stage}
-use Rattle.svid_wire.specs.declared.stage.Stage.TheVariants.{Magic, Kind, Numbers, Uses}
+use Rattle.svid_wire.specs.declared.stage.Stage.TheVariants.{Magic, Kind, Numbers, Uses, Moment, Digests}
 use Rattle.svid_wire.specs.declared.wire_fault.WireFault.{WireFault}
-use Rattle.svid_wire.proofs.FirstBatch.{length-text_of}
+use Rattle.svid_wire.proofs.FirstMessage.{length-text_of}
 use Rattle.svid_wire.proofs.MessagesLemmas.{Appended-more, Appended-trans}
 use Rattle.svid_wire.proofs.StageLemmas.{IsUnfinished-stage}
 use Rattle.svid_wire.proofs.WireFaultLemmas.{IsFieldRefusal-append}
@@ -32,11 +33,25 @@ length-head m c = refl
 pub length-begun : (m c : ℕ) (us : List Use) → AllByRecursion IsUse us → length (head_text m c ++ flat_map text_of us) ≡ 17 + 64 * length us
 length-begun m c us all = omega (arith, length-append (head_text m c) (flat_map text_of us), length-head m c, length-texts us all)
 
+length-digests : (ds : List (List ℕ)) → AllByRecursion (IsBytes 32) ds → length (flat_map digest_text ds) ≡ 32 * length ds
+length-digests [] all = refl
+length-digests (d ∷ ds) all = omega (arith, length-append d (flat_map digest_text ds), all.0.size, length-digests ds all.1)
+
+length-summary_head : (m : ℕ) → length (summary_head m) ≡ 13
+unfolding moment_text
+length-summary_head m = refl
+
+-- how long the head and some digests of a summary are
+pub length-are_begun : (m : ℕ) (ds : List (List ℕ)) → AllByRecursion (IsBytes 32) ds → length (summary_head m ++ flat_map digest_text ds) ≡ 13 + 32 * length ds
+length-are_begun m ds all = omega (arith, length-append (summary_head m) (flat_map digest_text ds), length-summary_head m, length-digests ds all)
+
 length-stage : (s : Stage) → IsStage s → length (stage_text s) + field_len s ≤ 262161
 length-stage Magic good = omega arith
 length-stage Kind good = omega arith
 length-stage Numbers good = omega arith
 length-stage (Uses m c us) good = omega (arith, good.more, good.few, length-begun m c us.items good.fields)
+length-stage Moment good = omega arith
+length-stage (Digests m ds) good = omega (arith, good.more, length-are_begun m ds.items good.fields)
 
 -- an unfinished message may be held
 IsPartial-held : (p : Partial) → IsPartial p → IsHeld (held_of p)

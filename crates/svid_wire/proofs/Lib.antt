@@ -1,7 +1,7 @@
 pub mod BatchTextLemmas
 pub mod FeedLemmas
-pub mod FirstBatch
-pub mod FirstBatchTells
+pub mod FirstMessage
+pub mod FirstMessageTells
 pub mod MessagesLemmas
 pub mod RecordTextLemmas
 pub mod StageLemmas

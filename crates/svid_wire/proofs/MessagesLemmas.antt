@@ -4,17 +4,22 @@ use Rattle.std.proofs.lemmas.Grind.{flat_map-append}
 use Rattle.std.proofs.lemmas.List.{drop_at}
 use Rattle.std.proofs.lemmas.List.Elements.{All-drop, All-same}
 use Rattle.svid_replay.proofs.ListLemmas.{each_append}
-use Rattle.svid_wire.specs.BatchText.{batch_text}
-use Rattle.svid_wire.specs.WireFault.{BeginsBatch, IsFault}
-use Rattle.svid_wire.specs.Messages.{message_text, IsMessage, batches_of, BeginsMessage, Splits, Appended, Parses, HasFault, NoTextIsLonger, ParsesOneWay, EachParses, ParseEnds, CutAnywhere}
+use Rattle.svid_wire.specs.WireFault.{IsFault}
+use Rattle.svid_wire.specs.Messages.{message_text, IsMessage, batches_of, summaries_of, BeginsMessage, Splits, Appended, Parses, HasFault, NoTextIsLonger, ParsesOneWay, EachParses, ParseEnds, CutAnywhere}
 use Rattle.svid_wire.specs.declared.message.Message.{Message}
-use Rattle.svid_wire.specs.declared.message.Message.TheVariants.{Batch}
-use Rattle.svid_wire.proofs.FirstBatch.{begins_one_batch, text_has_no_fault}
-use Rattle.svid_wire.proofs.FirstBatchTells.{begins_or_faults}
+use Rattle.svid_wire.specs.declared.message.Message.TheVariants.{Batch, Summary}
+use Rattle.svid_wire.proofs.FirstMessage.{begins_one_message, text_has_no_fault}
+use Rattle.svid_wire.proofs.FirstMessageTells.{begins_or_faults}
 
 pub batches_of-append : (ms ns : List Message) → batches_of (ms ++ ns) ≡ batches_of ms ++ batches_of ns
 batches_of-append [] ns = refl
 batches_of-append (Batch b ∷ ms) ns = ap (λ x. b ∷ x) (batches_of-append ms ns)
+batches_of-append (Summary s ∷ ms) ns = batches_of-append ms ns
+
+pub summaries_of-append : (ms ns : List Message) → summaries_of (ms ++ ns) ≡ summaries_of ms ++ summaries_of ns
+summaries_of-append [] ns = refl
+summaries_of-append (Batch b ∷ ms) ns = summaries_of-append ms ns
+summaries_of-append (Summary s ∷ ms) ns = ap (λ x. s ∷ x) (summaries_of-append ms ns)
 
 -- messages behind messages
 Splits-append : (bytes : List ℕ) (ms ns : List Message) (mid rest : List ℕ) → Splits bytes ms mid → Splits mid ns rest → Splits bytes (ms ++ ns) rest
@@ -41,12 +46,6 @@ Appended-trans bytes mid rest a b c p q = record {
 pub Appended-more : (bytes more rest : List ℕ) (a b : List Message) → Appended bytes a b rest → Appended (bytes ++ more) a b (rest ++ more)
 Appended-more bytes more rest a b p = record { came = p.came; grown = p.grown; splits = Splits-more bytes more p.came rest p.splits }
 
--- bytes begin with at most one message
-begins_one_message : (a b : Message) (x y : List ℕ) → IsMessage a → IsMessage b → message_text a ++ x ≡ message_text b ++ y → (a ≡ b) × (x ≡ y)
-begins_one_message (Batch a) (Batch b) x y good_a good_b same =
-    let (e, rest) = begins_one_batch a b x y good_a good_b same in
-    (ap Batch e, rest)
-
 pub no_text_is_longer : NoTextIsLonger
 no_text_is_longer a b more good_a good_b same =
     (begins_one_message a b more [] good_a good_b (same ∙ sym (append-nil (message_text b)))).1
@@ -55,12 +54,12 @@ no_bytes_begin : ¬ BeginsMessage []
 no_bytes_begin h = none h.message h.rest h.parts where
   none : (m : Message) (rest : List ℕ) → [] ≡ message_text m ++ rest → ⊥
   none (Batch b) rest e = cc
+  none (Summary s) rest e = cc
 
 -- what has a fault begins with no message
 fault_begins_none : (bytes : List ℕ) → HasFault bytes → ¬ BeginsMessage bytes
-fault_begins_none bytes (fault, bad) h = none h.message h.rest h.good h.parts where
-  none : (m : Message) (rest : List ℕ) → IsMessage m → bytes ≡ message_text m ++ rest → ⊥
-  none (Batch b) rest good parts = text_has_no_fault b rest fault good (subst (λ (x : List ℕ). IsFault x fault) parts bad)
+fault_begins_none bytes (fault, bad) h =
+    text_has_no_fault h.message h.rest fault h.good (subst (λ (x : List ℕ). IsFault x fault) h.parts bad)
 
 pub parse_ends : ParseEnds
 parse_ends bytes ms rest splits (inl none) = record { splits = splits; ends = subst (λ (x : List ℕ). ¬ BeginsMessage x) (sym none) no_bytes_begin }
@@ -86,16 +85,16 @@ parses_one_way bytes ms ns x y p q =
 IsParsed : List ℕ → Type 0
 IsParsed bytes = (messages : List Message) × (rest : List ℕ) × Parses bytes messages rest
 
--- one batch in front of bytes that parse
-parse_more : (bytes : List ℕ) (h : BeginsBatch bytes) → IsParsed h.rest → IsParsed bytes
+-- one message in front of bytes that parse
+parse_more : (bytes : List ℕ) (h : BeginsMessage bytes) → IsParsed h.rest → IsParsed bytes
 unfolding IsParsed
 parse_more bytes h (ms, rest, p) = (
-  Batch h.batch ∷ ms,
+  h.message ∷ ms,
   rest,
   record {
     splits = record {
       good = (h.good, p.splits.good);
-      parts = h.parts ∙ ap (λ x. batch_text h.batch ++ x) p.splits.parts ∙ sym (append_assoc (batch_text h.batch) (flat_map message_text ms) rest);
+      parts = h.parts ∙ ap (λ x. message_text h.message ++ x) p.splits.parts ∙ sym (append_assoc (message_text h.message) (flat_map message_text ms) rest);
     };
     ends = p.ends;
   },
@@ -106,13 +105,18 @@ All-behind : (P : ℕ → Type 0) (bytes front rest : List ℕ) → bytes ≡ fr
 All-behind P bytes front rest parts h =
     All-same P rest (drop (length front) bytes) (sym (ap (drop (length front)) parts ∙ drop_at front rest (length front) refl)) (All-drop P (length front) bytes h)
 
+-- a message has bytes
+some_bytes : (m : Message) → 0 < length (message_text m)
+some_bytes (Batch b) = omega arith
+some_bytes (Summary s) = omega arith
+
 -- bytes of which there are at most so many parse
 parses_within : (n : ℕ) (bytes : List ℕ) → length bytes ≤ n → All (λ b. b < 256) bytes → IsParsed bytes
 unfolding IsParsed
 parses_within n [] few h = ([], [], record { splits = record { good = tt; parts = refl }; ends = no_bytes_begin })
 parses_within zero (b ∷ x) few h = absurd (omega arith)
 parses_within (suc n) (b ∷ x) few h = elim (begins_or_faults (b ∷ x) h (omega arith)) [
-  | inl begins ↦ parse_more (b ∷ x) begins (parses_within n begins.rest (omega (arith, ap length begins.parts, length-append (batch_text begins.batch) begins.rest)) (All-behind (λ k. k < 256) (b ∷ x) (batch_text begins.batch) begins.rest begins.parts h))
+  | inl begins ↦ parse_more (b ∷ x) begins (parses_within n begins.rest (omega (arith, ap length begins.parts, length-append (message_text begins.message) begins.rest, some_bytes begins.message)) (All-behind (λ k. k < 256) (b ∷ x) (message_text begins.message) begins.rest begins.parts h))
   | inr faulty ↦ ([], b ∷ x, record { splits = record { good = tt; parts = refl }; ends = fault_begins_none (b ∷ x) faulty })
 ]
 

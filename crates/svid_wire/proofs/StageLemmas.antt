@@ -1,16 +1,18 @@
 use Rattle.std.proofs.Common.{◌≡◌, ℕ, ◌+◌, ◌-◌, ◌*◌, ◌^◌, ◌<◌, List, [], ◌∷◌, ◌++◌, length, refl, sym, subst, ap, ◌∙◌, arith, Option, None, Some, append_assoc, append-nil}
-use Rattle.std.specs.List.{flat_map, slice_get}
-use Rattle.std.proofs.lemmas.List.{nil_from_length}
+use Rattle.std.specs.List.{flat_map, slice_get, AllByRecursion}
+use Rattle.std.proofs.lemmas.List.{nil_from_length, flat_map_more}
 use Rattle.svid_replay.specs.declared.token_use.Use.{Use}
 use Rattle.svid_replay.specs.declared.flaw.Flaw.{Flaw}
 use Rattle.svid_replay.specs.declared.flaw.Flaw.TheVariants.{Expired, Future, Order}
-use Rattle.svid_replay.specs.Use.{IsUse, text_of}
+use Rattle.svid_replay.specs.Use.{IsBytes, IsUse, text_of}
 use Rattle.svid_replay.specs.Batches.{flaw, last_of}
+use Rattle.svid_replay.proofs.BatchesLemmas.{AllByRecursion-push}
 use Rattle.svid_wire.specs.BatchText.{magic, batch_kind, numbers_text, head_text}
+use Rattle.svid_wire.specs.SummaryText.{summary_head, digest_text}
 use Rattle.svid_wire.specs.Stage.{IsStage, stage_text, field_len}
 use Rattle.svid_wire.specs.declared.stage.Stage.{Stage}
-use Rattle.svid_wire.specs.declared.stage.Stage.TheVariants.{Magic, Kind, Numbers, Uses}
-use Rattle.svid_wire.specs.WireFault.{IsUnfinished, in_magic, in_kind, in_numbers, in_uses, IsBegun, IsFieldFault, IsUseFault, IsCountFault, flaw_reason}
+use Rattle.svid_wire.specs.declared.stage.Stage.TheVariants.{Magic, Kind, Numbers, Uses, Moment, Digests}
+use Rattle.svid_wire.specs.WireFault.{IsUnfinished, in_magic, in_kind, in_numbers, in_uses, in_moment, in_digests, IsBegun, IsFieldFault, IsUseFault, IsCountFault, flaw_reason}
 
 pub last_of-read : (before : Option Use) (u : Use) (us : List Use) → last_of before (u ∷ us) ≡ slice_get (u ∷ us) (length us)
 last_of-read before u [] = refl
@@ -56,9 +58,19 @@ IsCountFault-last m c field e mf cf many = record {
   many = many;
 }
 
+-- a digest more, and its text
+pub AllBytes-push : (ds now : List (List ℕ)) (d : List ℕ) → now ≡ ds ++ d ∷ [] → AllByRecursion (IsBytes 32) ds → IsBytes 32 d → AllByRecursion (IsBytes 32) now
+AllBytes-push ds now d grown all is = subst (AllByRecursion (IsBytes 32)) (sym grown) (AllByRecursion-push (IsBytes 32) ds d all is)
+
+pub digests-more : (head : List ℕ) (ds now : List (List ℕ)) (d field : List ℕ) → now ≡ ds ++ d ∷ [] → d ≡ field → head ++ flat_map digest_text now ≡ head ++ flat_map digest_text ds ++ field
+digests-more head ds now d field grown same =
+    ap (λ x. head ++ flat_map digest_text x) grown ∙ sym (flat_map_more digest_text head ds d) ∙ ap (λ x. head ++ flat_map digest_text ds ++ x) same
+
 -- a stage whose next field is not whole
 pub IsUnfinished-stage : (stage : Stage) (rest bytes : List ℕ) → IsStage stage → bytes ≡ stage_text stage ++ rest → length rest < field_len stage → IsUnfinished bytes
 IsUnfinished-stage Magic rest bytes good parts short = in_magic (subst (λ (x : List ℕ). length x < 4) (sym parts) short)
 IsUnfinished-stage Kind rest bytes good parts short = in_kind (parts ∙ ap (λ x. magic ++ x) (nil_from_length rest (omega arith)) ∙ append-nil magic)
 IsUnfinished-stage Numbers rest bytes good parts short = in_numbers rest parts short
 IsUnfinished-stage (Uses m c us) rest bytes good parts short = in_uses m c us.items rest good (parts ∙ append_assoc (head_text m c) (flat_map text_of us.items) rest) short
+IsUnfinished-stage Moment rest bytes good parts short = in_moment rest parts short
+IsUnfinished-stage (Digests m ds) rest bytes good parts short = in_digests m ds.items rest good (parts ∙ append_assoc (summary_head m) (flat_map digest_text ds.items) rest) short

@@ -30,7 +30,8 @@ IsUseFault-append bytes more place f h = record {
 IsKindFault-append : (bytes more : List ℕ) → IsKindFault bytes → IsKindFault (bytes ++ more)
 IsKindFault-append bytes more h = record {
   kind = h.kind;
-  unknown = h.unknown;
+  no_batch = h.no_batch;
+  no_summary = h.no_summary;
   after = h.after ++ more;
   parts = grown bytes magic _ more h.parts;
 }

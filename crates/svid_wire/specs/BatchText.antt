@@ -1,9 +1,9 @@
 -- The text of a batch.
-use Rattle.std.specs.Prelude.{◌≡◌, ℕ, List, [], ◌∷◌, ◌++◌, length}
+use Rattle.std.specs.Prelude.{ℕ, List, [], ◌∷◌, ◌++◌, length}
 use Rattle.std.specs.Int.{to_be_bytes, w32, w64}
 use Rattle.std.specs.List.{flat_map}
 use Rattle.svid_replay.specs.Use.{text_of}
-use Rattle.svid_replay.specs.Batches.{BatchData, IsBatch}
+use Rattle.svid_replay.specs.Batches.{BatchData}
 
 -- what every message begins with: `JSR`, and 1 for the version
 abbrev pub magic : List ℕ
@@ -24,7 +24,3 @@ head_text moment count = magic ++ batch_kind ∷ [] ++ numbers_text moment count
 -- the head, and then the 64 bytes of each use
 abbrev pub batch_text : BatchData → List ℕ
 batch_text b = head_text b.moment (length b.uses) ++ flat_map text_of b.uses
-
--- bytes begin with at most one batch
-abbrev pub BeginsOneBatch : Type 0
-BeginsOneBatch = (a b : BatchData) (x y : List ℕ) → IsBatch a → IsBatch b → batch_text a ++ x ≡ batch_text b ++ y → (a ≡ b) × (x ≡ y)

@@ -8,4 +8,5 @@ pub mod Partial
 pub mod RecordText
 pub mod Stage
 pub mod Streams
+pub mod SummaryText
 pub mod WireFault

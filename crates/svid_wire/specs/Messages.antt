@@ -2,24 +2,35 @@
 use Rattle.std.specs.Prelude.{◌≡◌, ℕ, ◌<◌, ◌⊎◌, List, [], ◌∷◌, ◌++◌, length, All}
 use Rattle.std.specs.List.{AllByRecursion, flat_map}
 use Rattle.svid_replay.specs.Batches.{BatchData, IsBatch}
+use Rattle.svid_replay.specs.Summary.{SummaryData, IsSummary}
 use Rattle.svid_wire.specs.BatchText.{batch_text}
+use Rattle.svid_wire.specs.SummaryText.{summary_text}
 use Rattle.svid_wire.specs.WireFault.{IsFault, IsFieldRefusal, IsRefusal}
 use Rattle.svid_wire.specs.declared.message.Message.{Message}
-use Rattle.svid_wire.specs.declared.message.Message.TheVariants.{Batch}
+use Rattle.svid_wire.specs.declared.message.Message.TheVariants.{Batch, Summary}
 use Rattle.svid_wire.specs.declared.wire_fault.WireFault.{WireFault}
 
 -- the text of a message
 abbrev pub message_text : Message → List ℕ
 message_text (Batch b) = batch_text b
+message_text (Summary s) = summary_text s
 
 -- it is a message: its numbers and byte rows have the ranges and lengths of their fields, and it breaks no rule
 abbrev pub IsMessage : Message → Type 0
 IsMessage (Batch b) = IsBatch b
+IsMessage (Summary s) = IsSummary s
 
 -- the batches among messages
 abbrev pub batches_of : List Message → List BatchData
 batches_of [] = []
 batches_of (Batch b ∷ ms) = b ∷ batches_of ms
+batches_of (Summary s ∷ ms) = batches_of ms
+
+-- the summaries among messages
+abbrev pub summaries_of : List Message → List SummaryData
+summaries_of [] = []
+summaries_of (Batch b ∷ ms) = summaries_of ms
+summaries_of (Summary s ∷ ms) = s ∷ summaries_of ms
 
 -- the bytes are the texts of these messages, one after the other, and then a rest
 pub record Splits (bytes : List ℕ) (messages : List Message) (rest : List ℕ) : Type 0 where
@@ -61,6 +72,18 @@ pub record Parses (bytes : List ℕ) (messages : List Message) (rest : List ℕ)
 -- bytes have a fault
 abbrev pub HasFault : List ℕ → Type 0
 HasFault bytes = (fault : WireFault) × IsFault bytes fault
+
+-- bytes begin with at most one message
+abbrev pub BeginsOneMessage : Type 0
+BeginsOneMessage = (a b : Message) (x y : List ℕ) → IsMessage a → IsMessage b → message_text a ++ x ≡ message_text b ++ y → (a ≡ b) × (x ≡ y)
+
+-- bytes that begin with the text of a message have no fault
+abbrev pub TextHasNoFault : Type 0
+TextHasNoFault = (m : Message) (rest : List ℕ) (fault : WireFault) → IsMessage m → ¬ IsFault (message_text m ++ rest) fault
+
+-- bytes begin with a message or have a fault, unless there are none
+abbrev pub BeginsOrFaults : Type 0
+BeginsOrFaults = (bytes : List ℕ) → All (λ b. b < 256) bytes → 0 < length bytes → BeginsMessage bytes ⊎ HasFault bytes
 
 -- the text of a message with bytes behind it is no message's text
 abbrev pub NoTextIsLonger : Type 0

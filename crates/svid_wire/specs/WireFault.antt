@@ -1,12 +1,13 @@
--- What is wrong with bytes that begin with no batch.
-use Rattle.std.specs.Prelude.{◌≡◌, ◌≢◌, ℕ, ◌+◌, ◌*◌, ◌^◌, ◌<◌, ◌≤◌, ◌⊎◌, List, ◌∷◌, ◌++◌, length, take, None, Some, All}
+-- What is wrong with bytes that begin with no message.
+use Rattle.std.specs.Prelude.{◌≡◌, ◌≢◌, ℕ, ◌+◌, ◌*◌, ◌^◌, ◌<◌, ◌≤◌, ◌⊎◌, List, ◌∷◌, ◌++◌, length, take, None, Some}
 use Rattle.std.specs.List.{AllByRecursion, flat_map}
 use Rattle.svid_replay.specs.declared.token_use.Use.{Use}
 use Rattle.svid_replay.specs.declared.flaw.Flaw.{Flaw}
 use Rattle.svid_replay.specs.declared.flaw.Flaw.TheVariants.{Expired, Future, Order}
-use Rattle.svid_replay.specs.Use.{text_of, IsUse}
-use Rattle.svid_replay.specs.Batches.{BatchData, IsBatch, AllGood, last_of, flaw}
-use Rattle.svid_wire.specs.BatchText.{magic, batch_kind, head_text, batch_text}
+use Rattle.svid_replay.specs.Use.{text_of, IsBytes, IsUse}
+use Rattle.svid_replay.specs.Batches.{AllGood, last_of, flaw}
+use Rattle.svid_wire.specs.BatchText.{magic, batch_kind, head_text}
+use Rattle.svid_wire.specs.SummaryText.{summary_kind, summary_head, digest_text}
 use Rattle.svid_wire.specs.declared.reason.Reason.{Reason}
 use Rattle.svid_wire.specs.declared.reason.Reason.TheVariants as reason
 use Rattle.svid_wire.specs.declared.wire_fault.WireFault.{WireFault}
@@ -18,6 +19,12 @@ pub record IsBegun (moment count : ℕ) (uses : List Use) : Type 0 where
   pub more : length uses < count
   pub fields : AllByRecursion IsUse uses
   pub good : AllGood moment None uses
+
+-- these are the first digests of a summary of this moment, and at least one is to come
+pub record AreBegun (moment : ℕ) (digests : List (List ℕ)) : Type 0 where
+  pub moment_fits : moment < 2 ^ 64
+  pub more : length digests < 256
+  pub fields : AllByRecursion (IsBytes 32) digests
 
 -- something is wrong with the use behind the good ones
 pub record IsUseFault (bytes : List ℕ) (place : ℕ) (found : Flaw) : Type 0 where
@@ -32,12 +39,13 @@ pub record IsUseFault (bytes : List ℕ) (place : ℕ) (found : Flaw) : Type 0 w
   pub flawed : flaw moment (last_of None uses) bad ≡ Some found
   pub at : place ≡ 17 + 64 * length uses
 
--- the kind is not that of a batch
+-- the kind is neither that of a batch nor that of a summary
 pub record IsKindFault (bytes : List ℕ) : Type 0 where
   pub kind : ℕ
   pub after : List ℕ
   pub parts : bytes ≡ magic ++ kind ∷ after
-  pub unknown : kind ≢ batch_kind
+  pub no_batch : kind ≢ batch_kind
+  pub no_summary : kind ≢ summary_kind
 
 -- the batch tells of too many uses
 pub record IsCountFault (bytes : List ℕ) : Type 0 where
@@ -55,9 +63,11 @@ pub data IsUnfinished (bytes : List ℕ) : Type 0 where
   in_kind : bytes ≡ magic → IsUnfinished bytes
   in_numbers : (part : List ℕ) → bytes ≡ magic ++ batch_kind ∷ part → length part < 12 → IsUnfinished bytes
   in_uses : (moment count : ℕ) (uses : List Use) (part : List ℕ) → IsBegun moment count uses → bytes ≡ head_text moment count ++ (flat_map text_of uses ++ part) → length part < 64 → IsUnfinished bytes
+  in_moment : (part : List ℕ) → bytes ≡ magic ++ summary_kind ∷ part → length part < 8 → IsUnfinished bytes
+  in_digests : (moment : ℕ) (digests : List (List ℕ)) (part : List ℕ) → AreBegun moment digests → bytes ≡ summary_head moment ++ (flat_map digest_text digests ++ part) → length part < 32 → IsUnfinished bytes
 
 -- The first field that lies whole in the bytes and is bad begins at this place, and is bad for this reason; or no
--- such field is bad, and the bytes, of which there are so many, end before a batch does. Want of memory and an
+-- such field is bad, and the bytes, of which there are so many, end before a message does. Want of memory and an
 -- earlier refusal are no faults of bytes.
 abbrev pub IsFaultFor : Reason → List ℕ → ℕ → Type 0
 IsFaultFor reason.Magic bytes place = (place ≡ 0) × (4 ≤ length bytes) × (take 4 bytes ≢ magic)
@@ -95,21 +105,6 @@ IsFieldRefusal bytes fault = IsFieldFault bytes fault ⊎ (fault ≡ no_memory)
 -- what a reader of such bytes may refuse them for, where none follow
 abbrev pub IsRefusal : List ℕ → WireFault → Type 0
 IsRefusal bytes fault = IsFault bytes fault ⊎ (fault ≡ no_memory)
-
--- bytes that begin with the text of a batch have no fault
-abbrev pub TextHasNoFault : Type 0
-TextHasNoFault = (b : BatchData) (rest : List ℕ) (fault : WireFault) → IsBatch b → ¬ IsFault (batch_text b ++ rest) fault
-
--- the bytes begin with a batch
-pub record BeginsBatch (bytes : List ℕ) : Type 0 where
-  pub batch : BatchData
-  pub rest : List ℕ
-  pub good : IsBatch batch
-  pub parts : bytes ≡ batch_text batch ++ rest
-
--- bytes begin with a batch or have a fault, unless there are none
-abbrev pub BeginsOrFaults : Type 0
-BeginsOrFaults = (bytes : List ℕ) → All (λ b. b < 256) bytes → 0 < length bytes → BeginsBatch bytes ⊎ ((fault : WireFault) × IsFault bytes fault)
 
 -- bytes have at most one fault
 abbrev pub FaultIsUnique : Type 0

@@ -1,14 +1,50 @@
-ghost use Rattle.std.specs.Prelude.{◌≡◌, ◌+◌, [], ◌++◌, length, OnOk, IfOk, IfErr};
+ghost use Rattle.std.specs.Prelude.{◌≡◌, ◌+◌, [], ◌∷◌, ◌++◌, length, OnOk, IfOk, IfErr};
 ghost use Rattle.svid_wire.specs.Messages.{Appended, StopsAt, StopsIn};
 ghost use Rattle.svid_wire.specs.Partial.{IsPartial, held_of};
 ghost use Rattle.svid_wire.specs.Stage.{field_len};
-ghost use Rattle.svid_wire.specs.WireFault.{IsFieldRefusal};
+ghost use Rattle.svid_wire.specs.WireFault.{IsFieldRefusal, no_memory};
 
 use crate::judging::judge;
+use crate::layout::{DIGEST_LEN, DIGESTS};
 use crate::partial::{Partial, put_behind};
-use crate::stage::{Progress, Stage};
+use crate::stage::Progress;
 use crate::{Feed, Message, WireFault};
 use std::alloc::Global;
+use svid_replay::{Batch, Summary};
+
+// The summary of a moment and all its digests.
+fn summary_of(moment: u64, digests: &[[u8; DIGEST_LEN]]) -> Summary
+    requires { length digests.now ≡ 256 }
+    ensures { result ≡ record { moment = moment; digests = digests.now } }
+{
+    let mut all = [[0; DIGEST_LEN]; DIGESTS];
+    all.copy_from_slice(digests);
+    Summary::make(moment, all)
+}
+
+// Appends a batch. (A function of its own, and so is the next: where room for a message lies on the stack,
+// it is cleared, 8 KiB, and of most fields no message comes.)
+#[inline(never)]
+fn append_batch(batch: Batch, out: &mut Vec<Message>) -> Result<(), WireFault>
+    ensures ok { OnOk result (out.new.items ≡ out.old.items ++ Message.Batch batch ∷ []) }
+    ensures fault { IfErr result (λ fault. (out.new.items ≡ out.old.items) × (fault ≡ no_memory)) }
+{
+    Ok(out.push(Message::Batch(batch))?)
+}
+
+// Appends the summary of a moment and all its digests.
+#[inline(never)]
+fn append_summary(
+    moment: u64,
+    digests: &[[u8; DIGEST_LEN]],
+    out: &mut Vec<Message>,
+) -> Result<(), WireFault>
+    requires { length digests.now ≡ 256 }
+    ensures ok { OnOk result (out.new.items ≡ out.old.items ++ Message.Summary (record { moment = moment; digests = digests.now }) ∷ []) }
+    ensures fault { IfErr result (λ fault. (out.new.items ≡ out.old.items) × (fault ≡ no_memory)) }
+{
+    Ok(out.push(Message::Summary(summary_of(moment, digests)))?)
+}
 
 // Judges the field that `last` makes whole, and appends the message that it ends.
 fn end_field(
@@ -31,9 +67,13 @@ fn end_field(
     let (field, _) = part.split_at(filled + last.len());
     match judge(alloc, stage, field) {
         Ok(Progress::More(next)) => Ok(Partial::behind(next)),
-        Ok(Progress::Whole(batch)) => {
-            out.push(Message::Batch(batch))?;
-            Ok(Partial::behind(Stage::Magic))
+        Ok(Progress::Batch(batch)) => {
+            append_batch(batch, out)?;
+            Ok(Partial::start())
+        }
+        Ok(Progress::Summary { moment, digests }) => {
+            append_summary(moment, &digests, out)?;
+            Ok(Partial::start())
         }
         Err(fault) => Err(fault),
     }

@@ -3,7 +3,6 @@ ghost use Rattle.svid_wire.specs.Feed.{IsPushFault, Pushed, end_of, held_len};
 
 use crate::decoding::take_piece;
 use crate::partial::Partial;
-use crate::stage::Stage;
 use crate::{Message, Reason, WireFault};
 use std::alloc::Global;
 use std::marker::Model;
@@ -42,7 +41,7 @@ impl Feed {
     {
         Feed {
             alloc,
-            state: Some(Partial::behind(Stage::Magic)),
+            state: Some(Partial::start()),
         }
     }
 

@@ -1,8 +1,10 @@
 ghost use Rattle.std.specs.Prelude.{◌≡◌, length};
 ghost use Rattle.std.specs.Int.{to_be_bytes, w32, w64};
-ghost use Rattle.svid_replay.specs.Use.{text_of};
+ghost use Rattle.svid_replay.specs.Use.{IsBytes, text_of};
 ghost use Rattle.svid_wire.specs.BatchText.{numbers_text};
+ghost use Rattle.svid_wire.specs.SummaryText.{moment_text};
 
+use crate::layout::DIGEST_LEN;
 use svid_replay::Use;
 
 fn u64_of(bytes: &[u8]) -> u64
@@ -55,4 +57,22 @@ pub(crate) fn numbers_of(field: &[u8]) -> (u64, u32)
 {
     let (moment, count) = field.split_at(8);
     (u64_of(moment), u32_of(count))
+}
+
+/// The moment that such bytes tell.
+#[tactic(auto, unfolding(crate::specs::SummaryText::moment_text))]
+pub(crate) fn moment_of(field: &[u8]) -> u64
+    requires { length field.now ≡ 8 }
+    ensures { moment_text result ≡ field.now }
+{
+    u64_of(field)
+}
+
+/// The digest that such bytes are.
+pub(crate) fn digest_of(field: &[u8]) -> [u8; DIGEST_LEN]
+    requires { length field.now ≡ 32 }
+    ensures value { result ≡ field.now }
+    ensures fields { IsBytes 32 result }
+{
+    array_of(field)
 }

@@ -1,13 +1,17 @@
 ghost use Rattle.std.specs.Prelude.{◌≡◌, ◌≤◌, ◌++◌, [], ◌∷◌, length, None};
 ghost use Rattle.std.specs.List.{AllByRecursion, flat_map};
-ghost use Rattle.svid_replay.specs.Use.{text_of, IsUse};
+ghost use Rattle.svid_replay.specs.Use.{text_of, IsBytes, IsUse};
 ghost use Rattle.svid_replay.specs.Batches.{AllGood, last_of};
 ghost use Rattle.svid_wire.specs.BatchText.{magic, batch_kind, head_text};
-ghost use Rattle.svid_wire.specs.WireFault.{IsBegun, flaw_reason};
+ghost use Rattle.svid_wire.specs.SummaryText.{summary_kind, summary_head, digest_text};
+ghost use Rattle.svid_wire.specs.WireFault.{AreBegun, IsBegun, flaw_reason};
 ghost use Rattle.svid_wire.specs.Stage.{IsStage, Judges, Reaches, field_len, stage_text};
 
-use crate::field::{numbers_of, use_of};
-use crate::layout::{BATCH_KIND, COUNT_PLACE, HEAD_LEN, KIND_PLACE, MAGIC, USE_LEN};
+use crate::field::{digest_of, moment_of, numbers_of, use_of};
+use crate::layout::{
+    BATCH_KIND, COUNT_PLACE, DIGEST_LEN, DIGESTS, HEAD_LEN, KIND_PLACE, MAGIC, SUMMARY_KIND,
+    USE_LEN,
+};
 use crate::stage::{Progress, Stage};
 use crate::{Reason, WireFault};
 use std::alloc::Global;
@@ -41,13 +45,13 @@ fn judge_kind(field: &[u8]) -> Result<Progress, WireFault>
     requires { length field.now ≡ 1 }
     ensures { Judges (magic ++ field.now) result }
 {
-    if field[0] == BATCH_KIND {
-        Ok(Progress::More(Stage::Numbers))
-    } else {
-        Err(WireFault {
+    match field[0] {
+        BATCH_KIND => Ok(Progress::More(Stage::Numbers)),
+        SUMMARY_KIND => Ok(Progress::More(Stage::Moment)),
+        _ => Err(WireFault {
             place: KIND_PLACE,
             reason: Reason::Kind,
-        })
+        }),
     }
 }
 
@@ -60,7 +64,7 @@ fn next(moment: u64, count: u32, uses: Vec<Use>) -> Progress
     ensures { Reaches (head_text moment count ++ flat_map text_of uses.items) result }
 {
     if uses.len() == count as usize {
-        Progress::Whole(Batch::from_good(moment, uses))
+        Progress::Batch(Batch::from_good(moment, uses))
     } else {
         Progress::More(Stage::Uses {
             moment,
@@ -111,6 +115,42 @@ fn judge_use(
     Ok(next(moment, count, uses))
 }
 
+fn judge_moment(alloc: Global, field: &[u8]) -> Progress
+    requires { length field.now ≡ 8 }
+    ensures { Reaches (magic ++ summary_kind ∷ [] ++ field.now) result }
+{
+    Progress::More(Stage::Digests {
+        moment: moment_of(field),
+        digests: Vec::new(alloc),
+    })
+}
+
+// What the digests of a summary that came lead to: the summary, where they are all.
+fn next_digest(moment: u64, digests: Vec<[u8; DIGEST_LEN]>) -> Progress
+    requires within { length digests.items ≤ 256 }
+    requires fields { AllByRecursion (IsBytes 32) digests.items }
+    ensures { Reaches (summary_head moment ++ flat_map digest_text digests.items) result }
+{
+    if digests.len() == DIGESTS {
+        Progress::Summary { moment, digests }
+    } else {
+        Progress::More(Stage::Digests { moment, digests })
+    }
+}
+
+fn judge_digest(
+    moment: u64,
+    mut digests: Vec<[u8; DIGEST_LEN]>,
+    field: &[u8],
+) -> Result<Progress, WireFault>
+    requires begun { AreBegun moment digests.items }
+    requires whole { length field.now ≡ 32 }
+    ensures { Judges (summary_head moment ++ flat_map digest_text digests.items ++ field.now) result }
+{
+    digests.push(digest_of(field))?;
+    Ok(next_digest(moment, digests))
+}
+
 /// Judges the field that comes next.
 pub(crate) fn judge(alloc: Global, stage: Stage, field: &[u8]) -> Result<Progress, WireFault>
     requires good { IsStage stage }
@@ -126,5 +166,7 @@ pub(crate) fn judge(alloc: Global, stage: Stage, field: &[u8]) -> Result<Progres
             count,
             uses,
         } => judge_use(moment, count, uses, field),
+        Stage::Moment => Ok(judge_moment(alloc, field)),
+        Stage::Digests { moment, digests } => judge_digest(moment, digests, field),
     }
 }

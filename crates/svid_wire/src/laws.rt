@@ -2,23 +2,22 @@
 //! nothing in it, so that the check proves it like any other promise.
 
 ghost use Rattle.svid_replay.specs.Parts.{PartsGiveRecord};
-ghost use Rattle.svid_wire.specs.BatchText.{BeginsOneBatch};
 ghost use Rattle.svid_wire.specs.Feed.{PushesJoin};
-ghost use Rattle.svid_wire.specs.Messages.{CutAnywhere, EachParses, NoTextIsLonger, ParseEnds, ParsesOneWay};
+ghost use Rattle.svid_wire.specs.Messages.{BeginsOneMessage, BeginsOrFaults, CutAnywhere, EachParses, NoTextIsLonger, ParseEnds, ParsesOneWay, TextHasNoFault};
 ghost use Rattle.svid_wire.specs.RecordText.{TextTellsRecord};
-ghost use Rattle.svid_wire.specs.WireFault.{BeginsOrFaults, FaultIsUnique, FieldFaultStays, TextHasNoFault};
+ghost use Rattle.svid_wire.specs.WireFault.{FaultIsUnique, FieldFaultStays};
 
-/// Bytes begin with the text of at most one batch.
-pub fn begins_one_batch()
-    ensures { BeginsOneBatch }
+/// Bytes begin with the text of at most one message.
+pub fn begins_one_message()
+    ensures { BeginsOneMessage }
 {}
 
-/// Bytes that begin with a batch's text have no fault, whatever follows.
+/// Bytes that begin with a message's text have no fault, whatever follows.
 pub fn text_has_no_fault()
     ensures { TextHasNoFault }
 {}
 
-/// Bytes, where there are any, begin with a batch's text or have a fault.
+/// Bytes, where there are any, begin with a message's text or have a fault.
 pub fn begins_or_faults()
     ensures { BeginsOrFaults }
 {}

@@ -1,10 +1,13 @@
-//! Where the fields of a batch's text stand, and how long they are.
+//! Where the fields of a message's text stand, and how long they are.
 
 /// What every message begins with: `JSR`, and 1 for the version.
 pub(crate) const MAGIC: [u8; 4] = [b'J', b'S', b'R', 1];
 
 /// The next byte of a batch.
 pub(crate) const BATCH_KIND: u8 = 1;
+
+/// The next byte of a summary.
+pub(crate) const SUMMARY_KIND: u8 = 2;
 
 /// How many bytes that has which every message begins with.
 pub(crate) const MAGIC_LEN: usize = 4;
@@ -20,6 +23,18 @@ pub(crate) const USE_LEN: usize = 64;
 
 /// How many bytes stand before the first use.
 pub(crate) const HEAD_LEN: usize = 17;
+
+/// How many bytes the moment of a summary has.
+pub(crate) const MOMENT_LEN: usize = 8;
+
+/// How many bytes a digest has.
+pub(crate) const DIGEST_LEN: usize = 32;
+
+/// How many digests a summary has.
+pub(crate) const DIGESTS: usize = 256;
+
+/// How many bytes stand before the first digest.
+pub(crate) const SUMMARY_HEAD_LEN: usize = 13;
 
 /// Where the kind stands.
 pub(crate) const KIND_PLACE: usize = 4;

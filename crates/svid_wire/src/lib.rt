@@ -4,10 +4,11 @@
 //! [`Counted`] makes them of the readers and writers of `std`, [`MemSource`] and [`MemSink`] keep
 //! their bytes in memory. [`read_up_to`] reads a source to its end, [`put_all`] puts a whole piece.
 //!
-//! [`write_batch`] puts the text of a batch. A [`Feed`] reads messages whose texts come in pieces, one
-//! after the other, or finds the first that is bad, with its fault and its place; [`read_all`] does
-//! so where all bytes are there. The grammar is a definition of its own, in `specs/BatchText.antt`,
-//! `specs/Messages.antt` and `specs/WireFault.antt`; [`laws`] says that it leaves no doubt: bytes are
+//! A [`Message`] is a batch or a summary. [`write_batch`] and [`write_summary`] put the text of one. A
+//! [`Feed`] reads messages whose texts come in pieces, one after the other, or finds the first that is
+//! bad, with its fault and its place; [`read_all`] does so where all bytes are there. The grammar is a
+//! definition of its own, in `specs/BatchText.antt`, `specs/SummaryText.antt`, `specs/Messages.antt`
+//! and `specs/WireFault.antt`; [`laws`] says that it leaves no doubt: bytes are
 //! in exactly one way the texts of some messages and a rest that begins with none, and such a rest,
 //! unless it is empty, has one fault.
 //!
@@ -18,9 +19,11 @@
 //! let mut messages = Vec::new(alloc);
 //! read_all(alloc, &read, &mut messages)?;
 //! let mut sink = MemSink::new(alloc, 4096, None);
-//! for Message::Batch(batch) in &messages {
-//!     assert_eq!(rt; (batch.moment(), batch.uses().len()), (100, 0));
-//!     write_batch(batch, &mut sink)?;
+//! for message in &messages {
+//!     match message {
+//!         Message::Batch(batch) => write_batch(batch, &mut sink)?,
+//!         Message::Summary(summary) => write_summary(summary, &mut sink)?,
+//!     }
 //! }
 //! assert_eq!(rt; sink.bytes(), bytes.as_slice());
 //! ```
@@ -49,6 +52,7 @@ mod tests;
 mod wire_fault;
 mod write_fault;
 mod writing;
+mod writing_summary;
 
 pub use counted::Counted;
 pub use decoding::read_all;
@@ -65,3 +69,4 @@ pub use stopped::Stopped;
 pub use wire_fault::WireFault;
 pub use write_fault::WriteFault;
 pub use writing::{put_all, write_batch};
+pub use writing_summary::write_summary;

@@ -1,4 +1,4 @@
-ghost use Rattle.std.specs.Prelude.{◌≡◌, ◌+◌, ◌<◌, ◌≤◌, ◌++◌, length, take};
+ghost use Rattle.std.specs.Prelude.{◌≡◌, [], ◌+◌, ◌<◌, ◌≤◌, ◌++◌, length, take};
 ghost use Rattle.svid_wire.specs.Stage.{IsStage, field_len, stage_text};
 ghost use Rattle.svid_wire.specs.Partial.{IsPartial, held_of};
 
@@ -33,6 +33,14 @@ impl Partial {
             part: [0; USE_LEN],
             filled: 0,
         }
+    }
+
+    /// Before the first byte of a message.
+    pub(crate) fn start() -> Partial
+        ensures partial { IsPartial result }
+        ensures held { held_of result ≡ [] }
+    {
+        Partial::behind(Stage::Magic)
     }
 
     /// How many bytes the next field lacks.

@@ -1,9 +1,11 @@
 ghost use Rattle.std.specs.Prelude.{◌≡◌, ◌+◌, ◌<◌, ◌≤◌, length};
 
-use crate::layout::{HEAD_LEN, KIND_LEN, MAGIC_LEN, NUMBERS_LEN, USE_LEN};
+use crate::layout::{
+    DIGEST_LEN, HEAD_LEN, KIND_LEN, MAGIC_LEN, MOMENT_LEN, NUMBERS_LEN, SUMMARY_HEAD_LEN, USE_LEN,
+};
 use svid_replay::{Batch, Use};
 
-/// The field of a batch that comes next, with what the fields before it told.
+/// The field of a message that comes next, with what the fields before it told.
 #[derive(Drop)]
 pub(crate) enum Stage {
     Magic,
@@ -13,6 +15,11 @@ pub(crate) enum Stage {
         moment: u64,
         count: u32,
         uses: Vec<Use>,
+    },
+    Moment,
+    Digests {
+        moment: u64,
+        digests: Vec<[u8; DIGEST_LEN]>,
     },
 }
 
@@ -29,6 +36,8 @@ impl Stage {
             Stage::Kind => KIND_LEN,
             Stage::Numbers => NUMBERS_LEN,
             Stage::Uses { .. } => USE_LEN,
+            Stage::Moment => MOMENT_LEN,
+            Stage::Digests { .. } => DIGEST_LEN,
         }
     }
 
@@ -43,13 +52,20 @@ impl Stage {
             Stage::Kind => MAGIC_LEN,
             Stage::Numbers => MAGIC_LEN + KIND_LEN,
             Stage::Uses { uses, .. } => HEAD_LEN + USE_LEN * uses.len(),
+            Stage::Moment => MAGIC_LEN + KIND_LEN,
+            Stage::Digests { digests, .. } => SUMMARY_HEAD_LEN + DIGEST_LEN * digests.len(),
         }
     }
 }
 
-/// What a good field leads to.
+/// What a good field leads to. A whole summary is told by its digests, so that no 8 KiB are moved
+/// for each field.
 #[derive(Drop)]
 pub(crate) enum Progress {
     More(Stage),
-    Whole(Batch),
+    Batch(Batch),
+    Summary {
+        moment: u64,
+        digests: Vec<[u8; DIGEST_LEN]>,
+    },
 }

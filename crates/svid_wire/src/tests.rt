@@ -3,10 +3,11 @@ mod feeding;
 mod messages;
 mod refusing;
 mod streams;
+mod summaries;
 mod sweep;
 mod writing;
 
-use crate::{Message, WireFault, read_all};
+use crate::{Message, Sink, WireFault, WriteFault, read_all, write_batch, write_summary};
 use std::alloc::{AllocError, Global};
 use svid_replay::Use;
 
@@ -34,16 +35,38 @@ pub(crate) fn fault_of(alloc: Global, bytes: &[u8]) -> Option<WireFault> {
 pub(crate) const NO_USES: &[u8; 17] =
     b"JSR\x01\x01\x00\x00\x00\x00\x00\x00\x00\x05\x00\x00\x00\x00";
 
-// The moment and the number of uses of each message.
-pub(crate) fn summary_of(
+// Told in place of a number of uses, where a message is a summary. No batch has as many uses.
+pub(crate) const A_SUMMARY: usize = 5000;
+
+// The moment of a message, and the number of its uses.
+pub(crate) fn told(message: &Message) -> (u64, usize) {
+    match message {
+        Message::Batch(batch) => (batch.moment(), batch.uses().len()),
+        Message::Summary(summary) => (summary.moment(), A_SUMMARY),
+    }
+}
+
+// What is told of each message.
+pub(crate) fn told_of(
     alloc: Global,
     messages: &[Message],
 ) -> Result<Vec<(u64, usize)>, AllocError> {
-    let mut told = Vec::new(alloc);
-    for Message::Batch(batch) in messages {
-        told.push((batch.moment(), batch.uses().len()))?;
+    let mut all = Vec::new(alloc);
+    for message in messages {
+        all.push(told(message))?;
     }
-    Ok(told)
+    Ok(all)
+}
+
+// Puts the texts of the messages, one after the other.
+pub(crate) fn write_each<K: Sink>(messages: &[Message], sink: &mut K) -> Result<(), WriteFault> {
+    for message in messages {
+        match message {
+            Message::Batch(batch) => write_batch(batch, sink)?,
+            Message::Summary(summary) => write_summary(summary, sink)?,
+        }
+    }
+    Ok(())
 }
 
 pub(crate) fn joined(alloc: Global, texts: &[&[u8]]) -> Result<Vec<u8>, AllocError> {

@@ -1,4 +1,4 @@
-use super::{TWO_USES, fault_of, many_uses};
+use super::{TWO_USES, fault_of, many_uses, told};
 use crate::{Message, Reason, WireFault, read_all};
 use std::test::Fail;
 use svid_replay::Use;
@@ -23,9 +23,11 @@ fn reads_the_fields_of_a_batch(rt: HostRuntime) -> Result<(), Fail> {
         at: 100,
         ..first
     };
-    for Message::Batch(batch) in &out {
-        assert_eq!(rt; batch.moment(), 100);
-        assert_eq!(rt; batch.uses(), [first, second].as_slice());
+    for message in &out {
+        assert_eq!(rt; told(message), (100, 2));
+        if let Message::Batch(batch) = message {
+            assert_eq!(rt; batch.uses(), [first, second].as_slice());
+        }
     }
     Ok(())
 }
@@ -51,7 +53,8 @@ fn refuses_the_first_bad_field_at_its_place(rt: HostRuntime) {
         (0, 0x00, 0, Reason::Magic),
         (3, 0x02, 0, Reason::Magic),
         (4, 0x03, 4, Reason::Kind),
-        (4, 0x02, 4, Reason::Kind),
+        (4, 0x00, 4, Reason::Kind),
+        (4, 0x02, 145, Reason::Truncated),
         (15, 0x10, 13, Reason::Count),
         (24, 100, 17, Reason::UseExpired),
         (80, 101, 17, Reason::UseFuture),

@@ -1,7 +1,7 @@
 ghost use Rattle.std.specs.Prelude.{◌<◌};
 
-use super::{NO_USES, TWO_USES, joined, many_uses, summary_of};
-use crate::{Feed, MemSink, Message, Reason, WireFault, write_batch};
+use super::{NO_USES, TWO_USES, joined, many_uses, told_of, write_each};
+use crate::{Feed, MemSink, Message, Reason, WireFault};
 use std::test::Fail;
 
 const FAILED: WireFault = WireFault {
@@ -38,7 +38,7 @@ fn a_message_comes_with_its_last_byte(rt: HostRuntime) -> Result<(), Fail> {
     }
     assert_eq!(rt; feed.held(), 0);
     assert_eq!(rt;
-        summary_of(rt.alloc(), &out)?.as_slice(),
+        told_of(rt.alloc(), &out)?.as_slice(),
         [(100, 2)].as_slice()
     );
     for _ in 0..3usize {
@@ -92,7 +92,7 @@ fn a_batch_cut_in_two_is_one_batch(rt: HostRuntime) -> Result<(), Fail> {
         assert_eq!(rt; feed.push(second, &mut out), Ok(()), "{n} bytes");
         assert_eq!(rt; feed.held(), 0);
         assert_eq!(rt;
-            summary_of(rt.alloc(), &out)?.as_slice(),
+            told_of(rt.alloc(), &out)?.as_slice(),
             [(100, 2)].as_slice()
         );
         assert_eq!(rt; feed.finish(), Ok(()));
@@ -113,7 +113,7 @@ fn a_batch_cut_in_three_is_one_batch(rt: HostRuntime) -> Result<(), Fail> {
             }
             assert_eq!(rt; feed.held(), 0);
             assert_eq!(rt;
-                summary_of(rt.alloc(), &out)?.as_slice(),
+                told_of(rt.alloc(), &out)?.as_slice(),
                 [(100, 2)].as_slice()
             );
         }
@@ -134,15 +134,13 @@ fn a_full_batch_comes_in_pieces_of_any_length(rt: HostRuntime) -> Result<(), Fai
         assert_eq!(rt; (feed.held(), out.len()), (262160, 0), "pieces of {length}");
         assert_eq!(rt; feed.push(last, &mut out), Ok(()));
         assert_eq!(rt; (feed.held(), out.len()), (0, 1), "pieces of {length}");
-        for Message::Batch(batch) in &out {
-            let mut sink = MemSink::new(rt.alloc(), 1000, None);
-            assert_eq!(rt; write_batch(batch, &mut sink), Ok(()));
-            assert_eq!(rt;
-                sink.bytes() == bytes.as_slice(),
-                true,
-                "pieces of {length}"
-            );
-        }
+        let mut sink = MemSink::new(rt.alloc(), 1000, None);
+        assert_eq!(rt; write_each(&out, &mut sink), Ok(()));
+        assert_eq!(rt;
+            sink.bytes() == bytes.as_slice(),
+            true,
+            "pieces of {length}"
+        );
         assert_eq!(rt; feed.finish(), Ok(()));
     }
     Ok(())
@@ -190,7 +188,7 @@ fn the_messages_before_a_fault_come(rt: HostRuntime) -> Result<(), Fail> {
         let pushed = push_in_pieces(&mut feed, &bytes, length, &mut out);
         assert_eq!(rt; pushed, fault(0, Reason::Magic));
         assert_eq!(rt;
-            summary_of(alloc, &out)?.as_slice(),
+            told_of(alloc, &out)?.as_slice(),
             [(100, 2), (5, 0)].as_slice()
         );
         assert_eq!(rt; feed.finish(), Err(FAILED));

@@ -1,5 +1,7 @@
-use super::{NO_USES, TWO_USES, joined, many_uses, summary_of};
-use crate::{Counted, MemSink, Message, Reason, WireFault, read_all, read_up_to, write_batch};
+use super::{NO_USES, TWO_USES, joined, many_uses, told_of};
+use crate::{
+    Counted, MemSink, Message, Reason, WireFault, read_all, read_up_to, write_batch, write_summary,
+};
 use std::test::Fail;
 
 #[test]
@@ -16,7 +18,7 @@ fn reads_each_message_in_its_order(rt: HostRuntime) -> Result<(), Fail> {
     ] {
         let mut out = Vec::new(alloc);
         assert_eq!(rt; read_all(alloc, &joined(alloc, texts)?, &mut out), Ok(()));
-        assert_eq!(rt; summary_of(alloc, &out)?.as_slice(), want);
+        assert_eq!(rt; told_of(alloc, &out)?.as_slice(), want);
     }
     Ok(())
 }
@@ -31,7 +33,7 @@ fn reads_full_batches_one_after_the_other(rt: HostRuntime) -> Result<(), Fail> {
         Ok(())
     );
     assert_eq!(rt;
-        summary_of(alloc, &out)?.as_slice(),
+        told_of(alloc, &out)?.as_slice(),
         [(5000, 4096), (5000, 4096)].as_slice()
     );
     Ok(())
@@ -48,7 +50,7 @@ fn appends_behind_the_messages_that_were_there(rt: HostRuntime) -> Result<(), Fa
         true
     );
     assert_eq!(rt;
-        summary_of(alloc, &out)?.as_slice(),
+        told_of(alloc, &out)?.as_slice(),
         [(5, 0), (100, 2)].as_slice()
     );
     Ok(())
@@ -76,7 +78,7 @@ fn a_cut_message_is_truncated_at_its_own_length(rt: HostRuntime) -> Result<(), F
                 read_all(alloc, &joined(alloc, texts)?, &mut out),
                 Err(want)
             );
-            assert_eq!(rt; summary_of(alloc, &out)?.as_slice(), kept, "{n} bytes");
+            assert_eq!(rt; told_of(alloc, &out)?.as_slice(), kept, "{n} bytes");
         }
     }
     Ok(())
@@ -116,7 +118,7 @@ fn a_fault_is_placed_in_its_message_and_keeps_those_before_it(rt: HostRuntime) -
                 Err(want),
                 "byte {at}"
             );
-            assert_eq!(rt; summary_of(alloc, &out)?.as_slice(), kept, "byte {at}");
+            assert_eq!(rt; told_of(alloc, &out)?.as_slice(), kept, "byte {at}");
         }
     }
     Ok(())
@@ -131,9 +133,11 @@ fn writes_what_it_read(rt: HostRuntime) -> Result<(), Fail> {
     let mut messages = Vec::new(alloc);
     read_all(alloc, &read, &mut messages)?;
     let mut sink = MemSink::new(alloc, 4096, None);
-    for Message::Batch(batch) in &messages {
-        assert_eq!(rt; (batch.moment(), batch.uses().len()), (100, 0));
-        write_batch(batch, &mut sink)?;
+    for message in &messages {
+        match message {
+            Message::Batch(batch) => write_batch(batch, &mut sink)?,
+            Message::Summary(summary) => write_summary(summary, &mut sink)?,
+        }
     }
     assert_eq!(rt; sink.bytes(), bytes.as_slice());
     Ok(())

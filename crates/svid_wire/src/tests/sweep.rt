@@ -3,10 +3,11 @@
 ghost use Rattle.std.specs.Prelude.{◌≤◌};
 
 use super::refusing::{refuse, was_refused};
-use super::{TWO_USES, many_uses};
+use super::summaries::text_of_numbered;
+use super::{A_SUMMARY, TWO_USES, many_uses, told, write_each};
 use crate::{
     Counted, Feed, MemSink, MemSource, Message, ReadFault, Reason, Sink, WireFault, read_all,
-    read_up_to, write_batch,
+    read_up_to,
 };
 use std::alloc::{AllocError, Global};
 use std::test::Fail;
@@ -23,24 +24,25 @@ const FAILED: WireFault = WireFault {
     reason: Reason::Failed,
 };
 
-// The moments and the numbers of uses of three batches.
-const THREE: [(u64, usize); 3] = [(5000, 10), (5000, 20), (100, 2)];
+// What is told of four messages.
+const FOUR: [(u64, usize); 4] = [(5000, 10), (5000, 20), (258, A_SUMMARY), (100, 2)];
 
-// The bytes of those batches.
-fn three_batches(alloc: Global) -> Result<Vec<u8>, AllocError> {
+// The bytes of those messages.
+fn four_messages(alloc: Global) -> Result<Vec<u8>, AllocError> {
     let mut bytes = many_uses(alloc, 10)?;
     bytes.extend_from_slice(&many_uses(alloc, 20)?)?;
+    bytes.extend_from_slice(&text_of_numbered(alloc)?)?;
     bytes.extend_from_slice(TWO_USES)?;
     Ok(bytes)
 }
 
-// Whether these are the first of those batches.
+// Whether these are the first of those messages.
 fn are_first(messages: &[Message]) -> bool {
-    messages.len() <= 3
-        && messages.iter().zip(&THREE).all(|(Message::Batch(batch), told)| (
-            batch.moment(),
-            batch.uses().len(),
-        ) == *told)
+    messages.len() <= 4
+        && messages
+            .iter()
+            .zip(&FOUR)
+            .all(|(message, due)| told(message) == *due)
 }
 
 // Pushes the bytes in pieces of 100, the last as it is left.
@@ -53,7 +55,7 @@ fn push_pieces(feed: &mut Feed, bytes: &[u8], out: &mut Vec<Message>) -> Result<
 
 #[test]
 fn pushing_answers_want_of_memory_and_then_failed(rt: HostRuntime) -> Result<(), Fail> {
-    let bytes = three_batches(rt.alloc())?;
+    let bytes = four_messages(rt.alloc())?;
     for nth in 1..MOST_GROWTHS {
         let mut feed = Feed::new(rt.alloc());
         let mut out = Vec::new(rt.alloc());
@@ -64,12 +66,12 @@ fn pushing_answers_want_of_memory_and_then_failed(rt: HostRuntime) -> Result<(),
         assert_eq!(rt; are_first(&out), true, "growth {nth}");
         assert_eq!(rt; feed.held(), 0);
         if !refused {
-            assert_eq!(rt; (pushed, out.len(), feed.finish()), (Ok(()), 3, Ok(())));
+            assert_eq!(rt; (pushed, out.len(), feed.finish()), (Ok(()), 4, Ok(())));
             return Ok(());
         }
         assert_eq!(rt; pushed, Err(NO_MEMORY), "growth {nth}");
         let came = out.len();
-        assert_eq!(rt; came < 3, true, "growth {nth}");
+        assert_eq!(rt; came < 4, true, "growth {nth}");
         assert_eq!(rt; feed.push(TWO_USES, &mut out), Err(FAILED), "growth {nth}");
         assert_eq!(rt; (feed.held(), out.len()), (0, came));
         assert_eq!(rt; feed.finish(), Err(FAILED));
@@ -125,7 +127,7 @@ fn reading_answers_want_of_memory(rt: HostRuntime) -> Result<(), Fail> {
 fn reading_messages_answers_want_of_memory_and_keeps_the_first(
     rt: HostRuntime,
 ) -> Result<(), Fail> {
-    let bytes = three_batches(rt.alloc())?;
+    let bytes = four_messages(rt.alloc())?;
     for nth in 1..MOST_GROWTHS {
         let mut out = Vec::new(rt.alloc());
         refuse(rt.alloc(), nth);
@@ -134,14 +136,14 @@ fn reading_messages_answers_want_of_memory_and_keeps_the_first(
         refuse(rt.alloc(), 0);
         assert_eq!(rt; are_first(&out), true, "growth {nth}");
         if !refused {
-            assert_eq!(rt; (read, out.len()), (Ok(()), 3));
+            assert_eq!(rt; (read, out.len()), (Ok(()), 4));
             return Ok(());
         }
         assert_eq!(rt; read, Err(NO_MEMORY), "growth {nth}");
-        assert_eq!(rt; out.len() < 3, true, "growth {nth}");
+        assert_eq!(rt; out.len() < 4, true, "growth {nth}");
         let mut again = Vec::new(rt.alloc());
         assert_eq!(rt; read_all(rt.alloc(), &bytes, &mut again), Ok(()));
-        assert_eq!(rt; again.len(), 3);
+        assert_eq!(rt; again.len(), 4);
     }
     assert!(rt; false, "more than {MOST_GROWTHS} growths");
     Ok(())
@@ -150,17 +152,16 @@ fn reading_messages_answers_want_of_memory_and_keeps_the_first(
 #[test]
 fn writing_takes_no_memory(rt: HostRuntime) -> Result<(), Fail> {
     let mut messages = Vec::new(rt.alloc());
-    read_all(rt.alloc(), TWO_USES, &mut messages)?;
-    for Message::Batch(batch) in &messages {
-        let mut room = [0; 145];
-        let mut sink = Counted::new(room.as_mut_slice());
-        refuse(rt.alloc(), 1);
-        let written = write_batch(batch, &mut sink);
-        let refused = was_refused(rt.alloc());
-        refuse(rt.alloc(), 0);
-        assert_eq!(rt; (written, refused), (Ok(()), false));
-        assert_eq!(rt; room.as_slice(), TWO_USES.as_slice());
-    }
+    let bytes = four_messages(rt.alloc())?;
+    read_all(rt.alloc(), &bytes, &mut messages)?;
+    let mut room = [0; 10304];
+    let mut sink = Counted::new(room.as_mut_slice());
+    refuse(rt.alloc(), 1);
+    let written = write_each(&messages, &mut sink);
+    let refused = was_refused(rt.alloc());
+    refuse(rt.alloc(), 0);
+    assert_eq!(rt; (written, refused), (Ok(()), false));
+    assert_eq!(rt; room.as_slice() == bytes.as_slice(), true);
     Ok(())
 }
 

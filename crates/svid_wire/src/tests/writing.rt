@@ -1,5 +1,5 @@
-use super::{TWO_USES, many_uses};
-use crate::{Counted, MemSink, Message, Sink, WriteFault, read_all, write_batch};
+use super::{TWO_USES, many_uses, write_each};
+use crate::{Counted, MemSink, Sink, WriteFault, read_all, write_batch};
 use std::alloc::{AllocError, Global};
 use std::test::Fail;
 use svid_replay::{Batch, Use};
@@ -46,9 +46,7 @@ fn writes_batches_of_no_uses_and_of_4096(rt: HostRuntime) -> Result<(), Fail> {
     let mut messages = Vec::new(rt.alloc());
     read_all(rt.alloc(), &full, &mut messages)?;
     let mut sink = MemSink::new(rt.alloc(), 1000, None);
-    for Message::Batch(batch) in &messages {
-        assert_eq!(rt; write_batch(batch, &mut sink), Ok(()));
-    }
+    assert_eq!(rt; write_each(&messages, &mut sink), Ok(()));
     assert_eq!(rt; sink.bytes() == full.as_slice(), true);
     Ok(())
 }

@@ -1,4 +1,4 @@
-use Rattle.svid_wire.proofs.FirstBatchTells.{begins_or_faults}
+use Rattle.svid_wire.proofs.FirstMessageTells.{begins_or_faults}
 use Rattle.svid_wire.proofs.laws.begins_or_faults.Goals as goal
 
 pub returns : goal.returns

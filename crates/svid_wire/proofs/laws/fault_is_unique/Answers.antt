@@ -1,4 +1,4 @@
-use Rattle.svid_wire.proofs.FirstBatch.{fault_is_unique}
+use Rattle.svid_wire.proofs.FirstMessage.{fault_is_unique}
 use Rattle.svid_wire.proofs.laws.fault_is_unique.Goals as goal
 
 pub returns : goal.returns

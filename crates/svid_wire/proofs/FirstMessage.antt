@@ -10,18 +10,23 @@ use Rattle.std.proofs.lemmas.Bool.Decides.{nat_tests}
 use Rattle.svid_replay.specs.declared.token_use.Use.{Use}
 use Rattle.svid_replay.specs.declared.flaw.Flaw.{Flaw}
 use Rattle.svid_replay.specs.declared.flaw.Flaw.TheVariants.{Expired, Future, Order}
-use Rattle.svid_replay.specs.Use.{IsUse, text_of}
+use Rattle.svid_replay.specs.Use.{IsBytes, IsUse, text_of}
 use Rattle.svid_replay.specs.Batches.{BatchData, IsBatch, AllGood, flaw, last_of}
+use Rattle.svid_replay.specs.Summary.{SummaryData, IsSummary}
 use Rattle.svid_replay.proofs.BatchesLemmas.{last_of-push}
-use Rattle.svid_wire.specs.BatchText.{magic, batch_kind, numbers_text, head_text, batch_text, BeginsOneBatch}
-use Rattle.svid_wire.specs.WireFault.{IsUnfinished, in_magic, in_kind, in_numbers, in_uses, IsBegun, IsFaultFor, TextHasNoFault, FaultIsUnique, IsUseFault, IsKindFault, IsCountFault, flaw_reason}
+use Rattle.svid_wire.specs.BatchText.{magic, batch_kind, numbers_text, head_text, batch_text}
+use Rattle.svid_wire.specs.SummaryText.{summary_kind, moment_text, summary_head, digest_text, summary_text}
+use Rattle.svid_wire.specs.Messages.{message_text, IsMessage, BeginsOneMessage, TextHasNoFault}
+use Rattle.svid_wire.specs.WireFault.{IsUnfinished, in_magic, in_kind, in_numbers, in_uses, in_moment, in_digests, IsBegun, IsFaultFor, FaultIsUnique, IsUseFault, IsKindFault, IsCountFault, flaw_reason}
+use Rattle.svid_wire.specs.declared.message.Message.{Message}
+use Rattle.svid_wire.specs.declared.message.Message.TheVariants.{Batch, Summary}
 use Rattle.svid_wire.specs.declared.wire_fault.WireFault.{WireFault}
 use Rattle.svid_wire.specs.declared.reason.Reason.{Reason}
 use Rattle.svid_wire.specs.declared.reason.Reason.TheVariants as reason
 
--- what bytes begin with: a batch, with the bytes behind it, a fault, or a batch that is cut
+-- what bytes begin with: a message, with the bytes behind it, a fault, or a message that is cut
 pub data Found : Type 0 where
-  batch : BatchData → List ℕ → Found
+  message : Message → List ℕ → Found
   fault : WireFault → Found
   cut : Found
 
@@ -88,7 +93,7 @@ judged (Some f) us next = fault_at (17 + 64 * length us) (flaw_reason f)
 
 -- so many uses more, behind those that were found good
 unfoldable pub find_uses : ℕ → ℕ → List Use → List ℕ → Found
-find_uses zero m us x = batch (record { moment = m; uses = us }) x
+find_uses zero m us x = message (Batch (record { moment = m; uses = us })) x
 find_uses (suc n) m us x = at_field 64 x (λ f rest. judged (flaw m (last_of None us) (use_of f)) us (find_uses n m (us ++ use_of f ∷ []) rest))
 
 unfoldable pub found_uses : ℕ → ℕ → List ℕ → Found
@@ -97,21 +102,32 @@ found_uses m c rest = if nat_lt 4096 c then fault_at 13 reason.Count else find_u
 unfoldable pub find_numbers : List ℕ → Found
 find_numbers x = at_field 12 x (λ f rest. found_uses (from_be_bytes w64 (take 8 f)) (from_be_bytes w32 (drop 8 f)) rest)
 
+-- so many digests more, behind those that came
+unfoldable pub find_digests : ℕ → ℕ → List (List ℕ) → List ℕ → Found
+find_digests zero m ds x = message (Summary (record { moment = m; digests = ds })) x
+find_digests (suc n) m ds x = at_field 32 x (λ f rest. find_digests n m (ds ++ f ∷ []) rest)
+
+unfoldable pub find_moment : List ℕ → Found
+find_moment x = at_field 8 x (λ f rest. find_digests 256 (from_be_bytes w64 f) [] rest)
+
+abbrev pub find_summary_kind : List ℕ → List ℕ → Found
+find_summary_kind f rest = if bytes_eq f (summary_kind ∷ []) then find_moment rest else fault_at 4 reason.Kind
+
 unfoldable pub find_kind : List ℕ → Found
-find_kind x = at_field 1 x (λ f rest. if bytes_eq f (batch_kind ∷ []) then find_numbers rest else fault_at 4 reason.Kind)
+find_kind x = at_field 1 x (λ f rest. if bytes_eq f (batch_kind ∷ []) then find_numbers rest else find_summary_kind f rest)
 
 unfoldable pub find_magic : List ℕ → Found
 find_magic x = at_field 4 x (λ f rest. if bytes_eq f magic then find_kind rest else fault_at 0 reason.Magic)
 
--- bytes that end before a batch does have a fault at their end
+-- bytes that end before a message does have a fault at their end
 abbrev pub settled : List ℕ → Found → Found
-settled bytes (batch b rest) = batch b rest
+settled bytes (message m rest) = message m rest
 settled bytes (fault found) = fault found
 settled bytes cut = fault_at (length bytes) reason.Truncated
 
 -- what the bytes begin with
-unfoldable pub first_batch : List ℕ → Found
-first_batch bytes = settled bytes (find_magic bytes)
+unfoldable pub first_message : List ℕ → Found
+first_message bytes = settled bytes (find_magic bytes)
 
 -- one use, good or not
 find_uses-next : (n m : ℕ) (us : List Use) (u : Use) (x : List ℕ) (o : Option Flaw) → IsUse u → flaw m (last_of None us) u ≡ o → find_uses (suc n) m us (text_of u ++ x) ≡ judged o us (find_uses n m (us ++ u ∷ []) x)
@@ -161,7 +177,7 @@ find_head-few m c x fm few =
     find_head m c x fm (omega arith) ∙ ap (λ b. if b then fault_at 13 reason.Count else find_uses c m [] x) small
 
 -- a batch, and the bytes behind it
-find_batch : (b : BatchData) (rest : List ℕ) → IsBatch b → find_magic (batch_text b ++ rest) ≡ batch b rest
+find_batch : (b : BatchData) (rest : List ℕ) → IsBatch b → find_magic (batch_text b ++ rest) ≡ message (Batch b) rest
 unfolding find_uses
 find_batch b rest good =
     let m = b.moment in
@@ -169,6 +185,47 @@ find_batch b rest good =
     ap find_magic (append_assoc (head_text m (length us)) (flat_map text_of us) rest)
     ∙ find_head-few m (length us) _ good.moment good.few
     ∙ find_uses-begun m (length us) 0 us rest (omega arith) good.fields good.good
+
+-- digests that came
+find_digests-more : (es ds : List (List ℕ)) (k n m : ℕ) (x : List ℕ) → k ≡ length es + n → AllByRecursion (IsBytes 32) es → find_digests k m ds (flat_map digest_text es ++ x) ≡ find_digests n m (ds ++ es) x
+unfolding find_digests
+find_digests-more [] ds k n m x e fits =
+    let same : k ≡ n = omega arith in
+    rw (same, append-nil ds)
+find_digests-more (d ∷ es) ds zero n m x e fits = absurd (omega arith)
+find_digests-more (d ∷ es) ds (suc k) n m x e fits =
+    ap (find_digests (suc k) m ds) (append_assoc d (flat_map digest_text es) x)
+    ∙ at_whole 32 d (flat_map digest_text es ++ x) _ fits.0.size
+    ∙ find_digests-more es (ds ++ d ∷ []) k n m x (omega arith) fits.1
+    ∙ ap (λ fs. find_digests n m fs x) (append_assoc ds (d ∷ []) es)
+
+find_digests-all : (m : ℕ) (ds : List (List ℕ)) (x : List ℕ) → find_digests 0 m ds x ≡ message (Summary (record { moment = m; digests = ds })) x
+unfolding find_digests
+find_digests-all m ds x = refl
+
+find_digests-short : (k m : ℕ) (ds : List (List ℕ)) (x : List ℕ) → length x < 32 → find_digests (suc k) m ds x ≡ cut
+unfolding find_digests
+find_digests-short k m ds x short = at_short 32 x _ short
+
+find_kind-summary : (x : List ℕ) → find_kind (summary_kind ∷ x) ≡ find_moment x
+unfolding find_kind
+find_kind-summary x = at_whole 1 (summary_kind ∷ []) x _ refl
+
+find_moment-next : (m : ℕ) (x : List ℕ) → m < 2 ^ 64 → find_moment (moment_text m ++ x) ≡ find_digests 256 m [] x
+unfolding find_moment moment_text
+find_moment-next m x fm = at_whole 8 (moment_text m) x _ refl ∙ ap (λ n. find_digests 256 n [] x) (from_be_bytes-to_be_bytes_8 m fm)
+
+-- the head of a summary, and some of its digests
+find_summary_digests : (m n : ℕ) (ds : List (List ℕ)) (x : List ℕ) → m < 2 ^ 64 → 256 ≡ length ds + n → AllByRecursion (IsBytes 32) ds → find_magic (summary_head m ++ (flat_map digest_text ds ++ x)) ≡ find_digests n m ds x
+find_summary_digests m n ds x fm left fits =
+    find_magic-good _ ∙ find_kind-summary _ ∙ find_moment-next m _ fm ∙ find_digests-more ds [] 256 n m x left fits
+
+-- a summary, and the bytes behind it
+find_summary : (s : SummaryData) (rest : List ℕ) → IsSummary s → find_magic (summary_text s ++ rest) ≡ message (Summary s) rest
+find_summary s rest good =
+    ap find_magic (append_assoc (summary_head s.moment) (flat_map digest_text s.digests) rest)
+    ∙ find_summary_digests s.moment 0 s.digests rest good.moment (omega (arith, good.full)) good.fields
+    ∙ find_digests-all s.moment s.digests rest
 
 -- good uses of a batch, and at least one is to come
 find_begun : (m c : ℕ) (us : List Use) (x : List ℕ) → IsBegun m c us → (k : ℕ) × (find_magic (head_text m c ++ (flat_map text_of us ++ x)) ≡ find_uses (suc k) m us x)
@@ -178,12 +235,16 @@ find_begun m c us x begun =
     (k, find_head-few m c _ begun.moment_fits begun.few ∙ find_uses-begun m c (suc k) us x left begun.fields begun.good)
 
 find_cut : (bytes : List ℕ) → IsUnfinished bytes → find_magic bytes ≡ cut
-unfolding find_magic find_kind find_numbers find_uses
+unfolding find_magic find_kind find_numbers find_uses find_moment
 find_cut bytes (in_magic short) = at_short 4 bytes _ short
 find_cut bytes (in_kind parts) = ap find_magic (parts ∙ sym (append-nil magic)) ∙ find_magic-good [] ∙ at_short 1 [] _ (omega arith)
 find_cut bytes (in_numbers part parts short) = ap find_magic parts ∙ find_magic-good _ ∙ find_kind-good part ∙ at_short 12 part _ short
 find_cut bytes (in_uses m c us part begun parts short) =
     ap find_magic parts ∙ (find_begun m c us part begun).1 ∙ at_short 64 part _ short
+find_cut bytes (in_moment part parts short) = ap find_magic parts ∙ find_magic-good _ ∙ find_kind-summary part ∙ at_short 8 part _ short
+find_cut bytes (in_digests m ds part begun parts short) =
+    let k = 255 - length ds in
+    ap find_magic parts ∙ find_summary_digests m (suc k) ds part begun.moment_fits (omega (arith, begun.more)) begun.fields ∙ find_digests-short k m ds part short
 
 find_use_fault : (bytes : List ℕ) (place : ℕ) (f : Flaw) → IsUseFault bytes place f → find_magic bytes ≡ fault_at place (flaw_reason f)
 find_use_fault bytes place f h =
@@ -210,7 +271,8 @@ find_kind_fault bytes h =
     ap find_magic h.parts
     ∙ find_magic-good _
     ∙ at_whole 1 (h.kind ∷ []) h.after _ refl
-    ∙ ap (λ b. if b then find_numbers h.after else fault_at 4 reason.Kind) (bytes_eq-false (h.kind ∷ []) (batch_kind ∷ []) (λ e. h.unknown cc))
+    ∙ ap (λ b. if b then find_numbers h.after else find_summary_kind (h.kind ∷ []) h.after) (bytes_eq-false (h.kind ∷ []) (batch_kind ∷ []) (λ e. h.no_batch cc))
+    ∙ ap (λ b. if b then find_moment h.after else fault_at 4 reason.Kind) (bytes_eq-false (h.kind ∷ []) (summary_kind ∷ []) (λ e. h.no_summary cc))
 
 find_count_fault : (bytes : List ℕ) → IsCountFault bytes → find_magic bytes ≡ fault_at 13 reason.Count
 unfolding found_uses
@@ -221,8 +283,8 @@ find_count_fault bytes h =
     ∙ ap (λ b. if b then fault_at 13 reason.Count else find_uses h.count h.moment [] h.after) many
 
 -- each fault is what is found
-finds_fault : (r : Reason) (bytes : List ℕ) (place : ℕ) → IsFaultFor r bytes place → first_batch bytes ≡ fault_at place r
-unfolding first_batch
+finds_fault : (r : Reason) (bytes : List ℕ) (place : ℕ) → IsFaultFor r bytes place → first_message bytes ≡ fault_at place r
+unfolding first_message
 finds_fault reason.Magic bytes place (at, long, bad) = ap (settled bytes) (find_magic_fault bytes long bad) ∙ ap (λ n. fault_at n reason.Magic) (sym at)
 finds_fault reason.Kind bytes place (at, h) = ap (settled bytes) (find_kind_fault bytes h) ∙ ap (λ n. fault_at n reason.Kind) (sym at)
 finds_fault reason.Count bytes place (at, h) = ap (settled bytes) (find_count_fault bytes h) ∙ ap (λ n. fault_at n reason.Count) (sym at)
@@ -233,19 +295,20 @@ finds_fault reason.Truncated bytes place (at, some, h) = ap (settled bytes) (fin
 finds_fault reason.OutOfMemory bytes place h = absurd h
 finds_fault reason.Failed bytes place h = absurd h
 
--- a batch is what is found, and the bytes behind it
-finds_batch : (b : BatchData) (rest : List ℕ) → IsBatch b → first_batch (batch_text b ++ rest) ≡ batch b rest
-unfolding first_batch
-finds_batch b rest good = ap (settled (batch_text b ++ rest)) (find_batch b rest good)
+-- a message is what is found, and the bytes behind it
+finds_message : (m : Message) (rest : List ℕ) → IsMessage m → first_message (message_text m ++ rest) ≡ message m rest
+unfolding first_message
+finds_message (Batch b) rest good = ap (settled (batch_text b ++ rest)) (find_batch b rest good)
+finds_message (Summary s) rest good = ap (settled (summary_text s ++ rest)) (find_summary s rest good)
 
-pub begins_one_batch : BeginsOneBatch
-begins_one_batch a b x y good_a good_b same =
-    let e : batch a x ≡ batch b y = sym (finds_batch a x good_a) ∙ ap first_batch same ∙ finds_batch b y good_b in
+pub begins_one_message : BeginsOneMessage
+begins_one_message a b x y good_a good_b same =
+    let e : message a x ≡ message b y = sym (finds_message a x good_a) ∙ ap first_message same ∙ finds_message b y good_b in
     (cc, cc)
 
 pub text_has_no_fault : TextHasNoFault
-text_has_no_fault b rest found good bad =
-    let e : batch b rest ≡ fault found = sym (finds_batch b rest good) ∙ finds_fault found.reason _ found.place bad in
+text_has_no_fault m rest found good bad =
+    let e : message m rest ≡ fault found = sym (finds_message m rest good) ∙ finds_fault found.reason _ found.place bad in
     cc
 
 pub fault_is_unique : FaultIsUnique

@@ -1,4 +1,4 @@
--- What `first_batch` finds is true of the bytes, so that all bytes begin with a batch or have a fault.
+-- What `first_batch` finds is true of the bytes, so that all bytes begin with a message or have a fault.
 use Rattle.std.proofs.Common.{◌≡◌, ◌≢◌, ℕ, zero, suc, ◌+◌, ◌*◌, ◌^◌, ◌<◌, ◌≤◌, ◌⊎◌, inl, inr, Bool, true, false, nat_lt, if◌then◌else◌, List, [], ◌∷◌, ◌++◌, length, take, drop, get_or, refl, sym, ap, ◌∙◌, subst, arith, append_assoc, length-append, length-drop, Option, None, Some, All}
 use Rattle.std.specs.Int.{from_be_bytes, to_be_bytes, w32, w64}
 use Rattle.std.specs.List.{flat_map, AllByRecursion}
@@ -13,15 +13,15 @@ use Rattle.std.proofs.Math.Seq.{take-add}
 use Rattle.svid_replay.specs.declared.token_use.Use.{Use}
 use Rattle.svid_replay.specs.declared.flaw.Flaw.{Flaw}
 use Rattle.svid_replay.specs.Use.{IsUse, IsBytes, text_of}
-use Rattle.svid_replay.specs.Batches.{IsBatch, AllGood, flaw, last_of}
+use Rattle.svid_replay.specs.Batches.{AllGood, flaw, last_of}
 use Rattle.svid_replay.proofs.BatchesLemmas.{AllGood-push, AllByRecursion-push}
-use Rattle.svid_wire.specs.BatchText.{magic, batch_kind, numbers_text, head_text, batch_text}
-use Rattle.svid_wire.specs.WireFault.{IsUnfinished, in_magic, in_kind, in_numbers, in_uses, IsBegun, IsFault, IsFaultFor, IsUseFault, BeginsBatch, BeginsOrFaults}
-use Rattle.svid_wire.specs.declared.wire_fault.WireFault.{WireFault}
-use Rattle.svid_wire.specs.declared.reason.Reason.{Reason}
+use Rattle.svid_wire.specs.BatchText.{magic, batch_kind, numbers_text, head_text}
+use Rattle.svid_wire.specs.WireFault.{IsUnfinished, in_magic, in_kind, in_numbers, in_uses, in_moment, in_digests, AreBegun, IsBegun, IsFault, IsUseFault}
+use Rattle.svid_wire.specs.Messages.{message_text, IsMessage, BeginsMessage, HasFault, BeginsOrFaults}
+use Rattle.svid_wire.specs.SummaryText.{summary_kind, moment_text, summary_head, digest_text}
 use Rattle.svid_wire.specs.declared.reason.Reason.TheVariants as reason
 use Rattle.svid_wire.proofs.StageLemmas.{IsFieldFault-use}
-use Rattle.svid_wire.proofs.FirstBatch.{Found, batch, fault, cut, fault_at, at_field, use_of, use_of_pieces, judged, find_uses, found_uses, find_numbers, find_kind, find_magic}
+use Rattle.svid_wire.proofs.FirstMessage.{Found, message, fault, cut, fault_at, at_field, use_of, use_of_pieces, judged, find_uses, found_uses, find_numbers, find_digests, find_moment, find_summary_kind, find_kind, find_magic}
 
 -- bytes as a slice knows them
 AreBytes : List ℕ → Type 0
@@ -35,7 +35,7 @@ AreBytes-at (b ∷ x) h (suc i) = AreBytes-at x (λ k d within. h (suc k) d (ome
 
 -- what it means that such a thing was found
 Tells : List ℕ → Found → Type 0
-Tells bytes (batch b rest) = IsBatch b × (bytes ≡ batch_text b ++ rest)
+Tells bytes (message m rest) = IsMessage m × (bytes ≡ message_text m ++ rest)
 Tells bytes (fault found) = IsFault bytes found
 Tells bytes cut = IsUnfinished bytes
 
@@ -155,11 +155,35 @@ find_numbers-tells x bytes h parts =
     Tells-head bytes (from_be_bytes w64 (take 8 f)) (from_be_bytes w32 (drop 8 f)) rest _ (from_be_bytes-lt (take 8 f) (AreBytes-take 8 f are)) (omega (arith, count 0, count 1, count 2, count 3)) after
     (parts ∙ ap (λ y. magic ++ batch_kind ∷ y) (split ∙ ap (λ y. y ++ rest) (sym (numbers_text-of f size are)))) refl)
 
--- a field that is compared with the bytes that it must be
-Tells-compared : (bytes f want : List ℕ) (good : Found) (place : ℕ) (r : Reason) (b : Bool) → bytes_eq f want ≡ b → (f ≡ want → Tells bytes good) → (f ≢ want → IsFaultFor r bytes place) → Tells bytes (if b then good else fault_at place r)
-unfolding Tells
-Tells-compared bytes f want good place r true test same other = same ((bytes_eq-Decides f want).0 test)
-Tells-compared bytes f want good place r false test same other = other (λ e. false≢true (sym test ∙ (bytes_eq-Decides f want).1 e))
+-- the digests of a summary of which some came
+Tells-digests : (n m : ℕ) (ds : List (List ℕ)) (x bytes : List ℕ) → 256 ≡ length ds + n → m < 2 ^ 64 → AllByRecursion (IsBytes 32) ds → AreBytes x → bytes ≡ summary_head m ++ (flat_map digest_text ds ++ x) → Tells bytes (find_digests n m ds x)
+unfolding Tells find_digests AreBytes
+Tells-digests zero m ds x bytes left fits fields h parts =
+    (record { moment = fits; full = omega arith; fields = fields }, parts ∙ sym (append_assoc (summary_head m) (flat_map digest_text ds) x))
+Tells-digests (suc n) m ds x bytes left fits fields h parts =
+    let begun : AreBegun m ds = record { moment_fits = fits; more = omega arith; fields = fields } in
+    Tells-field bytes 32 x _ (λ short. in_digests m ds x begun parts short) (λ f rest split size.
+    let (are, after) = field_bytes x f rest split h in
+    let is : IsBytes 32 f = record { size = size; each = are } in
+    Tells-digests n m (ds ++ f ∷ []) rest bytes (omega (arith, length_push ds f)) fits (AllByRecursion-push (IsBytes 32) ds f fields is) after
+    (parts ∙ ap (λ y. summary_head m ++ (flat_map digest_text ds ++ y)) split ∙ ap (λ y. summary_head m ++ y) (sym (append_assoc (flat_map digest_text ds) f rest) ∙ ap (λ y. y ++ rest) (flat_map_more digest_text [] ds f))))
+
+moment_text-of : (f : List ℕ) → length f ≡ 8 → AreBytes f → moment_text (from_be_bytes w64 f) ≡ f
+unfolding moment_text
+moment_text-of f size h = be_bytes_8 f _ size (AreBytes-at f h) refl
+
+find_moment-tells : (x bytes : List ℕ) → AreBytes x → bytes ≡ magic ++ summary_kind ∷ x → Tells bytes (find_moment x)
+unfolding find_moment
+find_moment-tells x bytes h parts =
+    Tells-field bytes 8 x _ (λ short. in_moment x parts short) (λ f rest split size.
+    let (are, after) = field_bytes x f rest split h in
+    Tells-digests 256 (from_be_bytes w64 f) [] rest bytes refl (from_be_bytes-lt f are) tt after
+    (parts ∙ ap (λ y. magic ++ summary_kind ∷ y) (split ∙ ap (λ y. y ++ rest) (sym (moment_text-of f size are)))))
+
+-- a field that is compared with the bytes that it may be
+Tells-compared : (bytes f want : List ℕ) (good bad : Found) (b : Bool) → bytes_eq f want ≡ b → (f ≡ want → Tells bytes good) → (f ≢ want → Tells bytes bad) → Tells bytes (if b then good else bad)
+Tells-compared bytes f want good bad true test same other = same ((bytes_eq-Decides f want).0 test)
+Tells-compared bytes f want good bad false test same other = other (λ e. false≢true (sym test ∙ (bytes_eq-Decides f want).1 e))
 
 one_byte : (f : List ℕ) → length f ≡ 1 → (k : ℕ) × (f ≡ k ∷ [])
 one_byte [] size = absurd (omega arith)
@@ -167,29 +191,31 @@ one_byte (k ∷ []) size = (k, refl)
 one_byte (k ∷ b ∷ f) size = absurd (omega arith)
 
 find_kind-tells : (x bytes : List ℕ) → AreBytes x → bytes ≡ magic ++ x → Tells bytes (find_kind x)
-unfolding find_kind
+unfolding Tells find_kind
 find_kind-tells x bytes h parts =
     Tells-field bytes 1 x _ (λ short. in_kind (parts ∙ ap (λ y. magic ++ y) (nil_from_length x (omega arith)))) (λ f rest split size.
     let (are, after) = field_bytes x f rest split h in
     let (kind, is) = one_byte f size in
     let behind : bytes ≡ magic ++ kind ∷ rest = parts ∙ ap (λ y. magic ++ y) (split ∙ ap (λ y. y ++ rest) is) in
-    Tells-compared bytes f (batch_kind ∷ []) _ 4 reason.Kind _ refl
+    Tells-compared bytes f (batch_kind ∷ []) (find_numbers rest) (find_summary_kind f rest) _ refl
     (λ same. find_numbers-tells rest bytes after (parts ∙ ap (λ y. magic ++ y) (split ∙ ap (λ y. y ++ rest) same)))
-    (λ other. (refl, record { kind = kind; after = rest; parts = behind; unknown = λ e. other (is ∙ ap (λ k. k ∷ []) e) })))
+    (λ no_batch. Tells-compared bytes f (summary_kind ∷ []) (find_moment rest) (fault_at 4 reason.Kind) _ refl
+    (λ same. find_moment-tells rest bytes after (parts ∙ ap (λ y. magic ++ y) (split ∙ ap (λ y. y ++ rest) same)))
+    (λ no_summary. (refl, record { kind = kind; after = rest; parts = behind; no_batch = λ e. no_batch (is ∙ ap (λ k. k ∷ []) e); no_summary = λ e. no_summary (is ∙ ap (λ k. k ∷ []) e) }))))
 
 find_magic-tells : (bytes : List ℕ) → AreBytes bytes → Tells bytes (find_magic bytes)
-unfolding find_magic
+unfolding Tells find_magic
 find_magic-tells bytes h =
     Tells-field bytes 4 bytes _ (λ short. in_magic short) (λ f rest split size.
     let (are, after) = field_bytes bytes f rest split h in
     let front : take 4 bytes ≡ f = ap (take 4) split ∙ take_at f rest 4 size in
-    Tells-compared bytes f magic _ 0 reason.Magic _ refl
+    Tells-compared bytes f magic (find_kind rest) (fault_at 0 reason.Magic) _ refl
     (λ same. find_kind-tells rest bytes after (split ∙ ap (λ y. y ++ rest) same))
     (λ other. (refl, omega (arith, ap length split, length-append f rest), λ e. other (sym front ∙ e))))
 
-tells_end : (bytes : List ℕ) (found : Found) → 0 < length bytes → Tells bytes found → BeginsBatch bytes ⊎ ((fault : WireFault) × IsFault bytes fault)
+tells_end : (bytes : List ℕ) (found : Found) → 0 < length bytes → Tells bytes found → BeginsMessage bytes ⊎ HasFault bytes
 unfolding Tells
-tells_end bytes (batch b rest) some (good, parts) = inl (record { batch = b; rest = rest; good = good; parts = parts })
+tells_end bytes (message m rest) some (good, parts) = inl (record { message = m; rest = rest; good = good; parts = parts })
 tells_end bytes (fault found) some is = inr (found, is)
 tells_end bytes cut some is = inr (record { place = length bytes; reason = reason.Truncated }, (refl, some, is))
 
