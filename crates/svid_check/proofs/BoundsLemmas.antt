@@ -16,10 +16,10 @@ use Rattle.svid_check.specs.declared.event.Event.{Event}
 use Rattle.svid_check.specs.declared.event.Event.TheVariants.{Check, Tick, Take}
 use Rattle.svid_check.specs.declared.take_fault.TakeFault.{TakeFault}
 use Rattle.svid_check.specs.declared.take_fault.TakeFault.TheVariants.{TooFarAhead, OutOfMemory}
-use Rattle.svid_check.specs.Bounds.{ChecksAreBounded, RunsAreBounded, TakesAreBounded, TicksAreBounded, latest, now_of, reach}
+use Rattle.svid_check.specs.Bounds.{AnswersAreBounded, ChecksAreBounded, RecordsAreBounded, RunsAreBounded, TakesAreBounded, TicksAreBounded, latest, now_of, reach}
 use Rattle.svid_check.specs.Changes.{horizon, raised, settled}
 use Rattle.svid_check.specs.Runs.{Step, Terms}
-use Rattle.svid_check.specs.Told.{BeginsAsGiven, TellsBatch, Told, tell_now, tell_use}
+use Rattle.svid_check.specs.Told.{BeginsAsGiven, TellsBatch, Told, begun, tell_now, tell_use}
 
 held_live : (lives held : Bool) → (held ≡ true → lives ≡ true) → (lives && held) ≡ held
 held_live true held so = refl
@@ -66,6 +66,11 @@ takes_are_bounded x y now ahead b (Ok taken) small h = within x y (batch_state b
 takes_are_bounded x y now ahead b (Err TooFarAhead) small h = subst (λ (r : State). r.moment ≤ reach x.moment now ahead) (sym h.1) (ticks_are_bounded x now ahead small)
 takes_are_bounded x y now ahead b (Err OutOfMemory) small h = within x y (state_of b.moment h.1.front) now ahead small h.0 h.1.joined
 
+pub answers_are_bounded : AnswersAreBounded
+answers_are_bounded x y now ahead s (Ok batches) small h = within x y (state_of s.moment []) now ahead small h.0 h.2
+answers_are_bounded x y now ahead s (Err TooFarAhead) small h = subst (λ (r : State). r.moment ≤ reach x.moment now ahead) (sym h.1) (ticks_are_bounded x now ahead small)
+answers_are_bounded x y now ahead s (Err OutOfMemory) small h = within x y (state_of s.moment []) now ahead small h.0 h.1
+
 told_check : (x : Told) (now ahead : ℕ) (answer : Result Accepted Refusal) → now < 2 ^ 64 → (tell_use (tell_now x now) answer).greatest ≤ reach x.greatest now ahead
 told_check x now ahead (Ok accepted) small = at_now x.greatest now ahead small
 told_check x now ahead (Err refusal) small = at_now x.greatest now ahead small
@@ -92,3 +97,8 @@ runs_are_bounded t x y (event ∷ events) (answer ∷ answers) small h =
     next x.greatest h.0.greatest y.greatest (now_of event) (latest events) t.ahead (step_is_bounded t x h.0 event answer small.0 h.1) (runs_are_bounded t h.0 y events answers small.1 h.2)
 runs_are_bounded t x y [] (answer ∷ answers) small h = absurd h
 runs_are_bounded t x y (event ∷ events) [] small h = absurd h
+
+pub records_are_bounded : RecordsAreBounded
+records_are_bounded t a b events answers is small h =
+    let run = h (begun a) (begins_as_given a is) in
+    subst (λ (r : State). r.moment ≤ reach a.moment (latest events) t.ahead) run.2 (runs_are_bounded t (begun a) run.0 events answers small run.1)

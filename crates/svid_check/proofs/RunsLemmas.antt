@@ -19,10 +19,13 @@ use Rattle.svid_check.specs.declared.accepted.Accepted.{Accepted}
 use Rattle.svid_check.specs.declared.answer.Answer.{Answer}
 use Rattle.svid_check.specs.declared.answer.Answer.TheVariants.{Checked, Ticked, Taken}
 use Rattle.svid_check.specs.declared.event.Event.{Event}
+use Rattle.svid_check.specs.declared.event.Event.TheVariants.{Check, Tick, Take}
 use Rattle.svid_check.specs.declared.take_fault.TakeFault.{TakeFault}
 use Rattle.svid_check.specs.declared.take_fault.TakeFault.TheVariants.{TooFarAhead, OutOfMemory}
+use Rattle.svid_check.specs.Calls.{AnswersTellMoments, ChecksAreSteps, RecordsGoOn, RunsGoOn, TakesAreSteps, TicksAreSteps}
 use Rattle.svid_check.specs.Changes.{Takes, horizon, raised, settled}
 use Rattle.svid_check.specs.Runs.{IsAnswered, Runs, RunsFrom, Step, Terms}
+use Rattle.svid_check.specs.Said.{RefusesForm}
 use Rattle.svid_check.specs.Told.{TellsBatch, Told, record_of, tell, tell_now, tell_use}
 use Rattle.svid_check.specs.Verdict.{verdict}
 
@@ -63,14 +66,15 @@ told_all x b = joined x (tell x b) b refl (λ u. holds-union x.uses b.uses u)
 -- a check of a record is one of what was told
 pub checks : (t : Terms) (a b : State) (now : ℕ) (event : Event) (answer : Result Accepted Refusal) (token : List ℕ)
     → Answers Some answer (verdict t.setting (raised a now).moment (raised a now).uses token)
+    → RefusesForm token answer
     → b ≡ settled (raised a now) answer
     → ((x : Told) → IsAnswered t.setting (tell_now x now) token answer → Step t x event (Checked answer) (tell_use (tell_now x now) answer))
     → RunsFrom t a (event ∷ []) (Checked answer ∷ []) b
-checks t a b now event answer token due left step x is =
+checks t a b now event answer token due form left step x is =
     let y = tell_now x now in
     let told = told_now x a now is in (
       tell_use y answer,
-      (tell_use y answer, step x (subst (λ (r : State). Answers Some answer (verdict t.setting r.moment r.uses token)) (sym told) due), refl),
+      (tell_use y answer, step x (subst (λ (r : State). Answers Some answer (verdict t.setting r.moment r.uses token)) (sym told) due, form), refl),
       told_use y answer ∙ ap (λ (r : State). settled r answer) told ∙ sym left,
     )
 
@@ -119,6 +123,29 @@ runs_on t (e ∷ events) more (a ∷ answers) others x y z h k = (h.0, h.1, runs
 runs_on t [] more (a ∷ answers) others x y z h k = absurd h
 runs_on t (e ∷ events) more [] others x y z h k = absurd h
 
+pub runs_go_on : RunsGoOn
+runs_go_on t x y z events more answers others h k = runs_on t events more answers others x y z h k
+
+pub records_go_on : RecordsGoOn
+records_go_on t a b c events more answers others h k x is =
+    let first = h x is in
+    let last = k first.0 first.2 in
+    (last.0, runs_on t events more answers others x first.0 last.0 first.1 last.1, last.2)
+
+pub checks_are_steps : ChecksAreSteps
+checks_are_steps t a now token answer due form = checks t a (settled (raised a now) answer) now (Check now token) answer token.now due form refl (λ x answered. (answered, refl))
+
+pub ticks_are_steps : TicksAreSteps
+ticks_are_steps t a now = ticks t a (raised a now) now (Tick now) refl (λ x. refl)
+
+pub takes_are_steps : TakesAreSteps
+takes_are_steps t a b now batch answer h = takes t a b now (Take now batch) batch.now answer h (λ x y told. told)
+
+pub answers_tell_moments : AnswersTellMoments
+answers_tell_moments x b now far s (Ok batches) h = told_now (tell_now x now) (raised (record_of x) now) s.moment (told_now x (record_of x) now refl) ∙ sym h.2
+answers_tell_moments x b now far s (Err TooFarAhead) h = told_now x (record_of x) now refl ∙ sym h.1
+answers_tell_moments x b now far s (Err OutOfMemory) h = told_now (tell_now x now) (raised (record_of x) now) s.moment (told_now x (record_of x) now refl) ∙ sym h.1
+
 -- the answers behind the old ones are those of a run
 pub record HasRun (t : Terms) (a b : State) (events : List Event) (old new : List Answer) : Type 0 where
   pub answers : List Answer
@@ -139,10 +166,7 @@ has_run_more t s a b c events i event answer old new newer same within is h item
     (record {
       answers = h.answers ++ answer ∷ [];
       added = items ∙ ap (λ l. l ++ answer ∷ []) h.added ∙ append_assoc old h.answers (answer ∷ []);
-      run = λ x told.
-          let first = h.run x told in
-          let last = next first.0 first.2 in
-          (last.0, runs_on t (take i events) (event ∷ []) h.answers (answer ∷ []) x first.0 last.0 first.1 last.1, last.2);
+      run = records_go_on t a b c (take i events) (event ∷ []) h.answers (answer ∷ []) h.run next;
     })
 
 pub has_run_all : (t : Terms) (a b : State) (events : List Event) (i : ℕ) (old new : List Answer) → length events ≤ i → HasRun t a b (take i events) old new

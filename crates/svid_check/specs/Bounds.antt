@@ -1,16 +1,18 @@
 -- How far ahead of its calls a validator's record can get.
-use Rattle.std.specs.Prelude.{ℕ, ◌<◌, ◌≤◌, ◌^◌, max, List, [], ◌∷◌, Result}
+use Rattle.std.specs.Prelude.{ℕ, ◌<◌, ◌≤◌, ◌^◌, max, List, [], ◌∷◌, Result, Vec}
+use Rattle.std.specs.declared.alloc.Global.{Global}
 use Rattle.std.specs.List.{AllByRecursion}
 use Rattle.svid_token.specs.declared.refusal.Refusal.{Refusal}
 use Rattle.svid_replay.specs.Batches.{BatchData}
-use Rattle.svid_replay.specs.Records.{State}
+use Rattle.svid_replay.specs.Records.{IsRecord, State}
+use Rattle.svid_replay.specs.Summary.{SummaryData}
 use Rattle.svid_check.specs.declared.accepted.Accepted.{Accepted}
 use Rattle.svid_check.specs.declared.answer.Answer.{Answer}
 use Rattle.svid_check.specs.declared.event.Event.{Event}
 use Rattle.svid_check.specs.declared.event.Event.TheVariants.{Check, Tick, Take}
 use Rattle.svid_check.specs.declared.take_fault.TakeFault.{TakeFault}
-use Rattle.svid_check.specs.Changes.{Takes, horizon, raised, settled}
-use Rattle.svid_check.specs.Runs.{Runs, Terms}
+use Rattle.svid_check.specs.Changes.{Replies, Takes, horizon, raised, settled}
+use Rattle.svid_check.specs.Runs.{Runs, RunsFrom, Terms}
 use Rattle.svid_check.specs.Told.{Told}
 
 -- the greater of a moment and the horizon
@@ -45,7 +47,17 @@ abbrev pub TakesAreBounded : Type 0
 TakesAreBounded = (x y : State) (now ahead : ℕ) (b : BatchData) (answer : Result (Unit {0}) TakeFault) → now < 2 ^ 64
     → Takes (raised x now) (horizon now ahead) b answer y → y.moment ≤ reach x.moment now ahead
 
+-- and an answer to a summary
+abbrev pub AnswersAreBounded : Type 0
+AnswersAreBounded = (x y : State) (now ahead : ℕ) (s : SummaryData) (answer : Result (Vec BatchData Global) TakeFault) → now < 2 ^ 64
+    → Replies (raised x now) (horizon now ahead) s answer y → y.moment ≤ reach x.moment now ahead
+
 -- and a run, of its latest event
 abbrev pub RunsAreBounded : Type 0
 RunsAreBounded = (t : Terms) (x y : Told) (events : List Event) (answers : List Answer) → AreMoments events
     → Runs t x events answers y → y.greatest ≤ reach x.greatest (latest events) t.ahead
+
+-- and so it is from one record to another
+abbrev pub RecordsAreBounded : Type 0
+RecordsAreBounded = (t : Terms) (a b : State) (events : List Event) (answers : List Answer) → IsRecord a → AreMoments events
+    → RunsFrom t a events answers b → b.moment ≤ reach a.moment (latest events) t.ahead

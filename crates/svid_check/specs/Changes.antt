@@ -1,8 +1,11 @@
 -- What the calls of a validator leave of its record.
-use Rattle.std.specs.Prelude.{◌≡◌, ℕ, ◌+◌, ◌-◌, ◌^◌, ◌<◌, ◌≤◌, min, [], ◌∷◌, Result, Ok, Err}
+use Rattle.std.specs.Prelude.{◌≡◌, ℕ, ◌+◌, ◌-◌, ◌^◌, ◌<◌, ◌≤◌, min, [], ◌∷◌, Result, Ok, Err, Vec}
+use Rattle.std.specs.declared.alloc.Global.{Global}
 use Rattle.svid_token.specs.declared.refusal.Refusal.{Refusal}
 use Rattle.svid_replay.specs.Batches.{BatchData}
+use Rattle.svid_replay.specs.Buckets.{answer_to}
 use Rattle.svid_replay.specs.Records.{State, IsPartlyJoined, batch_state, join, state_of}
+use Rattle.svid_replay.specs.Summary.{SummaryData}
 use Rattle.svid_check.specs.declared.accepted.Accepted.{Accepted}
 use Rattle.svid_check.specs.declared.take_fault.TakeFault.{TakeFault}
 use Rattle.svid_check.specs.declared.take_fault.TakeFault.TheVariants.{TooFarAhead, OutOfMemory}
@@ -25,3 +28,9 @@ abbrev pub Takes : State → ℕ → BatchData → Result (Unit {0}) TakeFault �
 Takes x far b (Ok taken) y = (b.moment ≤ far) × (y ≡ join x (batch_state b))
 Takes x far b (Err TooFarAhead) y = (far < b.moment) × (y ≡ x)
 Takes x far b (Err OutOfMemory) y = (b.moment ≤ far) × IsPartlyJoined x y b.moment b.uses
+
+-- what an answer to a summary is, and what it leaves of a raised record: of a summary within the horizon the answer that is due, or want of memory, and the record raised to its moment; else nothing more
+abbrev pub Replies : State → ℕ → SummaryData → Result (Vec BatchData Global) TakeFault → State → Type 0
+Replies x far s (Ok batches) y = (s.moment ≤ far) × (batches.items ≡ answer_to x s) × (y ≡ raised x s.moment)
+Replies x far s (Err TooFarAhead) y = (far < s.moment) × (y ≡ x)
+Replies x far s (Err OutOfMemory) y = (s.moment ≤ far) × (y ≡ raised x s.moment)

@@ -1,4 +1,5 @@
 pub mod Bounds
+pub mod Calls
 pub mod Changes
 pub mod Lawful
 pub mod Runs

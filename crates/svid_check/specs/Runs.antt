@@ -10,6 +10,7 @@ use Rattle.svid_check.specs.declared.answer.Answer.TheVariants.{Checked, Ticked,
 use Rattle.svid_check.specs.declared.event.Event.{Event}
 use Rattle.svid_check.specs.declared.event.Event.TheVariants.{Check, Tick, Take}
 use Rattle.svid_check.specs.Changes.{horizon}
+use Rattle.svid_check.specs.Said.{RefusesForm}
 use Rattle.svid_check.specs.Setting.{Says, Setting, Held, setting_of}
 use Rattle.svid_check.specs.Told.{Told, TellsBatch, record_of, tell_now, tell_use}
 use Rattle.svid_check.specs.Verdict.{verdict}
@@ -23,9 +24,9 @@ pub record Terms : Type 0 where
 abbrev pub terms_of : {V : Type 0} → (V → Says) → Held V → Terms
 terms_of says held = record { setting = setting_of says held; ahead = held.ahead }
 
--- the check is answered by the verdict for the greatest moment told and the uses told that are live at it, or by want of memory
+-- the check is answered by the verdict for the greatest moment told and the uses told that are live at it, or by want of memory, which may not stand for a refusal of the token's form
 abbrev pub IsAnswered : Setting → Told → List ℕ → Result Accepted Refusal → Type 0
-IsAnswered s x token answer = Answers Some answer (verdict s x.greatest (live x.uses x.greatest) token)
+IsAnswered s x token answer = Answers Some answer (verdict s x.greatest (live x.uses x.greatest) token) × RefusesForm token answer
 
 -- a validator that was told x may give the event this answer, and then was told y
 abbrev pub Step : Terms → Told → Event → Answer → Told → Type 0

@@ -1,5 +1,5 @@
 -- What a token says, and the refusals of a token by itself (RFC 7515, RFC 7519; JWT-SVID).
-use Rattle.std.specs.Prelude.{◌≡◌, ℕ, List, [], ◌++◌, Option, Some, None, IsSome, option_and_then, option_map, string_bytes, map, Result}
+use Rattle.std.specs.Prelude.{◌≡◌, ℕ, List, [], ◌++◌, Option, Some, None, IsSome, option_and_then, option_map, string_bytes, map, Result, Err}
 use Rattle.svid_id.specs.Id.{IdParts}
 use Rattle.svid_token.specs.Claims.{ClaimsSaid, claims_rows, claims_said}
 use Rattle.svid_token.specs.Compact.{Parts, compact_rows, parts_of, signing_input}
@@ -52,6 +52,10 @@ parts_rows parts =
 abbrev pub rows_if_three : Option Parts → List Row
 rows_if_three None = []
 rows_if_three (Some parts) = parts_rows parts
+
+-- a token that is too long, or has not three parts, is answered by just that: nothing may stand for it
+abbrev pub RefusesForm : {A : Type 0} → List ℕ → Result A Refusal → Type 0
+RefusesForm token answer = (refusal : Refusal) → first_row (compact_rows token) ≡ Some refusal → answer ≡ Err refusal
 
 -- the refusals of a token by itself
 abbrev pub token_rows : List ℕ → List Row

@@ -1,11 +1,13 @@
 -- What a validator was told: the moments and the uses, which are never pruned.
-use Rattle.std.specs.Prelude.{◌≡◌, ℕ, ◌<◌, ◌≤◌, max, false, List, ◌∷◌, ◌++◌, Result, Ok, Err}
+use Rattle.std.specs.Prelude.{◌≡◌, ℕ, ◌<◌, ◌≤◌, max, false, List, ◌∷◌, ◌++◌, Result, Ok, Err, Vec}
+use Rattle.std.specs.declared.alloc.Global.{Global}
 use Rattle.svid_token.specs.declared.refusal.Refusal.{Refusal}
 use Rattle.svid_replay.specs.declared.token_use.Use.{Use}
 use Rattle.svid_replay.specs.Batches.{BatchData}
 use Rattle.svid_replay.specs.Records.{State, IsRecord, batch_state, state_of}
 use Rattle.svid_replay.specs.Sets.{holds, union, with}
 use Rattle.svid_replay.specs.Uses.{Uses, live}
+use Rattle.svid_replay.specs.Summary.{SummaryData}
 use Rattle.svid_check.specs.declared.accepted.Accepted.{Accepted}
 use Rattle.svid_check.specs.declared.take_fault.TakeFault.{TakeFault}
 use Rattle.svid_check.specs.declared.take_fault.TakeFault.TheVariants.{TooFarAhead, OutOfMemory}
@@ -51,6 +53,12 @@ abbrev pub TellsBatch : Told → ℕ → BatchData → Result (Unit {0}) TakeFau
 TellsBatch x far b (Ok taken) y = (b.moment ≤ far) × (y ≡ tell x (batch_state b))
 TellsBatch x far b (Err TooFarAhead) y = (far < b.moment) × (y ≡ x)
 TellsBatch x far b (Err OutOfMemory) y = (b.moment ≤ far) × TellsFront x b y
+
+-- an answer to a summary within the horizon tells its moment, and no use
+abbrev pub tell_summary : Told → SummaryData → Result (Vec BatchData Global) TakeFault → Told
+tell_summary x s (Ok batches) = tell_now x s.moment
+tell_summary x s (Err TooFarAhead) = x
+tell_summary x s (Err OutOfMemory) = tell_now x s.moment
 
 -- a validator that is given a record begins with what the record has
 abbrev pub BeginsAsGiven : Type 0

@@ -1,6 +1,7 @@
 //! Laws of the verdicts and of runs, carried by functions that compute nothing.
 
-ghost use Rattle.svid_check.specs.Bounds.{ChecksAreBounded, RunsAreBounded, TakesAreBounded, TicksAreBounded};
+ghost use Rattle.svid_check.specs.Bounds.{AnswersAreBounded, ChecksAreBounded, RecordsAreBounded, RunsAreBounded, TakesAreBounded, TicksAreBounded};
+ghost use Rattle.svid_check.specs.Calls.{AnswersTellMoments, ChecksAreSteps, RecordsGoOn, RunsGoOn, TakesAreSteps, TicksAreSteps};
 ghost use Rattle.svid_check.specs.Lawful.{IsAlive, IsFresh, IsInRange, IsMadeNow, IsOfItsInput};
 ghost use Rattle.svid_check.specs.Said.{UnrefusedIsSaid};
 ghost use Rattle.svid_check.specs.Told.{BeginsAsGiven};
@@ -29,15 +30,39 @@ pub fn validators_begin_as_given()
     ensures { BeginsAsGiven }
 {}
 
+/// Each call of a validator, answered and leaving its record as the call's contract says, is a run of
+/// one event.
+pub fn calls_are_steps()
+    ensures checks { ChecksAreSteps }
+    ensures ticks { TicksAreSteps }
+    ensures takes { TakesAreSteps }
+{}
+
+/// An answer to a summary is no event of a run: of what a validator was told it moves the greatest
+/// moment alone, and the record is that of what was told then.
+pub fn answers_tell_moments()
+    ensures { AnswersTellMoments }
+{}
+
+/// Two runs, one after the other, are one run of both lists of events: over what was told, and from one
+/// record to another.
+pub fn runs_go_on()
+    ensures told { RunsGoOn }
+    ensures records { RecordsGoOn }
+{}
+
 /// No call leaves the record's moment past the greater of what it was and the call's own moment plus
 /// `ahead`, held at 2^64-1.
 pub fn calls_are_bounded()
     ensures checks { ChecksAreBounded }
     ensures ticks { TicksAreBounded }
     ensures takes { TakesAreBounded }
+    ensures answers { AnswersAreBounded }
 {}
 
-/// Nor does a run, with the greatest moment of its events.
+/// Nor does a run, with the greatest moment of its events: over what was told, and from one record to
+/// another.
 pub fn runs_are_bounded()
-    ensures { RunsAreBounded }
+    ensures told { RunsAreBounded }
+    ensures records { RecordsAreBounded }
 {}

@@ -5,7 +5,8 @@
 //! is handed in: no clock is looked at. An accepted token is added to the record, so that it is
 //! refused as `Replayed` from then on, and the record can be told to other validators: they take its
 //! parts by [`Validator::take`], as far as these lie at most so many seconds ahead of the moment of the
-//! call. [`Validator::run`] makes a list of such calls.
+//! call, or send the summary of their own record, to which [`Validator::answer`] tells what they lack.
+//! [`Validator::run`] makes a list of checks, ticks and takes.
 //!
 //! ```rust
 //! use svid_check::Validator;
@@ -28,6 +29,7 @@
 
 mod accepted;
 mod answer;
+mod answering;
 mod event;
 mod given;
 mod judging;

@@ -19,10 +19,9 @@ pub struct Reading<'a> {
 }
 
 impl<'a> Reading<'a> {
-    ghost use Rattle.std.specs.Prelude.{◌≤◌, Err, Some, IfOk};
-    ghost use Rattle.svid_token.specs.Compact.{compact_rows};
+    ghost use Rattle.std.specs.Prelude.{◌≤◌, IfOk};
     ghost use Rattle.svid_token.specs.Rows.{Answers, first_row, seen};
-    ghost use Rattle.svid_check.specs.Said.{reading_of, reading_view, said_in};
+    ghost use Rattle.svid_check.specs.Said.{RefusesForm, reading_of, reading_view, said_in};
     ghost use Rattle.svid_check.specs.Verdict.{key_of, keys_due, keys_for, keys_rows};
 
     /// Reads a token.
@@ -31,8 +30,7 @@ impl<'a> Reading<'a> {
     /// an allocation was refused. `TooLong` and `NotThreeParts` come before any memory is taken.
     pub fn of(alloc: Global, token: &'a [u8]) -> Result<Reading<'a>, Refusal>
         ensures value { Answers reading_view result (reading_of token.now) }
-        ensures early { (refusal : Refusal) → first_row (compact_rows token.now) ≡ Some refusal
-            → result ≡ Err refusal }
+        ensures early { RefusesForm token.now result }
         ensures len { IfOk result
             (λ r. (length r.input.now ≤ 65536) × (length r.signature.items ≤ 65536)) }
     {

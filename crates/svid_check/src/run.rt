@@ -40,13 +40,15 @@ impl<V: Verifier, S: UseStore> Validator<V, S> {
     /// Makes the calls that the events tell, one after the other, and puts an answer for each behind
     /// those that are in `answers`.
     ///
-    /// The room for the answers is made first: where that is refused, nothing has changed. Where memory
-    /// is refused inside an event, its answer says so and the run goes on.
+    /// The room for the answers is made first: where `answers` has not enough of it and more is refused,
+    /// nothing has changed. Where memory is refused inside an event, its answer says so and the run goes
+    /// on.
     pub fn run(&mut self, events: &[Event<'_>], answers: &mut Vec<Answer>) -> Result<(), AllocError>
         ensures ran { OnOk result (RunsFrom (terms_of V.says self.old) self.old.state events.now (drop (length answers.old.items) answers.new.items) self.new.state) }
         ensures kept { OnOk result (take (length answers.old.items) answers.new.items ≡ answers.old.items) }
         ensures rest { self.new ≡ with_state self.old self.new.state }
-        ensures refused { OnErr result ((self.new ≡ self.old) × (answers.new.items ≡ answers.old.items)) }
+        ensures refused { OnErr result ((self.new ≡ self.old) × (answers.new.items ≡ answers.old.items)
+            × (vec_capacity answers.old < vec_len answers.old + length events.now)) }
     {
         answers.reserve(events.len())?;
         for event in events {

@@ -2,6 +2,7 @@
 // for the keys of tokens.
 
 mod acceptances;
+mod answering;
 mod keys;
 mod refusals;
 mod refusing;
@@ -12,10 +13,11 @@ mod taking;
 use crate::Validator;
 use base64::engine::general_purpose::URL_SAFE_NO_PAD;
 use std::alloc::{AllocError, Global};
+use std::process::Abort;
 use std::test::Fail;
 use svid_keys::{Bundles, JwtKey, Verifier};
-use svid_replay::{IndexedUses, Record};
-use svid_token::Alg;
+use svid_replay::{IndexedUses, Record, Use, UseStore};
+use svid_token::{Alg, Refusal};
 
 const HEADER: &str = "{\"alg\":\"ES256\",\"kid\":\"k01\",\"typ\":\"JWT\"}";
 
@@ -40,6 +42,14 @@ const ONE_KEY: &[u8] =
     b"{\"a\":{\"keys\":[{\"kty\":\"EC\",\"use\":\"jwt-svid\",\"kid\":\"k01\",\"crv\":\"P-256\",\"x\":\"AA\",\"y\":\"AA\"}]}}";
 
 const PLACE: [u8; 16] = [0xAA; 16];
+
+// The use that an acceptance of the token at 1000 adds.
+const USED: Use = Use {
+    exp: 1001,
+    key: KEY,
+    place: PLACE,
+    at: 1000,
+};
 
 // It says yes where the signature is the three bytes `sig`.
 #[derive(Drop)]
@@ -96,15 +106,75 @@ fn validator(alloc: Global) -> Result<Validator<Sig, IndexedUses>, Fail> {
     validator_of(alloc, &["s"], ONE_KEY, Sig)
 }
 
-// One of several validators that share their records, each with a place of its own; with the audience
-// `s`, one key and an empty record.
+// A validator with the audience `s` and one key, which begins with a record.
+fn with_record<S: UseStore + Drop>(
+    alloc: Global,
+    place: [u8; 16],
+    ahead: u64,
+    record: Record<S>,
+) -> Result<Validator<Sig, S>, Fail> {
+    let own = vec![in alloc; String::from_str(alloc, "s")?]?;
+    let bundles = Bundles::read(alloc, ONE_KEY)?;
+    Ok(Validator::new(alloc, own, place, ahead, bundles, Sig, record))
+}
+
+// One of several validators that share their records, each with a place of its own; with an empty record.
 fn sharing(
     alloc: Global,
     place: [u8; 16],
     ahead: u64,
 ) -> Result<Validator<Sig, IndexedUses>, Fail> {
-    let own = vec![in alloc; String::from_str(alloc, "s")?]?;
-    let bundles = Bundles::read(alloc, ONE_KEY)?;
-    let record = Record::new(IndexedUses::new(alloc));
-    Ok(Validator::new(alloc, own, place, ahead, bundles, Sig, record))
+    with_record(alloc, place, ahead, Record::new(IndexedUses::new(alloc)))
+}
+
+// A validator's record has this moment and so many uses.
+fn assert_record<V: Verifier, S: UseStore>(
+    rt: &impl Abort,
+    v: &Validator<V, S>,
+    moment: u64,
+    len: usize,
+) {
+    assert_eq!(rt; v.replay().moment(), moment);
+    assert_eq!(rt; v.replay().len(), len);
+}
+
+// A validator's record has this moment and these uses.
+fn assert_uses<V: Verifier>(
+    rt: &impl Abort,
+    alloc: Global,
+    v: &Validator<V, IndexedUses>,
+    moment: u64,
+    uses: &[Use],
+) -> Result<(), AllocError> {
+    assert_record(rt, v, moment, uses.len());
+    assert_eq!(rt; v.replay().uses(alloc)?.as_slice(), uses);
+    Ok(())
+}
+
+// A check is refused: the record is of its moment, and has so many uses.
+fn assert_refused<V: Verifier>(
+    rt: &impl Abort,
+    v: &mut Validator<V, IndexedUses>,
+    now: u64,
+    token: &str,
+    refusal: Refusal,
+    len: usize,
+) {
+    let found = v.check(now, token.as_bytes()).err();
+    assert_eq!(rt; found, Some(refusal), "at {now}: {token}");
+    assert_record(rt, v, now, len);
+}
+
+// Why a new validator refuses a token at 1000.
+fn refusal_of(alloc: Global, token: &str) -> Result<Option<Refusal>, Fail> {
+    let mut v = validator(alloc)?;
+    Ok(v.check(1000, token.as_bytes()).err())
+}
+
+// A validator that has accepted a token at 1000.
+fn used_validator(alloc: Global) -> Result<Validator<Sig, IndexedUses>, Fail> {
+    let token = signed(alloc, PAYLOAD)?;
+    let mut v = validator(alloc)?;
+    v.check(1000, token.as_bytes())?;
+    Ok(v)
 }

@@ -1,8 +1,8 @@
-ghost use Rattle.std.specs.Prelude.{◌≡◌, ◌<◌, ◌≤◌, Err, Some, IfOk, map, string_bytes};
-ghost use Rattle.svid_token.specs.Compact.{compact_rows};
-ghost use Rattle.svid_token.specs.Rows.{Answers, first_row};
+ghost use Rattle.std.specs.Prelude.{◌≡◌, ◌<◌, ◌≤◌, Some, IfOk, map, string_bytes};
+ghost use Rattle.svid_token.specs.Rows.{Answers};
 ghost use Rattle.svid_replay.specs.Records.{IsRecord};
 ghost use Rattle.svid_check.specs.Changes.{raised, settled};
+ghost use Rattle.svid_check.specs.Said.{RefusesForm};
 ghost use Rattle.svid_check.specs.Setting.{given_setting, setting_of, with_state};
 ghost use Rattle.svid_check.specs.Verdict.{verdict};
 
@@ -93,8 +93,7 @@ impl<V: Verifier, S: UseStore> Validator<V, S> {
     pub fn check(&mut self, now: u64, token: &[u8]) -> Result<Accepted, Refusal>
         ensures answer { let x = raised self.old.state now in
             Answers Some result (verdict (setting_of V.says self.old) x.moment x.uses token.now) }
-        ensures early { (refusal : Refusal) → first_row (compact_rows token.now) ≡ Some refusal
-            → result ≡ Err refusal }
+        ensures early { RefusesForm token.now result }
         ensures state { self.new ≡ with_state self.old (settled (raised self.old.state now) result) }
     {
         self.replay.raise(now);
@@ -117,8 +116,7 @@ fn judge<V: Verifier, S: UseStore>(
     token: &[u8],
 ) -> Result<Accepted, Refusal>
     ensures answer { Answers Some result (verdict (given_setting V.says given.now) replay.now.moment replay.now.uses token.now) }
-    ensures early { (refusal : Refusal) → first_row (compact_rows token.now) ≡ Some refusal
-        → result ≡ Err refusal }
+    ensures early { RefusesForm token.now result }
     ensures made { IfOk result (λ accepted. accepted.used.at ≤ replay.now.moment) }
     ensures live { IfOk result (λ accepted. replay.now.moment < accepted.used.exp) }
 {

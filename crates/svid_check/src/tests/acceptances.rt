@@ -1,10 +1,12 @@
 use super::{
-    HEADER, KEY, ONE_KEY, OTHER_SIG, PAYLOAD, PLACE, SIG, Sig, signed, token, validator,
-    validator_of,
+    HEADER, KEY, ONE_KEY, OTHER_SIG, PAYLOAD, PLACE, SIG, Sig, USED, assert_refused, assert_uses,
+    signed, token, used_validator, validator, validator_of, with_record,
 };
 use crate::Validator;
+use std::alloc::{AllocError, Global};
+use std::process::Abort;
 use std::test::Fail;
-use svid_keys::{Bundles, JwtKey, Verifier};
+use svid_keys::{JwtKey, Verifier};
 use svid_replay::{IndexedUses, Record, Use};
 use svid_token::{Alg, Refusal};
 
@@ -33,105 +35,123 @@ impl Verifier for Yes {
     }
 }
 
+// A validator accepts a token, and answers this ID and this use.
+fn assert_accepted(
+    rt: &impl Abort,
+    v: &mut Validator<Sig, IndexedUses>,
+    now: u64,
+    token: &str,
+    id: &str,
+    used: Use,
+) -> Result<(), Refusal> {
+    let accepted = v.check(now, token.as_bytes())?;
+    assert_eq!(rt; accepted.id.as_str(), id);
+    assert_eq!(rt; accepted.used, used);
+    Ok(())
+}
+
 #[test]
 fn accepts_a_token_once(rt: HostRuntime) -> Result<(), Fail> {
     let alloc = rt.alloc();
     let token = signed(alloc, PAYLOAD)?;
     let mut v = validator(alloc)?;
-    let accepted = v.check(1000, token.as_bytes())?;
-    assert_eq!(rt; accepted.id.as_str(), "spiffe://a/b");
-    let used = Use {
-        exp: 1001,
-        key: KEY,
-        place: PLACE,
-        at: 1000,
-    };
-    assert_eq!(rt; accepted.used, used);
-    assert_eq!(rt; v.replay().moment(), 1000);
-    assert_eq!(rt; v.replay().uses(alloc)?.as_slice(), [used].as_slice());
-    assert_eq!(rt;
-        v.check(1000, token.as_bytes()).err(),
-        Some(Refusal::Replayed)
-    );
-    assert_eq!(rt; v.replay().uses(alloc)?.as_slice(), [used].as_slice());
-    assert_eq!(rt;
-        v.check(1001, token.as_bytes()).err(),
-        Some(Refusal::Expired)
-    );
-    assert_eq!(rt; v.replay().moment(), 1001);
-    assert_eq!(rt; v.replay().len(), 0);
+    assert_accepted(&rt, &mut v, 1000, token.as_str(), "spiffe://a/b", USED)?;
+    assert_uses(&rt, alloc, &v, 1000, &[USED])?;
+    assert_refused(&rt, &mut v, 1000, token.as_str(), Refusal::Replayed, 1);
+    assert_uses(&rt, alloc, &v, 1000, &[USED])?;
+    assert_refused(&rt, &mut v, 1001, token.as_str(), Refusal::Expired, 0);
+    Ok(())
+}
+
+// Payloads, each with the moment of the check and the expiry.
+const LASTING: [(&str, u64, u64); 5] = [
+    (
+        "{\"sub\":\"spiffe://a/b\",\"aud\":\"s\",\"exp\":1001,\"nbf\":1000}",
+        1000,
+        1001,
+    ),
+    ("{\"sub\":\"spiffe://a/b\",\"aud\":\"s\",\"exp\":1}", 0, 1),
+    (
+        "{\"sub\":\"spiffe://a/b\",\"aud\":\"s\",\"exp\":1,\"nbf\":0}",
+        0,
+        1,
+    ),
+    (
+        "{\"sub\":\"spiffe://a/b\",\"aud\":\"s\",\"exp\":18446744073709551615}",
+        1000,
+        18446744073709551615,
+    ),
+    (
+        "{\"sub\":\"spiffe://a/b\",\"aud\":\"s\",\"exp\":18446744073709551615}",
+        18446744073709551614,
+        18446744073709551615,
+    ),
+];
+
+// A new validator accepts a token, and refuses it when it expires.
+fn assert_lasts(
+    rt: &impl Abort,
+    alloc: Global,
+    payload: &str,
+    now: u64,
+    exp: u64,
+) -> Result<(), Fail> {
+    let token = signed(alloc, payload)?;
+    let mut v = validator(alloc)?;
+    let used = v.check(now, token.as_bytes())?.used;
+    assert!(rt; used.exp == exp && used.at == now, "{payload}: {used:?}");
+    assert_refused(rt, &mut v, exp, token.as_str(), Refusal::Expired, 0);
     Ok(())
 }
 
 #[test]
 fn accepts_to_the_last_moment(rt: HostRuntime) -> Result<(), Fail> {
     let alloc = rt.alloc();
-    for (payload, now, exp) in [
-        (
-            "{\"sub\":\"spiffe://a/b\",\"aud\":\"s\",\"exp\":1001,\"nbf\":1000}",
-            1000,
-            1001,
-        ),
-        ("{\"sub\":\"spiffe://a/b\",\"aud\":\"s\",\"exp\":1}", 0, 1),
-        (
-            "{\"sub\":\"spiffe://a/b\",\"aud\":\"s\",\"exp\":1,\"nbf\":0}",
-            0,
-            1,
-        ),
-        (
-            "{\"sub\":\"spiffe://a/b\",\"aud\":\"s\",\"exp\":18446744073709551615}",
-            1000,
-            18446744073709551615,
-        ),
-        (
-            "{\"sub\":\"spiffe://a/b\",\"aud\":\"s\",\"exp\":18446744073709551615}",
-            18446744073709551614,
-            18446744073709551615,
-        ),
-    ] {
-        let token = signed(alloc, payload)?;
-        let mut v = validator(alloc)?;
-        let accepted = v.check(now, token.as_bytes())?;
-        assert_eq!(rt; accepted.used.exp, exp, "{payload}");
-        assert_eq!(rt; accepted.used.at, now, "{payload}");
-        assert_eq!(rt;
-            v.check(exp, token.as_bytes()).err(),
-            Some(Refusal::Expired)
-        );
-        assert_eq!(rt; v.replay().len(), 0);
+    for (payload, now, exp) in LASTING {
+        assert_lasts(&rt, alloc, payload, now, exp)?;
     }
     Ok(())
 }
+
+// Another token with the `jti` of the first.
+const AGAIN: &str = "{\"sub\":\"spiffe://a/c\",\"aud\":\"s\",\"exp\":5000,\"jti\":\"j1\"}";
+
+const USED_AGAIN: Use = Use {
+    exp: 5000,
+    key: KEY,
+    place: PLACE,
+    at: 1001,
+};
 
 // A token is known by its `jti` within its trust domain, whatever else it says, until the use that is
 // held expires.
 #[test]
 fn knows_a_token_by_its_id(rt: HostRuntime) -> Result<(), Fail> {
     let alloc = rt.alloc();
-    let mut v = validator(alloc)?;
-    v.check(1000, signed(alloc, PAYLOAD)?.as_bytes())?;
-    let again = signed(
-        alloc,
-        "{\"sub\":\"spiffe://a/c\",\"aud\":\"s\",\"exp\":5000,\"jti\":\"j1\"}",
+    let token = signed(alloc, AGAIN)?;
+    let mut v = used_validator(alloc)?;
+    assert_refused(&rt, &mut v, 1000, token.as_str(), Refusal::Replayed, 1);
+    assert_accepted(
+        &rt,
+        &mut v,
+        1001,
+        token.as_str(),
+        "spiffe://a/c",
+        USED_AGAIN,
     )?;
-    assert_eq!(rt;
-        v.check(1000, again.as_bytes()).err(),
-        Some(Refusal::Replayed)
-    );
-    assert_eq!(rt; v.replay().len(), 1);
-    let accepted = v.check(1001, again.as_bytes())?;
-    assert_eq!(rt; accepted.id.as_str(), "spiffe://a/c");
-    assert_eq!(rt;
-        accepted.used,
-        Use {
-            exp: 5000,
-            key: KEY,
-            place: PLACE,
-            at: 1001
-        }
-    );
-    assert_eq!(rt; v.replay().len(), 1);
+    assert_uses(&rt, alloc, &v, 1001, &[USED_AGAIN])?;
     Ok(())
+}
+
+// The key by which a new validator that takes each signature knows a token. It refuses the token with
+// another signature.
+fn key_of(rt: &impl Abort, alloc: Global, payload: &str) -> Result<[u8; 32], Fail> {
+    let first = token(alloc, HEADER, payload, SIG)?;
+    let other = token(alloc, HEADER, payload, OTHER_SIG)?;
+    let mut v = validator_of(alloc, &["s"], ONE_KEY, Yes)?;
+    let used = v.check(1000, first.as_bytes())?.used;
+    assert_refused(rt, &mut v, 1000, other.as_str(), Refusal::Replayed, 1);
+    Ok(used.key)
 }
 
 // Without a `jti`, or with an empty one, the key is the digest of the byte 00 and the signing input, so
@@ -149,41 +169,40 @@ fn knows_a_token_without_an_id_by_its_input(rt: HostRuntime) -> Result<(), Fail>
             EMPTY_ID,
         ),
     ] {
-        let mut v = validator_of(alloc, &["s"], ONE_KEY, Yes)?;
-        let accepted = v.check(1000, token(alloc, HEADER, payload, SIG)?.as_bytes())?;
-        assert_eq!(rt; accepted.used.key, key, "{payload}");
-        let other = token(alloc, HEADER, payload, OTHER_SIG)?;
-        assert_eq!(rt;
-            v.check(1000, other.as_bytes()).err(),
-            Some(Refusal::Replayed)
-        );
-        assert_eq!(rt; v.replay().len(), 1);
+        let found = key_of(&rt, alloc, payload)?;
+        assert_eq!(rt; found, key, "{payload}");
     }
     Ok(())
 }
 
+// The record of the moment 500 with a use of another validator.
+fn held_record(
+    rt: &impl Abort,
+    alloc: Global,
+    held: Use,
+) -> Result<Record<IndexedUses>, AllocError> {
+    let mut record = Record::new(IndexedUses::new(alloc));
+    record.raise(500);
+    assert!(rt; held.at <= record.moment() && record.moment() < held.exp);
+    record.add(held)?;
+    Ok(record)
+}
+
+const HELD: Use = Use {
+    exp: 2000,
+    key: KEY,
+    place: [0xBB; 16],
+    at: 400,
+};
+
 #[test]
 fn begins_with_the_record_that_it_is_given(rt: HostRuntime) -> Result<(), Fail> {
     let alloc = rt.alloc();
-    let held = Use {
-        exp: 2000,
-        key: KEY,
-        place: [0xBB; 16],
-        at: 400,
-    };
-    let mut record = Record::new(IndexedUses::new(alloc));
-    record.raise(500);
-    assert!(rt; held.at <= record.moment());
-    assert!(rt; record.moment() < held.exp);
-    record.add(held)?;
-    let own = vec![in alloc; String::from_str(alloc, "s")?]?;
-    let bundles = Bundles::read(alloc, ONE_KEY)?;
-    let mut v = Validator::new(alloc, own, PLACE, 0, bundles, Sig, record);
-    assert_eq!(rt; v.replay().moment(), 500);
-    assert_eq!(rt; v.replay().uses(alloc)?.as_slice(), [held].as_slice());
     let token = signed(alloc, PAYLOAD)?;
-    assert_eq!(rt; v.check(0, token.as_bytes()).err(), Some(Refusal::Replayed));
-    assert_eq!(rt; v.replay().moment(), 500);
-    assert_eq!(rt; v.replay().uses(alloc)?.as_slice(), [held].as_slice());
+    let mut v = with_record(alloc, PLACE, 0, held_record(&rt, alloc, HELD)?)?;
+    assert_uses(&rt, alloc, &v, 500, &[HELD])?;
+    let found = v.check(0, token.as_bytes()).err();
+    assert_eq!(rt; found, Some(Refusal::Replayed));
+    assert_uses(&rt, alloc, &v, 500, &[HELD])?;
     Ok(())
 }

@@ -1,4 +1,4 @@
-use super::{PAYLOAD, PLACE, Sig, sharing, signed};
+use super::{PAYLOAD, PLACE, Sig, assert_record, assert_uses, sharing, signed};
 use crate::{Answer, Event, TakeFault, Validator};
 use std::alloc::{AllocError, Global};
 use std::process::Abort;
@@ -20,32 +20,46 @@ fn word_of(answer: &Answer) -> &'static str {
     }
 }
 
-// Answers, each in a word.
-fn words_of(alloc: Global, answers: &[Answer]) -> Result<Vec<&'static str>, AllocError> {
-    let mut words = Vec::new(alloc);
-    for answer in answers {
-        words.push(word_of(answer))?;
+// A validator runs the events, and the answers are then these, each in a word.
+fn assert_run(
+    rt: &impl Abort,
+    v: &mut Validator<Sig, IndexedUses>,
+    events: &[Event<'_>],
+    answers: &mut Vec<Answer>,
+    due: &[&str],
+) -> Result<(), AllocError> {
+    v.run(events, answers)?;
+    assert_eq!(rt; answers.len(), due.len());
+    for (answer, word) in answers.iter().zip(due) {
+        assert_eq!(rt; word_of(answer), *word);
     }
-    Ok(words)
+    Ok(())
+}
+
+// A check, a tick by which the token expires, and the check again.
+fn three_events(token: &str) -> [Event<'_>; 3] {
+    let check = Event::Check {
+        now: 1000,
+        token: token.as_bytes(),
+    };
+    [check, Event::Tick { now: 1001 }, check]
 }
 
 #[test]
 fn a_run_answers_each_event(rt: HostRuntime) -> Result<(), Fail> {
     let alloc = rt.alloc();
     let token = signed(alloc, PAYLOAD)?;
-    let check = Event::Check {
-        now: 1000,
-        token: token.as_bytes(),
-    };
     let mut v = sharing(alloc, PLACE, 10)?;
     let mut answers = Vec::new(alloc);
-    v.run(&[check, Event::Tick { now: 1001 }, check], &mut answers)?;
-    let words = words_of(alloc, &answers)?;
-    assert_eq!(rt;
-        words.as_slice(),
-        ["accepted", "ticked", "expired"].as_slice()
-    );
-    assert_eq!(rt; v.replay().moment(), 1001);
+    let events = three_events(token.as_str());
+    assert_run(
+        &rt,
+        &mut v,
+        &events,
+        &mut answers,
+        &["accepted", "ticked", "expired"],
+    )?;
+    assert_record(&rt, &v, 1001, 0);
     Ok(())
 }
 
@@ -55,13 +69,10 @@ fn a_run_of_no_events_changes_nothing(rt: HostRuntime) -> Result<(), Fail> {
     let mut v = sharing(alloc, PLACE, 10)?;
     v.tick(7);
     let mut answers = Vec::new(alloc);
-    v.run(&[], &mut answers)?;
-    assert_eq!(rt; answers.len(), 0);
+    assert_run(&rt, &mut v, &[], &mut answers, &[])?;
     answers.push(Answer::Ticked)?;
-    v.run(&[], &mut answers)?;
-    assert_eq!(rt; answers.len(), 1);
-    assert_eq!(rt; v.replay().moment(), 7);
-    assert_eq!(rt; v.replay().len(), 0);
+    assert_run(&rt, &mut v, &[], &mut answers, &["ticked"])?;
+    assert_record(&rt, &v, 7, 0);
     Ok(())
 }
 
@@ -69,19 +80,16 @@ fn a_run_of_no_events_changes_nothing(rt: HostRuntime) -> Result<(), Fail> {
 #[test]
 fn a_run_keeps_what_was_answered(rt: HostRuntime) -> Result<(), Fail> {
     let alloc = rt.alloc();
+    let batch = Batch::make(100, Vec::new(alloc))?;
     let mut v = sharing(alloc, PLACE, 10)?;
-    let far = Batch::make(100, Vec::new(alloc))?;
     let mut answers = Vec::new(alloc);
-    v.run(&[Event::Tick { now: 1 }], &mut answers)?;
-    v.run(
-        &[Event::Take {
-            now: 2,
-            batch: &far,
-        }],
-        &mut answers,
-    )?;
-    let words = words_of(alloc, &answers)?;
-    assert_eq!(rt; words.as_slice(), ["ticked", "left"].as_slice());
+    let tick = Event::Tick { now: 1 };
+    assert_run(&rt, &mut v, &[tick], &mut answers, &["ticked"])?;
+    let take = Event::Take {
+        now: 2,
+        batch: &batch,
+    };
+    assert_run(&rt, &mut v, &[take], &mut answers, &["ticked", "left"])?;
     Ok(())
 }
 
@@ -133,6 +141,7 @@ fn answer_to(v: &mut Validator<Sig, IndexedUses>, event: Event<'_>) -> Answer {
 // The answers of 1,000 seconds, counted from outside: each token is accepted once and then refused as
 // `Replayed` until it expires, the near batch is taken each time, and the far one never.
 fn assert_counts(rt: &impl Abort, answers: &[Answer]) {
+    assert_eq!(rt; answers.len(), 1000);
     for (word, due) in [
         ("accepted", 5),
         ("replayed", 295),
@@ -146,41 +155,72 @@ fn assert_counts(rt: &impl Abort, answers: &[Answer]) {
     }
 }
 
-#[test]
-fn a_run_of_1000_events_is_one_call_each(rt: HostRuntime) -> Result<(), Fail> {
-    let alloc = rt.alloc();
-    let tokens = five_tokens(alloc)?;
+// The events of 1,000 seconds.
+fn events_of<'a>(
+    alloc: Global,
+    tokens: &'a [String],
+    near: &'a Batch,
+    far: &'a Batch,
+) -> Result<Vec<Event<'a>>, AllocError> {
+    let mut events = Vec::new(alloc);
+    for second in 0..1000u64 {
+        events.push(event_of(second, tokens, near, far))?;
+    }
+    Ok(events)
+}
+
+// A batch that is always near enough, with a use that expires at 700.
+fn near_batch(alloc: Global) -> Result<Batch, Fail> {
     let used = Use {
         exp: 700,
         key: [0x11; 32],
         place: [0xBB; 16],
         at: 5,
     };
-    let near = Batch::make(5, vec![in alloc; used]?)?;
-    let far = Batch::make(1020, Vec::new(alloc))?;
-    let mut events = Vec::new(alloc);
-    for second in 0..1000u64 {
-        events.push(event_of(second, &tokens, &near, &far))?;
-    }
-    let mut runs = sharing(alloc, PLACE, 10)?;
-    let mut calls = sharing(alloc, PLACE, 10)?;
-    let mut answers = Vec::new(alloc);
-    runs.run(&events, &mut answers)?;
-    assert_eq!(rt; answers.len(), 1000);
-    assert_counts(&rt, &answers);
-    for (event, answer) in events.iter().zip(&answers) {
-        let called = answer_to(&mut calls, *event);
-        assert_eq!(rt;
-            format!(in alloc; "{answer:?}")?.as_str(),
-            format!(in alloc; "{called:?}")?.as_str()
-        );
-    }
-    assert_eq!(rt; runs.replay().moment(), 999);
-    assert_eq!(rt; calls.replay().moment(), 999);
-    assert_eq!(rt; runs.replay().len(), 1);
-    assert_eq!(rt;
-        runs.replay().uses(alloc)?.as_slice(),
-        calls.replay().uses(alloc)?.as_slice()
-    );
+    Ok(Batch::make(5, vec![in alloc; used]?)?)
+}
+
+// Two answers have one text.
+fn assert_same(rt: &impl Abort, alloc: Global, left: &Answer, right: &Answer) -> Result<(), Fail> {
+    let left = format!(in alloc; "{left:?}")?;
+    let right = format!(in alloc; "{right:?}")?;
+    assert_eq!(rt; left.as_str(), right.as_str());
     Ok(())
+}
+
+// The calls that the events tell are answered so; they leave one use, and the moment 999.
+fn uses_of_calls(
+    rt: &impl Abort,
+    alloc: Global,
+    events: &[Event<'_>],
+    answers: &[Answer],
+) -> Result<Vec<Use>, Fail> {
+    let mut v = sharing(alloc, PLACE, 10)?;
+    for (event, answer) in events.iter().zip(answers) {
+        let called = answer_to(&mut v, *event);
+        assert_same(rt, alloc, answer, &called)?;
+    }
+    assert_record(rt, &v, 999, 1);
+    Ok(v.replay().uses(alloc)?)
+}
+
+// A run of the events leaves a validator as the calls that they tell leave another.
+fn assert_one_call_each(rt: &impl Abort, alloc: Global, events: &[Event<'_>]) -> Result<(), Fail> {
+    let mut runs = sharing(alloc, PLACE, 10)?;
+    let mut answers = Vec::new(alloc);
+    runs.run(events, &mut answers)?;
+    assert_counts(rt, &answers);
+    let uses = uses_of_calls(rt, alloc, events, &answers)?;
+    assert_uses(rt, alloc, &runs, 999, &uses)?;
+    Ok(())
+}
+
+#[test]
+fn a_run_of_1000_events_is_one_call_each(rt: HostRuntime) -> Result<(), Fail> {
+    let alloc = rt.alloc();
+    let tokens = five_tokens(alloc)?;
+    let near = near_batch(alloc)?;
+    let far = Batch::make(1020, Vec::new(alloc))?;
+    let events = events_of(alloc, &tokens, &near, &far)?;
+    assert_one_call_each(&rt, alloc, &events)
 }

@@ -10,7 +10,7 @@ pub returns-in-Check-clause-step : goal.returns-in-Check-clause-step
 returns-in-Check-clause-step g c =
     let t = terms_of g.V.Verifier.says c.args.self.now in
     subst (λ (e : Event). RunsFrom t c.args.self.now.state (e ∷ []) (Checked c.check.result ∷ []) c.check.new.self.state) (sym c.in-Check.is)
-    (checks t c.args.self.now.state c.check.new.self.state c.in-Check.now (Check c.in-Check.now c.in-Check.token) c.check.result c.in-Check.token.now c.check.ensures.answer (ap (λ h. h.state) c.check.ensures.state) (λ x answered. (answered, refl)))
+    (checks t c.args.self.now.state c.check.new.self.state c.in-Check.now (Check c.in-Check.now c.in-Check.token) c.check.result c.in-Check.token.now c.check.ensures.answer c.check.ensures.early (ap (λ h. h.state) c.check.ensures.state) (λ x answered. (answered, refl)))
 
 pub returns-in-Tick-clause-step : goal.returns-in-Tick-clause-step
 returns-in-Tick-clause-step g c =
