@@ -1,8 +1,8 @@
-use Rattle.std.proofs.Common.{◌≡◌, ℕ, ◌+◌, ◌<◌, ◌≤◌, zero, suc, List, [], ◌∷◌, ◌++◌, length, take, drop, get_or, set, Option, refl, sym, ◌∙◌, ap, subst, arith, append-nil, append_assoc}
+use Rattle.std.proofs.Common.{◌≡◌, ℕ, ◌+◌, ◌<◌, ◌≤◌, zero, suc, List, [], ◌∷◌, ◌++◌, length, take, drop, get_or, set, Option, refl, sym, ◌∙◌, ap, subst, arith, append-nil}
 use Rattle.std.proofs.Math.Seq.{take-append-add}
 use Rattle.std.proofs.lemmas.List.{take_all, drop-set-lt, drop-drop, length-take-le}
 use Rattle.std.proofs.lemmas.Grind.{flat_map-append}
-use Rattle.svid_replay.specs.Batches.{BatchData}
+use Rattle.svid_replay.specs.Parts.{join_all}
 use Rattle.svid_replay.specs.Records.{State}
 use Rattle.svid_wire.specs.Messages.{batches_of}
 use Rattle.svid_wire.specs.Streams.{Drawn, drawn}
@@ -12,7 +12,8 @@ use Rattle.svid_wire.specs.declared.read_fault.ReadFault.TheVariants as reading
 use Rattle.svid_share.specs.declared.tool_fault.ToolFault.{ToolFault}
 use Rattle.svid_share.specs.declared.tool_fault.ToolFault.TheVariants as fault
 use Rattle.svid_share.specs.Inputs.{AreWhole, IsInputFault, IsRefused, IsUnread, IsWhole, Sources, all_of, each_drawn, inputs_of, read_fault_of, sources}
-use Rattle.svid_share.specs.Joined.{Joins, JoinsAll, joined}
+use Rattle.svid_share.specs.Joined.{Joins, JoinsAll}
+use Rattle.svid_share.proofs.JoinedLemmas.{join_all-append}
 
 -- an input that could not be read is not refused as a write is
 pub not_write : (number : ℕ) (input : Drawn) → IsUnread number input fault.Write → ⊥
@@ -54,11 +55,11 @@ pub record HasJoined {S : Type 0} (i : ℕ) (s : Sources S) (old new : State) : 
   pub told : List (List Message)
   pub whole : AreWhole (take i (inputs_of s)) told
   pub untouched : drop i s.new ≡ drop i s.old
-  pub joins : (earlier : List BatchData) → old ≡ joined earlier → new ≡ joined (earlier ++ all_of told)
+  pub joins : new ≡ join_all old (all_of told)
 
 -- no input was read yet
 pub joined_none : {S : Type 0} (left : S → Option (List ℕ)) (stops : S → ℕ) (inputs : List S) (old : State) → HasJoined 0 (sources left stops inputs inputs) old old
-joined_none left stops inputs old = record { told = []; whole = tt; untouched = refl; joins = λ earlier from. from ∙ ap joined (sym (append-nil earlier)) }
+joined_none left stops inputs old = record { told = []; whole = tt; untouched = refl; joins = refl }
 
 -- those behind the one that was read are as they were
 behind_it : {S : Type 0} (i : ℕ) (olds news : List S) (x : S) → drop i news ≡ drop i olds → drop (i + 1) (set news i x) ≡ drop (i + 1) olds
@@ -87,7 +88,7 @@ joined_more left stops i olds news d x old mid new within long so_far more =
       told = so_far.told ++ more.told ∷ [];
       whole = rw seen (AreWhole-push front so_far.told (drawn left stops (get_or news i d) x) more.told so_far.whole more.whole);
       untouched = behind_it i olds news x so_far.untouched;
-      joins = λ earlier from. more.joins (earlier ++ all_of so_far.told) (so_far.joins earlier from) ∙ ap joined (append_assoc earlier (all_of so_far.told) (batches_of more.told) ∙ ap (λ r. earlier ++ r) (sym (all_of-push so_far.told more.told)));
+      joins = more.joins ∙ ap (λ r. join_all r (batches_of more.told)) so_far.joins ∙ sym (join_all-append old (all_of so_far.told) (batches_of more.told)) ∙ ap (join_all old) (sym (all_of-push so_far.told more.told));
     }
 
 -- the input at this index was refused

@@ -1,28 +1,38 @@
 use Rattle.std.proofs.Common.{◌≡◌, ℕ, ◌<◌, Bool, true, false, List, [], ◌∷◌, ◌++◌, max, refl, sym, ◌∙◌, ap, arith, append-nil}
-use Rattle.std.proofs.Common.{◌+◌, ◌≤◌, ◌⊎◌, inl, inr, length, take, get_or, add-one, append_assoc}
+use Rattle.std.proofs.Common.{◌+◌, ◌≤◌, ◌⊎◌, inl, inr, length, take, get_or, add-one, append_assoc, subst, Option, Some, None}
 use Rattle.std.proofs.lemmas.List.Elements.{Contains-append_cases, Contains-append_left, Contains-append_right, Contains-push, Contains-push_cases}
 use Rattle.std.proofs.lemmas.List.Folds.{list_any_at}
 use Rattle.std.proofs.Math.Seq.{take-suc}
 use Rattle.svid_wire.specs.Messages.{batches_of}
 use Rattle.svid_wire.specs.declared.message.Message.{Message}
 use Rattle.svid_wire.proofs.MessagesLemmas.{batches_of-append}
-use Rattle.std.specs.Prelude.{nat_lt, ◌&&◌, ◌||◌}
+use Rattle.std.specs.Prelude.{nat_lt, ◌&&◌, ◌||◌, not, if◌then◌else◌}
 use Rattle.std.specs.List.{Contains, flat_map, list_any}
 use Rattle.std.specs.Ordering.{eq_by_cmp}
 use Rattle.std.proofs.lemmas.Bool.Decides.{nat_tests}
 use Rattle.std.proofs.lemmas.Grind.{flat_map-append}
 use Rattle.svid_replay.specs.declared.token_use.Use.{Use}
-use Rattle.svid_replay.specs.Use.{use_cmp}
-use Rattle.svid_replay.specs.Batches.{BatchData}
+use Rattle.svid_replay.specs.Use.{IsUse, use_cmp}
+use Rattle.std.specs.List.{AllByRecursion}
+use Rattle.svid_replay.specs.declared.flaw.Flaw.TheVariants.{Expired, Future, Order}
+use Rattle.svid_replay.specs.Batches.{AllGood, BatchData, IsBatch, flaw, is_after}
+use Rattle.svid_replay.specs.Parts.{join_all, parts_of}
 use Rattle.svid_replay.specs.Sets.{holds}
-use Rattle.svid_replay.specs.Uses.{Uses, uses_in, live}
-use Rattle.svid_replay.specs.Records.{State, join, state_of, batch_state}
+use Rattle.svid_replay.specs.Uses.{Uses, uses_in, no_uses, live}
+use Rattle.svid_replay.specs.Records.{IsHeldAt, IsRecord, State, join, state_of, batch_state}
 use Rattle.svid_replay.proofs.UsesLemmas.{holds-uses_in, holds-live, same_uses, uses_in-filter}
-use Rattle.svid_replay.proofs.RecordsLemmas.{is_join}
+use Rattle.svid_replay.proofs.ListLemmas.{found}
+use Rattle.svid_replay.proofs.PartsLemmas.{parts_are_batches, parts_give_record}
+use Rattle.svid_replay.proofs.RecordsLemmas.{is_join, join_assoc, join_closed, join_comm, join_new, new_is_record}
+use Rattle.svid_replay.proofs.TestsLemmas.{equal}
+use Rattle.svid_replay.proofs.UseLemmas.{use_exact}
 use Rattle.svid_wire.specs.RecordText.{record_text}
 use Rattle.svid_share.specs.Inputs.{all_of}
-use Rattle.svid_share.specs.Joined.{JoinedByWhich, greatest, joined}
+use Rattle.svid_share.specs.Joined.{JoinedByWhich, JoinedFromNothing, JoinedIsRecord, JoinedOneByOne, PartsComeToRecord, PartsStandForBatches, greatest, joined}
 use Rattle.svid_share.specs.Merge.{MergedByWhich}
+use Rattle.svid_share.specs.Summary.{SummarizedByWhich}
+use Rattle.svid_replay.specs.Buckets.{summary_of}
+use Rattle.svid_wire.specs.SummaryText.{summary_text}
 
 greatest-push : (batches : List BatchData) (batch : BatchData) → greatest (batches ++ batch ∷ []) ≡ max (greatest batches) batch.moment
 greatest-push [] batch = omega arith
@@ -62,17 +72,87 @@ joined-push batches batch =
     is_join (joined batches) (batch_state batch) (joined (batches ++ batch ∷ [])) (greatest-push batches batch)
     (λ u. rw (greatest-push batches batch, uses-push batches batch) (holds-push (flat_map (λ b. b.uses) batches) batch.uses (greatest batches) batch.moment u))
 
--- the batch of one message more is joined to what the others come to
-pub joined-message : (earlier : List BatchData) (messages : List Message) (i : ℕ) (d : Message) (batch : BatchData) → i < length messages → batches_of (get_or messages i d ∷ []) ≡ batch ∷ [] → join (joined (earlier ++ batches_of (take i messages))) (batch_state batch) ≡ joined (earlier ++ batches_of (take (i + 1) messages))
-joined-message earlier messages i d batch within is =
-    let seen : take (i + 1) messages ≡ take i messages ++ get_or messages i d ∷ [] = rw (add-one i) (take-suc messages i d within) in
-    let more : batches_of (take (i + 1) messages) ≡ batches_of (take i messages) ++ batch ∷ [] = ap batches_of seen ∙ batches_of-append (take i messages) (get_or messages i d ∷ []) ∙ ap (λ b. batches_of (take i messages) ++ b) is in
-    sym (joined-push (earlier ++ batches_of (take i messages)) batch) ∙ ap joined (append_assoc earlier (batches_of (take i messages)) (batch ∷ []) ∙ ap (λ r. earlier ++ r) (sym more))
+-- the batches, joined one after the other to what others come to
+pub joined_one_by_one : JoinedOneByOne
+joined_one_by_one earlier [] = ap joined (sym (append-nil earlier))
+joined_one_by_one earlier (b ∷ batches) = ap (λ r. join_all r batches) (sym (joined-push earlier b)) ∙ joined_one_by_one (earlier ++ b ∷ []) batches ∙ ap joined (append_assoc earlier (b ∷ []) batches)
 
 -- no batches come to the record of moment 0 with no uses
 pub joined_none : state_of 0 [] ≡ joined []
 unfolding joined
 joined_none = ap (λ (s : Uses). let r : State = record { moment = 0; uses = s } in r) (uses_in-filter (λ u. nat_lt 0 u.exp) [])
+
+pub joined_from_nothing : JoinedFromNothing
+joined_from_nothing batches = ap (λ r. join_all r batches) joined_none ∙ joined_one_by_one [] batches
+
+-- joining goes on where it stopped
+pub join_all-append : (r : State) (batches more : List BatchData) → join_all r (batches ++ more) ≡ join_all (join_all r batches) more
+join_all-append r [] more = refl
+join_all-append r (b ∷ batches) more = join_all-append (join r (batch_state b)) batches more
+
+-- the batches of one message more
+pub joins-message : (r : State) (messages : List Message) (i : ℕ) (d : Message) → i < length messages → join_all (join_all r (batches_of (take i messages))) (batches_of (get_or messages i d ∷ [])) ≡ join_all r (batches_of (take (i + 1) messages))
+joins-message r messages i d within =
+    let seen : take (i + 1) messages ≡ take i messages ++ get_or messages i d ∷ [] = rw (add-one i) (take-suc messages i d within) in
+    sym (join_all-append r (batches_of (take i messages)) (batches_of (get_or messages i d ∷ []))) ∙ ap (join_all r) (sym (ap batches_of seen ∙ batches_of-append (take i messages) (get_or messages i d ∷ [])))
+
+-- a use that nothing is wrong with is held at the moment
+fine_is_held : (moment : ℕ) (before : Option Use) (u : Use) → IsUse u → flaw moment before u ≡ None → IsHeldAt moment u
+unfolding flaw
+fine_is_held moment before u fits fine = by (nat_lt moment u.exp) refl (nat_lt moment u.at) refl fine
+  where
+    by : (live : Bool) → nat_lt moment u.exp ≡ live → (future : Bool) → nat_lt moment u.at ≡ future → (if not live then Some Expired else if future then Some Future else if is_after before u then None else Some Order) ≡ None → IsHeldAt moment u
+    by false _ future _ none = absurd cc
+    by true _ true _ none = absurd cc
+    by true later false made none = record { fields = fits; made = grind (arith, nat_tests); live = grind (arith, nat_tests) }
+
+-- each use of a batch is held at its moment
+each_held : (moment : ℕ) (before : Option Use) (us : List Use) → AllByRecursion IsUse us → AllGood moment before us → AllByRecursion (IsHeldAt moment) us
+each_held moment before [] fields good = tt
+each_held moment before (u ∷ us) fields good = (fine_is_held moment before u fields.0 good.0, each_held moment (Some u) us fields.1 good.1)
+
+-- what a batch tells is a record
+batch_is_record : (b : BatchData) → IsBatch b → IsRecord (batch_state b)
+batch_is_record b is = record {
+  moment = is.moment;
+  each = λ u held. found (IsHeldAt b.moment) (eq_by_cmp use_cmp u) (IsHeldAt b.moment u) b.uses (each_held b.moment None b.uses is.fields is.good) (sym (holds-uses_in b.uses u) ∙ held) (λ v has same. subst (IsHeldAt b.moment) (sym (use_exact u v (equal (use_cmp u v) same))) has);
+}
+
+joins_record : (r : State) (batches : List BatchData) → IsRecord r → AllByRecursion IsBatch batches → IsRecord (join_all r batches)
+joins_record r [] is all = is
+joins_record r (b ∷ batches) is all = joins_record (join r (batch_state b)) batches (join_closed r (batch_state b) is (batch_is_record b all.0)) all.1
+
+-- what batches come to is a record
+pub joined_is_record : JoinedIsRecord
+joined_is_record batches all = subst IsRecord (joined_from_nothing batches) (joins_record (state_of 0 []) batches (new_is_record no_uses refl) all)
+
+-- what the parts of a record come to is that record
+pub parts_come_to_record : PartsComeToRecord
+parts_come_to_record r is = sym (joined_from_nothing (parts_of r)) ∙ parts_give_record r is
+
+-- what is joined to a join may be joined to its second part
+join_all-join : (a b : State) (batches : List BatchData) → join_all (join a b) batches ≡ join a (join_all b batches)
+join_all-join a b [] = refl
+join_all-join a b (x ∷ batches) = ap (λ r. join_all r batches) (join_assoc a b (batch_state x)) ∙ join_all-join a (join b (batch_state x)) batches
+
+-- what batches come to, joined to a record
+joins_joined : (r : State) (batches : List BatchData) → IsRecord r → join_all r batches ≡ join r (joined batches)
+joins_joined r batches is =
+    ap (λ s. join_all s batches) (sym (join_comm r (state_of 0 []) ∙ join_new r is))
+    ∙ join_all-join r (state_of 0 []) batches
+    ∙ ap (join r) (joined_from_nothing batches)
+
+-- batches behind others: what both come to, joined
+joined-append : (batches more : List BatchData) → AllByRecursion IsBatch batches → joined (batches ++ more) ≡ join (joined batches) (joined more)
+joined-append batches more all = sym (joined_one_by_one batches more) ∙ joins_joined (joined batches) more (joined_is_record batches all)
+
+pub parts_stand_for_batches : PartsStandForBatches
+parts_stand_for_batches [] all = refl
+parts_stand_for_batches (g ∷ groups) all =
+    joined-append (parts_of (joined g)) (flat_map (λ batches. parts_of (joined batches)) groups) (parts_are_batches (joined g) (joined_is_record g all.0))
+    ∙ ap (λ r. join r (joined (flat_map (λ batches. parts_of (joined batches)) groups))) (parts_come_to_record (joined g) (joined_is_record g all.0))
+    ∙ ap (join (joined g)) (parts_stand_for_batches groups all.1)
+    ∙ sym (joined-append g (flat_map (λ batches. batches) groups) all.0)
 
 -- a thing among more is the first or among the others
 among : {X : Type 0} (x : X) (xs : List X) (y : X) → Contains (x ∷ xs) y → (x ≡ y) ⊎ Contains xs y
@@ -146,3 +226,7 @@ joined_by_which batches others same =
 -- what the same batches come to has one text
 pub merged_by_which : MergedByWhich
 merged_by_which told others same = ap record_text (joined_by_which (all_of told) (all_of others) same)
+
+-- and one summary
+pub summarized_by_which : SummarizedByWhich
+summarized_by_which told others same = ap (λ r. summary_text (summary_of r)) (joined_by_which (all_of told) (all_of others) same)

@@ -1,4 +1,5 @@
 pub mod InputsLemmas
 pub mod JoinedLemmas
+pub mod OneSummaryLemmas
 pub mod PiecesLemmas
 pub mod WrittenLemmas

@@ -1,20 +1,25 @@
 use Rattle.std.proofs.Common.{◌≡◌, List, [], ℕ, Option, ◌∙◌, ap}
 use Rattle.std.specs.List.{flat_map}
 use Rattle.svid_replay.specs.Batches.{BatchData}
-use Rattle.svid_replay.specs.Parts.{parts_of}
+use Rattle.svid_replay.specs.Buckets.{answer_to, summary_of}
+use Rattle.svid_replay.specs.Parts.{join_all, parts_of}
 use Rattle.svid_replay.specs.Records.{State, state_of}
 use Rattle.svid_wire.specs.BatchText.{batch_text}
+use Rattle.svid_replay.specs.Summary.{SummaryData}
 use Rattle.svid_wire.specs.Streams.{Drawn}
+use Rattle.svid_wire.specs.SummaryText.{summary_text}
+use Rattle.svid_share.specs.Answer.{answer_due}
 use Rattle.svid_share.specs.Inputs.{all_of}
 use Rattle.svid_share.specs.Joined.{JoinsAll, joined, raised_to}
 use Rattle.svid_share.specs.Merge.{merge_due}
 use Rattle.svid_share.specs.Report.{report_due, report_of}
+use Rattle.svid_share.specs.Summary.{summary_due}
 use Rattle.svid_share.specs.Written.{IsDue}
-use Rattle.svid_share.proofs.JoinedLemmas.{joined_none}
+use Rattle.svid_share.proofs.JoinedLemmas.{joined_from_nothing}
 
 -- a new record is what all inputs tell, after they were joined to it
 all_joined : (inputs : List Drawn) (first second : State) → first ≡ state_of 0 [] → (joins : JoinsAll inputs first second) → second ≡ joined (all_of joins.told)
-all_joined inputs first second new joins = joins.joins [] (new ∙ joined_none)
+all_joined inputs first second new joins = joins.joins ∙ ap (λ r. join_all r (all_of joins.told)) new ∙ joined_from_nothing (all_of joins.told)
 
 -- what a new record is after all inputs were joined, and it was raised, is reported
 pub reported : (inputs : List Drawn) (now : Option ℕ) (text : List ℕ) (first second third : State) → first ≡ state_of 0 [] → JoinsAll inputs first second → third ≡ raised_to now second → text ≡ report_of third → IsDue (report_due now) inputs text
@@ -30,4 +35,20 @@ merged inputs parts first second new joins is = record {
   told = joins.told;
   whole = joins.whole;
   is = ap (flat_map batch_text) (is ∙ ap parts_of (all_joined inputs first second new joins));
+}
+
+-- the summary of what a new record is after all inputs were joined
+pub summarized : (inputs : List Drawn) (summary : SummaryData) (first second : State) → first ≡ state_of 0 [] → JoinsAll inputs first second → summary ≡ summary_of second → IsDue summary_due inputs (summary_text summary)
+summarized inputs summary first second new joins is = record {
+  told = joins.told;
+  whole = joins.whole;
+  is = ap summary_text (is ∙ ap summary_of (all_joined inputs first second new joins));
+}
+
+-- the answer of what a new record is after all inputs were joined
+pub answered : (inputs : List Drawn) (asked : SummaryData) (batches : List BatchData) (first second : State) → first ≡ state_of 0 [] → JoinsAll inputs first second → batches ≡ answer_to second asked → IsDue (answer_due asked) inputs (flat_map batch_text batches)
+answered inputs asked batches first second new joins is = record {
+  told = joins.told;
+  whole = joins.whole;
+  is = ap (flat_map batch_text) (is ∙ ap (λ r. answer_to r asked) (all_joined inputs first second new joins));
 }

@@ -1,13 +1,12 @@
 -- What an engine read of its inputs, and why one of them was refused.
-use Rattle.std.specs.Prelude.{◌≡◌, ℕ, ◌+◌, ◌<◌, ◌≤◌, List, [], ◌∷◌, ◌++◌, length, drop, Option}
+use Rattle.std.specs.Prelude.{◌≡◌, ℕ, ◌+◌, ◌<◌, ◌≤◌, ◌⊎◌, List, [], ◌∷◌, ◌++◌, length, drop, Option}
 use Rattle.std.specs.List.{flat_map}
 use Rattle.svid_replay.specs.Batches.{BatchData}
-use Rattle.svid_wire.specs.Messages.{Appended, Splits, batches_of}
+use Rattle.svid_wire.specs.Messages.{Splits, batches_of}
 use Rattle.svid_wire.specs.Faults.{raised}
 use Rattle.svid_wire.specs.Streams.{Drawn, Gave, IsRead, IsReadFault, drawn}
-use Rattle.svid_wire.specs.WireFault.{IsFieldFault, IsFieldRefusal, IsUnfinished}
+use Rattle.svid_wire.specs.WireFault.{IsFieldFault, IsUnfinished}
 use Rattle.svid_wire.specs.declared.message.Message.{Message}
-use Rattle.svid_wire.specs.declared.wire_fault.WireFault.{WireFault}
 use Rattle.svid_wire.specs.declared.reason.Reason.{Reason}
 use Rattle.svid_wire.specs.declared.reason.Reason.TheVariants as wire
 use Rattle.svid_wire.specs.declared.read_fault.ReadFault.{ReadFault}
@@ -100,21 +99,24 @@ pub record IsTooLong (input : Drawn) : Type 0 where
   pub rest : List ℕ
   pub good : IsGoodSoFar bytes messages rest
 
+-- memory was refused for the first bytes of the input, at least one and at most as many as it may have; it gave them
+-- without a stop
+pub record WantsMemory (input : Drawn) : Type 0 where
+  pub bytes : List ℕ
+  pub others : List ℕ
+  pub given : Gave input (bytes ++ others)
+  pub unstopped : input.stops_after ≡ input.stops_before
+  pub some : 0 < length bytes
+  pub within : length bytes ≤ most_bytes
+
 -- why the input with this number, which is to be messages, was refused: something is wrong with its bytes, it could not
--- be read to its end and nothing is wrong with what came, or memory was wanted
+-- be read to its end and nothing is wrong with what came, or memory was refused for what came
 abbrev pub IsInputFault : ℕ → Drawn → ToolFault → Type 0
 IsInputFault number input (fault.Wire told message place reason) = (told ≡ number) × IsBroken input message place reason
 IsInputFault number input (fault.Read told) = (told ≡ number) × StopsWithin input
 IsInputFault number input (fault.TooMuch told) = (told ≡ number) × IsTooLong input
-IsInputFault number input fault.OutOfMemory = Unit {0}
+IsInputFault number input fault.OutOfMemory = WantsMemory input
 IsInputFault number input _ = ⊥
-
--- a piece of an input went wrong: behind the messages that the bytes held and the piece make whole a field is bad, or
--- memory was wanted
-pub record IsPieceFault (held piece : List ℕ) (messages : List Message) (fault : WireFault) : Type 0 where
-  pub rest : List ℕ
-  pub came : Appended (held ++ piece) [] messages rest
-  pub why : IsFieldRefusal rest fault
 
 -- the sources that a call goes over, before and after it, with the words by which such a source tells of itself
 pub record Sources (S : Type 0) : Type 0 where
@@ -147,6 +149,11 @@ AreWhole _ _ = ⊥
 abbrev pub all_of : List (List Message) → List BatchData
 all_of told = flat_map batches_of told
 
+-- all inputs were read to their ends, and their bytes are messages
+pub record AreAllWhole (inputs : List Drawn) : Type 0 where
+  pub told : List (List Message)
+  pub whole : AreWhole inputs told
+
 -- an input was refused: those before it are whole, and the sources behind it are as they were
 pub record IsRefused {S : Type 0} (s : Sources S) (fault : ToolFault) : Type 0 where
   pub before : List Drawn
@@ -157,3 +164,7 @@ pub record IsRefused {S : Type 0} (s : Sources S) (fault : ToolFault) : Type 0 w
   pub whole : AreWhole before told
   pub why : IsInputFault (length before + 1) refused fault
   pub untouched : drop (length before + 1) s.new ≡ drop (length before + 1) s.old
+
+-- why inputs were not made one text of: one of them was refused, or all are whole, and memory was refused for what they come to
+abbrev pub IsJoinFault : {S : Type 0} → Sources S → ToolFault → Type 0
+IsJoinFault s given = IsRefused s given ⊎ ((given ≡ fault.OutOfMemory) × AreAllWhole (inputs_of s))

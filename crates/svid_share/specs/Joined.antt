@@ -1,8 +1,10 @@
 -- What the batches of all inputs come to.
 use Rattle.std.specs.Prelude.{◌≡◌, ◌↔◌, ℕ, List, [], ◌∷◌, ◌++◌, max, Option, None, Some}
 use Rattle.std.specs.List.{Contains, flat_map}
-use Rattle.svid_replay.specs.Batches.{BatchData}
-use Rattle.svid_replay.specs.Records.{State, join, state_of}
+use Rattle.std.specs.List.{AllByRecursion}
+use Rattle.svid_replay.specs.Batches.{BatchData, IsBatch}
+use Rattle.svid_replay.specs.Parts.{join_all, parts_of}
+use Rattle.svid_replay.specs.Records.{IsRecord, State, join, state_of}
 use Rattle.svid_replay.specs.Uses.{uses_in, live}
 use Rattle.svid_wire.specs.Messages.{batches_of}
 use Rattle.svid_wire.specs.Streams.{Drawn}
@@ -31,14 +33,34 @@ abbrev pub raised_to : Option ℕ → State → State
 raised_to None r = r
 raised_to (Some now) r = join r (state_of now [])
 
--- an input is whole, and what it tells was joined to a record, whatever batches the record came of
+-- an input is whole, and the batches that it tells were joined to a record, one after the other
 pub record Joins (input : Drawn) (old new : State) : Type 0 where
   pub told : List Message
   pub whole : IsWhole input told
-  pub joins : (earlier : List BatchData) → old ≡ joined earlier → new ≡ joined (earlier ++ batches_of told)
+  pub joins : new ≡ join_all old (batches_of told)
 
--- all inputs are whole, and what they tell was joined to a record
+-- all inputs are whole, and the batches that they tell were joined to a record, one after the other
 pub record JoinsAll (inputs : List Drawn) (old new : State) : Type 0 where
   pub told : List (List Message)
   pub whole : AreWhole inputs told
-  pub joins : (earlier : List BatchData) → old ≡ joined earlier → new ≡ joined (earlier ++ all_of told)
+  pub joins : new ≡ join_all old (all_of told)
+
+-- the batches, joined one after the other to what others come to, are what all of them come to
+abbrev pub JoinedOneByOne : Type 0
+JoinedOneByOne = (earlier batches : List BatchData) → join_all (joined earlier) batches ≡ joined (earlier ++ batches)
+
+-- to a record that nothing was joined to before, batches joined one after the other are what they come to
+abbrev pub JoinedFromNothing : Type 0
+JoinedFromNothing = (batches : List BatchData) → join_all (state_of 0 []) batches ≡ joined batches
+
+-- what batches come to is a record
+abbrev pub JoinedIsRecord : Type 0
+JoinedIsRecord = (batches : List BatchData) → AllByRecursion IsBatch batches → IsRecord (joined batches)
+
+-- what the parts of a record come to is that record
+abbrev pub PartsComeToRecord : Type 0
+PartsComeToRecord = (r : State) → IsRecord r → joined (parts_of r) ≡ r
+
+-- the parts of what each group of batches comes to come to what the batches of all groups come to
+abbrev pub PartsStandForBatches : Type 0
+PartsStandForBatches = (groups : List (List BatchData)) → AllByRecursion (AllByRecursion IsBatch) groups → joined (flat_map (λ batches. parts_of (joined batches)) groups) ≡ joined (flat_map (λ batches. batches) groups)

@@ -1,6 +1,9 @@
+pub mod Answer
 pub mod Faults
 pub mod Inputs
 pub mod Joined
 pub mod Merge
+pub mod Reader
 pub mod Report
+pub mod Summary
 pub mod Written

@@ -3,7 +3,7 @@
 use Rattle.std.specs.Prelude.{◌≡◌, ℕ, List}
 use Rattle.svid_share.specs.declared.tool_fault.ToolFault.{ToolFault}
 use Rattle.svid_share.specs.declared.tool_fault.ToolFault.TheVariants as tool
-use Rattle.svid_share.specs.Inputs.{AreWhole, IsRefused, Sources, inputs_of}
+use Rattle.svid_share.specs.Inputs.{AreWhole, IsJoinFault, Sources, inputs_of}
 use Rattle.svid_wire.specs.Streams.{Drawn, Taken, TookAll, TookPart}
 use Rattle.svid_wire.specs.declared.message.Message.{Message}
 
@@ -25,8 +25,7 @@ pub record IsPartlyWritten (due : List (List Message) → List ℕ) (inputs : Li
   pub is : IsDue due inputs text
   pub part : TookPart out text
 
--- when the engine gives up: since the sink stopped, for want of memory, or for one of its inputs
+-- when the engine gives up: since the sink stopped, for one of its inputs, or for want of memory when all are whole
 abbrev pub IsEngineFault : {S : Type 0} → (List (List Message) → List ℕ) → Sources S → Taken → ToolFault → Type 0
 IsEngineFault due s out tool.Write = IsPartlyWritten due (inputs_of s) out
-IsEngineFault due s out tool.OutOfMemory = Unit {0}
-IsEngineFault due s out given = IsRefused s given
+IsEngineFault due s out given = IsJoinFault s given

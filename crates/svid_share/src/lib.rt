@@ -4,8 +4,9 @@
 //! An engine is generic over the sources it reads and the sinks it writes to, and its contract says
 //! what it writes of what it reads, which fault it answers, and what it leaves as it was.
 //! [`run_report`] writes a record for people to read, and [`run_merge`] for validators, as the texts of
-//! its parts. [`join_input`] and [`join_inputs`] serve the engines
-//! of the crates above, as [`read_input`], [`put_text`] and [`put_batches`] do.
+//! its parts. [`run_summary`] writes the summary of a record, by which another validator finds with
+//! [`run_answer`] what this one lacks. [`join_input`] and [`join_inputs`] serve the engines
+//! of the crates above, as [`read_summary`], [`read_input`], [`put_text`] and [`put_batches`] do.
 //!
 //! ```rust
 //! use svid_share::run_report;
@@ -18,20 +19,27 @@
 //! ```
 #![tactic(auto)]
 
+mod answer;
 mod batches;
 mod inputs;
 pub mod laws;
 mod merge;
+mod one_summary;
 mod output;
+mod reader;
 mod report;
 mod report_text;
+mod summary;
 #[cfg(test)]
 mod tests;
 mod tool_fault;
 
+pub use answer::run_answer;
 pub use batches::put_batches;
 pub use inputs::{MOST_BYTES, join_input, join_inputs, read_input};
 pub use merge::run_merge;
+pub use one_summary::read_summary;
 pub use output::put_text;
 pub use report::run_report;
+pub use summary::run_summary;
 pub use tool_fault::ToolFault;

@@ -2,7 +2,7 @@ ghost use Rattle.std.specs.Prelude.{◌≡◌, ◌≢◌, OnOk, IfOk, IfErr};
 ghost use Rattle.std.specs.List.{flat_map};
 ghost use Rattle.svid_wire.specs.BatchText.{batch_text};
 ghost use Rattle.svid_wire.specs.Streams.{taken};
-ghost use Rattle.svid_share.specs.Inputs.{IsRefused, inputs_of, sources};
+ghost use Rattle.svid_share.specs.Inputs.{IsJoinFault, inputs_of, sources};
 ghost use Rattle.svid_share.specs.Merge.{merge_due};
 ghost use Rattle.svid_share.specs.Written.{IsDue, IsEngineFault, IsWritten};
 
@@ -16,7 +16,7 @@ use svid_wire::{Sink, Source};
 // The parts of what all inputs tell.
 fn parts_of_inputs<S: Source>(alloc: Global, inputs: &mut [S]) -> Result<Vec<Batch>, ToolFault>
     ensures ok { IfOk result (λ parts. IsDue merge_due (inputs_of (sources S.left S.stops inputs.old inputs.new)) (flat_map batch_text parts.items)) }
-    ensures fault { IfErr result (λ fault. fault ≢ ToolFault.OutOfMemory → IsRefused (sources S.left S.stops inputs.old inputs.new) fault) }
+    ensures fault { IfErr result (IsJoinFault (sources S.left S.stops inputs.old inputs.new)) }
 {
     let mut record = Record::new(IndexedUses::new(alloc));
     join_inputs(alloc, inputs, &mut record)?;

@@ -1,7 +1,7 @@
 ghost use Rattle.std.specs.Prelude.{◌≡◌, ◌≢◌, OnOk, IfOk, IfErr, string_bytes};
 ghost use Rattle.svid_wire.specs.Streams.{taken};
 ghost use Rattle.svid_share.specs.Report.{report_due, report_of};
-ghost use Rattle.svid_share.specs.Inputs.{IsRefused, inputs_of, sources};
+ghost use Rattle.svid_share.specs.Inputs.{IsJoinFault, inputs_of, sources};
 ghost use Rattle.svid_share.specs.Joined.{raised_to};
 ghost use Rattle.svid_share.specs.Written.{IsDue, IsEngineFault, IsWritten};
 
@@ -37,7 +37,7 @@ fn text_of_inputs<S: Source>(
     now: Option<u64>,
 ) -> Result<String, ToolFault>
     ensures ok { IfOk result (λ text. IsDue (report_due now) (inputs_of (sources S.left S.stops inputs.old inputs.new)) (string_bytes text)) }
-    ensures fault { IfErr result (λ fault. fault ≢ ToolFault.OutOfMemory → IsRefused (sources S.left S.stops inputs.old inputs.new) fault) }
+    ensures fault { IfErr result (IsJoinFault (sources S.left S.stops inputs.old inputs.new)) }
 {
     let mut record = Record::new(IndexedUses::new(alloc));
     join_inputs(alloc, inputs, &mut record)?;

@@ -1,9 +1,11 @@
+mod answer;
 mod faults;
 mod long;
 mod made;
 mod merge;
 mod refusing;
 mod report;
+mod summary;
 mod sweep;
 
 // A batch of moment 100 with two uses of one key, both of exp 101: the first at 99, the second at 100.
@@ -30,3 +32,8 @@ twice 1\n\
 
 // What is reported of nothing.
 const EMPTY_REPORT: &[u8] = b"moment 0\nuses 0\ntwice 0\n";
+
+// SHA-256 of no bytes.
+const NOTHING_DIGEST: &[u8; 32] = b"\
+\xe3\xb0\xc4\x42\x98\xfc\x1c\x14\x9a\xfb\xf4\xc8\x99\x6f\xb9\x24\
+\x27\xae\x41\xe4\x64\x9b\x93\x4c\xa4\x95\x99\x1b\x78\x52\xb8\x55";

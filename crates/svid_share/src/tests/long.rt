@@ -23,7 +23,7 @@ struct Empties {
 impl Empties {
     fn new(alloc: Global, left: usize) -> Result<Empties, AllocError> {
         let mut texts = Vec::new(alloc);
-        for _ in 0..3000 {
+        for _ in 0..240 {
             texts.extend_from_slice(EMPTY)?;
         }
         Ok(Empties { texts, left })

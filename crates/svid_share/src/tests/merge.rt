@@ -1,9 +1,6 @@
-ghost use Rattle.std.specs.Prelude.{◌<◌};
-
 use super::TWO_USES;
-use super::made::{many, part, with_byte, with_one_use};
+use super::made::{many, part, source, with_byte, with_one_use};
 use crate::{ToolFault, run_merge};
-use std::alloc::{AllocError, Global};
 use std::test::Fail;
 use svid_wire::{MemSink, MemSource, Reason};
 
@@ -12,12 +9,6 @@ const NOTHING: &[u8] = b"JSR\x01\x01\x00\x00\x00\x00\x00\x00\x00\x00\x00\x00\x00
 
 // The batch of moment 101 with no uses.
 const LATER: &[u8] = b"JSR\x01\x01\x00\x00\x00\x00\x00\x00\x00\x65\x00\x00\x00\x00";
-
-fn source(alloc: Global, bytes: &[u8], step: usize) -> Result<MemSource, AllocError>
-    requires { 0 < step }
-{
-    Ok(MemSource::new(bytes.to_vec(alloc)?, step, None))
-}
 
 #[test]
 fn merges_nothing_to_an_empty_record(rt: HostRuntime) -> Result<(), Fail> {
@@ -120,6 +111,8 @@ fn judges_what_came_before_a_failed_read(rt: HostRuntime) -> Result<(), Fail> {
         (bad.as_slice(), 3, ToolFault::Read { input: 1 }),
         (TWO_USES.as_slice(), 17, ToolFault::Read { input: 1 }),
         (TWO_USES.as_slice(), 100, ToolFault::Read { input: 1 }),
+        (TWO_USES.as_slice(), 145, ToolFault::Read { input: 1 }),
+        (TWO_USES.as_slice(), 1000, ToolFault::Read { input: 1 }),
     ] {
         let mut inputs = [MemSource::new(bytes.to_vec(alloc)?, step, Some(2))];
         let mut out = MemSink::new(alloc, 1000, None);

@@ -60,7 +60,8 @@ fn refuses_the_first_bad_field(rt: HostRuntime) -> Result<(), Fail> {
     for (place, byte, at, reason) in [
         (0, 0, 0, Reason::Magic),
         (4, 3, 4, Reason::Kind),
-        (4, 2, 4, Reason::Kind),
+        (4, 0, 4, Reason::Kind),
+        (4, 2, 145, Reason::Truncated),
         (24, 100, 17, Reason::UseExpired),
         (80, 101, 17, Reason::UseFuture),
         (88, 100, 81, Reason::UseExpired),
@@ -114,7 +115,8 @@ fn counts_messages_and_places_anew(rt: HostRuntime) -> Result<(), Fail> {
         (b"\x00".as_slice(), 1, Reason::Truncated),
         (b"JSR\x01".as_slice(), 4, Reason::Truncated),
         (b"JSR\x02".as_slice(), 0, Reason::Magic),
-        (b"JSR\x01\x02".as_slice(), 4, Reason::Kind),
+        (b"JSR\x01\x02".as_slice(), 5, Reason::Truncated),
+        (b"JSR\x01\x03".as_slice(), 4, Reason::Kind),
     ] {
         let mut bytes = with_one_use(alloc, 17)?;
         bytes.extend_from_slice(&with_one_use(alloc, 17)?)?;

@@ -1,43 +1,43 @@
-use Rattle.std.proofs.Common.{◌∙◌, refl, sym, subst, arith}
-use Rattle.svid_share.specs.Inputs.{IsInputFault}
-use Rattle.svid_share.proofs.PiecesLemmas.{nothing_came, few_piece, few_pushed, few_whole, more_came, broken, beyond, stopped, ended_within}
+use Rattle.std.proofs.Common.{◌∙◌, refl, ap, arith}
+use Rattle.std.proofs.lemmas.Result.{err_from_is_err_and}
+use Rattle.svid_replay.specs.Parts.{join_all}
+use Rattle.svid_wire.specs.Messages.{batches_of}
+use Rattle.svid_share.proofs.PiecesLemmas.{joins_end, joins_more, joins_no_more, nothing_came, numbered_fault, wants_memory}
 use Rattle.svid_share.proofs.inputs.join_input.Goals as goal
 
-pub loop-given-init : goal.loop-given-init
-loop-given-init g c = nothing_came _ _ _ _ c.new-feed.ensures
+pub loop-reader-init : goal.loop-reader-init
+loop-reader-init g c = record { told = _; come = nothing_came _ _ c.new-reader.result c.new-reader.ensures.feed c.new-reader.ensures.still c.new-reader.ensures.whole; numbered = c.new-reader.ensures.number; joins = refl }
 
-pub overflow_add-whole : goal.overflow_add-whole
-overflow_add-whole g c = omega (arith, few_whole _ _ _ _ _ _ c.loop-given.invariant)
+pub next-requires : goal.next-requires
+next-requires g c = record { begun = record { first = c.args.source.now; told = c.loop-reader.invariant.told; come = c.loop-reader.invariant.come } }
 
-pub returns-in-Err-clause-fault : goal.returns-in-Err-clause-fault
-returns-in-Err-clause-fault g c =
-    subst (IsInputFault c.args.input _) (sym c.wire_fault.ensures)
-    (ended_within _ _ _ _ _ _ _ _ _ c.args.input _ _ c.get.new.room c.in-Ok.given c.in-Err.fault c.loop-given.invariant c.in-Ok.ensures.bytes.0 c.in-Ok.ensures.faults c.if-given-eq0.true (c.in-Ok.ensures.bytes.1 c.if-given-eq0.true (omega (arith, c.get.auto.room))) (sym c.finish.ensures ∙ c.in-Err.is))
+pub returns-in_err-next-clause-fault : goal.returns-in_err-next-clause-fault
+returns-in_err-next-clause-fault g c =
+    let p = err_from_is_err_and c.from_residual.result c.from_residual.ensures.1 in
+    rw (p.1, p.2) (numbered_fault _ _ _ _ c.loop-reader.invariant.numbered (c.in_err-next.ensures.fault c.args.source.now c.loop-reader.invariant.told c.loop-reader.invariant.come))
 
-pub overflow_add-whole-in-Err-join_piece : goal.overflow_add-whole-in-Err-join_piece
-overflow_add-whole-in-Err-join_piece g c =
-    omega (arith, c.len.ensures, few_piece _ _ _ _ _ _ _ _ _ c.loop-given.invariant c.in-Err-join_piece.ensures.fault (omega (arith, c.split_at.ensures.front_len, c.min.ensures)))
+pub loop-reader-preserved : goal.loop-reader-preserved
+loop-reader-preserved g c =
+    joins_more _ _ _ _ _ _ _ _ _ c.loop-reader.invariant (c.in_ok-next.ensures.came c.args.source.now c.loop-reader.invariant.told c.loop-reader.invariant.come) c.in_ok-next.ensures.number (c.in_ok-join_messages.ensures ∙ ap (λ ms. join_all c.loop-reader.target (batches_of ms)) c.deref.ensures.value)
 
-pub overflow_add-whole-in-Err-join_piece-2 : goal.overflow_add-whole-in-Err-join_piece-2
-overflow_add-whole-in-Err-join_piece-2 g c =
-    omega (arith, c.len.ensures, few_piece _ _ _ _ _ _ _ _ _ c.loop-given.invariant c.in-Err-join_piece.ensures.fault (omega (arith, c.split_at.ensures.front_len, c.min.ensures)))
+pub returns-in_err-join_messages-clause-fault : goal.returns-in_err-join_messages-clause-fault
+returns-in_err-join_messages-clause-fault g c =
+    let p = err_from_is_err_and c.from_residual-in_err-join_messages.result c.from_residual-in_err-join_messages.ensures.1 in
+    rw (p.1, p.2) (wants_memory _ _ _ (c.in_ok-next.ensures.came c.args.source.now c.loop-reader.invariant.told c.loop-reader.invariant.come) (omega (arith, c.in_ok-next.ensures.more c.if-branch.true, c.loop-reader.invariant.come.few)))
 
-pub returns-in-Err-join_piece-clause-fault : goal.returns-in-Err-join_piece-clause-fault
-returns-in-Err-join_piece-clause-fault g c =
-    subst (IsInputFault c.args.input _) (sym c.wire_fault-in-Err-join_piece.ensures)
-    (broken _ _ _ _ _ _ _ _ _ c.in-Ok.given c.min.result c.len.result c.args.input _ _ c.get.new.room _ _ c.in-Err-join_piece.fault c.loop-given.invariant c.in-Ok.ensures.bytes.0 c.in-Ok.ensures.faults c.split_at.ensures.front (omega (arith, c.min.ensures)) (omega (arith, c.split_at.ensures.front_len, c.min.ensures)) (omega (arith, c.len.ensures)) c.in-Err-join_piece.ensures.fault)
+pub end-requires : goal.end-requires
+end-requires g c = record { begun = (_, _, c.in_ok-next.ensures.came c.args.source.now c.loop-reader.invariant.told c.loop-reader.invariant.come) }
 
-pub returns-then-still-given-clause-fault : goal.returns-then-still-given-clause-fault
-returns-then-still-given-clause-fault g c =
-    (refl, beyond _ _ _ _ _ _ _ _ _ _ c.in-Ok.given c.min.result _ _ c.get.new.room _ _ c.loop-given.invariant c.in-Ok.ensures.bytes.0 c.in-Ok.ensures.faults c.split_at.ensures.front (omega (arith, c.min.ensures, c.if-still-given.true)) c.if-still-given.true c.in-Ok.ensures.count c.in_default-join_piece.ensures.came)
-
-pub overflow_add-whole-in-Ok : goal.overflow_add-whole-in-Ok
-overflow_add-whole-in-Ok g c =
-    omega (arith, c.len-whole.ensures, few_pushed _ _ _ _ _ _ _ _ _ c.loop-given.invariant c.in_default-join_piece.ensures.came (omega (arith, c.split_at.ensures.front_len, c.min.ensures)))
-
-pub loop-given-preserved : goal.loop-given-preserved
-loop-given-preserved g c =
-    more_came _ _ _ _ _ _ _ _ _ _ c.in-Ok.given c.min.result c.len-whole.result _ _ _ c.get.new.room _ _ c.loop-given.invariant c.in-Ok.ensures.bytes.0 c.in-Ok.ensures.faults c.split_at.ensures.front (omega (arith, c.min.ensures, c.if-still-given.false)) (omega (arith, c.split_at.ensures.front_len)) c.if-still-given.false c.in_default-join_piece.ensures.came (omega (arith, c.len-whole.ensures)) c.in_default-join_piece.ensures.joined
+pub returns-clause-ok : goal.returns-clause-ok
+returns-clause-ok g c =
+    let come = c.in_ok-next.ensures.came c.args.source.now c.loop-reader.invariant.told c.loop-reader.invariant.come in
+    let over = c.in_ok-next.ensures.no_more c.if-branch.false in
+    let j = joins_no_more _ _ _ _ _ _ _ _ c.loop-reader.invariant come c.in_ok-next.ensures.number over.1 in
+    (joins_end _ _ _ _ _ c.end.result j (c.end.ensures _ j.told j.come over.0)).0
 
 pub returns-clause-fault : goal.returns-clause-fault
-returns-clause-fault g c = (refl, stopped _ _ _ _ _ _ _ _ _ _ _ c.loop-given.invariant c.in_default.ensures.bytes c.in_default.ensures.faults)
+returns-clause-fault g c =
+    let come = c.in_ok-next.ensures.came c.args.source.now c.loop-reader.invariant.told c.loop-reader.invariant.come in
+    let over = c.in_ok-next.ensures.no_more c.if-branch.false in
+    let j = joins_no_more _ _ _ _ _ _ _ _ c.loop-reader.invariant come c.in_ok-next.ensures.number over.1 in
+    (joins_end _ _ _ _ _ c.end.result j (c.end.ensures _ j.told j.come over.0)).1

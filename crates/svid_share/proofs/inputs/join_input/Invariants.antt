@@ -1,9 +1,9 @@
 use Rattle.svid_wire.specs.Streams.{drawn}
-use Rattle.svid_share.proofs.PiecesLemmas.{HasCome}
+use Rattle.svid_share.proofs.PiecesLemmas.{JoinsSoFar}
 use Rattle.svid_share.proofs.inputs.join_input.Given as goal
 
-abbrev pub invariant-loop-given : goal.invariant-loop-given
-invariant-loop-given g l = HasCome (drawn g.S.Source.left g.S.Source.stops l.fn.source l.source) l.feed l.still l.whole l.fn.target l.target
+abbrev pub invariant-loop-reader : goal.invariant-loop-reader
+invariant-loop-reader g l = JoinsSoFar (drawn g.S.Source.left g.S.Source.stops l.fn.source l.source) l.reader l.fn.input l.fn.target l.target
 
-abbrev pub decreases-loop-given : goal.decreases-loop-given
-decreases-loop-given g l = l.still
+abbrev pub decreases-loop-reader : goal.decreases-loop-reader
+decreases-loop-reader g l = l.reader.still

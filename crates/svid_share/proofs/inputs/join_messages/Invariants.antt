@@ -1,8 +1,7 @@
-use Rattle.std.proofs.Common.{◌≡◌, ◌++◌, List, take}
-use Rattle.svid_replay.specs.Batches.{BatchData}
+use Rattle.std.proofs.Common.{◌≡◌, take}
+use Rattle.svid_replay.specs.Parts.{join_all}
 use Rattle.svid_wire.specs.Messages.{batches_of}
-use Rattle.svid_share.specs.Joined.{joined}
 use Rattle.svid_share.proofs.inputs.join_messages.Given as goal
 
 abbrev pub invariant-loop-message : goal.invariant-loop-message
-invariant-loop-message g l = (earlier : List BatchData) → l.fn.target ≡ joined earlier → l.target ≡ joined (earlier ++ batches_of (take l.message-index l.messages))
+invariant-loop-message g l = l.target ≡ join_all l.fn.target (batches_of (take l.message-index l.messages))

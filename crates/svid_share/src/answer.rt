@@ -1,0 +1,81 @@
+ghost use Rattle.std.specs.Prelude.{◌≡◌, ◌≢◌, OnOk, IfOk, IfErr};
+ghost use Rattle.std.specs.List.{flat_map};
+ghost use Rattle.svid_wire.specs.BatchText.{batch_text};
+ghost use Rattle.svid_wire.specs.Streams.{drawn, taken};
+ghost use Rattle.svid_share.specs.Answer.{IsAnswerFault, IsAnswered, answer_due, behind_one};
+ghost use Rattle.svid_share.specs.Inputs.{IsJoinFault, inputs_of, sources};
+ghost use Rattle.svid_share.specs.Written.{IsDue};
+
+use crate::ToolFault;
+use crate::batches::put_batches;
+use crate::inputs::join_inputs;
+use crate::one_summary::read_summary;
+use std::alloc::Global;
+use svid_replay::{Batch, IndexedUses, Record, Summary};
+use svid_wire::{Sink, Source};
+
+// The answer to a summary, of what all inputs tell.
+fn answer_of_inputs<S: Source>(
+    alloc: Global,
+    inputs: &mut [S],
+    asked: &Summary,
+) -> Result<Vec<Batch>, ToolFault>
+    ensures ok { IfOk result (λ batches. IsDue (answer_due asked.now) (inputs_of (sources S.left S.stops inputs.old inputs.new)) (flat_map batch_text batches.items)) }
+    ensures fault { IfErr result (IsJoinFault (sources S.left S.stops inputs.old inputs.new)) }
+{
+    let mut record = Record::new(IndexedUses::new(alloc));
+    join_inputs(alloc, inputs, &mut record)?;
+    Ok(record.answer(alloc, asked)?)
+}
+
+// The fault of inputs before which one more stands.
+fn behind_one(fault: ToolFault) -> ToolFault
+    ensures { result ≡ behind_one fault }
+{
+    match fault {
+        ToolFault::Wire {
+            input,
+            message,
+            place,
+            reason,
+        } => ToolFault::Wire {
+            input: input.saturating_add(1),
+            message,
+            place,
+            reason,
+        },
+        ToolFault::Read { input } => ToolFault::Read {
+            input: input.saturating_add(1),
+        },
+        ToolFault::TooMuch { input } => ToolFault::TooMuch {
+            input: input.saturating_add(1),
+        },
+        fault => fault,
+    }
+}
+
+/// Reads the one summary that the input `summary` is, joins the batches of all other inputs, and writes the
+/// answer of the record that they come to: raised to the summary's moment, the uses of all buckets whose
+/// digest differs from the summary's, as batches; one with no use where none differs.
+///
+/// The input `summary` has the number 1, and the others follow it. They are read and judged in this order,
+/// before anything is written. Refused for the first that is not a row of whole messages (`Wire`), could not
+/// be read (`Read`) or has more than 67,108,864 bytes (`TooMuch`), where the first is not exactly one summary
+/// (`NotSummary`), for want of memory, and where the sink stopped (`Write`): then a part of the texts went
+/// out, and else nothing did. The inputs behind a refused one are as they were. Numbers are held at 2^64-1.
+pub fn run_answer<Z: Source, S: Source, K: Sink>(
+    alloc: Global,
+    summary: &mut Z,
+    inputs: &mut [S],
+    out: &mut K,
+) -> Result<(), ToolFault>
+    ensures ok { OnOk result (IsAnswered (drawn Z.left Z.stops summary.old summary.new) (inputs_of (sources S.left S.stops inputs.old inputs.new)) (taken K.told K.stops out.old out.new)) }
+    ensures fault { IfErr result (IsAnswerFault (drawn Z.left Z.stops summary.old summary.new) (sources S.left S.stops inputs.old inputs.new) (taken K.told K.stops out.old out.new)) }
+    ensures kept { IfErr result (λ fault. fault ≢ ToolFault.Write → out.new ≡ out.old) }
+{
+    let asked = read_summary(alloc, summary, 1)?;
+    match answer_of_inputs(alloc, inputs, &asked) {
+        Ok(batches) => put_batches(out, &batches),
+        Err(fault) => Err(behind_one(fault)),
+    }
+}

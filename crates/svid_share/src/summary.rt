@@ -1,0 +1,47 @@
+ghost use Rattle.std.specs.Prelude.{◌≡◌, ◌≢◌, OnOk, IfOk, IfErr};
+ghost use Rattle.svid_wire.specs.Streams.{taken};
+ghost use Rattle.svid_wire.specs.SummaryText.{summary_text};
+ghost use Rattle.svid_share.specs.Inputs.{IsJoinFault, inputs_of, sources};
+ghost use Rattle.svid_share.specs.Summary.{summary_due};
+ghost use Rattle.svid_share.specs.Written.{IsDue, IsEngineFault, IsWritten};
+
+use crate::ToolFault;
+use crate::inputs::join_inputs;
+use std::alloc::Global;
+use svid_replay::{IndexedUses, Record, Summary};
+use svid_wire::{Sink, Source, write_summary};
+
+// The summary of what all inputs tell.
+fn summary_of_inputs<S: Source>(alloc: Global, inputs: &mut [S]) -> Result<Summary, ToolFault>
+    ensures ok { IfOk result (λ summary. IsDue summary_due (inputs_of (sources S.left S.stops inputs.old inputs.new)) (summary_text summary)) }
+    ensures fault { IfErr result (IsJoinFault (sources S.left S.stops inputs.old inputs.new)) }
+{
+    let mut record = Record::new(IndexedUses::new(alloc));
+    join_inputs(alloc, inputs, &mut record)?;
+    Ok(record.summary())
+}
+
+/// Joins the batches of all inputs, and writes the summary of the record that they come to: its moment, and
+/// the digest of each of its 256 buckets. Summaries among the inputs are passed over.
+///
+/// What is written depends on nothing but which batches there are. The inputs are read and judged in their
+/// order, before anything is written. Refused for the first that is not a row of whole messages (`Wire`),
+/// could not be read (`Read`) or has more than 67,108,864 bytes (`TooMuch`), for want of memory, and where
+/// the sink stopped (`Write`): then a part of the text went out, and else nothing did. A bad field in what
+/// came before a failed read or the limit is answered before these. The inputs behind a refused one are as
+/// they were.
+pub fn run_summary<S: Source, K: Sink>(
+    alloc: Global,
+    inputs: &mut [S],
+    out: &mut K,
+) -> Result<(), ToolFault>
+    ensures ok { OnOk result (IsWritten summary_due (inputs_of (sources S.left S.stops inputs.old inputs.new)) (taken K.told K.stops out.old out.new)) }
+    ensures fault { IfErr result (IsEngineFault summary_due (sources S.left S.stops inputs.old inputs.new) (taken K.told K.stops out.old out.new)) }
+    ensures kept { IfErr result (λ fault. fault ≢ ToolFault.Write → out.new ≡ out.old) }
+{
+    let summary = summary_of_inputs(alloc, inputs)?;
+    match write_summary(&summary, out) {
+        Ok(()) => Ok(()),
+        Err(_) => Err(ToolFault::Write),
+    }
+}
