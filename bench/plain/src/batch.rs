@@ -1,13 +1,7 @@
 use crate::fault::{Fault, Reason};
-use crate::record::Record;
+use crate::message::{self, Kind};
 use crate::token_use::{take, Use};
 use std::io::{self, Write};
-
-/// What every message begins with: `JSR`, and the version.
-const MAGIC: [u8; 4] = *b"JSR\x01";
-
-/// The kind of message that a batch is.
-const KIND: u8 = 1;
 
 /// How many uses a batch has at most.
 const MOST_USES: usize = 4096;
@@ -16,9 +10,7 @@ const MOST_USES: usize = 4096;
 const HEAD_LEN: usize = 17;
 const USE_LEN: usize = 64;
 
-/// Where the fields of the head stand.
-const MAGIC_PLACE: usize = 0;
-const KIND_PLACE: usize = 4;
+/// Where the number of uses stands.
 const COUNT_PLACE: usize = 13;
 
 /// A moment, and uses in rising order that were made by then and expire later.
@@ -29,18 +21,9 @@ pub struct Batch {
 }
 
 impl Batch {
-    /// Takes the batch that stands first in what is left, or answers the first field that is bad.
-    pub fn read(rest: &mut &[u8]) -> Result<Batch, Fault> {
-        let truncated = Fault {
-            place: rest.len(),
-            reason: Reason::Truncated,
-        };
-        if take(rest).ok_or(truncated)? != MAGIC {
-            return Err(fault(MAGIC_PLACE, Reason::Magic));
-        }
-        if take(rest).ok_or(truncated)? != [KIND] {
-            return Err(fault(KIND_PLACE, Reason::Kind));
-        }
+    /// Takes what stands behind the kind of a batch, or answers the first field that is bad: `truncated`
+    /// where the bytes end within it.
+    pub fn read(rest: &mut &[u8], truncated: Fault) -> Result<Batch, Fault> {
         let moment = u64::from_be_bytes(take(rest).ok_or(truncated)?);
         let count = u32::from_be_bytes(take(rest).ok_or(truncated)?) as usize;
         if count > MOST_USES {
@@ -76,20 +59,16 @@ fn flaw(moment: u64, before: Option<&Use>, used: &Use) -> Option<Reason> {
 }
 
 fn write(moment: u64, uses: &[Use], out: &mut impl Write) -> io::Result<()> {
-    out.write_all(&MAGIC)?;
-    out.write_all(&[KIND])?;
-    out.write_all(&moment.to_be_bytes())?;
+    message::write_head(Kind::Batch, moment, out)?;
     out.write_all(&(uses.len() as u32).to_be_bytes())?;
-    uses.iter().try_for_each(|used| used.write(out))
+    uses.iter().try_for_each(|used| out.write_all(&used.text()))
 }
 
-/// Writes a record as batches of its moment, each of 4,096 uses but the last; an empty record as one
-/// empty batch.
-pub fn write_parts(record: &Record, out: &mut impl Write) -> io::Result<()> {
-    let uses: Vec<Use> = record.uses().copied().collect();
+/// Writes uses as batches of this moment, each of 4,096 uses but the last; no use as one empty batch.
+pub fn write_parts(moment: u64, uses: &[Use], out: &mut impl Write) -> io::Result<()> {
     if uses.is_empty() {
-        return write(record.moment(), &[], out);
+        return write(moment, &[], out);
     }
     uses.chunks(MOST_USES)
-        .try_for_each(|part| write(record.moment(), part, out))
+        .try_for_each(|part| write(moment, part, out))
 }

@@ -5,7 +5,7 @@ use std::fmt;
 pub enum Reason {
     /// The first four bytes are not `JSR` and the version 1.
     Magic,
-    /// The message is no batch.
+    /// The message is neither a batch nor a summary.
     Kind,
     /// There are more than 4,096 uses.
     Count,

@@ -1,5 +1,6 @@
-use crate::batch::Batch;
+use crate::message::Message;
 use crate::record::Record;
+use crate::summary::Summary;
 use std::error::Error;
 use std::fs::File;
 use std::io::{self, Read};
@@ -7,20 +8,43 @@ use std::io::{self, Read};
 /// How many bytes an input has at the most.
 const MOST_BYTES: u64 = 67_108_864;
 
-/// Joins the batches of these files, or of standard input where there are none, to a record.
-pub fn join(files: &[String], record: &mut Record) -> Result<(), Box<dyn Error>> {
+/// Joins the batches of these files, or of standard input where there are none, to a record. The first
+/// of them has this number.
+pub fn join(first: usize, files: &[String], record: &mut Record) -> Result<(), Box<dyn Error>> {
+    let mut absorb = |message| {
+        if let Message::Batch(batch) = message {
+            record.absorb(&batch);
+        }
+    };
     if files.is_empty() {
-        return join_input(1, io::stdin().lock(), record);
+        return read_input(first, io::stdin().lock(), &mut absorb);
     }
-    for (index, file) in files.iter().enumerate() {
-        let opened = File::open(file).map_err(|error| format!("cannot open {file}: {error}"))?;
-        join_input(index + 1, opened, record)?;
+    for (input, file) in (first..).zip(files) {
+        read_input(input, open(file)?, &mut absorb)?;
     }
     Ok(())
 }
 
-/// Joins the batches of the input with this number, counted from 1.
-fn join_input(input: usize, source: impl Read, record: &mut Record) -> Result<(), Box<dyn Error>> {
+/// The one summary that this file is, which is the first input.
+pub fn read_summary(file: &str) -> Result<Summary, Box<dyn Error>> {
+    let mut messages = Vec::new();
+    read_input(1, open(file)?, &mut |message| messages.push(message))?;
+    match messages.pop() {
+        Some(Message::Summary(summary)) if messages.is_empty() => Ok(summary),
+        _ => Err("not one summary".into()),
+    }
+}
+
+fn open(file: &str) -> Result<File, String> {
+    File::open(file).map_err(|error| format!("cannot open {file}: {error}"))
+}
+
+/// Hands over the messages of the input with this number, counted from 1.
+fn read_input(
+    input: usize,
+    source: impl Read,
+    each: &mut impl FnMut(Message),
+) -> Result<(), Box<dyn Error>> {
     let mut bytes = Vec::new();
     source
         .take(MOST_BYTES + 1)
@@ -34,9 +58,9 @@ fn join_input(input: usize, source: impl Read, record: &mut Record) -> Result<()
         if rest.is_empty() {
             break;
         }
-        let batch = Batch::read(&mut rest)
+        let read = Message::read(&mut rest)
             .map_err(|fault| format!("input {input} message {message} {fault}"))?;
-        record.absorb(&batch);
+        each(read);
     }
     Ok(())
 }

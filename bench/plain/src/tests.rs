@@ -1,10 +1,14 @@
-//! What the inputs of `bench/run` don't show: faults, and uses that expire. The expected values are
-//! worked out by hand from docs/FORMATS.md.
+//! What the inputs of `bench/run` don't show: faults, uses that expire, and digests of any length. The
+//! expected values are worked out by hand from docs/FORMATS.md, and digests by `sha256sum`.
 
 use crate::batch::{self, Batch};
 use crate::fault::{Fault, Reason};
+use crate::hex::Hex;
+use crate::message::Message;
 use crate::record::Record;
 use crate::report;
+use crate::sha256::Sha256;
+use crate::summary::Summary;
 use crate::token_use::Use;
 
 const MAGIC: &[u8] = b"JSR\x01";
@@ -23,18 +27,37 @@ fn used(exp: u64, at: u64) -> Use {
 fn message(moment: u64, count: u32, uses: &[Use]) -> Vec<u8> {
     let mut bytes = [MAGIC, &[1], &moment.to_be_bytes(), &count.to_be_bytes()].concat();
     for used in uses {
-        used.write(&mut bytes).unwrap();
+        bytes.extend(used.text());
     }
     bytes
+}
+
+/// The record of a moment with these uses.
+fn record(moment: u64, uses: &[Use]) -> Record {
+    let mut record = Record::default();
+    record.absorb(&Batch {
+        moment,
+        uses: uses.to_vec(),
+    });
+    record
+}
+
+fn summary_text(summary: &Summary) -> Vec<u8> {
+    let mut text = Vec::new();
+    summary.write(&mut text).unwrap();
+    text
 }
 
 #[test]
 fn tells_the_first_bad_field() {
     let short = &message(9, 1, &[used(10, 9)])[..80];
-    let table: [(&[u8], usize, Reason); 10] = [
+    let short_summary = &summary_text(&Summary::of(&record(9, &[])))[..8204];
+    let table: [(&[u8], usize, Reason); 12] = [
         (b"JSR\x02", 0, Reason::Magic),
         (b"JSR", 3, Reason::Truncated),
-        (b"JSR\x01\x02", 4, Reason::Kind),
+        (b"JSR\x01\x03", 4, Reason::Kind),
+        (b"JSR\x01\x02", 5, Reason::Truncated),
+        (short_summary, 8204, Reason::Truncated),
         (&message(9, 4097, &[]), 13, Reason::Count),
         (&message(9, 4096, &[]), 17, Reason::Truncated),
         (&message(10, 1, &[used(10, 11)]), 17, Reason::UseExpired),
@@ -52,7 +75,7 @@ fn tells_the_first_bad_field() {
         (short, 80, Reason::Truncated),
     ];
     for (bytes, place, reason) in table {
-        assert_eq!(Batch::read(&mut &*bytes), Err(Fault { place, reason }));
+        assert_eq!(Message::read(&mut &*bytes), Err(Fault { place, reason }));
     }
 }
 
@@ -82,9 +105,106 @@ fn drops_what_expired_in_either_order() {
 
 #[test]
 fn writes_an_empty_record_as_one_empty_batch() {
-    let mut record = Record::default();
-    record.raise(7);
     let mut bytes = Vec::new();
-    batch::write_parts(&record, &mut bytes).unwrap();
+    batch::write_parts(7, &[], &mut bytes).unwrap();
     assert_eq!(bytes, message(7, 0, &[]));
+}
+
+#[test]
+fn digests_pieces_of_any_length() {
+    let table = [
+        (
+            0,
+            "e3b0c44298fc1c149afbf4c8996fb92427ae41e4649b934ca495991b7852b855",
+        ),
+        (
+            1,
+            "ca978112ca1bbdcafac231b39a23dc4da786eff8147c4e72b9807785afee48bb",
+        ),
+        (
+            55,
+            "9f4390f8d30c2dd92ec9f095b65e2b9ae9b0a925a5258e241c9f1e910f734318",
+        ),
+        (
+            56,
+            "b35439a4ac6f0948b6d6f9e3c6af0f5f590ce20f1bde7090ef7970686ec6738a",
+        ),
+        (
+            63,
+            "7d3e74a05d7db15bce4ad9ec0658ea98e3f06eeecf16b4c6fff2da457ddc2f34",
+        ),
+        (
+            64,
+            "ffe054fe7ae0cb6dc65c3af9b61d5209f439851db43d0ba5997337df154668eb",
+        ),
+        (
+            65,
+            "635361c48bb9eab14198e76ea8ab7f1a41685d6ad62aa9146d301d4f17eb0ae0",
+        ),
+        (
+            119,
+            "31eba51c313a5c08226adf18d4a359cfdfd8d2e816b13f4af952f7ea6584dcfb",
+        ),
+        (
+            120,
+            "2f3d335432c70b580af0e8e1b3674a7c020d683aa5f73aaaedfdc55af904c21c",
+        ),
+        (
+            1000,
+            "41edece42d63e8d9bf515a9ba6932e1c20cbc9f5a5d134645adb5db1b9737ea3",
+        ),
+    ];
+    for (len, digest) in table {
+        let bytes = vec![b'a'; len];
+        for piece_len in [1, 55, 64, 65, 1000] {
+            let mut hasher = Sha256::new();
+            for piece in bytes.chunks(piece_len) {
+                hasher.update(piece);
+            }
+            assert_eq!(
+                Hex(hasher.finish()).to_string(),
+                digest,
+                "{len} by {piece_len}"
+            );
+        }
+    }
+}
+
+#[test]
+fn summarizes_each_bucket() {
+    let text = summary_text(&Summary::of(&record(5, &[used(8, 4), used(9, 4)])));
+    assert_eq!(text.len(), 8205);
+    assert_eq!(text[..13], *b"JSR\x01\x02\0\0\0\0\0\0\0\x05");
+    for (bucket, digest) in text[13..].chunks_exact(32).enumerate() {
+        let expected = match bucket {
+            0x11 => "4313b011fcf3a9d7d6534e3a5400c7fbb49bef6bd691b2fb44fdabb91294c73b",
+            _ => "e3b0c44298fc1c149afbf4c8996fb92427ae41e4649b934ca495991b7852b855",
+        };
+        assert_eq!(
+            Hex(<[u8; 32]>::try_from(digest).unwrap()).to_string(),
+            expected
+        );
+    }
+}
+
+#[test]
+fn answers_the_buckets_that_differ() {
+    let other = Use {
+        key: [0x33; 32],
+        ..used(9, 5)
+    };
+    let all = record(5, &[used(8, 5), used(9, 5), other]);
+    let table = [
+        (record(5, &[]), vec![used(8, 5), used(9, 5), other]),
+        (record(5, &[other]), vec![used(8, 5), used(9, 5)]),
+        (record(5, &[used(8, 5), used(9, 5)]), vec![other]),
+        (record(5, &[used(8, 5), used(9, 5), other]), vec![]),
+    ];
+    for (asking, uses) in table {
+        let text = summary_text(&Summary::of(&asking));
+        let Ok(Message::Summary(asked)) = Message::read(&mut &*text) else {
+            panic!("no summary");
+        };
+        assert_eq!(asked.differing(&all), uses);
+    }
 }

@@ -1,5 +1,3 @@
-use std::io::{self, Write};
-
 /// The fact that a token was accepted once. The fields stand in the order by which uses are told apart
 /// and sorted.
 #[derive(Clone, Copy, Debug, PartialEq, Eq, PartialOrd, Ord)]
@@ -32,11 +30,18 @@ impl Use {
         })
     }
 
-    /// Writes the 64 bytes of the use.
-    pub fn write(&self, out: &mut impl Write) -> io::Result<()> {
-        out.write_all(&self.exp.to_be_bytes())?;
-        out.write_all(&self.key)?;
-        out.write_all(&self.place)?;
-        out.write_all(&self.at.to_be_bytes())
+    /// The 64 bytes of the use.
+    pub fn text(&self) -> [u8; 64] {
+        let mut text = [0; 64];
+        text[..8].copy_from_slice(&self.exp.to_be_bytes());
+        text[8..40].copy_from_slice(&self.key);
+        text[40..56].copy_from_slice(&self.place);
+        text[56..].copy_from_slice(&self.at.to_be_bytes());
+        text
+    }
+
+    /// The bucket of the use: the first byte of its key.
+    pub fn bucket(&self) -> usize {
+        usize::from(self.key[0])
     }
 }

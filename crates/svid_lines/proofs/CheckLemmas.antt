@@ -3,7 +3,9 @@ use Rattle.svid_keys.specs.Bundles.{Bundle}
 use Rattle.svid_keys.specs.Lines.{lines_of}
 use Rattle.svid_keys.specs.Question.{question_of}
 use Rattle.svid_keys.specs.Table.{is_among, questions_in, table_fault, table_says}
+use Rattle.svid_replay.specs.Parts.{join_all}
 use Rattle.svid_replay.specs.Records.{State, state_of}
+use Rattle.svid_wire.specs.Messages.{batches_of}
 use Rattle.svid_wire.specs.Streams.{Drawn, IsRead}
 use Rattle.svid_check.specs.Setting.{Says}
 use Rattle.svid_lines.specs.Bundles.{AreBundlesRead, IsBundlesFault}
@@ -12,7 +14,7 @@ use Rattle.svid_lines.specs.Checks.{tokens_of}
 use Rattle.svid_share.specs.Inputs.{IsUnread, most_bytes}
 use Rattle.svid_share.specs.Joined.{Joins}
 use Rattle.svid_share.proofs.InputsLemmas.{not_write}
-use Rattle.svid_share.proofs.JoinedLemmas.{joined_none}
+use Rattle.svid_share.proofs.JoinedLemmas.{joined_from_nothing}
 use Rattle.svid_lines.specs.declared.check.CheckSetting.{CheckSetting}
 use Rattle.svid_share.specs.declared.tool_fault.ToolFault.{ToolFault}
 use Rattle.svid_share.specs.declared.tool_fault.ToolFault.TheVariants as tool
@@ -23,7 +25,7 @@ table_of input text table read good same = record { questions = questions_in tex
 
 -- a new record to which an input was joined
 pub begins_with : (input : Drawn) (old new : State) → old ≡ state_of 0 [] → Joins input old new → IsEarlier (Some input) new
-begins_with input old new begun joins = (joins.told, joins.whole, joins.joins [] (begun ∙ joined_none))
+begins_with input old new begun joins = (joins.told, joins.whole, joins.joins ∙ ap (λ r. join_all r (batches_of joins.told)) begun ∙ joined_from_nothing (batches_of joins.told))
 
 -- tables of the same questions say the same
 same_says : (table questions : List (List ℕ)) → ((question : List ℕ) → is_among question table ≡ is_among question questions) → table_says table ≡ table_says questions

@@ -8,10 +8,10 @@ use clap::{Arg, ArgAction, ArgMatches, Command, Error};
 use hex::FromHex;
 use std::alloc::{AllocError, Global};
 use std::fs::File;
-use std::io::{BufWriter, Write};
+use std::io::{BufWriter, Printer, Write};
 use std::{io, str};
 use svid_lines::{CheckSetting, run_candidates, run_check, run_id};
-use svid_share::{ToolFault, run_merge, run_report};
+use svid_share::{ToolFault, run_answer, run_merge, run_report, run_summary};
 use svid_wire::Counted;
 
 fn id_command<'a>(alloc: Global) -> Result<Command<'a>, AllocError> {
@@ -42,6 +42,30 @@ fn merge_command<'a>(alloc: Global) -> Result<Command<'a>, AllocError> {
         .after_help(
             "Standard input is read where no FILE is named: messages, to their end.{n}{n}Exit status: 0 the record was written; 1 an input was refused; 2 usage, a file, a write or memory.",
         )
+        .arg(files_argument(alloc))
+}
+
+fn summary_command<'a>(alloc: Global) -> Result<Command<'a>, AllocError> {
+    Command::new(alloc, "summary")
+        .about("Joins the batches of the inputs, and writes the summary of the record")
+        .after_help(
+            "Standard input is read where no FILE is named: messages, to their end.{n}{n}Exit status: 0 the summary was written; 1 an input was refused; 2 usage, a file, a write or memory.",
+        )
+        .arg(files_argument(alloc))
+}
+
+fn answer_command<'a>(alloc: Global) -> Result<Command<'a>, AllocError> {
+    let summary = Arg::new(alloc, "summary")
+        .long("summary")
+        .value_name("FILE")
+        .required(true)
+        .help("A file of one summary");
+    Command::new(alloc, "answer")
+        .about("Joins the batches of the inputs, and writes what a summary lacks of the record")
+        .after_help(
+            "Standard input is read where no FILE is named as an argument: messages, to their end.{n}{n}Exit status: 0 the answer was written; 1 an input was refused; 2 usage, a file, a write or memory.",
+        )
+        .arg(summary)?
         .arg(files_argument(alloc))
 }
 
@@ -128,13 +152,15 @@ pub fn command<'a>(alloc: Global) -> Result<Command<'a>, AllocError> {
         .bin_name("svid")?
         .about("Checks SPIFFE JWT-SVIDs, and keeps the record of those that were used")
         .after_help(
-            "Standard input is read by check and candidates, and by report and merge where no FILE is named.{n}{n}Exit status: 0 the answer is yes; 1 something was refused; 2 usage, a file, a write or memory.",
+            "Standard input is read by check and candidates, and by report, merge, summary and answer where no FILE is named.{n}{n}Exit status: 0 the answer is yes; 1 something was refused; 2 usage, a file, a write or memory.",
         )
         .subcommand_required(true)
         .subcommand(check_command(alloc)?)?
         .subcommand(id_command(alloc)?)?
         .subcommand(report_command(alloc)?)?
         .subcommand(merge_command(alloc)?)?
+        .subcommand(summary_command(alloc)?)?
+        .subcommand(answer_command(alloc)?)?
         .subcommand(candidates_command(alloc)?)
 }
 
@@ -238,21 +264,55 @@ fn report(rt: &HostRuntime, matches: &ArgMatches<'_>) -> Result<u8, Failure> {
     Ok(0)
 }
 
+// Standard output in large pieces: a batch is put use by use, and a summary digest by digest.
+fn buffered(rt: &HostRuntime) -> Result<BufWriter<Printer<'_, HostRuntime>>, Failure> {
+    match BufWriter::new(rt.alloc(), io::writer(rt)) {
+        Ok(writer) => Ok(writer),
+        Err(_) => Err(Failure::Tool(ToolFault::OutOfMemory)),
+    }
+}
+
+// Writes out what is left of the last piece.
+fn flushed<W: Write + Drop>(mut writer: BufWriter<W>) -> Result<u8, Failure> {
+    match writer.flush() {
+        Ok(()) => Ok(0),
+        Err(_) => Err(Failure::Tool(ToolFault::Write)),
+    }
+}
+
 fn merge(rt: &HostRuntime, matches: &ArgMatches<'_>) -> Result<u8, Failure> {
     let mut inputs = open_all(rt, matches.get_strs("file").unwrap_or(&[]))?;
-    // (a batch is put use by use)
-    let Ok(mut writer) = BufWriter::new(rt.alloc(), io::writer(rt)) else {
-        return Err(Failure::Tool(ToolFault::OutOfMemory));
-    };
+    let mut writer = buffered(rt)?;
     run_merge(
         rt.alloc(),
         inputs.as_mut_slice(),
         &mut Counted::new(&mut writer),
     )?;
-    match writer.flush() {
-        Ok(()) => Ok(0),
-        Err(_) => Err(Failure::Tool(ToolFault::Write)),
-    }
+    flushed(writer)
+}
+
+fn summary(rt: &HostRuntime, matches: &ArgMatches<'_>) -> Result<u8, Failure> {
+    let mut inputs = open_all(rt, matches.get_strs("file").unwrap_or(&[]))?;
+    let mut writer = buffered(rt)?;
+    run_summary(
+        rt.alloc(),
+        inputs.as_mut_slice(),
+        &mut Counted::new(&mut writer),
+    )?;
+    flushed(writer)
+}
+
+fn answer(rt: &HostRuntime, matches: &ArgMatches<'_>) -> Result<u8, Failure> {
+    let mut asked = Counted::new(open(rt, matches.get_str("summary").unwrap_or(""))?);
+    let mut inputs = open_all(rt, matches.get_strs("file").unwrap_or(&[]))?;
+    let mut writer = buffered(rt)?;
+    run_answer(
+        rt.alloc(),
+        &mut asked,
+        inputs.as_mut_slice(),
+        &mut Counted::new(&mut writer),
+    )?;
+    flushed(writer)
 }
 
 fn candidates(rt: &HostRuntime, matches: &ArgMatches<'_>) -> Result<u8, Failure> {
@@ -303,6 +363,8 @@ fn dispatch(rt: &HostRuntime, matches: &ArgMatches<'_>) -> Result<u8, Failure> {
         Some(("id", inner)) => id(rt, inner),
         Some(("report", inner)) => report(rt, inner),
         Some(("merge", inner)) => merge(rt, inner),
+        Some(("summary", inner)) => summary(rt, inner),
+        Some(("answer", inner)) => answer(rt, inner),
         Some(("candidates", inner)) => candidates(rt, inner),
         _ => Ok(2),
     }
