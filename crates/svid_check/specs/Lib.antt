@@ -1,9 +1,12 @@
+pub mod Alone
 pub mod Bounds
 pub mod Calls
 pub mod Changes
+pub mod Headline
 pub mod Lawful
 pub mod Runs
 pub mod Said
 pub mod Setting
 pub mod Told
 pub mod Verdict
+pub mod World

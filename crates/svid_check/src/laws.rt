@@ -2,6 +2,8 @@
 
 ghost use Rattle.svid_check.specs.Bounds.{AnswersAreBounded, ChecksAreBounded, RecordsAreBounded, RunsAreBounded, TakesAreBounded, TicksAreBounded};
 ghost use Rattle.svid_check.specs.Calls.{AnswersTellMoments, ChecksAreSteps, RecordsGoOn, RunsGoOn, TakesAreSteps, TicksAreSteps};
+ghost use Rattle.svid_check.specs.Alone.{AcceptsOnce};
+ghost use Rattle.svid_check.specs.Headline.{AcceptedIsRefused, AnswersTellAll, ChainsTell, ChecksAreVerdicts, EqualTellings, RecordsAreTold, ReportsAreExact, ReportsAreWhole, RestartsAbsorb, SendsMakeEqual, SendsTellAll, ToldIsRefused, ToldWereAccepted, TwoPlacesAreReported, WithMemoryVerdicts};
 ghost use Rattle.svid_check.specs.Lawful.{IsAlive, IsFresh, IsInRange, IsMadeNow, IsOfItsInput};
 ghost use Rattle.svid_check.specs.Said.{UnrefusedIsSaid};
 ghost use Rattle.svid_check.specs.Told.{BeginsAsGiven};
@@ -65,4 +67,58 @@ pub fn calls_are_bounded()
 pub fn runs_are_bounded()
     ensures told { RunsAreBounded }
     ensures records { RecordsAreBounded }
+{}
+
+/// Each validator's record is what it was told: the greatest moment, and the uses that are live at it.
+/// Each check is answered by the verdict for that, acceptance or refusal, or by want of memory, and by
+/// nothing but the verdict where no memory is refused.
+pub fn records_are_told()
+    ensures records { RecordsAreTold }
+    ensures checks { ChecksAreVerdicts }
+    ensures verdicts { WithMemoryVerdicts }
+{}
+
+/// Validators that were told the same have the same record, the same parts and the same texts. One
+/// that was told no more than the sender of a record had been, and that takes all parts with nothing
+/// between, was then told just what the sender had been.
+pub fn equal_tellings_give_equal_records()
+    ensures equal { EqualTellings }
+    ensures taken { SendsMakeEqual }
+{}
+
+/// A validator that took all parts of a record was told all that the sender had been told by then,
+/// what had expired too, and so along every chain of records taken whole. A token of which it was told
+/// a use it accepts at no moment.
+pub fn sends_tell_all()
+    ensures whole { SendsTellAll }
+    ensures chains { ChainsTell }
+    ensures refused { ToldIsRefused }
+    ensures accepted { AcceptedIsRefused }
+{}
+
+/// One validator, from any state and with any messages, accepts one signing input at most once, unless
+/// a save from before the acceptance is put back.
+pub fn tokens_are_accepted_once()
+    ensures { AcceptsOnce }
+{}
+
+/// A report lists the keys of which two different uses were told that are live, with all of them; each
+/// use that was told was accepted by a check of the group; and one signing input that was accepted at
+/// two places is reported wherever both uses were told, until it expires.
+pub fn reports_are_exact()
+    ensures exact { ReportsAreExact }
+    ensures whole { ReportsAreWhole }
+    ensures accepted { ToldWereAccepted }
+    ensures places { TwoPlacesAreReported }
+{}
+
+/// A restart is to absorb all parts of a record into a new one: that gives the record.
+pub fn restarts_absorb()
+    ensures { RestartsAbsorb }
+{}
+
+/// A validator that made a summary and took all parts of an answer to it was told all that the
+/// answerer had been told by then, or a bucket of the two had different texts of one digest.
+pub fn answers_tell_all()
+    ensures { AnswersTellAll }
 {}

@@ -1,0 +1,73 @@
+-- One validator by itself, with any messages, and its saves.
+use Rattle.std.specs.Prelude.{◌≢◌, ℕ, ◌≤◌, Bool, nat_lt, if◌then◌else◌, List, [], ◌∷◌, ◌++◌, length, slice_get, Option, Some, None, Result, Ok}
+use Rattle.svid_token.specs.declared.refusal.Refusal.{Refusal}
+use Rattle.svid_replay.specs.Batches.{BatchData}
+use Rattle.svid_replay.specs.Records.{State, batch_state, join}
+use Rattle.svid_replay.specs.Summary.{SummaryData}
+use Rattle.svid_check.specs.declared.accepted.Accepted.{Accepted}
+use Rattle.svid_check.specs.Changes.{horizon, raised, settled}
+use Rattle.svid_check.specs.Lawful.{input_of}
+use Rattle.svid_check.specs.Runs.{Terms}
+use Rattle.svid_check.specs.World.{check_answer, front}
+
+-- a validator's record, and its saves
+pub record Alone : Type 0 where
+  pub held : State
+  pub saves : List State
+
+-- What may be called, at the moment `now`, with any batch and any summary. `refused` is the memory that was refused in it.
+pub data Call : Type 0 where
+  Check : (now : ℕ) (token : List ℕ) (refused : Bool) → Call
+  Tick : (now : ℕ) → Call
+  Take : (now : ℕ) (batch : BatchData) (refused : Option ℕ) → Call
+  Answer : (now : ℕ) (summary : SummaryData) → Call
+  Save : Call
+  Restart : (save : ℕ) → Call
+
+-- what is joined of a batch: all, or so many of its first uses
+abbrev pub joined_of : BatchData → Option ℕ → BatchData
+joined_of b None = b
+joined_of b (Some n) = front n b
+
+-- the record is now a
+abbrev pub with_held : Alone → State → Alone
+with_held w a = record { held = a; saves = w.saves }
+
+-- the record is what it was at this save
+abbrev pub put_back : Alone → Option State → Alone
+put_back w None = w
+put_back w (Some a) = with_held w a
+
+module _ (t : Terms) where
+  -- what a check answers
+  abbrev pub answer_alone : Alone → ℕ → List ℕ → Bool → Result Accepted Refusal
+  answer_alone w now token refused = check_answer t.setting (raised w.held now) token refused
+
+  -- what a call leaves
+  abbrev pub called : Alone → Call → Alone
+  called w (Check now token refused) = with_held w (settled (raised w.held now) (answer_alone w now token refused))
+  called w (Tick now) = with_held w (raised w.held now)
+  called w (Take now b refused) =
+      with_held w (if nat_lt (horizon now t.ahead) b.moment then raised w.held now else join (raised w.held now) (batch_state (joined_of b refused)))
+  called w (Answer now s) = with_held w (if nat_lt (horizon now t.ahead) s.moment then raised w.held now else raised (raised w.held now) s.moment)
+  called w Save = record { held = w.held; saves = w.saves ++ w.held ∷ [] }
+  called w (Restart k) = put_back w (slice_get w.saves k)
+
+  -- what a list of calls leaves
+  abbrev pub calls : Alone → List Call → Alone
+  calls w [] = w
+  calls w (call ∷ more) = calls (called w call) more
+
+-- no save before the n-th is put back
+abbrev pub PutsBackFrom : ℕ → List Call → Type 0
+PutsBackFrom n [] = Unit {0}
+PutsBackFrom n (Restart k ∷ more) = (n ≤ k) × PutsBackFrom n more
+PutsBackFrom n (_ ∷ more) = PutsBackFrom n more
+
+-- from any state, once a check accepts a token, no check accepts one of its signing input, unless a save from before the acceptance is put back
+abbrev pub AcceptsOnce : Type 0
+AcceptsOnce = (t : Terms) (w : Alone) (now later : ℕ) (token again : List ℕ) (calls_between : List Call) (refused : Bool) (first second : Accepted)
+    → answer_alone t w now token false ≡ Ok first
+    → PutsBackFrom (length w.saves) calls_between
+    → input_of again ≡ input_of token
+    → answer_alone t (calls t (called t w (Check now token false)) calls_between) later again refused ≢ Ok second

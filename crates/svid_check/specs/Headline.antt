@@ -1,0 +1,205 @@
+-- What is proved of a group of validators, over every list of events.
+use Rattle.std.specs.Prelude.{◌≡◌, ◌≢◌, ◌⊎◌, ◌↔◌, ℕ, ◌<◌, ◌^◌, Bool, false, List, [], ◌∷◌, map, slice_get, Some, IsTrue, Result, Ok}
+use Rattle.std.specs.List.{AllByRecursion, Contains}
+use Rattle.svid_token.specs.Rows.{seen}
+use Rattle.svid_replay.specs.declared.token_use.Use.{Use}
+use Rattle.svid_replay.specs.declared.twice.Twice.{Twice}
+use Rattle.svid_replay.specs.Batches.{BatchData}
+use Rattle.svid_replay.specs.Buckets.{bucket_digest, bucket_text}
+use Rattle.svid_replay.specs.Parts.{join_all, parts_of}
+use Rattle.svid_replay.specs.Records.{state_of}
+use Rattle.svid_replay.specs.Sets.{holds, rising}
+use Rattle.svid_replay.specs.Summary.{SummaryData}
+use Rattle.svid_replay.specs.Twice.{twice_of}
+use Rattle.svid_replay.specs.Use.{IsBytes}
+use Rattle.svid_replay.specs.Uses.{Uses, live}
+use Rattle.svid_wire.specs.RecordText.{record_text}
+use Rattle.svid_check.specs.declared.accepted.Accepted.{Accepted}
+use Rattle.svid_check.specs.Changes.{raised}
+use Rattle.svid_check.specs.Lawful.{Accepts, input_of}
+use Rattle.svid_check.specs.Runs.{IsAnswered, Terms}
+use Rattle.svid_check.specs.Told.{Told, record_of, tell_now}
+use Rattle.svid_check.specs.Verdict.{verdict}
+use Rattle.svid_check.specs.World.{Answered, Check, Content, Entry, Event, Made, Member, Posting, Restart, Save, Send, Sent, Sum, Summed, Take, Tick, Answer, Took, World, accepted, answer_at, check_answer, happen, parts_in, start}
+
+-- each use of the one set is in the other
+abbrev pub IsWithin : Uses → Uses → Type 0
+IsWithin s t = (u : Use) → IsTrue (holds s u) → IsTrue (holds t u)
+
+-- validator v after a list of events
+abbrev pub member_after : (ℕ → Terms) → List Event → ℕ → Member
+member_after group events v = (happen group start events).members v
+
+-- ---- records and verdicts
+
+-- each validator's record is what was told: the greatest moment, and the uses that are live at it
+abbrev pub RecordsAreTold : Type 0
+RecordsAreTold = (group : ℕ → Terms) (events : List Event) (v : ℕ) → let x = member_after group events v in x.held ≡ record_of x.told
+
+-- each check is answered by the verdict for what was told, acceptance or refusal, or by want of memory
+abbrev pub ChecksAreVerdicts : Type 0
+ChecksAreVerdicts = (group : ℕ → Terms) (events : List Event) (v now : ℕ) (token : List ℕ) (refused : Bool)
+    → IsAnswered (group v).setting (tell_now (member_after group events v).told now) token (answer_at group (happen group start events) v now token refused)
+
+-- and by nothing but the verdict where no memory is refused
+abbrev pub WithMemoryVerdicts : Type 0
+WithMemoryVerdicts = (group : ℕ → Terms) (events : List Event) (v now : ℕ) (token : List ℕ)
+    → let x = tell_now (member_after group events v).told now in
+    seen Some (answer_at group (happen group start events) v now token false) ≡ verdict (group v).setting x.greatest (live x.uses x.greatest) token
+
+-- ---- equal tellings
+
+-- validators that were told the same, in whatever groups and by whatever events, have the same record, with the same parts and the same texts
+abbrev pub EqualTellings : Type 0
+EqualTellings = (group other : ℕ → Terms) (events others : List Event) (v w : ℕ)
+    → let x = member_after group events v in
+    let y = member_after other others w in
+    x.told ≡ y.told → (x.held ≡ y.held) × (parts_of x.held ≡ parts_of y.held) × (record_text x.held ≡ record_text y.held)
+
+-- posting k is a send, and this is it
+abbrev pub IsSend : World → ℕ → Posting → Type 0
+IsSend w k q = (slice_get w.pool k ≡ Some q) × ((parts : List BatchData) × (q.content ≡ Sent parts))
+
+-- a log has each part of a posting
+abbrev pub HasTaken : List Entry → ℕ → Posting → Type 0
+HasTaken log k q = (p : ℕ) (b : BatchData) → slice_get (parts_in q.content) p ≡ Some b → Contains log (Took k p)
+
+-- the event is another validator's, or validator v takes a part of posting k
+abbrev pub TakesOnly : ℕ → ℕ → Event → Type 0
+TakesOnly v k (Take n now posting part refused) = n ≡ v → posting ≡ k
+TakesOnly v k (Check n now token refused) = n ≢ v
+TakesOnly v k (Tick n now) = n ≢ v
+TakesOnly v k (Send n) = n ≢ v
+TakesOnly v k (Sum n) = n ≢ v
+TakesOnly v k (Answer n now posting refused) = n ≢ v
+TakesOnly v k (Save n) = n ≢ v
+TakesOnly v k (Restart n save) = n ≢ v
+
+-- a validator that was told no more than the sender had been at a send, and that takes it whole with nothing between, was told the same uses as the sender at that send
+abbrev pub SendsMakeEqual : Type 0
+SendsMakeEqual = (group : ℕ → Terms) (events takes : List Event) (v k : ℕ) (q : Posting)
+    → let before = happen group start events in
+    let after = happen group before takes in
+    IsSend before k q → IsWithin (before.members v).told.uses q.was.told.uses → AllByRecursion (TakesOnly v k) takes → HasTaken (after.members v).log k q
+    → (after.members v).told.uses ≡ q.was.told.uses
+
+-- ---- what a send tells
+
+-- a validator that took a send whole was told all that its sender had been told by then, what had expired too
+abbrev pub SendsTellAll : Type 0
+SendsTellAll = (group : ℕ → Terms) (events : List Event) (v k : ℕ) (q : Posting)
+    → let w = happen group start events in
+    IsSend w k q → HasTaken (w.members v).log k q → IsWithin q.was.told.uses (w.members v).told.uses
+
+-- a use went along these sends, the last of them k: the first send's maker had been told it, and each later one's maker had by then taken the one before it whole
+abbrev pub WentAlong : World → Use → ℕ → List ℕ → Type 0
+WentAlong w u k [] = (q : Posting) × IsSend w k q × IsTrue (holds q.was.told.uses u)
+WentAlong w u k (before ∷ chain) = (q : Posting) × (last : Posting) × IsSend w k q × IsSend w before last × HasTaken q.was.log before last × WentAlong w u before chain
+
+-- a validator that took the last send of a chain whole was told each use that went along it
+abbrev pub ChainsTell : Type 0
+ChainsTell = (group : ℕ → Terms) (events : List Event) (v k : ℕ) (q : Posting) (u : Use) (chain : List ℕ)
+    → let w = happen group start events in
+    IsSend w k q → HasTaken (w.members v).log k q → WentAlong w u k chain → IsTrue (holds (w.members v).told.uses u)
+
+-- a check of the token is accepted by this validator at no moment, in whatever memory
+abbrev pub IsRefusedBy : Terms → Member → List ℕ → Type 0
+IsRefusedBy t x token = (now : ℕ) (refused : Bool) (accepted : Accepted) → check_answer t.setting (raised x.held now) token refused ≢ Ok accepted
+
+-- each acceptance of the token, wherever and whenever, adds a use of this one's key and expiry
+abbrev pub IsUseOf : Use → List ℕ → Type 0
+IsUseOf u token = (t : Terms) (moment : ℕ) (uses : Uses) (added : Use) → Accepts t.setting moment uses token added → (added.key ≡ u.key) × (added.exp ≡ u.exp)
+
+-- a validator that was told a use with the key and the expiry of a token accepts the token in no check
+abbrev pub ToldIsRefused : Type 0
+ToldIsRefused = (group : ℕ → Terms) (events : List Event) (v : ℕ) (token : List ℕ) (u : Use)
+    → let x = member_after group events v in
+    IsTrue (holds x.told.uses u) → IsUseOf u token → IsRefusedBy (group v) x token
+
+-- so one that was told of an acceptance, wherever that was, accepts no token of its signing input
+abbrev pub AcceptedIsRefused : Type 0
+AcceptedIsRefused = (group : ℕ → Terms) (events : List Event) (v moment : ℕ) (t : Terms) (uses : Uses) (token again : List ℕ) (u : Use)
+    → let x = member_after group events v in
+    Accepts t.setting moment uses token u → IsTrue (holds x.told.uses u) → input_of token ≡ input_of again → IsRefusedBy (group v) x again
+
+-- ---- reports
+
+-- a use of this key was told, and is live
+pub record IsLiveUse (x : Told) (key : List ℕ) (u : Use) : Type 0 where
+  pub told : IsTrue (holds x.uses u)
+  pub live : x.greatest < u.exp
+  pub key : u.key ≡ key
+
+-- two different uses of this key were told, and are live
+pub record IsUsedTwice (x : Told) (key : List ℕ) : Type 0 where
+  pub one : Use
+  pub other : Use
+  pub differ : one ≢ other
+  pub first : IsLiveUse x key one
+  pub second : IsLiveUse x key other
+
+-- what a validator's record reports
+abbrev pub report_of : Member → List Twice
+report_of x = twice_of (rising x.held.uses)
+
+-- the report lists the keys of which two different uses were told that are live
+abbrev pub ReportsAreExact : Type 0
+ReportsAreExact = (group : ℕ → Terms) (events : List Event) (v : ℕ) (key : List ℕ)
+    → let x = member_after group events v in
+    Contains (map (λ t. t.key) (report_of x)) key ↔ IsUsedTwice x.told key
+
+-- each with all of them
+abbrev pub ReportsAreWhole : Type 0
+ReportsAreWhole = (group : ℕ → Terms) (events : List Event) (v : ℕ) (t : Twice) (u : Use)
+    → let x = member_after group events v in
+    Contains (report_of x) t → Contains t.uses u ↔ IsLiveUse x.told t.key u
+
+-- each use that was told is one that a check of the group accepted
+abbrev pub ToldWereAccepted : Type 0
+ToldWereAccepted = (group : ℕ → Terms) (events : List Event) (v : ℕ) (u : Use)
+    → IsTrue (holds (member_after group events v).told.uses u) → Contains (accepted group start events) u
+
+-- one signing input that was accepted at two places is reported wherever both uses were told, until it expires
+abbrev pub TwoPlacesAreReported : Type 0
+TwoPlacesAreReported = (group : ℕ → Terms) (events : List Event) (v : ℕ) (t other : Terms) (moment later : ℕ) (uses others : Uses) (token again : List ℕ) (a b : Use)
+    → let x = member_after group events v in
+    Accepts t.setting moment uses token a → Accepts other.setting later others again b → input_of token ≡ input_of again → a.place ≢ b.place
+    → IsTrue (holds x.told.uses a) → IsTrue (holds x.told.uses b) → x.told.greatest < a.exp
+    → (listed : Twice) × Contains (report_of x) listed × (listed.key ≡ a.key) × Contains listed.uses a × Contains listed.uses b
+
+-- ---- restarts
+
+-- the places of a group have 16 bytes
+abbrev pub HasPlaces : (ℕ → Terms) → Type 0
+HasPlaces group = (v : ℕ) → IsBytes 16 (group v).setting.place
+
+-- the moment of an event is one
+abbrev pub IsInRange : Event → Type 0
+IsInRange (Check v now token refused) = now < 2 ^ 64
+IsInRange (Tick v now) = now < 2 ^ 64
+IsInRange (Answer v now posting refused) = now < 2 ^ 64
+IsInRange (Take v now posting part refused) = now < 2 ^ 64
+IsInRange _ = Unit {0}
+
+-- absorbing all parts of a record into a new one gives the record
+abbrev pub RestartsAbsorb : Type 0
+RestartsAbsorb = (group : ℕ → Terms) (events : List Event) (v : ℕ) → HasPlaces group → AllByRecursion IsInRange events
+    → let x = member_after group events v in join_all (state_of 0 []) (parts_of x.held) ≡ x.held
+
+-- ---- summaries and answers
+
+-- two sets have different texts of a bucket, and one digest
+pub record IsClash (s t : Uses) : Type 0 where
+  pub number : ℕ
+  pub is_bucket : number < 256
+  pub texts : bucket_text number s ≢ bucket_text number t
+  pub digests : bucket_digest number s ≡ bucket_digest number t
+
+-- a validator that made a summary and took an answer to it whole was told all that the answerer had been told by then, or a bucket of the one and the other then had two texts of one digest
+abbrev pub AnswersTellAll : Type 0
+AnswersTellAll = (group : ℕ → Terms) (events : List Event) (v j k : ℕ) (answer summary : Posting) (parts : List BatchData) (s : SummaryData)
+    → HasPlaces group → AllByRecursion IsInRange events
+    → let w = happen group start events in
+    slice_get w.pool k ≡ Some summary → summary.content ≡ Summed s → Contains (w.members v).log (Made k)
+    → slice_get w.pool j ≡ Some answer → answer.content ≡ Answered k parts → HasTaken (w.members v).log j answer
+    → IsWithin answer.was.told.uses (w.members v).told.uses ⊎ IsClash summary.was.held.uses answer.was.held.uses
