@@ -53,14 +53,14 @@ told_now x a now is =
     joined x (tell_now x now) (state_of now []) refl (λ u. ap (λ h. h || holds x.uses u) (sym (holds-uses_in [] u)))
     ∙ ap (λ (r : State). raised r now) is
 
-told_use : (x : Told) (answer : Result Accepted Refusal) → record_of (tell_use x answer) ≡ settled (record_of x) answer
+pub told_use : (x : Told) (answer : Result Accepted Refusal) → record_of (tell_use x answer) ≡ settled (record_of x) answer
 told_use x (Ok accepted) =
     joined x (tell_use x (Ok accepted)) (state_of x.greatest (accepted.used ∷ [])) (omega arith) (λ u.
     with_holds_one_more x.uses accepted.used u
     ∙ ap (λ h. h || holds x.uses u) (sym (holds-uses_in (accepted.used ∷ []) u ∙ or-false (eq_by_cmp use_cmp u accepted.used))))
 told_use x (Err refusal) = refl
 
-told_all : (x : Told) (b : State) → record_of (tell x b) ≡ join (record_of x) b
+pub told_all : (x : Told) (b : State) → record_of (tell x b) ≡ join (record_of x) b
 told_all x b = joined x (tell x b) b refl (λ u. holds-union x.uses b.uses u)
 
 -- a check of a record is one of what was told

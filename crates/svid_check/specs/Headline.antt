@@ -125,10 +125,8 @@ AcceptedIsRefused = (group : ℕ → Terms) (events : List Event) (v moment : �
 -- ---- reports
 
 -- a use of this key was told, and is live
-pub record IsLiveUse (x : Told) (key : List ℕ) (u : Use) : Type 0 where
-  pub told : IsTrue (holds x.uses u)
-  pub live : x.greatest < u.exp
-  pub key : u.key ≡ key
+abbrev pub IsLiveUse : Told → List ℕ → Use → Type 0
+IsLiveUse x key u = IsTrue (holds x.uses u) × (x.greatest < u.exp) × (u.key ≡ key)
 
 -- two different uses of this key were told, and are live
 pub record IsUsedTwice (x : Told) (key : List ℕ) : Type 0 where

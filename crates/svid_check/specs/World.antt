@@ -4,6 +4,7 @@ use Rattle.svid_token.specs.Compact.{compact_rows}
 use Rattle.svid_token.specs.Rows.{first_row}
 use Rattle.svid_token.specs.declared.refusal.Refusal.{Refusal}
 use Rattle.svid_token.specs.declared.refusal.Refusal.TheVariants.{OutOfMemory}
+use Rattle.svid_replay.specs.declared.token_use.Use.{Use}
 use Rattle.svid_replay.specs.Batches.{BatchData}
 use Rattle.svid_replay.specs.Buckets.{answer_to, summary_of}
 use Rattle.svid_replay.specs.Parts.{parts_of}

@@ -1,0 +1,99 @@
+-- A validator's record stays what it was told.
+use Rattle.std.proofs.Common.{◌≡◌, ℕ, ◌<◌, max, Bool, true, false, not, ◌&&◌, ◌||◌, nat_lt, List, [], ◌∷◌, take, refl, sym, ap, ◌∙◌, subst, inl, inr, arith}
+use Rattle.std.specs.Prelude.{IsTrue, Result, Ok, Err}
+use Rattle.std.proofs.lemmas.Bool.{and_parts, false≢true, ltb-true, lt-ltb, or_left, or_right, or_cases}
+use Rattle.svid_token.specs.declared.refusal.Refusal.{Refusal}
+use Rattle.svid_replay.specs.declared.token_use.Use.{Use}
+use Rattle.svid_replay.specs.Batches.{BatchData}
+use Rattle.svid_replay.specs.Records.{State, batch_state, join}
+use Rattle.svid_replay.specs.Sets.{holds, union}
+use Rattle.svid_replay.specs.Use.{use_cmp}
+use Rattle.svid_replay.specs.Uses.{Uses, live, uses_in}
+use Rattle.svid_replay.proofs.RecordsLemmas.{is_join}
+use Rattle.svid_replay.proofs.SetsLemmas.{holds-keep}
+use Rattle.svid_replay.proofs.UseLemmas.{use_exact, use_total}
+use Rattle.svid_replay.proofs.UsesLemmas.{holds-live, holds-union, with_holds_one_more}
+use Rattle.svid_check.specs.declared.accepted.Accepted.{Accepted}
+use Rattle.svid_check.specs.Headline.{IsWithin}
+use Rattle.svid_check.specs.Told.{Told, record_of, tell, tell_use}
+use Rattle.svid_check.specs.World.{Member, carried, checked, joined, ticked}
+use Rattle.svid_check.proofs.RunsLemmas.{told_now, told_use}
+
+-- a validator's record is what it was told
+abbrev pub IsTold : Member → Type 0
+IsTold x = x.held ≡ record_of x.told
+
+pub holds-carried : (s : Uses) (b : BatchData) (u : Use) → holds (carried s b) u ≡ ((holds (uses_in b.uses) u || not (nat_lt b.moment u.exp)) && holds s u)
+unfolding carried
+holds-carried s b u = holds-keep use_total use_exact (λ v. holds (uses_in b.uses) v || not (nat_lt b.moment v.exp)) s u
+
+pub ticked_told : (x : Member) (now : ℕ) → IsTold x → IsTold (ticked x now)
+ticked_told x now is = sym (told_now x.told x.held now (sym is))
+
+pub checked_told : (x : Member) (answer : Result Accepted Refusal) → IsTold x → IsTold (checked x answer)
+checked_told x (Ok accepted) is = sym (told_use x.told (Ok accepted) ∙ ap (λ (r : State). join r (record { moment = r.moment; uses = uses_in (accepted.used ∷ []) })) (sym is))
+checked_told x (Err refusal) is = is
+
+-- of a batch that a sender's told has, what has not expired is told
+both_ways : (late soon own has has_it : Bool) → (has_it ≡ true → has ≡ true) → (late ≡ true → soon ≡ true) → (late ≡ true → own ≡ true)
+    → (late && (((has_it || not own) && has) || true)) ≡ (late && (has_it || (soon && true)))
+both_ways false soon own has has_it h k l = refl
+both_ways true true true true true h k l = refl
+both_ways true true true true false h k l = refl
+both_ways true true true false true h k l = absurd (false≢true (h refl))
+both_ways true true true false false h k l = refl
+both_ways true true false has has_it h k l = absurd (false≢true (l refl))
+both_ways true false own has has_it h k l = absurd (false≢true (k refl))
+
+new_only : (late soon own has has_it : Bool) → (has_it ≡ true → has ≡ true) → (late ≡ true → soon ≡ true) → (late ≡ true → own ≡ true)
+    → (late && (((has_it || not own) && has) || false)) ≡ (late && (has_it || (soon && false)))
+new_only false soon own has has_it h k l = refl
+new_only true true true true true h k l = refl
+new_only true true true true false h k l = refl
+new_only true true true false true h k l = absurd (false≢true (h refl))
+new_only true true true false false h k l = refl
+new_only true true false has has_it h k l = absurd (false≢true (l refl))
+new_only true false own has has_it h k l = absurd (false≢true (k refl))
+
+carried_tests : (late soon own has has_it told : Bool) → (has_it ≡ true → has ≡ true) → (late ≡ true → soon ≡ true) → (late ≡ true → own ≡ true)
+    → (late && (((has_it || not own) && has) || told)) ≡ (late && (has_it || (soon && told)))
+carried_tests late soon own has has_it true h k l = both_ways late soon own has has_it h k l
+carried_tests late soon own has has_it false h k l = new_only late soon own has has_it h k l
+
+live_left : (m n e : ℕ) → nat_lt (max m n) e ≡ true → nat_lt m e ≡ true
+live_left m n e is = lt-ltb m e (let later = ltb-true (max m n) e is in omega arith)
+
+live_right : (m n e : ℕ) → nat_lt (max m n) e ≡ true → nat_lt n e ≡ true
+live_right m n e is = lt-ltb n e (let later = ltb-true (max m n) e is in omega arith)
+
+carried_joins : (x : Told) (s : Uses) (b : BatchData) → IsWithin (uses_in b.uses) s → record_of (tell x (record { moment = b.moment; uses = carried s b })) ≡ join (record_of x) (batch_state b)
+carried_joins x s b within =
+    let m = max x.greatest b.moment in
+    is_join (record_of x) (batch_state b) (record_of (tell x (record { moment = b.moment; uses = carried s b }))) refl (λ u.
+    holds-live (tell x (record { moment = b.moment; uses = carried s b })).uses m u
+    ∙ ap (λ h. nat_lt m u.exp && h) (holds-union x.uses (carried s b) u)
+    ∙ ap (λ h. nat_lt m u.exp && (h || holds x.uses u)) (holds-carried s b u)
+    ∙ carried_tests (nat_lt m u.exp) (nat_lt x.greatest u.exp) (nat_lt b.moment u.exp) (holds s u) (holds (uses_in b.uses) u) (holds x.uses u)
+        (within u) (live_left x.greatest b.moment u.exp) (live_right x.greatest b.moment u.exp)
+    ∙ ap (λ h. nat_lt m u.exp && (holds (uses_in b.uses) u || h)) (sym (holds-live x.uses x.greatest u)))
+
+pub joined_told : (x : Member) (s : Uses) (b : BatchData) → IsWithin (uses_in b.uses) s → IsTold x → IsTold (joined x s b)
+joined_told x s b within is = ap (λ (r : State). join r (batch_state b)) is ∙ sym (carried_joins x.told s b within)
+
+-- sets that grow
+pub within_union : (s t : Uses) → IsWithin s (union s t)
+within_union s t u h = holds-union s t u ∙ or_right (holds t u) (holds s u) h
+
+pub union_within : (s t all : Uses) → IsWithin s all → IsWithin t all → IsWithin (union s t) all
+union_within s t all h k u a = elim (or_cases (holds t u) (holds s u) (sym (holds-union s t u) ∙ a)) [ inl b ↦ k u b | inr b ↦ h u b ]
+
+pub carried_within : (s : Uses) (b : BatchData) → IsWithin (carried s b) s
+carried_within s b u h = (and_parts (holds (uses_in b.uses) u || not (nat_lt b.moment u.exp)) (holds s u) (sym (holds-carried s b u) ∙ h)).1
+
+pub live_within : (s : Uses) (m : ℕ) → IsWithin (live s m) s
+live_within s m u h = (and_parts (nat_lt m u.exp) (holds s u) (sym (holds-live s m u) ∙ h)).1
+
+-- whoever is told an answer's use, was told it, and what was told before
+pub told_before : (x : Told) (answer : Result Accepted Refusal) → IsWithin x.uses (tell_use x answer).uses
+told_before x (Ok accepted) u h = with_holds_one_more x.uses accepted.used u ∙ or_right _ (holds x.uses u) h
+told_before x (Err refusal) u h = h
