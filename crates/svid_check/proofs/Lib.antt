@@ -1,6 +1,11 @@
+pub mod AnswersLemmas
 pub mod BoundsLemmas
 pub mod LawfulLemmas
+pub mod CutsLemmas
 pub mod MembersLemmas
+pub mod PlacesLemmas
+pub mod SendsLemmas
+pub mod SoundLemmas
 pub mod RowsLemmas
 pub mod RunsLemmas
 pub mod SaidLemmas

@@ -74,7 +74,7 @@ carried_joins x s b within =
     ∙ ap (λ h. nat_lt m u.exp && h) (holds-union x.uses (carried s b) u)
     ∙ ap (λ h. nat_lt m u.exp && (h || holds x.uses u)) (holds-carried s b u)
     ∙ carried_tests (nat_lt m u.exp) (nat_lt x.greatest u.exp) (nat_lt b.moment u.exp) (holds s u) (holds (uses_in b.uses) u) (holds x.uses u)
-        (within u) (live_left x.greatest b.moment u.exp) (live_right x.greatest b.moment u.exp)
+    (within u) (live_left x.greatest b.moment u.exp) (live_right x.greatest b.moment u.exp)
     ∙ ap (λ h. nat_lt m u.exp && (holds (uses_in b.uses) u || h)) (sym (holds-live x.uses x.greatest u)))
 
 pub joined_told : (x : Member) (s : Uses) (b : BatchData) → IsWithin (uses_in b.uses) s → IsTold x → IsTold (joined x s b)
@@ -97,3 +97,6 @@ live_within s m u h = (and_parts (nat_lt m u.exp) (holds s u) (sym (holds-live s
 pub told_before : (x : Told) (answer : Result Accepted Refusal) → IsWithin x.uses (tell_use x answer).uses
 told_before x (Ok accepted) u h = with_holds_one_more x.uses accepted.used u ∙ or_right _ (holds x.uses u) h
 told_before x (Err refusal) u h = h
+
+pub union_tells : (s t : Uses) → IsWithin t (union s t)
+union_tells s t u h = holds-union s t u ∙ or_left (holds t u) (holds s u) h

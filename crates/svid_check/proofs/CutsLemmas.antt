@@ -1,0 +1,113 @@
+-- What the batches hold that uses are cut into, and what of a sender's uses a batch carries.
+use Rattle.std.proofs.Common.{◌≡◌, ℕ, zero, suc, ◌-◌, ◌/◌, not, nat_lt, ◌||◌, ◌&&◌, true, List, [], ◌∷◌, ◌++◌, length, take, drop, refl, sym, ◌∙◌, ap, subst, inl, inr, Some, IsTrue}
+use Rattle.std.specs.Prelude.{slice_get}
+use Rattle.std.specs.List.{list_any}
+use Rattle.std.specs.Ordering.{eq_by_cmp}
+use Rattle.std.proofs.lemmas.Bool.{or_cases, or_left, or_right}
+use Rattle.std.proofs.lemmas.List.{take-append-drop}
+use Rattle.std.proofs.lemmas.List.Folds.{list_any-append}
+use Rattle.std.proofs.lemmas.Option.{none-some, same_Some}
+use Rattle.svid_replay.specs.declared.token_use.Use.{Use}
+use Rattle.svid_replay.specs.Batches.{BatchData}
+use Rattle.svid_replay.specs.Parts.{cut, full_batches}
+use Rattle.svid_replay.specs.Sets.{holds}
+use Rattle.svid_replay.specs.Use.{use_cmp}
+use Rattle.svid_replay.specs.Uses.{Uses, uses_in}
+use Rattle.svid_replay.proofs.SetsLemmas.{holds-keep}
+use Rattle.svid_replay.proofs.TestsLemmas.{and-comm}
+use Rattle.svid_replay.proofs.UseLemmas.{use_exact, use_total}
+use Rattle.svid_replay.proofs.UsesLemmas.{holds-uses_in}
+use Rattle.svid_check.specs.World.{carried, front}
+
+abbrev Listed : List Use → Use → Type 0
+Listed us u = list_any (eq_by_cmp use_cmp u) us ≡ true
+
+-- what some first uses list, or what is behind them, the whole lists
+taken : (n : ℕ) (us : List Use) (u : Use) → Listed (take n us) u → Listed us u
+taken n us u h =
+    ap (list_any (eq_by_cmp use_cmp u)) (sym (take-append-drop n us)) ∙ list_any-append (eq_by_cmp use_cmp u) (take n us) (drop n us)
+    ∙ or_left (list_any (eq_by_cmp use_cmp u) (take n us)) (list_any (eq_by_cmp use_cmp u) (drop n us)) h
+
+dropped : (n : ℕ) (us : List Use) (u : Use) → Listed (drop n us) u → Listed us u
+dropped n us u h =
+    ap (list_any (eq_by_cmp use_cmp u)) (sym (take-append-drop n us)) ∙ list_any-append (eq_by_cmp use_cmp u) (take n us) (drop n us)
+    ∙ or_right (list_any (eq_by_cmp use_cmp u) (take n us)) (list_any (eq_by_cmp use_cmp u) (drop n us)) h
+
+-- ---- so many full batches, and one of the rest
+each_moment : (n m : ℕ) (us : List Use) (p : ℕ) (b : BatchData) → slice_get (full_batches n m us) p ≡ Some b → b.moment ≡ m
+unfolding full_batches
+each_moment zero m us zero b e = sym (ap (λ x. x.moment) (same_Some (record { moment = m; uses = us }) b e))
+each_moment zero m us (suc p) b e = absurd (none-some b e)
+each_moment (suc n) m us zero b e = sym (ap (λ x. x.moment) (same_Some (record { moment = m; uses = take 4096 us }) b e))
+each_moment (suc n) m us (suc p) b e = each_moment n m (drop 4096 us) p b e
+
+each_within : (n m : ℕ) (us : List Use) (p : ℕ) (b : BatchData) → slice_get (full_batches n m us) p ≡ Some b → (u : Use) → Listed b.uses u → Listed us u
+unfolding full_batches
+each_within zero m us zero b e u h = subst (λ (x : BatchData). Listed x.uses u) (sym (same_Some (record { moment = m; uses = us }) b e)) h
+each_within zero m us (suc p) b e u h = absurd (none-some b e)
+each_within (suc n) m us zero b e u h = taken 4096 us u (subst (λ (x : BatchData). Listed x.uses u) (sym (same_Some (record { moment = m; uses = take 4096 us }) b e)) h)
+each_within (suc n) m us (suc p) b e u h = dropped 4096 us u (each_within n m (drop 4096 us) p b e u h)
+
+-- a batch of these lists the use
+record InOne (batches : List BatchData) (u : Use) : Type 0 where
+  place : ℕ
+  part : BatchData
+  stands : slice_get batches place ≡ Some part
+  lists : Listed part.uses u
+
+here : (b : BatchData) (bs : List BatchData) (u : Use) → Listed b.uses u → InOne (b ∷ bs) u
+here b bs u h = record { place = zero; part = b; stands = refl; lists = h }
+
+later : (b : BatchData) (bs : List BatchData) (u : Use) → InOne bs u → InOne (b ∷ bs) u
+later b bs u i = record { place = suc i.place; part = i.part; stands = i.stands; lists = i.lists }
+
+in_one : (n m : ℕ) (us : List Use) (u : Use) → Listed us u → InOne (full_batches n m us) u
+unfolding full_batches
+in_one zero m us u h = here (record { moment = m; uses = us }) [] u h
+in_one (suc n) m us u h =
+    let b : BatchData = record { moment = m; uses = take 4096 us } in
+    let tied = eq_by_cmp use_cmp u in
+    elim (or_cases (list_any tied (take 4096 us)) (list_any tied (drop 4096 us)) (sym (ap (list_any tied) (sym (take-append-drop 4096 us)) ∙ list_any-append tied (take 4096 us) (drop 4096 us)) ∙ h)) [
+      | inl a ↦ here b (full_batches n m (drop 4096 us)) u a
+      | inr r ↦ later b (full_batches n m (drop 4096 us)) u (in_one n m (drop 4096 us) u r)
+    ]
+
+first_one : (n m : ℕ) (us : List Use) → (b : BatchData) × (slice_get (full_batches n m us) 0 ≡ Some b) × (b.moment ≡ m)
+unfolding full_batches
+first_one zero m us = (record { moment = m; uses = us }, refl, refl)
+first_one (suc n) m us = (record { moment = m; uses = take 4096 us }, refl, refl)
+
+-- ---- the parts of what is cut
+-- each part has the moment of the cut
+pub part_moment : (m : ℕ) (us : List Use) (p : ℕ) (b : BatchData) → slice_get (cut m us) p ≡ Some b → b.moment ≡ m
+unfolding cut
+part_moment m us p b e = each_moment ((length us - 1) / 4096) m us p b e
+
+-- what a part holds is of the uses that were cut
+pub part_within : (m : ℕ) (us : List Use) (p : ℕ) (b : BatchData) → slice_get (cut m us) p ≡ Some b → (u : Use) → IsTrue (holds (uses_in b.uses) u) → IsTrue (holds (uses_in us) u)
+unfolding cut
+part_within m us p b e u h = holds-uses_in us u ∙ each_within ((length us - 1) / 4096) m us p b e u (sym (holds-uses_in b.uses u) ∙ h)
+
+-- each of the uses that were cut is in a part
+pub in_part : (m : ℕ) (us : List Use) (u : Use) → IsTrue (holds (uses_in us) u) → (p : ℕ) × (b : BatchData) × (slice_get (cut m us) p ≡ Some b) × IsTrue (holds (uses_in b.uses) u)
+unfolding cut
+in_part m us u h =
+    let i = in_one ((length us - 1) / 4096) m us u (sym (holds-uses_in us u) ∙ h) in
+    (i.place, i.part, i.stands, holds-uses_in i.part.uses u ∙ i.lists)
+
+-- there is a first part
+pub first_part : (m : ℕ) (us : List Use) → (b : BatchData) × (slice_get (cut m us) 0 ≡ Some b) × (b.moment ≡ m)
+unfolding cut
+first_part m us = first_one ((length us - 1) / 4096) m us
+
+-- ---- what a batch tells
+-- the first uses of a batch are of its uses
+pub front_within : (n : ℕ) (b : BatchData) (u : Use) → IsTrue (holds (uses_in (front n b).uses) u) → IsTrue (holds (uses_in b.uses) u)
+front_within n b u h = holds-uses_in b.uses u ∙ taken n b.uses u (sym (holds-uses_in (take n b.uses) u) ∙ h)
+
+-- what a batch carries is what its sender was told, and the batch has or says is gone
+pub has-carried : (s : Uses) (b : BatchData) (u : Use) → holds (carried s b) u ≡ (holds s u && (holds (uses_in b.uses) u || not (nat_lt b.moment u.exp)))
+unfolding carried
+has-carried s b u =
+    holds-keep use_total use_exact (λ v. holds (uses_in b.uses) v || not (nat_lt b.moment v.exp)) s u
+    ∙ and-comm (holds (uses_in b.uses) u || not (nat_lt b.moment u.exp)) (holds s u)
