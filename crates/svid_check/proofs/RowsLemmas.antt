@@ -55,7 +55,7 @@ read_there read None is held = is
 read_there read (Some x) is held = there (read x) held
 
 -- what a refusal says where it is answered: that it is due, or nothing where memory ran out
-told : {A B : Type 0} (refusal : Refusal) (one : Result A Refusal) (other : Result B Refusal) → (Refuses refusal one → (refusal ≡ token.OutOfMemory) ⊎ (one ≡ Err refusal)) × (other ≡ Err refusal → Refuses refusal other)
+pub told : {A B : Type 0} (refusal : Refusal) (one : Result A Refusal) (other : Result B Refusal) → (Refuses refusal one → (refusal ≡ token.OutOfMemory) ⊎ (one ≡ Err refusal)) × (other ≡ Err refusal → Refuses refusal other)
 told token.TooLong one other = (λ h. inr h, λ h. h)
 told token.NotThreeParts one other = (λ h. inr h, λ h. h)
 told token.HeaderSpelling one other = (λ h. inr h, λ h. h)

@@ -20,7 +20,7 @@ use Rattle.svid_check.specs.Lawful.{Accepts, input_of}
 use Rattle.svid_check.specs.Runs.{IsAnswered, Terms}
 use Rattle.svid_check.specs.Told.{Told, record_of, tell_now}
 use Rattle.svid_check.specs.Verdict.{verdict}
-use Rattle.svid_check.specs.World.{Answered, Check, Content, Entry, Event, Made, Member, Posting, Restart, Save, Send, Sent, Sum, Summed, Take, Tick, Answer, Took, World, accepted, answer_at, check_answer, happen, parts_in, start}
+use Rattle.svid_check.specs.World.{Answered, Check, Content, Entry, Event, Made, Member, Posting, Restart, Save, Saved, Send, Sent, Sum, Summed, Take, Tick, Answer, Took, World, accepted, answer_at, check_answer, happen, parts_in, start}
 
 -- each use of the one set is in the other
 abbrev pub IsWithin : Uses → Uses → Type 0
@@ -167,6 +167,12 @@ TwoPlacesAreReported = (group : ℕ → Terms) (events : List Event) (v : ℕ) (
 
 -- ---- restarts
 
+-- absorbing all parts of a record that was saved into a new one gives the record, so that is to restart
+abbrev pub RestartsAbsorb : Type 0
+RestartsAbsorb = (group : ℕ → Terms) (events : List Event) (k : ℕ) (s : Saved) → slice_get (happen group start events).saves k ≡ Some s → join_all (state_of 0 []) (parts_of s.was.held) ≡ s.was.held
+
+-- ---- summaries and answers
+
 -- the places of a group have 16 bytes
 abbrev pub HasPlaces : (ℕ → Terms) → Type 0
 HasPlaces group = (v : ℕ) → IsBytes 16 (group v).setting.place
@@ -178,13 +184,6 @@ IsInRange (Tick v now) = now < 2 ^ 64
 IsInRange (Answer v now posting refused) = now < 2 ^ 64
 IsInRange (Take v now posting part refused) = now < 2 ^ 64
 IsInRange _ = Unit {0}
-
--- absorbing all parts of a record into a new one gives the record
-abbrev pub RestartsAbsorb : Type 0
-RestartsAbsorb = (group : ℕ → Terms) (events : List Event) (v : ℕ) → HasPlaces group → AllByRecursion IsInRange events
-    → let x = member_after group events v in join_all (state_of 0 []) (parts_of x.held) ≡ x.held
-
--- ---- summaries and answers
 
 -- two sets have different texts of a bucket, and one digest
 pub record IsClash (s t : Uses) : Type 0 where

@@ -2,6 +2,7 @@ pub mod Alone
 pub mod Bounds
 pub mod Calls
 pub mod Changes
+pub mod Events
 pub mod Headline
 pub mod Lawful
 pub mod Runs

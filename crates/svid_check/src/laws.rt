@@ -3,6 +3,7 @@
 ghost use Rattle.svid_check.specs.Bounds.{AnswersAreBounded, ChecksAreBounded, RecordsAreBounded, RunsAreBounded, TakesAreBounded, TicksAreBounded};
 ghost use Rattle.svid_check.specs.Calls.{AnswersTellMoments, ChecksAreSteps, RecordsGoOn, RunsGoOn, TakesAreSteps, TicksAreSteps};
 ghost use Rattle.svid_check.specs.Alone.{AcceptsOnce};
+ghost use Rattle.svid_check.specs.Events.{AnswersAreEvents, ChecksAreEvents, SendsAreEvents, SumsAreEvents, TakesAreEvents, TicksAreEvents};
 ghost use Rattle.svid_check.specs.Headline.{AcceptedIsRefused, AnswersTellAll, ChainsTell, ChecksAreVerdicts, EqualTellings, RecordsAreTold, ReportsAreExact, ReportsAreWhole, RestartsAbsorb, SendsMakeEqual, SendsTellAll, ToldIsRefused, ToldWereAccepted, TwoPlacesAreReported, WithMemoryVerdicts};
 ghost use Rattle.svid_check.specs.Lawful.{IsAlive, IsFresh, IsInRange, IsMadeNow, IsOfItsInput};
 ghost use Rattle.svid_check.specs.Said.{UnrefusedIsSaid};
@@ -112,7 +113,8 @@ pub fn reports_are_exact()
     ensures places { TwoPlacesAreReported }
 {}
 
-/// A restart is to absorb all parts of a record into a new one: that gives the record.
+/// Absorbing all parts of a record that was saved into a new one gives the record, so that is to
+/// restart.
 pub fn restarts_absorb()
     ensures { RestartsAbsorb }
 {}
@@ -121,4 +123,16 @@ pub fn restarts_absorb()
 /// answerer had been told by then, or a bucket of the two had different texts of one digest.
 pub fn answers_tell_all()
     ensures { AnswersTellAll }
+{}
+
+/// Each call of a validator, answered and leaving its record as the call's contract says, is an event
+/// of the group, for some memory that was refused: what is proved over all lists of events holds of
+/// all calls.
+pub fn calls_are_events()
+    ensures checks { ChecksAreEvents }
+    ensures ticks { TicksAreEvents }
+    ensures takes { TakesAreEvents }
+    ensures answers { AnswersAreEvents }
+    ensures sends { SendsAreEvents }
+    ensures sums { SumsAreEvents }
 {}

@@ -1,0 +1,20 @@
+use Rattle.svid_check.specs.Headline.{RecordsAreTold}
+use Rattle.svid_check.proofs.EachToldLemmas.{told_were_accepted}
+use Rattle.svid_check.proofs.ReportsLemmas.{reports_are_exact, reports_are_whole, two_places_are_reported}
+use Rattle.svid_check.proofs.SoundLemmas.{is_sound}
+use Rattle.svid_check.proofs.laws.reports_are_exact.Goals as goal
+
+records : RecordsAreTold
+records group events v = ((is_sound group events).members v).is_told
+
+pub returns-clause-exact : goal.returns-clause-exact
+returns-clause-exact c = reports_are_exact records
+
+pub returns-clause-whole : goal.returns-clause-whole
+returns-clause-whole c = reports_are_whole records
+
+pub returns-clause-accepted : goal.returns-clause-accepted
+returns-clause-accepted c = told_were_accepted
+
+pub returns-clause-places : goal.returns-clause-places
+returns-clause-places c = two_places_are_reported records

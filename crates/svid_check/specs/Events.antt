@@ -1,0 +1,64 @@
+-- The calls of a validator, as events of a group: what the contract of a call allows is what its event does, for some memory that was refused.
+use Rattle.std.specs.Prelude.{◌≡◌, ℕ, Bool, List, [], ◌∷◌, ◌++◌, length, slice_get, Option, Some, Result, Ok, Err, Vec}
+use Rattle.std.specs.declared.alloc.Global.{Global}
+use Rattle.svid_token.specs.Rows.{Answers}
+use Rattle.svid_token.specs.declared.refusal.Refusal.{Refusal}
+use Rattle.svid_replay.specs.Batches.{BatchData}
+use Rattle.svid_replay.specs.Buckets.{summary_of}
+use Rattle.svid_replay.specs.Parts.{parts_of}
+use Rattle.svid_replay.specs.Records.{State}
+use Rattle.svid_replay.specs.Summary.{SummaryData}
+use Rattle.svid_check.specs.declared.accepted.Accepted.{Accepted}
+use Rattle.svid_check.specs.declared.take_fault.TakeFault.{TakeFault}
+use Rattle.svid_check.specs.Changes.{Replies, Takes, raised, settled}
+use Rattle.svid_check.specs.Runs.{Terms}
+use Rattle.svid_check.specs.Said.{RefusesForm}
+use Rattle.svid_check.specs.Verdict.{verdict}
+use Rattle.svid_check.specs.World.{Answer, Answered, Check, Entry, Made, Member, Posting, Send, Sent, Sum, Summed, Take, Tick, Took, World, answer_at, far, happens, parts_in}
+
+-- a check that is answered as its contract says is an event with this answer, which leaves the record that the contract says
+abbrev pub ChecksAreEvents : Type 0
+ChecksAreEvents = (group : ℕ → Terms) (w : World) (v now : ℕ) (token : List ℕ) (answer : Result Accepted Refusal)
+    → let x = raised (w.members v).held now in
+    Answers Some answer (verdict (group v).setting x.moment x.uses token) → RefusesForm token answer
+    → (refused : Bool) × (answer_at group w v now token refused ≡ answer) × (((happens group w (Check v now token refused)).members v).held ≡ settled x answer)
+
+-- so is a tick
+abbrev pub TicksAreEvents : Type 0
+TicksAreEvents = (group : ℕ → Terms) (w : World) (v now : ℕ) → ((happens group w (Tick v now)).members v).held ≡ raised (w.members v).held now
+
+-- what a take adds to a log: an entry, where the part was taken
+abbrev pub entries : Entry → Result (Unit {0}) TakeFault → List Entry
+entries entry (Ok taken) = entry ∷ []
+entries entry (Err fault) = []
+
+-- so is a take of a part of posting k: the log gets its entry just where it was taken
+abbrev pub TakesAreEvents : Type 0
+TakesAreEvents = (group : ℕ → Terms) (w : World) (v now k p : ℕ) (q : Posting) (b : BatchData) (answer : Result (Unit {0}) TakeFault) (y : State)
+    → slice_get w.pool k ≡ Some q → slice_get (parts_in q.content) p ≡ Some b → Takes (raised (w.members v).held now) (far group v now) b answer y
+    → (refused : Option ℕ) × (let x = (happens group w (Take v now k p refused)).members v in (x.held ≡ y) × (x.log ≡ (w.members v).log ++ entries (Took k p) answer))
+
+-- what validator v, which then is x, posts of an answer to posting k: the batches, where there are any
+abbrev pub posted : ℕ → ℕ → Member → Result (Vec BatchData Global) TakeFault → List Posting
+posted v k x (Ok batches) = record { maker = v; was = x; content = Answered k batches.items } ∷ []
+posted v k x (Err fault) = []
+
+-- so is an answer to posting k: the batches are posted just where it was answered
+abbrev pub AnswersAreEvents : Type 0
+AnswersAreEvents = (group : ℕ → Terms) (w : World) (v now k : ℕ) (q : Posting) (s : SummaryData) (answer : Result (Vec BatchData Global) TakeFault) (y : State)
+    → slice_get w.pool k ≡ Some q → q.content ≡ Summed s → Replies (raised (w.members v).held now) (far group v now) s answer y
+    → (refused : Bool) × (let after = happens group w (Answer v now k refused) in ((after.members v).held ≡ y) × (after.pool ≡ w.pool ++ posted v k (after.members v) answer))
+
+-- a send leaves a validator as it is, and posts the parts of its record
+abbrev pub SendsAreEvents : Type 0
+SendsAreEvents = (group : ℕ → Terms) (w : World) (v : ℕ)
+    → let x = w.members v in
+    let after = happens group w (Send v) in
+    (after.members v ≡ x) × (after.pool ≡ w.pool ++ record { maker = v; was = x; content = Sent (parts_of x.held) } ∷ [])
+
+-- a summary leaves a validator's record as it is, is posted, and stands in the log by its place
+abbrev pub SumsAreEvents : Type 0
+SumsAreEvents = (group : ℕ → Terms) (w : World) (v : ℕ)
+    → let x = w.members v in
+    let after = happens group w (Sum v) in
+    ((after.members v).held ≡ x.held) × ((after.members v).log ≡ x.log ++ Made (length w.pool) ∷ []) × (after.pool ≡ w.pool ++ record { maker = v; was = x; content = Summed (summary_of x.held) } ∷ [])
