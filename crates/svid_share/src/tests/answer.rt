@@ -57,7 +57,7 @@ fn nothing_at(alloc: Global, moment: u64) -> Result<Vec<u8>, AllocError> {
 }
 
 #[test]
-fn answers_what_a_summary_lacks(rt: HostRuntime) -> Result<(), Fail> {
+fn answers_with_all_buckets_that_differ(rt: HostRuntime) -> Result<(), Fail> {
     let alloc = rt.alloc();
     let first = with_one_use(alloc, 17)?;
     let own = summary(&rt, alloc, TWO_USES)?;
@@ -116,6 +116,8 @@ fn refuses_what_is_not_one_summary(rt: HostRuntime) -> Result<(), Fail> {
     with_batch.extend_from_slice(TWO_USES)?;
     let mut batch_first = TWO_USES.to_vec(alloc)?;
     batch_first.extend_from_slice(&one)?;
+    let mut batch_and_a_byte = TWO_USES.to_vec(alloc)?;
+    batch_and_a_byte.push(0x4A)?;
     let mut and_a_byte = one.clone()?;
     and_a_byte.push(0x4A)?;
     let mut and_four_bytes = one.clone()?;
@@ -132,6 +134,7 @@ fn refuses_what_is_not_one_summary(rt: HostRuntime) -> Result<(), Fail> {
         (two, ToolFault::NotSummary),
         (with_batch, ToolFault::NotSummary),
         (batch_first, ToolFault::NotSummary),
+        (batch_and_a_byte, wire(2, 1, Reason::Truncated)),
         (and_a_byte, wire(2, 1, Reason::Truncated)),
         (and_four_bytes, wire(2, 0, Reason::Magic)),
         (

@@ -31,6 +31,8 @@ fn merges_in_any_order(rt: HostRuntime) -> Result<(), Fail> {
     let alloc = rt.alloc();
     let first = with_one_use(alloc, 17)?;
     let second = with_one_use(alloc, 81)?;
+    let mut first_twice = first.clone()?;
+    first_twice.extend_from_slice(&first)?;
     let mut both = second.clone()?;
     both.extend_from_slice(&first)?;
     let mut thrice = both.clone()?;
@@ -38,6 +40,7 @@ fn merges_in_any_order(rt: HostRuntime) -> Result<(), Fail> {
     for mut inputs in [
         [source(alloc, &first, 1)?, source(alloc, &second, 7)?],
         [source(alloc, &second, 100)?, source(alloc, &first, 64)?],
+        [source(alloc, &first_twice, 65)?, source(alloc, &second, 7)?],
         [source(alloc, &both, 63)?, source(alloc, b"", 1)?],
         [source(alloc, &thrice, 65)?, source(alloc, &both, 1000)?],
         [source(alloc, TWO_USES, 1000)?, source(alloc, &first, 1000)?],

@@ -63,6 +63,29 @@ fn passes_over_summaries(rt: HostRuntime) -> Result<(), Fail> {
     Ok(())
 }
 
+#[test]
+fn summarizes_one_input_of_no_bytes(rt: HostRuntime) -> Result<(), Fail> {
+    let alloc = rt.alloc();
+    let mut inputs = [source(alloc, b"", 1)?];
+    let mut out = MemSink::new(alloc, 10000, None);
+    assert_eq!(rt; run_summary(alloc, &mut inputs, &mut out), Ok(()));
+    assert!(rt; out.bytes() == summary_text(alloc, 0)?.as_slice());
+    Ok(())
+}
+
+// The summary of a new record, and a batch behind it in the same input.
+#[test]
+fn reports_the_batch_behind_a_summary(rt: HostRuntime) -> Result<(), Fail> {
+    let alloc = rt.alloc();
+    let mut bytes = summary_text(alloc, 0)?;
+    bytes.extend_from_slice(TWO_USES)?;
+    let mut inputs = [source(alloc, &bytes, 1000)?];
+    let mut out = MemSink::new(alloc, 1000, None);
+    assert_eq!(rt; run_report(alloc, &mut inputs, None, &mut out), Ok(()));
+    assert_eq!(rt; out.bytes(), TWO_USES_REPORT);
+    Ok(())
+}
+
 // A batch whose kind is made that of a summary is a summary that ends too soon; and each part of a summary is, too.
 #[test]
 fn refuses_a_summary_that_ends_too_soon(rt: HostRuntime) -> Result<(), Fail> {
