@@ -35,21 +35,9 @@ only told last one is = by is.0 is.1
     by [] same = same
     by (x ∷ front) same = absurd (omega (arith, ap length same, length-append front (last ∷ [])))
 
--- that message is a summary
-pub one_summary : (told : List Message) (last : Message) (asked : SummaryData) → length told ≡ 1 → IsLast told (Some last) → last ≡ message.Summary asked → told ≡ message.Summary asked ∷ []
-one_summary told last asked one is same = only told last one is ∙ ap (λ m. m ∷ []) same
-
--- that message is none
-pub other_message : (told : List Message) (last : Message) (asked : SummaryData) → length told ≡ 1 → IsLast told (Some last) → last ≢ message.Summary asked → told ≢ message.Summary asked ∷ []
-other_message told last asked one is other same = let both : last ∷ [] ≡ message.Summary asked ∷ [] = sym (only told last one is) ∙ same in other cc
-
 -- not one message
 pub not_one : (told : List Message) (count : ℕ) (asked : SummaryData) → length told ≡ count → count ≢ 1 → told ≢ message.Summary asked ∷ []
 not_one told count asked long many same = absurd (many (sym long ∙ ap length same))
-
--- no message
-pub no_message : (told : List Message) (asked : SummaryData) → IsLast told None → told ≢ message.Summary asked ∷ []
-no_message told asked none same = absurd (let no : 0 ≡ 1 = sym (ap length none) ∙ ap length same in omega arith)
 
 -- an input that is refused as any
 pub refused_as_any : (number : ℕ) (input : Drawn) (own : ℕ) (fault : ToolFault) → own ≡ number → IsInputFault own input fault → IsSummaryFault number input fault
