@@ -5,7 +5,8 @@
 //! is handed in: no clock is looked at. An accepted token is added to the record, so that it is
 //! refused as `Replayed` from then on, and the record can be told to other validators: they take its
 //! parts by [`Validator::take`], as far as these lie at most so many seconds ahead of the moment of the
-//! call, or send the summary of their own record, to which [`Validator::answer`] tells what they lack.
+//! call, or send the summary of their own record, which [`Validator::answer`] answers with the uses of all
+//! buckets whose digests differ from the summary's: whole buckets, so also uses that both records have.
 //! [`Validator::run`] makes a list of checks, ticks and takes.
 //!
 //! ```rust

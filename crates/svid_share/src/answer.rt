@@ -56,7 +56,7 @@ fn behind_one(fault: ToolFault) -> ToolFault
 
 /// Reads the one summary that the input `summary` is, joins the batches of all other inputs, and writes the
 /// answer of the record that they come to: raised to the summary's moment, the uses of all buckets whose
-/// digest differs from the summary's, as batches; one with no use where none differs.
+/// digest differs from the summary's, as batches; one with no use where there are no such uses.
 ///
 /// The input `summary` has the number 1, and the others follow it. They are read and judged in this order,
 /// before anything is written. Refused for the first that is not a row of whole messages (`Wire`), could not

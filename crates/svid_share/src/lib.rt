@@ -4,9 +4,10 @@
 //! An engine is generic over the sources it reads and the sinks it writes to, and its contract says
 //! what it writes of what it reads, which fault it answers, and what it leaves as it was.
 //! [`run_report`] writes a record for people to read, and [`run_merge`] for validators, as the texts of
-//! its parts. [`run_summary`] writes the summary of a record, by which another validator finds with
-//! [`run_answer`] what this one lacks. [`join_input`] and [`join_inputs`] serve the engines
-//! of the crates above, as [`read_summary`], [`read_input`], [`put_text`] and [`put_batches`] do.
+//! its parts. [`run_summary`] writes the summary of a record, and [`run_answer`] answers one with the uses
+//! of all buckets whose digests differ from the summary's: whole buckets, so also uses that both records
+//! have. [`join_input`] and [`join_inputs`] serve the engines of the crates above, as [`read_summary`],
+//! [`read_input`], [`put_text`] and [`put_batches`] do.
 //!
 //! ```rust
 //! use svid_share::run_report;

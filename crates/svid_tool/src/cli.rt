@@ -61,7 +61,9 @@ fn answer_command<'a>(alloc: Global) -> Result<Command<'a>, AllocError> {
         .required(true)
         .help("A file of one summary");
     Command::new(alloc, "answer")
-        .about("Joins the batches of the inputs, and writes what a summary lacks of the record")
+        .about(
+            "Joins the batches of the inputs, and writes all uses of the buckets whose digests differ from a summary's",
+        )
         .after_help(
             "Standard input is read where no FILE is named as an argument: messages, to their end.{n}{n}Exit status: 0 the answer was written; 1 an input was refused; 2 usage, a file, a write or memory.",
         )
