@@ -10,8 +10,9 @@
 //! in their order, and [`IndexedUses`] for many and for look-ups by key.
 //!
 //! Two records that mostly agree need not tell each other all: a [`Summary`] has a digest for each of
-//! 256 buckets, one for each first byte of a key, and a record answers one with the uses of the buckets
-//! whose digest differs. What a record loses after it made its summary no answer brings back.
+//! 256 buckets, one for each first byte of a key, and a record answers one with all uses of the buckets
+//! whose digest differs: also those that the other has, but none of a bucket that agrees. So what a
+//! record loses after it made its summary need not come back.
 //!
 //! ```rust
 //! use svid_replay::{Batch, Record, SortedUses, Use};

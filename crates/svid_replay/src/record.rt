@@ -196,7 +196,7 @@ impl<S: UseStore> Record<S> {
 
     /// Raises the record to the summary's moment, and answers the uses of all buckets whose digest then
     /// differs from the summary's, as batches of the record's moment: 4,096 uses in rising order in each
-    /// but the last. One batch with no use where no bucket differs.
+    /// but the last. One batch with no use where there are no such uses.
     ///
     /// Where memory is refused only the raise stands. Looks at each use twice.
     pub fn answer(&mut self, alloc: Global, summary: &Summary) -> Result<Vec<Batch>, AllocError>
