@@ -69,6 +69,24 @@ fn answers_what_differs<S: UseStore>(
     Ok(())
 }
 
+// A joined record tells the uses of both sides to a new one.
+fn answers_with_what_it_joined<S: UseStore, T: UseStore>(
+    rt: &impl Abort,
+    alloc: Global,
+    record: &mut Record<S>,
+    other: &mut Record<T>,
+) -> Result<(), Fail> {
+    absorb(record, alloc, 100, &[FIRST])?;
+    absorb(other, alloc, 100, &[SECOND])?;
+    record.merge(other)?;
+    let answer = record.answer(alloc, &sorted(alloc).summary())?;
+    assert_one_batch(rt, &answer, 100, &[FIRST, SECOND]);
+    let own = record.summary();
+    let answer = record.answer(alloc, &own)?;
+    assert_one_batch(rt, &answer, 100, &[]);
+    Ok(())
+}
+
 fn raises_before_it_compares<S: UseStore, T: UseStore>(
     rt: &impl Abort,
     alloc: Global,
@@ -186,6 +204,8 @@ fn an_answer_has_what_differs_after_the_raise(rt: HostRuntime) -> Result<(), Fai
     let alloc = rt.alloc();
     answers_what_differs(&rt, alloc, &mut sorted(alloc))?;
     answers_what_differs(&rt, alloc, &mut indexed(alloc))?;
+    answers_with_what_it_joined(&rt, alloc, &mut sorted(alloc), &mut indexed(alloc))?;
+    answers_with_what_it_joined(&rt, alloc, &mut indexed(alloc), &mut sorted(alloc))?;
     raises_before_it_compares(&rt, alloc, &mut sorted(alloc), &mut indexed(alloc))?;
     raises_before_it_compares(&rt, alloc, &mut indexed(alloc), &mut sorted(alloc))?;
     does_not_bring_back(&rt, alloc, &mut sorted(alloc), &mut indexed(alloc))
