@@ -93,6 +93,32 @@ fn takes_up_to_the_horizon(rt: HostRuntime) -> Result<(), Fail> {
     assert_taken(&rt, alloc, 10, 1000, LAST, Some(TakeFault::TooFarAhead))
 }
 
+// So is that of a batch that has no use: the moment of the call, that of the batch, and whether it is
+// taken.
+const EMPTY_BATCHES: [(u64, u64, bool); 3] = [
+    (1000, 1010, true),
+    (1000, 1011, false),
+    (LAST, LAST, true),
+];
+
+#[test]
+fn takes_an_empty_batch_up_to_the_horizon(rt: HostRuntime) -> Result<(), Fail> {
+    let alloc = rt.alloc();
+    for (now, moment, is_taken) in EMPTY_BATCHES {
+        let batch = Batch::make(moment, Vec::new(alloc))?;
+        let mut v = sharing(alloc, PLACE, 10)?;
+        let found = v.take(now, &batch).err();
+        if is_taken {
+            assert_eq!(rt; found, None);
+            assert_record(&rt, &v, moment, 0);
+        } else {
+            assert_eq!(rt; found, Some(TakeFault::TooFarAhead));
+            assert_record(&rt, &v, now, 0);
+        }
+    }
+    Ok(())
+}
+
 // The horizon is counted from the moment of the call, and not from the record's.
 #[test]
 fn a_record_that_is_ahead_moves_no_horizon(rt: HostRuntime) -> Result<(), Fail> {
