@@ -107,7 +107,8 @@ pub(crate) fn take_piece(
 ///
 /// Refused with the fault of the first text that is bad, its place counted from that text's first
 /// byte: `Truncated` only where the bytes end within it, with the number of its bytes. The messages
-/// before it are appended; for want of memory, the first of them. `out` only grows.
+/// before it are appended; for want of memory, the first of them. `out` only grows. Each message takes
+/// about 8 KiB of it, a batch too, for a message has room for a summary.
 pub fn read_all(alloc: Global, bytes: &[u8], out: &mut Vec<Message>) -> Result<(), WireFault>
     ensures ok { OnOk result (Appended bytes.now out.old.items out.new.items []) }
     ensures fault { IfErr result (StopsAt bytes.now out.old.items out.new.items) }

@@ -50,7 +50,8 @@ impl Feed {
     /// Refused with the first field that is bad, by the push that makes it whole, and the place where it
     /// begins, counted from the first byte of its message; or for want of memory. The messages before it
     /// are appended. From then on nothing is held, and each push answers `Failed` at place 0 and appends
-    /// nothing. `out` only grows.
+    /// nothing. `out` only grows. Each message takes about 8 KiB of it, a batch too, for a message has
+    /// room for a summary.
     pub fn push(&mut self, piece: &[u8], out: &mut Vec<Message>) -> Result<(), WireFault>
         ensures ok { OnOk result (Pushed self.old self.new out.old.items out.new.items piece.now) }
         ensures fault { IfErr result (IsPushFault self.old out.old.items out.new.items piece.now) }

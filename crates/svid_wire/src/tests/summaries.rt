@@ -4,7 +4,7 @@ use super::{A_SUMMARY, NO_USES, TWO_USES, fault_of, joined, told_of, write_each}
 use crate::{Feed, MemSink, Message, Reason, WireFault, WriteFault, read_all, write_summary};
 use std::alloc::{AllocError, Global};
 use std::test::Fail;
-use svid_replay::Summary;
+use svid_replay::{Record, SortedUses, Summary};
 
 // The digest of no bytes, by SHA-256 (FIPS 180-4).
 const OF_NO_BYTES: &[u8; 32] = b"\xe3\xb0\xc4\x42\x98\xfc\x1c\x14\x9a\xfb\xf4\xc8\x99\x6f\xb9\x24\
@@ -53,9 +53,10 @@ fn writes_the_text_of_a_summary(rt: HostRuntime) -> Result<(), Fail> {
     let none = text_of_no_uses(alloc)?;
     assert_eq!(rt; none.len(), 8205);
     let numbers = text_of_numbered(alloc)?;
+    let new = Record::new(SortedUses::new(alloc)).summary();
     for step in [1usize, 7, 13, 100, 10000] {
         assert!(rt; step > 0);
-        let of_none = written(alloc, &Summary::make(0, [*OF_NO_BYTES; 256]), step)?;
+        let of_none = written(alloc, &new, step)?;
         assert_eq!(rt; of_none == none, true, "step {step}");
         let of_numbered = written(alloc, &numbered(), step)?;
         assert_eq!(rt; of_numbered == numbers, true, "step {step}");
