@@ -6,6 +6,7 @@ pub mod ClashesLemmas
 pub mod CutsLemmas
 pub mod EachToldLemmas
 pub mod EventsLemmas
+pub mod ForgetfulLemmas
 pub mod LawfulLemmas
 pub mod MembersLemmas
 pub mod PlacesLemmas

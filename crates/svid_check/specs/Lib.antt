@@ -3,6 +3,7 @@ pub mod Bounds
 pub mod Calls
 pub mod Changes
 pub mod Events
+pub mod Forgetful
 pub mod Headline
 pub mod Lawful
 pub mod Runs

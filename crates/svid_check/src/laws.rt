@@ -1,9 +1,11 @@
-//! Laws of the verdicts and of runs, carried by functions that compute nothing.
+//! Laws of the verdicts, of runs, and of a group of validators, carried by functions that compute
+//! nothing.
 
 ghost use Rattle.svid_check.specs.Bounds.{AnswersAreBounded, ChecksAreBounded, RecordsAreBounded, RunsAreBounded, TakesAreBounded, TicksAreBounded};
 ghost use Rattle.svid_check.specs.Calls.{AnswersTellMoments, ChecksAreSteps, RecordsGoOn, RunsGoOn, TakesAreSteps, TicksAreSteps};
 ghost use Rattle.svid_check.specs.Alone.{AcceptsOnce};
 ghost use Rattle.svid_check.specs.Events.{AnswersAreEvents, ChecksAreEvents, SendsAreEvents, SumsAreEvents, TakesAreEvents, TicksAreEvents};
+ghost use Rattle.svid_check.specs.Forgetful.{AnswersAreForgotten, SendsAreForgotten};
 ghost use Rattle.svid_check.specs.Headline.{AcceptedIsRefused, AnswersTellAll, ChainsTell, ChecksAreVerdicts, EqualTellings, RecordsAreTold, ReportsAreExact, ReportsAreWhole, RestartsAbsorb, SendsMakeEqual, SendsTellAll, ToldIsRefused, ToldWereAccepted, TwoPlacesAreReported, WithMemoryVerdicts};
 ghost use Rattle.svid_check.specs.Lawful.{IsAlive, IsFresh, IsInRange, IsMadeNow, IsOfItsInput};
 ghost use Rattle.svid_check.specs.Said.{UnrefusedIsSaid};
@@ -123,6 +125,14 @@ pub fn restarts_absorb()
 /// answerer had been told by then, or a bucket of the two had different texts of one digest.
 pub fn answers_tell_all()
     ensures { AnswersTellAll }
+{}
+
+/// A restart puts a log back with its record, as a save holds both: where a restart left the log as it
+/// was, a validator whose log has a whole record, or a summary and its whole answer, need not have been
+/// told what the other had been.
+pub fn logs_go_back_with_their_saves()
+    ensures sends { SendsAreForgotten }
+    ensures answers { AnswersAreForgotten }
 {}
 
 /// Each call of a validator, answered and leaving its record as the call's contract says, is an event
