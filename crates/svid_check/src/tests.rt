@@ -7,6 +7,7 @@ mod bytes;
 mod chance;
 mod group;
 mod keys;
+mod laws;
 mod refusals;
 mod refusing;
 mod runs;
