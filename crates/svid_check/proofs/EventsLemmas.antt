@@ -18,13 +18,14 @@ use Rattle.svid_replay.specs.Uses.{Uses}
 use Rattle.svid_check.specs.declared.accepted.Accepted.{Accepted}
 use Rattle.svid_check.specs.declared.take_fault.TakeFault.{TakeFault}
 use Rattle.svid_check.specs.declared.take_fault.TakeFault.TheVariants.{OutOfMemory, TooFarAhead}
-use Rattle.svid_check.specs.Changes.{Replies, Takes, raised, settled}
+use Rattle.svid_check.specs.Changes.{Replies, Takes, horizon, raised, settled}
 use Rattle.svid_check.specs.Events.{AnswersAreEvents, ChecksAreEvents, SendsAreEvents, SumsAreEvents, TakesAreEvents, TicksAreEvents, entries, posted}
 use Rattle.svid_check.specs.Runs.{Terms}
 use Rattle.svid_check.specs.Said.{RefusesForm}
+use Rattle.svid_check.specs.Alone.{AnswersAreCalls, ChecksAreCalls, TakesAreCalls, TicksAreCalls}
 use Rattle.svid_check.specs.Setting.{Setting}
 use Rattle.svid_check.specs.Verdict.{verdict}
-use Rattle.svid_check.specs.World.{Answer, Answered, Content, Entry, Made, Member, Posting, Take, Took, World, answer_at, answer_by, answer_content, answer_posting, answer_summary, check_answer, checked, far, form_or_memory, front, happens, joined, logged, post, put, take_part, take_posting, ticked, took}
+use Rattle.svid_check.specs.World.{Answer, Answered, Content, Entry, Made, Member, Posting, Sent, Summed, Take, Took, World, answer_at, answer_by, answer_content, answer_posting, answer_summary, check_answer, checked, far, form_or_memory, front, happens, joined, logged, post, put, take_part, take_posting, ticked, took}
 use Rattle.svid_check.proofs.RowsLemmas.{told}
 
 -- what is put at v stands there
@@ -127,9 +128,47 @@ answers_are_events group w v now k q s answer y at_k is_summary h =
 
 -- ---- what is posted as it is
 pub sends_are_events : SendsAreEvents
-sends_are_events group w v = (refl, refl)
+sends_are_events group w v parts is = (refl, ap (λ (ps : List BatchData). w.pool ++ record { maker = v; was = w.members v; content = Sent ps } ∷ []) (sym is))
 
 pub sums_are_events : SumsAreEvents
-sums_are_events group w v =
-    let is = itself w v (logged (w.members v) (Made (length w.pool))) in
-    (ap (λ (m : Member). m.held) is, ap (λ (m : Member). m.log) is, refl)
+sums_are_events group w v summary same =
+    let is = itself w v (logged (w.members v) (Made (length w.pool))) in (
+      ap (λ (m : Member). m.held) is,
+      ap (λ (m : Member). m.log) is,
+      ap (λ (s : SummaryData). w.pool ++ record { maker = v; was = w.members v; content = Summed s } ∷ []) (sym same),
+    )
+
+-- ---- one validator by itself
+pub checks_are_calls : ChecksAreCalls
+checks_are_calls t w now token answer due form =
+    let x = raised w.held now in
+    let g = check_gives t.setting x token answer due form in
+    (g.0, g.1, ap (settled x) g.1)
+
+pub ticks_are_calls : TicksAreCalls
+ticks_are_calls t w now = refl
+
+abbrev either_way : State → State → Bool → State
+either_way x y test = if test then x else y
+
+pub takes_are_calls : TakesAreCalls
+takes_are_calls t w now b (Ok taken) y h =
+    let x = raised w.held now in
+    (None, ap (either_way x (join x (state_of b.moment b.uses))) (le-ltb (horizon now t.ahead) b.moment h.0) ∙ sym h.1)
+takes_are_calls t w now b (Err TooFarAhead) y h =
+    let x = raised w.held now in
+    (None, ap (either_way x (join x (state_of b.moment b.uses))) (lt-ltb (horizon now t.ahead) b.moment h.0) ∙ sym h.1)
+takes_are_calls t w now b (Err OutOfMemory) y h =
+    let x = raised w.held now in
+    let part = h.1 in
+    let n = length part.front in
+    let first : take n b.uses ≡ part.front = ap (take n) part.parts ∙ take-append_seam part.front (part.refused ∷ part.rest) in (
+      Some n,
+      ap (either_way x (join x (state_of b.moment (take n b.uses)))) (le-ltb (horizon now t.ahead) b.moment h.0)
+          ∙ (ap (λ (us : List Use). join x (state_of b.moment us)) first ∙ sym part.joined),
+    )
+
+pub answers_are_calls : AnswersAreCalls
+answers_are_calls t w now s (Ok batches) y h = let x = raised w.held now in ap (either_way x (raised x s.moment)) (le-ltb (horizon now t.ahead) s.moment h.0) ∙ sym h.2
+answers_are_calls t w now s (Err TooFarAhead) y h = let x = raised w.held now in ap (either_way x (raised x s.moment)) (lt-ltb (horizon now t.ahead) s.moment h.0) ∙ sym h.1
+answers_are_calls t w now s (Err OutOfMemory) y h = let x = raised w.held now in ap (either_way x (raised x s.moment)) (le-ltb (horizon now t.ahead) s.moment h.0) ∙ sym h.1

@@ -17,11 +17,12 @@ use Rattle.svid_replay.proofs.SetsLemmas.{rising_rises}
 use Rattle.svid_replay.proofs.TestsLemmas.{equal}
 use Rattle.svid_replay.proofs.TwiceLemmas.{is_twice}
 use Rattle.svid_replay.proofs.UsesLemmas.{holds-live, rising_has_held}
-use Rattle.svid_check.specs.Headline.{IsLiveUse, IsUsedTwice, RecordsAreTold, ReportsAreExact, ReportsAreWhole, TwoPlacesAreReported, member_after, report_of}
+use Rattle.svid_check.specs.Headline.{IsLiveUse, IsUsedTwice, RecordsAreTold, ReportedWereAcceptedTwice, ReportsAreExact, ReportsAreWhole, TwoPlacesAreReported, member_after, report_of}
 use Rattle.svid_check.specs.Lawful.{Accepts, input_of}
 use Rattle.svid_check.specs.Runs.{Terms}
 use Rattle.svid_check.specs.Told.{Told, record_of}
 use Rattle.svid_check.specs.World.{Member}
+use Rattle.svid_check.proofs.EachToldLemmas.{told_were_accepted}
 use Rattle.svid_check.proofs.LawfulLemmas.{of_its_input}
 
 -- the test of a key
@@ -100,6 +101,11 @@ module _ (records : RecordsAreTold) where
   reports_are_whole group events v t u listed = report_is_whole (member_after group events v) (records group events v) t u listed
 
   pub two_places_are_reported : TwoPlacesAreReported
-  two_places_are_reported group events v t other moment later uses others token again a b accepts accepts_also input places told_a told_b live_at =
-      let same = of_its_input t.setting other.setting moment later uses others token again a b accepts accepts_also input in
+  two_places_are_reported group events v s other moment later uses others token again a b accepts accepts_also input places told_a told_b live_at =
+      let same = of_its_input s other moment later uses others token again a b accepts accepts_also input in
       two_are_reported (member_after group events v) (records group events v) a b (λ e. places (ap (λ (u : Use). u.place) e)) same.0 same.1 told_a told_b live_at
+
+  pub reported_were_accepted_twice : ReportedWereAcceptedTwice
+  reported_were_accepted_twice group events v key listed =
+      let two = (report_is_exact (member_after group events v) (records group events v) key).0 listed in
+      (two.one, two.other, two.differ, two.first.2, two.second.2, told_were_accepted group events v two.one two.first.0, told_were_accepted group events v two.other two.second.0)

@@ -3,7 +3,10 @@ use Rattle.std.proofs.Common.{◌≡◌, ◌≢◌, ℕ, ◌<◌, ◌≤◌, max
 use Rattle.std.specs.Prelude.{IsTrue, Option, Some, None, Result, Ok, Err, slice_get, ◌==◌}
 use Rattle.std.specs.Cmp.{both_ways}
 use Rattle.std.specs.List.{AllByRecursion, Contains}
-use Rattle.std.proofs.lemmas.Bool.{and_from, cases_eq, cases_lt, cond-false, cond_both, eqb-true, lt-ltb, ltb-false, ne_eqb, or_left, or_right}
+use Rattle.std.specs.Ordering.{eq_by_cmp, is_eq}
+use Rattle.std.proofs.lemmas.Cmp.{tied_itself}
+use Rattle.svid_token.specs.declared.refusal.Refusal.{Refusal}
+use Rattle.std.proofs.lemmas.Bool.{and_from, cases_eq, cases_lt, cond-false, cond-true, cond_both, eq-eqb, eqb-true, lt-ltb, ltb-false, ne_eqb, or_left, or_right}
 use Rattle.std.proofs.lemmas.Bool.Decides.{nat_tests}
 use Rattle.std.proofs.lemmas.Option.{none-some, same_Some}
 use Rattle.svid_replay.specs.declared.token_use.Use.{Use}
@@ -13,11 +16,13 @@ use Rattle.svid_replay.specs.Parts.{cut, parts_of}
 use Rattle.svid_replay.specs.Records.{State}
 use Rattle.svid_replay.specs.Sets.{holds, rising}
 use Rattle.svid_replay.specs.Summary.{SummaryData}
+use Rattle.svid_replay.specs.Use.{use_cmp}
 use Rattle.svid_replay.specs.Uses.{Uses, live, uses_in}
-use Rattle.svid_replay.proofs.UsesLemmas.{holds-live, same_uses, uses_in-rising}
+use Rattle.svid_replay.proofs.UseLemmas.{use_total}
+use Rattle.svid_replay.proofs.UsesLemmas.{holds-live, same_uses, uses_in-rising, with_holds_one_more}
 use Rattle.svid_check.specs.declared.accepted.Accepted.{Accepted}
 use Rattle.svid_check.specs.Changes.{raised}
-use Rattle.svid_check.specs.Headline.{ChainsTell, HasTaken, IsRefusedBy, IsSend, IsUseOf, IsWithin, SendsMakeEqual, SendsTellAll, TakesOnly, WentAlong}
+use Rattle.svid_check.specs.Headline.{AcceptanceGoesAlong, AcceptanceTells, AcceptedIsRefused, ChainsTell, HasTaken, IsRefusedBy, IsSend, IsUseOf, IsWithin, RestartsPutBack, SendsMakeEqual, SendsTellAll, TakesOnly, ToldIsRefused, WentAlong}
 use Rattle.svid_check.specs.Lawful.{Accepts, input_of}
 use Rattle.svid_check.specs.Runs.{Terms}
 use Rattle.svid_check.specs.Setting.{Setting}
@@ -28,6 +33,7 @@ use Rattle.svid_check.proofs.CutsLemmas.{first_part, in_part}
 use Rattle.svid_check.proofs.LawfulLemmas.{alive, fresh, of_its_input}
 use Rattle.svid_check.proofs.MembersLemmas.{IsTold, carried_within, holds-carried, union_within}
 use Rattle.svid_check.proofs.PlacesLemmas.{later_place}
+use Rattle.svid_check.proofs.RestartsLemmas.{restart_absorbs}
 use Rattle.svid_check.proofs.RunsLemmas.{told_now}
 use Rattle.svid_check.proofs.SoundLemmas.{Arrived, Given, Sound, Stands, goes_on_sound, is_sound}
 
@@ -99,20 +105,44 @@ pub chains_tell : ChainsTell
 chains_tell group events v k q u chain send taken along =
     sends_tell group events v k q send taken u (went_along (happen group start events) (is_sound group events) u k chain q send along)
 
--- a use that was told is in the record, unless it has expired, so its token is refused
-pub told_refuses : (t : Terms) (x : Member) (token : List ℕ) (u : Use) → IsTold x → IsTrue (holds x.told.uses u) → IsUseOf u token → IsRefusedBy t x token
-told_refuses t x token u is h of now refused accepted e =
+put_own : (w : World) (v : ℕ) (x : Member) → (put w v x).members v ≡ x
+put_own w v x = cond-true (v == v) x (w.members v) (eq-eqb v v refl)
+
+accepted_told : (x : Member) (accepted : Accepted) → IsTrue (holds (checked x (Ok accepted)).told.uses accepted.used)
+accepted_told x accepted =
+    with_holds_one_more x.told.uses accepted.used accepted.used
+    ∙ or_left (eq_by_cmp use_cmp accepted.used accepted.used) (holds x.told.uses accepted.used) (ap is_eq (tied_itself use_total accepted.used))
+
+-- a use that was told is in the record, unless it has expired, so tokens of its signing input are refused
+pub told_refuses : (t : Terms) (x : Member) (input : List ℕ) (u : Use) → IsTold x → IsTrue (holds x.told.uses u) → IsUseOf u input → IsRefusedBy t x input
+told_refuses t x input u is h of token now refused accepted is_input e =
     let y = ticked x now in
     let told : y.held ≡ record_of y.told = sym (told_now x.told x.held now (sym is)) in
     let accepts = accepted_is t.setting y.held token refused accepted e in
-    let same = of t y.held.moment y.held.uses accepted.used accepts in
+    let same = of t.setting y.held.moment y.held.uses token accepted.used is_input accepts in
     let lives : y.held.moment < u.exp = subst (λ (n : ℕ). y.held.moment < n) same.1 (alive t.setting y.held.moment y.held.uses token accepted.used accepts) in
     fresh t.setting y.held.moment y.held.uses token accepted.used u accepts (told_is_held y u told h lives) (sym same.0)
 
-pub accepted_use_of : (s : Setting) (moment : ℕ) (uses : Uses) (token again : List ℕ) (u : Use) → Accepts s moment uses token u → input_of token ≡ input_of again → IsUseOf u again
-accepted_use_of s moment uses token again u first same t later others added accepts =
-    let is = of_its_input s t.setting moment later uses others token again u added first accepts same in
-    (sym is.0, sym is.1)
+accepted_use_of : (s : Setting) (moment : ℕ) (uses : Uses) (token input : List ℕ) (u : Use) → Accepts s moment uses token u → input_of token ≡ Some input → IsUseOf u input
+accepted_use_of s moment uses token input u first is other later others again added same accepts =
+    let found = of_its_input s other moment later uses others token again u added first accepts (is ∙ sym same) in
+    (sym found.0, sym found.1)
+
+pub told_is_refused : ToldIsRefused
+told_is_refused group events v input u h of = told_refuses (group v) ((happen group start events).members v) input u ((is_sound group events).members v).is_told h of
+
+pub accepted_is_refused : AcceptedIsRefused
+accepted_is_refused group events v moment s uses token input u accepts is h = told_is_refused group events v input u h (accepted_use_of s moment uses token input u accepts is)
+
+pub acceptance_goes_along : AcceptanceGoesAlong
+acceptance_goes_along group events v k moment q chain s uses token input u accepts is send taken along =
+    accepted_is_refused group events v moment s uses token input u accepts is (chains_tell group events v k q u chain send taken along)
+
+pub acceptance_tells : AcceptanceTells
+acceptance_tells group w v now token refused accepted e =
+    let x = ticked (w.members v) now in
+    subst (λ (y : Member). IsTrue (holds y.told.uses accepted.used)) (sym (put_own w v (checked x (answer_at group w v now token refused))))
+    (subst (λ (a : Result Accepted Refusal). IsTrue (holds (checked x a).told.uses accepted.used)) (sym e) (accepted_told x accepted))
 
 -- ---- a send taken whole, with nothing between
 put_other : (w : World) (v n : ℕ) (x : Member) → n ≢ v → (put w n x).members v ≡ w.members v
@@ -214,3 +244,14 @@ sends_make_equal group events takes v k q send told only taken =
     let sound = goes_on_sound group before takes (is_sound group events) in
     same_uses (after.members v).told.uses q.was.told.uses (λ u.
     both_ways (holds (after.members v).told.uses u) (holds q.was.told.uses u) (under.told u) (send_told after (after.members v) k q sound (sound.members v) (under.place, send.1) taken u))
+
+-- ---- a restart puts back a save of its own
+restarted : (w : World) (v : ℕ) (s : Saved) → s.owner ≡ v → (restart w v (Some s)).members v ≡ s.was
+restarted w v s own = ap (λ (x : World). x.members v) (cond-true (s.owner == v) (put w v s.was) w (eq-eqb s.owner v own)) ∙ put_own w v s.was
+
+pub put_back : RestartsPutBack
+put_back group events v k s at own =
+    let w = happen group start events in
+    let same : (restart w v (slice_get w.saves k)).members v ≡ s.was = ap (λ (r : Option Saved). (restart w v r).members v) at ∙ restarted w v s own in
+    let held = restart_absorbs s.was ((is_sound group events).saves k s at).is_told in
+    (ap (λ (x : Member). x.held) same ∙ sym held, ap (λ (x : Member). x.told) same, ap (λ (x : Member). x.log) same)

@@ -1,13 +1,18 @@
 -- One validator by itself, with any messages, and its saves.
-use Rattle.std.specs.Prelude.{◌≡◌, ◌≢◌, ℕ, ◌≤◌, Bool, false, nat_lt, if◌then◌else◌, List, [], ◌∷◌, ◌++◌, length, slice_get, Option, Some, None, Result, Ok}
+use Rattle.std.specs.Prelude.{◌≡◌, ◌≢◌, ℕ, ◌≤◌, Bool, false, nat_lt, if◌then◌else◌, List, [], ◌∷◌, ◌++◌, length, slice_get, Option, Some, None, Result, Ok, Vec}
+use Rattle.std.specs.declared.alloc.Global.{Global}
+use Rattle.svid_token.specs.Rows.{Answers}
 use Rattle.svid_token.specs.declared.refusal.Refusal.{Refusal}
 use Rattle.svid_replay.specs.Batches.{BatchData}
 use Rattle.svid_replay.specs.Records.{State, batch_state, join}
 use Rattle.svid_replay.specs.Summary.{SummaryData}
 use Rattle.svid_check.specs.declared.accepted.Accepted.{Accepted}
-use Rattle.svid_check.specs.Changes.{horizon, raised, settled}
+use Rattle.svid_check.specs.declared.take_fault.TakeFault.{TakeFault}
+use Rattle.svid_check.specs.Changes.{Replies, Takes, horizon, raised, settled}
 use Rattle.svid_check.specs.Lawful.{input_of}
 use Rattle.svid_check.specs.Runs.{Terms}
+use Rattle.svid_check.specs.Said.{RefusesForm}
+use Rattle.svid_check.specs.Verdict.{verdict}
 use Rattle.svid_check.specs.World.{check_answer, front}
 
 -- a validator's record, and its saves
@@ -58,13 +63,34 @@ module _ (t : Terms) where
   calls w [] = w
   calls w (call ∷ more) = calls (called w call) more
 
--- no save before the n-th is put back
+-- whatever the contract of a check allows, its call does, for some memory that was refused
+abbrev pub ChecksAreCalls : Type 0
+ChecksAreCalls = (t : Terms) (w : Alone) (now : ℕ) (token : List ℕ) (answer : Result Accepted Refusal)
+    → let x = raised w.held now in
+    Answers Some answer (verdict t.setting x.moment x.uses token) → RefusesForm token answer
+    → (refused : Bool) × (answer_alone t w now token refused ≡ answer) × ((called t w (Check now token refused)).held ≡ settled x answer)
+
+-- so do a tick
+abbrev pub TicksAreCalls : Type 0
+TicksAreCalls = (t : Terms) (w : Alone) (now : ℕ) → (called t w (Tick now)).held ≡ raised w.held now
+
+-- a take
+abbrev pub TakesAreCalls : Type 0
+TakesAreCalls = (t : Terms) (w : Alone) (now : ℕ) (b : BatchData) (answer : Result (Unit {0}) TakeFault) (y : State)
+    → Takes (raised w.held now) (horizon now t.ahead) b answer y → (refused : Option ℕ) × ((called t w (Take now b refused)).held ≡ y)
+
+-- and an answer to a summary
+abbrev pub AnswersAreCalls : Type 0
+AnswersAreCalls = (t : Terms) (w : Alone) (now : ℕ) (s : SummaryData) (answer : Result (Vec BatchData Global) TakeFault) (y : State)
+    → Replies (raised w.held now) (horizon now t.ahead) s answer y → (called t w (Answer now s)).held ≡ y
+
+-- no save before the n-th, counted from 0, is put back
 abbrev pub PutsBackFrom : ℕ → List Call → Type 0
 PutsBackFrom n [] = Unit {0}
 PutsBackFrom n (Restart k ∷ more) = (n ≤ k) × PutsBackFrom n more
 PutsBackFrom n (_ ∷ more) = PutsBackFrom n more
 
--- from any state, once a check accepts a token, no check accepts one of its signing input, unless a save from before the acceptance is put back
+-- from any state, once a check accepts a token, no later check accepts one of its signing input, unless a save from before the acceptance is put back
 abbrev pub AcceptsOnce : Type 0
 AcceptsOnce = (t : Terms) (w : Alone) (now later : ℕ) (token again : List ℕ) (calls_between : List Call) (refused : Bool) (first second : Accepted)
     → answer_alone t w now token false ≡ Ok first

@@ -5,8 +5,9 @@ use Rattle.svid_token.specs.Rows.{Answers}
 use Rattle.svid_token.specs.declared.refusal.Refusal.{Refusal}
 use Rattle.svid_replay.specs.Batches.{BatchData}
 use Rattle.svid_replay.specs.Buckets.{summary_of}
-use Rattle.svid_replay.specs.Parts.{parts_of}
+use Rattle.svid_replay.specs.Parts.{cut}
 use Rattle.svid_replay.specs.Records.{State}
+use Rattle.svid_replay.specs.Sets.{rising}
 use Rattle.svid_replay.specs.Summary.{SummaryData}
 use Rattle.svid_check.specs.declared.accepted.Accepted.{Accepted}
 use Rattle.svid_check.specs.declared.take_fault.TakeFault.{TakeFault}
@@ -38,7 +39,7 @@ TakesAreEvents = (group : ℕ → Terms) (w : World) (v now k p : ℕ) (q : Post
     → slice_get w.pool k ≡ Some q → slice_get (parts_in q.content) p ≡ Some b → Takes (raised (w.members v).held now) (far group v now) b answer y
     → (refused : Option ℕ) × (let x = (happens group w (Take v now k p refused)).members v in (x.held ≡ y) × (x.log ≡ (w.members v).log ++ entries (Took k p) answer))
 
--- what validator v, which then is x, posts of an answer to posting k: the batches, where there are any
+-- what validator v, which then is x, posts of an answer to posting k: the batches, where it was answered
 abbrev pub posted : ℕ → ℕ → Member → Result (Vec BatchData Global) TakeFault → List Posting
 posted v k x (Ok batches) = record { maker = v; was = x; content = Answered k batches.items } ∷ []
 posted v k x (Err fault) = []
@@ -49,16 +50,17 @@ AnswersAreEvents = (group : ℕ → Terms) (w : World) (v now k : ℕ) (q : Post
     → slice_get w.pool k ≡ Some q → q.content ≡ Summed s → Replies (raised (w.members v).held now) (far group v now) s answer y
     → (refused : Bool) × (let after = happens group w (Answer v now k refused) in ((after.members v).held ≡ y) × (after.pool ≡ w.pool ++ posted v k (after.members v) answer))
 
--- a send leaves a validator as it is, and posts the parts of its record
+-- a send leaves a validator as it is, and posts the parts of its record; one to which memory is refused posts nothing, and is no event
 abbrev pub SendsAreEvents : Type 0
-SendsAreEvents = (group : ℕ → Terms) (w : World) (v : ℕ)
+SendsAreEvents = (group : ℕ → Terms) (w : World) (v : ℕ) (parts : List BatchData)
     → let x = w.members v in
     let after = happens group w (Send v) in
-    (after.members v ≡ x) × (after.pool ≡ w.pool ++ record { maker = v; was = x; content = Sent (parts_of x.held) } ∷ [])
+    parts ≡ cut x.held.moment (rising x.held.uses) → (after.members v ≡ x) × (after.pool ≡ w.pool ++ record { maker = v; was = x; content = Sent parts } ∷ [])
 
 -- a summary leaves a validator's record as it is, is posted, and stands in the log by its place
 abbrev pub SumsAreEvents : Type 0
-SumsAreEvents = (group : ℕ → Terms) (w : World) (v : ℕ)
+SumsAreEvents = (group : ℕ → Terms) (w : World) (v : ℕ) (summary : SummaryData)
     → let x = w.members v in
     let after = happens group w (Sum v) in
-    ((after.members v).held ≡ x.held) × ((after.members v).log ≡ x.log ++ Made (length w.pool) ∷ []) × (after.pool ≡ w.pool ++ record { maker = v; was = x; content = Summed (summary_of x.held) } ∷ [])
+    summary ≡ summary_of x.held
+    → ((after.members v).held ≡ x.held) × ((after.members v).log ≡ x.log ++ Made (length w.pool) ∷ []) × (after.pool ≡ w.pool ++ record { maker = v; was = x; content = Summed summary } ∷ [])

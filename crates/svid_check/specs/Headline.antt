@@ -1,5 +1,5 @@
 -- What is proved of a group of validators, over every list of events.
-use Rattle.std.specs.Prelude.{◌≡◌, ◌≢◌, ◌⊎◌, ◌↔◌, ℕ, ◌<◌, ◌^◌, Bool, false, List, [], ◌∷◌, map, slice_get, Some, IsTrue, Result, Ok}
+use Rattle.std.specs.Prelude.{◌≡◌, ◌≢◌, ◌⊎◌, ◌↔◌, ℕ, ◌<◌, ◌^◌, Bool, false, List, [], ◌∷◌, map, slice_get, Some, IsTrue, Ok}
 use Rattle.std.specs.List.{AllByRecursion, Contains}
 use Rattle.svid_token.specs.Rows.{seen}
 use Rattle.svid_replay.specs.declared.token_use.Use.{Use}
@@ -18,9 +18,10 @@ use Rattle.svid_check.specs.declared.accepted.Accepted.{Accepted}
 use Rattle.svid_check.specs.Changes.{raised}
 use Rattle.svid_check.specs.Lawful.{Accepts, input_of}
 use Rattle.svid_check.specs.Runs.{IsAnswered, Terms}
+use Rattle.svid_check.specs.Setting.{Setting}
 use Rattle.svid_check.specs.Told.{Told, record_of, tell_now}
 use Rattle.svid_check.specs.Verdict.{verdict}
-use Rattle.svid_check.specs.World.{Answered, Check, Content, Entry, Event, Made, Member, Posting, Restart, Save, Saved, Send, Sent, Sum, Summed, Take, Tick, Answer, Took, World, accepted, answer_at, check_answer, happen, parts_in, start}
+use Rattle.svid_check.specs.World.{Answered, Check, Entry, Event, Made, Member, Posting, Restart, Save, Saved, Send, Sent, Sum, Summed, Take, Tick, Answer, Took, World, accepted, answer_at, check_answer, happen, happens, parts_in, start}
 
 -- each use of the one set is in the other
 abbrev pub IsWithin : Uses → Uses → Type 0
@@ -41,7 +42,7 @@ abbrev pub ChecksAreVerdicts : Type 0
 ChecksAreVerdicts = (group : ℕ → Terms) (events : List Event) (v now : ℕ) (token : List ℕ) (refused : Bool)
     → IsAnswered (group v).setting (tell_now (member_after group events v).told now) token (answer_at group (happen group start events) v now token refused)
 
--- and by nothing but the verdict where no memory is refused
+-- each check is answered by nothing but the verdict where no memory is refused
 abbrev pub WithMemoryVerdicts : Type 0
 WithMemoryVerdicts = (group : ℕ → Terms) (events : List Event) (v now : ℕ) (token : List ℕ)
     → let x = tell_now (member_after group events v).told now in
@@ -75,7 +76,7 @@ TakesOnly v k (Answer n now posting refused) = n ≢ v
 TakesOnly v k (Save n) = n ≢ v
 TakesOnly v k (Restart n save) = n ≢ v
 
--- a validator that was told no more than the sender had been at a send, and that takes it whole with nothing between, was told the same uses as the sender at that send
+-- a validator that was told no use that the sender had not been told at a send, and that takes it whole with no other event of its own between, was then told just the uses that the sender had been told
 abbrev pub SendsMakeEqual : Type 0
 SendsMakeEqual = (group : ℕ → Terms) (events takes : List Event) (v k : ℕ) (q : Posting)
     → let before = happen group start events in
@@ -85,16 +86,16 @@ SendsMakeEqual = (group : ℕ → Terms) (events takes : List Event) (v k : ℕ)
 
 -- ---- what a send tells
 
--- a validator that took a send whole was told all that its sender had been told by then, what had expired too
+-- a validator that took a send whole was told all uses that its sender had been told by then, what had expired too
 abbrev pub SendsTellAll : Type 0
 SendsTellAll = (group : ℕ → Terms) (events : List Event) (v k : ℕ) (q : Posting)
     → let w = happen group start events in
     IsSend w k q → HasTaken (w.members v).log k q → IsWithin q.was.told.uses (w.members v).told.uses
 
--- a use went along these sends, the last of them k: the first send's maker had been told it, and each later one's maker had by then taken the one before it whole
+-- a use went along send k and the ones before it, from the latest to the first: the first one's maker had been told it, and each later one's maker had by then taken the one before it whole
 abbrev pub WentAlong : World → Use → ℕ → List ℕ → Type 0
 WentAlong w u k [] = (q : Posting) × IsSend w k q × IsTrue (holds q.was.told.uses u)
-WentAlong w u k (before ∷ chain) = (q : Posting) × (last : Posting) × IsSend w k q × IsSend w before last × HasTaken q.was.log before last × WentAlong w u before chain
+WentAlong w u k (before ∷ chain) = (q : Posting) × (earlier : Posting) × IsSend w k q × IsSend w before earlier × HasTaken q.was.log before earlier × WentAlong w u before chain
 
 -- a validator that took the last send of a chain whole was told each use that went along it
 abbrev pub ChainsTell : Type 0
@@ -102,25 +103,36 @@ ChainsTell = (group : ℕ → Terms) (events : List Event) (v k : ℕ) (q : Post
     → let w = happen group start events in
     IsSend w k q → HasTaken (w.members v).log k q → WentAlong w u k chain → IsTrue (holds (w.members v).told.uses u)
 
--- a check of the token is accepted by this validator at no moment, in whatever memory
+-- this validator accepts no token of the signing input, at any moment and in whatever memory
 abbrev pub IsRefusedBy : Terms → Member → List ℕ → Type 0
-IsRefusedBy t x token = (now : ℕ) (refused : Bool) (accepted : Accepted) → check_answer t.setting (raised x.held now) token refused ≢ Ok accepted
+IsRefusedBy t x input = (token : List ℕ) (now : ℕ) (refused : Bool) (accepted : Accepted) → input_of token ≡ Some input → check_answer t.setting (raised x.held now) token refused ≢ Ok accepted
 
--- each acceptance of the token, wherever and whenever, adds a use of this one's key and expiry
+-- the use has the key and the expiry of the signing input: those that each acceptance of a token of it adds, wherever and whenever
 abbrev pub IsUseOf : Use → List ℕ → Type 0
-IsUseOf u token = (t : Terms) (moment : ℕ) (uses : Uses) (added : Use) → Accepts t.setting moment uses token added → (added.key ≡ u.key) × (added.exp ≡ u.exp)
+IsUseOf u input = (s : Setting) (moment : ℕ) (uses : Uses) (token : List ℕ) (added : Use) → input_of token ≡ Some input → Accepts s moment uses token added → (added.key ≡ u.key) × (added.exp ≡ u.exp)
 
--- a validator that was told a use with the key and the expiry of a token accepts the token in no check
+-- a validator that was told a use with the key and the expiry of a signing input accepts no token of it
 abbrev pub ToldIsRefused : Type 0
-ToldIsRefused = (group : ℕ → Terms) (events : List Event) (v : ℕ) (token : List ℕ) (u : Use)
+ToldIsRefused = (group : ℕ → Terms) (events : List Event) (v : ℕ) (input : List ℕ) (u : Use)
     → let x = member_after group events v in
-    IsTrue (holds x.told.uses u) → IsUseOf u token → IsRefusedBy (group v) x token
+    IsTrue (holds x.told.uses u) → IsUseOf u input → IsRefusedBy (group v) x input
 
 -- so one that was told of an acceptance, wherever that was, accepts no token of its signing input
 abbrev pub AcceptedIsRefused : Type 0
-AcceptedIsRefused = (group : ℕ → Terms) (events : List Event) (v moment : ℕ) (t : Terms) (uses : Uses) (token again : List ℕ) (u : Use)
+AcceptedIsRefused = (group : ℕ → Terms) (events : List Event) (v moment : ℕ) (s : Setting) (uses : Uses) (token input : List ℕ) (u : Use)
     → let x = member_after group events v in
-    Accepts t.setting moment uses token u → IsTrue (holds x.told.uses u) → input_of token ≡ input_of again → IsRefusedBy (group v) x again
+    Accepts s moment uses token u → input_of token ≡ Some input → IsTrue (holds x.told.uses u) → IsRefusedBy (group v) x input
+
+-- a check that accepts a token tells its validator the use
+abbrev pub AcceptanceTells : Type 0
+AcceptanceTells = (group : ℕ → Terms) (w : World) (v now : ℕ) (token : List ℕ) (refused : Bool) (accepted : Accepted)
+    → answer_at group w v now token refused ≡ Ok accepted → IsTrue (holds ((happens group w (Check v now token refused)).members v).told.uses accepted.used)
+
+-- and so an acceptance goes along every chain of sends taken whole: at its end no token of the signing input is accepted
+abbrev pub AcceptanceGoesAlong : Type 0
+AcceptanceGoesAlong = (group : ℕ → Terms) (events : List Event) (v k moment : ℕ) (q : Posting) (chain : List ℕ) (s : Setting) (uses : Uses) (token input : List ℕ) (u : Use)
+    → let w = happen group start events in
+    Accepts s moment uses token u → input_of token ≡ Some input → IsSend w k q → HasTaken (w.members v).log k q → WentAlong w u k chain → IsRefusedBy (group v) (w.members v) input
 
 -- ---- reports
 
@@ -146,7 +158,7 @@ ReportsAreExact = (group : ℕ → Terms) (events : List Event) (v : ℕ) (key :
     → let x = member_after group events v in
     Contains (map (λ t. t.key) (report_of x)) key ↔ IsUsedTwice x.told key
 
--- each with all of them
+-- each key that is listed stands with all of its uses that were told and are live
 abbrev pub ReportsAreWhole : Type 0
 ReportsAreWhole = (group : ℕ → Terms) (events : List Event) (v : ℕ) (t : Twice) (u : Use)
     → let x = member_after group events v in
@@ -157,19 +169,31 @@ abbrev pub ToldWereAccepted : Type 0
 ToldWereAccepted = (group : ℕ → Terms) (events : List Event) (v : ℕ) (u : Use)
     → IsTrue (holds (member_after group events v).told.uses u) → Contains (accepted group start events) u
 
+-- so each key that is reported was accepted at least twice
+abbrev pub ReportedWereAcceptedTwice : Type 0
+ReportedWereAcceptedTwice = (group : ℕ → Terms) (events : List Event) (v : ℕ) (key : List ℕ) → Contains (map (λ t. t.key) (report_of (member_after group events v))) key
+    → (one : Use) × (other : Use) × (one ≢ other) × (one.key ≡ key) × (other.key ≡ key) × Contains (accepted group start events) one × Contains (accepted group start events) other
+
 -- one signing input that was accepted at two places is reported wherever both uses were told, until it expires
 abbrev pub TwoPlacesAreReported : Type 0
-TwoPlacesAreReported = (group : ℕ → Terms) (events : List Event) (v : ℕ) (t other : Terms) (moment later : ℕ) (uses others : Uses) (token again : List ℕ) (a b : Use)
+TwoPlacesAreReported = (group : ℕ → Terms) (events : List Event) (v : ℕ) (s other : Setting) (moment later : ℕ) (uses others : Uses) (token again : List ℕ) (a b : Use)
     → let x = member_after group events v in
-    Accepts t.setting moment uses token a → Accepts other.setting later others again b → input_of token ≡ input_of again → a.place ≢ b.place
+    Accepts s moment uses token a → Accepts other later others again b → input_of token ≡ input_of again → a.place ≢ b.place
     → IsTrue (holds x.told.uses a) → IsTrue (holds x.told.uses b) → x.told.greatest < a.exp
     → (listed : Twice) × Contains (report_of x) listed × (listed.key ≡ a.key) × Contains listed.uses a × Contains listed.uses b
 
 -- ---- restarts
 
--- absorbing all parts of a record that was saved into a new one gives the record, so that is to restart
+-- a new record that absorbs all parts of a saved record is that record
 abbrev pub RestartsAbsorb : Type 0
 RestartsAbsorb = (group : ℕ → Terms) (events : List Event) (k : ℕ) (s : Saved) → slice_get (happen group start events).saves k ≡ Some s → join_all (state_of 0 []) (parts_of s.was.held) ≡ s.was.held
+
+-- so a restart is to absorb them: it leaves the validator with that record, and with what it had been told and its log at the save
+abbrev pub RestartsPutBack : Type 0
+RestartsPutBack = (group : ℕ → Terms) (events : List Event) (v k : ℕ) (s : Saved)
+    → let w = happen group start events in
+    let x = (happens group w (Restart v k)).members v in
+    slice_get w.saves k ≡ Some s → s.owner ≡ v → (x.held ≡ join_all (state_of 0 []) (parts_of s.was.held)) × (x.told ≡ s.was.told) × (x.log ≡ s.was.log)
 
 -- ---- summaries and answers
 
@@ -192,7 +216,7 @@ pub record IsClash (s t : Uses) : Type 0 where
   pub texts : bucket_text number s ≢ bucket_text number t
   pub digests : bucket_digest number s ≡ bucket_digest number t
 
--- a validator that made a summary and took an answer to it whole was told all that the answerer had been told by then, or a bucket of the one and the other then had two texts of one digest
+-- a validator that made a summary and took an answer to it whole was told all uses that the answerer had been told by then; or else some bucket of its own, when it made the summary, and of the answerer, when it answered, had two texts of one digest
 abbrev pub AnswersTellAll : Type 0
 AnswersTellAll = (group : ℕ → Terms) (events : List Event) (v j k : ℕ) (answer summary : Posting) (parts : List BatchData) (s : SummaryData)
     → HasPlaces group → AllByRecursion IsInRange events

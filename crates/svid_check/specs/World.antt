@@ -86,7 +86,7 @@ ticked x now = record { held = raised x.held now; told = tell_now x.told now; lo
 abbrev pub logged : Member → Entry → Member
 logged x entry = record { held = x.held; told = x.told; log = x.log ++ entry ∷ [] }
 
--- a verdict as a check's answer; no verdict accepts a token that does not say all
+-- a verdict as a check's answer; `Ok None` is no verdict at all
 abbrev pub answer_by : Result (Option Accepted) Refusal → Result Accepted Refusal
 answer_by (Ok (Some accepted)) = Ok accepted
 answer_by (Ok None) = Err OutOfMemory
@@ -126,11 +126,11 @@ took far x entry sender b (Some n) = if nat_lt far b.moment then x else joined x
 abbrev pub put : World → ℕ → Member → World
 put w v x = record { members = λ n. if n == v then x else w.members n; pool = w.pool; saves = w.saves }
 
--- validator v, which is x, posts this
+-- validator v posts this, being x
 abbrev pub post : World → ℕ → Member → Content → World
 post w v x content = record { members = w.members; pool = w.pool ++ record { maker = v; was = x; content = content } ∷ []; saves = w.saves }
 
--- validator v, which is x, is saved
+-- validator v is saved, being x
 abbrev pub save : World → ℕ → Member → World
 save w v x = record { members = w.members; pool = w.pool; saves = w.saves ++ record { owner = v; was = x } ∷ [] }
 
@@ -169,7 +169,7 @@ restart w v None = w
 restart w v (Some s) = if s.owner == v then put w v s.was else w
 
 module _ (group : ℕ → Terms) where
-  -- the horizon of validator v
+  -- the horizon of validator v at a moment
   abbrev pub far : ℕ → ℕ → ℕ
   far v now = horizon now (group v).ahead
 
@@ -177,7 +177,7 @@ module _ (group : ℕ → Terms) where
   abbrev pub answer_at : World → ℕ → ℕ → List ℕ → Bool → Result Accepted Refusal
   answer_at w v now token refused = check_answer (group v).setting (raised (w.members v).held now) token refused
 
-  -- what an event leaves; one that names no part, summary or save of its own leaves all as it was
+  -- what an event leaves; one that names a part or a summary that is not there, or a save that is not there or another's, leaves all as it was
   abbrev pub happens : World → Event → World
   happens w (Check v now token refused) = put w v (checked (ticked (w.members v) now) (answer_at w v now token refused))
   happens w (Tick v now) = put w v (ticked (w.members v) now)

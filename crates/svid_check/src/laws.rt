@@ -3,10 +3,10 @@
 
 ghost use Rattle.svid_check.specs.Bounds.{AnswersAreBounded, ChecksAreBounded, RecordsAreBounded, RunsAreBounded, TakesAreBounded, TicksAreBounded};
 ghost use Rattle.svid_check.specs.Calls.{AnswersTellMoments, ChecksAreSteps, RecordsGoOn, RunsGoOn, TakesAreSteps, TicksAreSteps};
-ghost use Rattle.svid_check.specs.Alone.{AcceptsOnce};
+ghost use Rattle.svid_check.specs.Alone.{AcceptsOnce, AnswersAreCalls, ChecksAreCalls, TakesAreCalls, TicksAreCalls};
 ghost use Rattle.svid_check.specs.Events.{AnswersAreEvents, ChecksAreEvents, SendsAreEvents, SumsAreEvents, TakesAreEvents, TicksAreEvents};
 ghost use Rattle.svid_check.specs.Forgetful.{AnswersAreForgotten, SendsAreForgotten};
-ghost use Rattle.svid_check.specs.Headline.{AcceptedIsRefused, AnswersTellAll, ChainsTell, ChecksAreVerdicts, EqualTellings, RecordsAreTold, ReportsAreExact, ReportsAreWhole, RestartsAbsorb, SendsMakeEqual, SendsTellAll, ToldIsRefused, ToldWereAccepted, TwoPlacesAreReported, WithMemoryVerdicts};
+ghost use Rattle.svid_check.specs.Headline.{AcceptanceGoesAlong, AcceptanceTells, AcceptedIsRefused, AnswersTellAll, ChainsTell, ChecksAreVerdicts, EqualTellings, RecordsAreTold, ReportedWereAcceptedTwice, ReportsAreExact, ReportsAreWhole, RestartsAbsorb, RestartsPutBack, SendsMakeEqual, SendsTellAll, ToldIsRefused, ToldWereAccepted, TwoPlacesAreReported, WithMemoryVerdicts};
 ghost use Rattle.svid_check.specs.Lawful.{IsAlive, IsFresh, IsInRange, IsMadeNow, IsOfItsInput};
 ghost use Rattle.svid_check.specs.Said.{UnrefusedIsSaid};
 ghost use Rattle.svid_check.specs.Told.{BeginsAsGiven};
@@ -82,21 +82,24 @@ pub fn records_are_told()
 {}
 
 /// Validators that were told the same have the same record, the same parts and the same texts. One
-/// that was told no more than the sender of a record had been, and that takes all parts with nothing
-/// between, was then told just what the sender had been.
+/// that was told no use that the sender of a record had not been told, and that takes all parts with
+/// no other event of its own between, was then told just the uses that the sender had been told.
 pub fn equal_tellings_give_equal_records()
     ensures equal { EqualTellings }
     ensures taken { SendsMakeEqual }
 {}
 
-/// A validator that took all parts of a record was told all that the sender had been told by then,
-/// what had expired too, and so along every chain of records taken whole. A token of which it was told
-/// a use it accepts at no moment.
+/// A validator that took all parts of a record was told all uses that the sender had been told by
+/// then, what had expired too, and so along every chain of records taken whole. It accepts no token of
+/// a signing input of which it was told a use, at any moment; so an acceptance, which its check tells,
+/// goes along every such chain.
 pub fn sends_tell_all()
     ensures whole { SendsTellAll }
     ensures chains { ChainsTell }
     ensures refused { ToldIsRefused }
     ensures accepted { AcceptedIsRefused }
+    ensures first { AcceptanceTells }
+    ensures along { AcceptanceGoesAlong }
 {}
 
 /// One validator, from any state and with any messages, accepts one signing input at most once, unless
@@ -112,17 +115,21 @@ pub fn reports_are_exact()
     ensures exact { ReportsAreExact }
     ensures whole { ReportsAreWhole }
     ensures accepted { ToldWereAccepted }
+    ensures twice { ReportedWereAcceptedTwice }
     ensures places { TwoPlacesAreReported }
 {}
 
-/// Absorbing all parts of a record that was saved into a new one gives the record, so that is to
-/// restart.
+/// A new record that absorbs all parts of a saved record is that record; so that is to restart, which
+/// puts back what had been told and the log too.
 pub fn restarts_absorb()
-    ensures { RestartsAbsorb }
+    ensures parts { RestartsAbsorb }
+    ensures put_back { RestartsPutBack }
 {}
 
-/// A validator that made a summary and took all parts of an answer to it was told all that the
-/// answerer had been told by then, or a bucket of the two had different texts of one digest.
+/// A validator that made a summary and took all parts of an answer to it was told all uses that the
+/// answerer had been told by then; or else some bucket of its own, when it made the summary, and of the
+/// answerer, when it answered, had two texts of one digest. Places have 16 bytes, and moments are below
+/// 2^64.
 pub fn answers_tell_all()
     ensures { AnswersTellAll }
 {}
@@ -135,9 +142,8 @@ pub fn logs_go_back_with_their_saves()
     ensures answers { AnswersAreForgotten }
 {}
 
-/// Each call of a validator, answered and leaving its record as the call's contract says, is an event
-/// of the group, for some memory that was refused: what is proved over all lists of events holds of
-/// all calls.
+/// Whatever the contract of a call allows, its event in a group does, for some memory that was
+/// refused: to the validator's record, to its log, and to what is posted.
 pub fn calls_are_events()
     ensures checks { ChecksAreEvents }
     ensures ticks { TicksAreEvents }
@@ -145,4 +151,12 @@ pub fn calls_are_events()
     ensures answers { AnswersAreEvents }
     ensures sends { SendsAreEvents }
     ensures sums { SumsAreEvents }
+{}
+
+/// So it is with the calls of one validator by itself, with any batch and any summary.
+pub fn calls_stand_alone()
+    ensures checks { ChecksAreCalls }
+    ensures ticks { TicksAreCalls }
+    ensures takes { TakesAreCalls }
+    ensures answers { AnswersAreCalls }
 {}

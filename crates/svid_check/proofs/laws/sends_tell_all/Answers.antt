@@ -1,6 +1,4 @@
-use Rattle.svid_check.specs.World.{happen, start}
-use Rattle.svid_check.proofs.SendsLemmas.{accepted_use_of, chains_tell, sends_tell, told_refuses}
-use Rattle.svid_check.proofs.SoundLemmas.{is_sound}
+use Rattle.svid_check.proofs.SendsLemmas.{acceptance_goes_along, acceptance_tells, accepted_is_refused, chains_tell, sends_tell, told_is_refused}
 use Rattle.svid_check.proofs.laws.sends_tell_all.Goals as goal
 
 pub returns-clause-whole : goal.returns-clause-whole
@@ -10,10 +8,13 @@ pub returns-clause-chains : goal.returns-clause-chains
 returns-clause-chains c = chains_tell
 
 pub returns-clause-refused : goal.returns-clause-refused
-returns-clause-refused c group events v token u h of =
-    told_refuses (group v) ((happen group start events).members v) token u ((is_sound group events).members v).is_told h of
+returns-clause-refused c = told_is_refused
 
 pub returns-clause-accepted : goal.returns-clause-accepted
-returns-clause-accepted c group events v moment t uses token again u accepts h same =
-    told_refuses (group v) ((happen group start events).members v) again u ((is_sound group events).members v).is_told h
-    (accepted_use_of t.setting moment uses token again u accepts same)
+returns-clause-accepted c = accepted_is_refused
+
+pub returns-clause-first : goal.returns-clause-first
+returns-clause-first c = acceptance_tells
+
+pub returns-clause-along : goal.returns-clause-along
+returns-clause-along c = acceptance_goes_along
