@@ -3,17 +3,12 @@
 
 mod acceptances;
 mod answering;
-mod bytes;
-mod chance;
-mod group;
 mod keys;
-mod laws;
 mod refusals;
 mod refusing;
 mod runs;
 mod sweep;
 mod taking;
-mod told;
 
 use crate::Validator;
 use base64::engine::general_purpose::URL_SAFE_NO_PAD;
