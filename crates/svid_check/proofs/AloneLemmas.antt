@@ -7,7 +7,6 @@ use Rattle.std.proofs.lemmas.Cmp.{tied_itself}
 use Rattle.std.proofs.lemmas.Option.{none-some, slice_get_past}
 use Rattle.svid_token.specs.declared.refusal.Refusal.{Refusal}
 use Rattle.svid_replay.specs.declared.token_use.Use.{Use}
-use Rattle.svid_replay.specs.Batches.{BatchData}
 use Rattle.svid_replay.specs.Records.{State, batch_state, join, state_of}
 use Rattle.svid_replay.specs.Sets.{holds}
 use Rattle.svid_replay.specs.Use.{use_cmp}

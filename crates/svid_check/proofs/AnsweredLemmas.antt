@@ -1,7 +1,7 @@
 -- What an answer to a summary tells.
-use Rattle.std.proofs.Common.{◌≡◌, ◌⊎◌, ℕ, ◌<◌, ◌≤◌, Bool, true, false, ◌&&◌, List, refl, sym, ap, ◌∙◌, subst, inl, inr}
+use Rattle.std.proofs.Common.{◌≡◌, ◌⊎◌, ℕ, ◌≤◌, false, List, sym, ap, ◌∙◌, subst, inl, inr}
 use Rattle.std.specs.Prelude.{IsTrue, Some, slice_get}
-use Rattle.std.specs.List.{AllByRecursion, Contains}
+use Rattle.std.specs.List.{Contains}
 use Rattle.std.proofs.lemmas.Bool.{and_from, cases_Bool, cases_lt}
 use Rattle.std.proofs.lemmas.Option.{same_Some}
 use Rattle.svid_replay.specs.declared.token_use.Use.{Use}
@@ -11,9 +11,8 @@ use Rattle.svid_replay.specs.Parts.{cut}
 use Rattle.svid_replay.specs.Sets.{holds, rising}
 use Rattle.svid_replay.specs.Summary.{SummaryData}
 use Rattle.svid_replay.specs.Use.{IsUse}
-use Rattle.svid_replay.specs.Uses.{Uses, uses_in}
 use Rattle.svid_check.specs.Headline.{AnswersTellAll, HasTaken, IsClash, IsWithin}
-use Rattle.svid_check.specs.World.{Answered, Content, Entry, Made, Member, Posting, Summed, Took, World, carried, happen, parts_in, start}
+use Rattle.svid_check.specs.World.{Answered, Content, Made, Posting, Summed, Took, World, carried, happen, parts_in, start}
 use Rattle.svid_check.proofs.ClashesLemmas.{stale_in, unless_clash}
 use Rattle.svid_check.proofs.CutsLemmas.{first_part, in_part}
 use Rattle.svid_check.proofs.EachToldLemmas.{AllTold}

@@ -1,6 +1,6 @@
 -- Where no bucket of two sets clashes, digests tell uses; and what the parts of an answer hold.
-use Rattle.std.proofs.Common.{◌≡◌, ◌≢◌, ℕ, zero, suc, ◌<◌, ◌≤◌, Bool, true, false, not, ◌&&◌, List, [], ◌∷◌, ◌++◌, length, length-append, refl, sym, ◌∙◌, ap, subst, inl, inr, ◌⊎◌, arith, Some, IsTrue}
-use Rattle.std.specs.Prelude.{◌==◌, slice_get, slice_index_or}
+use Rattle.std.proofs.Common.{◌≡◌, ◌≢◌, ℕ, zero, suc, ◌<◌, ◌≤◌, Bool, true, false, not, ◌&&◌, List, [], ◌∷◌, ◌++◌, length, length-append, refl, sym, ◌∙◌, ap, subst, inl, inr, ◌⊎◌, arith, IsTrue}
+use Rattle.std.specs.Prelude.{◌==◌, slice_index_or}
 use Rattle.std.specs.FinMap.{nat_cmp-IsAntisymmetric, slice_cmp-IsAntisymmetric}
 use Rattle.std.specs.List.{AllByRecursion, flat_map, list_any}
 use Rattle.std.specs.Ordering.{eq_by_cmp, is_eq}
@@ -8,8 +8,7 @@ use Rattle.std.proofs.lemmas.Bool.{and_from, and_parts, cases_Bool, cases_lt, eq
 use Rattle.std.proofs.lemmas.Cmp.{nat_list_cmp_total, tied_itself}
 use Rattle.std.proofs.lemmas.List.Elements.{All-get_or}
 use Rattle.svid_replay.specs.declared.token_use.Use.{Use}
-use Rattle.svid_replay.specs.Batches.{BatchData}
-use Rattle.svid_replay.specs.Buckets.{answer_to, bucket, bucket_digest, bucket_of, bucket_text, differs, raised_to, stale, summary_of}
+use Rattle.svid_replay.specs.Buckets.{bucket, bucket_digest, bucket_of, bucket_text, differs, stale, summary_of}
 use Rattle.svid_replay.specs.Records.{State}
 use Rattle.svid_replay.specs.Sets.{holds, rising}
 use Rattle.svid_replay.specs.Summary.{SummaryData}
@@ -22,7 +21,6 @@ use Rattle.svid_replay.proofs.UseLemmas.{order_is_text_order, use_exact, use_tot
 use Rattle.svid_replay.proofs.UsesLemmas.{uses_in-rising}
 use Rattle.svid_wire.proofs.FirstMessage.{length-text_of}
 use Rattle.svid_check.specs.Headline.{IsClash}
-use Rattle.svid_check.proofs.CutsLemmas.{first_part, in_part, part_moment, part_within}
 
 -- ---- a use is known by its text, and a list of uses by its texts
 head_and_tail : (a b : ℕ) (x y : List ℕ) → a ∷ x ≡ b ∷ y → (a ≡ b) × (x ≡ y)
@@ -157,28 +155,3 @@ unless_clash a t fa ft =
 -- the uses that an answer is of: those whose bucket differs
 pub stale_in : (s : SummaryData) (uses : Uses) (u : Use) → holds (uses_in (rising (stale s uses))) u ≡ (holds uses u && differs s uses u)
 stale_in s uses u = ap (λ (t : Uses). holds t u) (uses_in-rising (stale s uses)) ∙ stale_holds_differing s uses u
-
--- each part has the moment of the raised record
-pub answer_moment : (r : State) (s : SummaryData) (p : ℕ) (b : BatchData) → slice_get (answer_to r s) p ≡ Some b → b.moment ≡ (raised_to r s.moment).moment
-unfolding answer_to
-answer_moment r s p b e = part_moment (raised_to r s.moment).moment (rising (stale s (raised_to r s.moment).uses)) p b e
-
--- and some of its uses
-pub answer_within : (r : State) (s : SummaryData) (p : ℕ) (b : BatchData) → slice_get (answer_to r s) p ≡ Some b → (u : Use) → IsTrue (holds (uses_in b.uses) u) → IsTrue (holds (raised_to r s.moment).uses u)
-unfolding answer_to
-answer_within r s p b e u h =
-    let uses = (raised_to r s.moment).uses in
-    (and_parts (holds uses u) (differs s uses u) (sym (stale_in s uses u) ∙ part_within (raised_to r s.moment).moment (rising (stale s uses)) p b e u h)).0
-
--- each use whose bucket differs is in a part
-pub in_answer : (r : State) (s : SummaryData) (u : Use) → IsTrue (holds (raised_to r s.moment).uses u) → differs s (raised_to r s.moment).uses u ≡ true
-    → (p : ℕ) × (b : BatchData) × (slice_get (answer_to r s) p ≡ Some b) × IsTrue (holds (uses_in b.uses) u)
-unfolding answer_to
-in_answer r s u held differ =
-    let uses = (raised_to r s.moment).uses in
-    in_part (raised_to r s.moment).moment (rising (stale s uses)) u (stale_in s uses u ∙ and_from (holds uses u) (differs s uses u) held differ)
-
--- there is a first part
-pub first_answer : (r : State) (s : SummaryData) → (b : BatchData) × (slice_get (answer_to r s) 0 ≡ Some b) × (b.moment ≡ (raised_to r s.moment).moment)
-unfolding answer_to
-first_answer r s = first_part (raised_to r s.moment).moment (rising (stale s (raised_to r s.moment).uses))

@@ -1,5 +1,5 @@
 -- What the batches hold that uses are cut into, and what of a sender's uses a batch carries.
-use Rattle.std.proofs.Common.{◌≡◌, ℕ, zero, suc, ◌-◌, ◌/◌, not, nat_lt, ◌||◌, ◌&&◌, true, List, [], ◌∷◌, ◌++◌, length, take, drop, refl, sym, ◌∙◌, ap, subst, inl, inr, Some, IsTrue}
+use Rattle.std.proofs.Common.{◌≡◌, ℕ, zero, suc, ◌-◌, ◌/◌, true, List, [], ◌∷◌, length, take, drop, refl, sym, ◌∙◌, ap, subst, inl, inr, Some, IsTrue}
 use Rattle.std.specs.Prelude.{slice_get}
 use Rattle.std.specs.List.{list_any}
 use Rattle.std.specs.Ordering.{eq_by_cmp}
@@ -12,12 +12,9 @@ use Rattle.svid_replay.specs.Batches.{BatchData}
 use Rattle.svid_replay.specs.Parts.{cut, full_batches}
 use Rattle.svid_replay.specs.Sets.{holds}
 use Rattle.svid_replay.specs.Use.{use_cmp}
-use Rattle.svid_replay.specs.Uses.{Uses, uses_in}
-use Rattle.svid_replay.proofs.SetsLemmas.{holds-keep}
-use Rattle.svid_replay.proofs.TestsLemmas.{and-comm}
-use Rattle.svid_replay.proofs.UseLemmas.{use_exact, use_total}
+use Rattle.svid_replay.specs.Uses.{uses_in}
 use Rattle.svid_replay.proofs.UsesLemmas.{holds-uses_in}
-use Rattle.svid_check.specs.World.{carried, front}
+use Rattle.svid_check.specs.World.{front}
 
 abbrev Listed : List Use → Use → Type 0
 Listed us u = list_any (eq_by_cmp use_cmp u) us ≡ true
@@ -104,10 +101,3 @@ first_part m us = first_one ((length us - 1) / 4096) m us
 -- the first uses of a batch are of its uses
 pub front_within : (n : ℕ) (b : BatchData) (u : Use) → IsTrue (holds (uses_in (front n b).uses) u) → IsTrue (holds (uses_in b.uses) u)
 front_within n b u h = holds-uses_in b.uses u ∙ taken n b.uses u (sym (holds-uses_in (take n b.uses) u) ∙ h)
-
--- what a batch carries is what its sender was told, and the batch has or says is gone
-pub has-carried : (s : Uses) (b : BatchData) (u : Use) → holds (carried s b) u ≡ (holds s u && (holds (uses_in b.uses) u || not (nat_lt b.moment u.exp)))
-unfolding carried
-has-carried s b u =
-    holds-keep use_total use_exact (λ v. holds (uses_in b.uses) v || not (nat_lt b.moment v.exp)) s u
-    ∙ and-comm (holds (uses_in b.uses) u || not (nat_lt b.moment u.exp)) (holds s u)

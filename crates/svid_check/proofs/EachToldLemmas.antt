@@ -1,9 +1,9 @@
 -- What is kept by all that may happen to a validator holds of each; so a property of every use that is accepted is one of every use that is told.
-use Rattle.std.proofs.Common.{◌≡◌, ◌≤◌, ℕ, Bool, true, cond, nat_lt, List, [], ◌∷◌, length, Contains, IsTrue, Option, Some, None, Result, Ok, Err, refl, sym, ◌∙◌, subst, inl, inr}
+use Rattle.std.proofs.Common.{◌≡◌, ◌≤◌, ℕ, Bool, cond, nat_lt, List, [], ◌∷◌, length, Contains, IsTrue, Option, Some, None, Result, Ok, Err, refl, sym, ◌∙◌, subst, inl, inr}
 use Rattle.std.specs.Prelude.{slice_get, ◌==◌}
 use Rattle.std.specs.List.{AllByRecursion}
 use Rattle.std.specs.Ordering.{eq_by_cmp}
-use Rattle.std.proofs.lemmas.Bool.{and_parts, cond_both, false≢true, ltb-false, or_cases}
+use Rattle.std.proofs.lemmas.Bool.{cond_both, false≢true, ltb-false, or_cases}
 use Rattle.std.proofs.lemmas.List.Elements.{Contains-append_left, Contains-append_right}
 use Rattle.std.proofs.lemmas.Option.{none-some}
 use Rattle.svid_token.specs.declared.refusal.Refusal.{Refusal}
@@ -14,18 +14,18 @@ use Rattle.svid_replay.specs.Parts.{parts_of}
 use Rattle.svid_replay.specs.Sets.{holds, union, with}
 use Rattle.svid_replay.specs.Summary.{SummaryData}
 use Rattle.svid_replay.specs.Use.{use_cmp}
-use Rattle.svid_replay.specs.Uses.{Uses, uses_in}
+use Rattle.svid_replay.specs.Uses.{Uses}
 use Rattle.svid_replay.proofs.ListLemmas.{each_true, has_first}
-use Rattle.svid_replay.proofs.SetsLemmas.{holds-keep}
 use Rattle.svid_replay.proofs.TestsLemmas.{equal}
-use Rattle.svid_replay.proofs.UseLemmas.{use_exact, use_total}
+use Rattle.svid_replay.proofs.UseLemmas.{use_exact}
 use Rattle.svid_replay.proofs.UsesLemmas.{holds-union, no_uses_hold_none, with_holds_one_more}
 use Rattle.svid_check.specs.declared.accepted.Accepted.{Accepted}
 use Rattle.svid_check.specs.Changes.{horizon}
 use Rattle.svid_check.specs.Headline.{ToldWereAccepted}
 use Rattle.svid_check.specs.Runs.{Terms}
 use Rattle.svid_check.specs.Told.{tell_use}
-use Rattle.svid_check.specs.World.{Answer, Answered, Check, Content, Entry, Event, Made, Member, Posting, Restart, Save, Saved, Send, Sent, Sum, Summed, Take, Tick, Took, World, accepted, accepted_by, answer_at, answer_content, answer_posting, answer_summary, carried, checked, far, front, happen, happens, joined, logged, new_member, parts_in, post, put, restart, save, start, take_part, take_posting, ticked, took, used_in}
+use Rattle.svid_check.specs.World.{Answer, Answered, Check, Content, Entry, Event, Made, Member, Posting, Restart, Save, Saved, Send, Sent, Sum, Summed, Take, Tick, Took, World, accepted, accepted_by, answer_at, answer_content, answer_posting, answer_summary, carried, checked, front, happen, happens, joined, logged, new_member, parts_in, post, put, restart, save, start, take_part, take_posting, ticked, took, used_in}
+use Rattle.svid_check.proofs.MembersLemmas.{carried_within}
 use Rattle.svid_check.proofs.PlacesLemmas.{place_cases}
 
 -- each validator, as it is, as it was at each posting, and as it was at each save
@@ -147,11 +147,6 @@ Each P s = (u : Use) → IsTrue (holds s u) → P u
 -- P holds of each use that a validator was told, by now, by each posting and by each save
 abbrev pub AllTold : (Use → Type 0) → World → Type 0
 AllTold P w = Everywhere (λ x. Each P x.told.uses) w
-
--- what is carried was told to the sender
-pub carried_within : (sender : Uses) (b : BatchData) (u : Use) → IsTrue (holds (carried sender b) u) → IsTrue (holds sender u)
-unfolding carried
-carried_within sender b u has = (and_parts _ (holds sender u) (sym (holds-keep use_total use_exact _ sender u) ∙ has)).1
 
 module _ (P : Use → Type 0) where
   with_each : (s : Uses) (new : Use) → Each P s → P new → Each P (with s new)

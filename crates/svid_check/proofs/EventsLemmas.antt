@@ -1,8 +1,8 @@
 -- What the contract of a call allows is what an event of a group does.
-use Rattle.std.proofs.Common.{◌≡◌, ℕ, ◌≤◌, Bool, true, false, if◌then◌else◌, List, [], ◌∷◌, ◌++◌, length, take, Option, None, Some, refl, sym, ◌∙◌, ap, subst, inl, inr}
-use Rattle.std.specs.Prelude.{Result, Ok, Err, Vec, slice_get}
+use Rattle.std.proofs.Common.{◌≡◌, ℕ, Bool, true, false, if◌then◌else◌, List, [], ◌∷◌, ◌++◌, length, take, Option, None, Some, refl, sym, ◌∙◌, ap, subst, inl, inr}
+use Rattle.std.specs.Prelude.{Result, Ok, Err, Vec}
 use Rattle.std.specs.declared.alloc.Global.{Global}
-use Rattle.std.proofs.lemmas.Bool.{eq-eqb, le-ltb, lt-ltb}
+use Rattle.std.proofs.lemmas.Bool.{le-ltb, lt-ltb}
 use Rattle.std.proofs.lemmas.List.{append-nil}
 use Rattle.std.proofs.Math.Seq.{take-append_seam}
 use Rattle.svid_token.specs.Compact.{compact_rows}
@@ -20,17 +20,13 @@ use Rattle.svid_check.specs.declared.take_fault.TakeFault.{TakeFault}
 use Rattle.svid_check.specs.declared.take_fault.TakeFault.TheVariants.{OutOfMemory, TooFarAhead}
 use Rattle.svid_check.specs.Changes.{Replies, Takes, horizon, raised, settled}
 use Rattle.svid_check.specs.Events.{AnswersAreEvents, ChecksAreEvents, SendsAreEvents, SumsAreEvents, TakesAreEvents, TicksAreEvents, entries, posted}
-use Rattle.svid_check.specs.Runs.{Terms}
 use Rattle.svid_check.specs.Said.{RefusesForm}
 use Rattle.svid_check.specs.Alone.{AnswersAreCalls, ChecksAreCalls, TakesAreCalls, TicksAreCalls}
 use Rattle.svid_check.specs.Setting.{Setting}
 use Rattle.svid_check.specs.Verdict.{verdict}
 use Rattle.svid_check.specs.World.{Answer, Answered, Content, Entry, Made, Member, Posting, Sent, Summed, Take, Took, World, answer_at, answer_by, answer_content, answer_posting, answer_summary, check_answer, checked, far, form_or_memory, front, happens, joined, logged, post, put, take_part, take_posting, ticked, took}
+use Rattle.svid_check.proofs.PlacesLemmas.{put_own}
 use Rattle.svid_check.proofs.RowsLemmas.{told}
-
--- what is put at v stands there
-itself : (w : World) (v : ℕ) (x : Member) → (put w v x).members v ≡ x
-itself w v x = ap (λ (test : Bool). if test then x else w.members v) (eq-eqb v v refl)
 
 -- ---- checks
 for_memory : (found : Option Refusal) (answer : Result Accepted Refusal) → answer ≡ Err refusal.OutOfMemory → ((r : Refusal) → found ≡ Some r → answer ≡ Err r) → Err (form_or_memory found) ≡ answer
@@ -51,11 +47,11 @@ pub checks_are_events : ChecksAreEvents
 checks_are_events group w v now token answer due form =
     let x = raised (w.members v).held now in
     let g = check_gives (group v).setting x token answer due form in
-    (g.0, g.1, ap (λ (m : Member). m.held) (itself w v (checked (ticked (w.members v) now) (answer_at group w v now token g.0))) ∙ ap (settled x) g.1)
+    (g.0, g.1, ap (λ (m : Member). m.held) (put_own w v (checked (ticked (w.members v) now) (answer_at group w v now token g.0))) ∙ ap (settled x) g.1)
 
 -- ---- ticks
 pub ticks_are_events : TicksAreEvents
-ticks_are_events group w v now = ap (λ (m : Member). m.held) (itself w v (ticked (w.members v) now))
+ticks_are_events group w v now = ap (λ (m : Member). m.held) (put_own w v (ticked (w.members v) now))
 
 -- ---- takes
 take_gives : (x : Member) (last : ℕ) (entry : Entry) (sender : Uses) (b : BatchData) (answer : Result (Unit {0}) TakeFault) (y : State) → Takes x.held last b answer y
@@ -83,7 +79,7 @@ takes_are_events group w v now k p q b answer y at_k at_p h =
     let is : (happens group w (Take v now k p g.0)).members v ≡ took (far group v now) x (Took k p) q.was.told.uses b g.0 =
     ap (λ (o : Option Posting). (take_posting w v (far group v now) x k p g.0 o).members v) at_k
     ∙ ap (λ (o : Option BatchData). (take_part w v (far group v now) x (Took k p) g.0 q o).members v) at_p
-    ∙ itself w v (took (far group v now) x (Took k p) q.was.told.uses b g.0) in
+    ∙ put_own w v (took (far group v now) x (Took k p) q.was.told.uses b g.0) in
     (g.0, (ap (λ (m : Member). m.held) is ∙ g.1, ap (λ (m : Member). m.log) is ∙ g.2))
 
 -- ---- answers
@@ -93,12 +89,12 @@ record Leaves (w : World) (v k : ℕ) (answer : Result (Vec BatchData Global) Ta
   pool : after.pool ≡ w.pool ++ posted v k (after.members v) answer
 
 puts_alone : (w : World) (v k : ℕ) (fault : TakeFault) (y : State) (x : Member) → y ≡ x.held → Leaves w v k (Err fault) y (put w v x)
-puts_alone w v k fault y x is = record { held = ap (λ (m : Member). m.held) (itself w v x) ∙ sym is; pool = sym (append-nil w.pool) }
+puts_alone w v k fault y x is = record { held = ap (λ (m : Member). m.held) (put_own w v x) ∙ sym is; pool = sym (append-nil w.pool) }
 
 puts_and_posts : (w : World) (v k : ℕ) (batches : Vec BatchData Global) (y : State) (x : Member) (parts : List BatchData) → batches.items ≡ parts → y ≡ x.held → Leaves w v k (Ok batches) y (post (put w v x) v x (Answered k parts))
 puts_and_posts w v k batches y x parts items is = record {
-  held = ap (λ (m : Member). m.held) (itself w v x) ∙ sym is;
-  pool = ap (λ (m : Member). w.pool ++ record { maker = v; was = m; content = Answered k parts } ∷ []) (sym (itself w v x))
+  held = ap (λ (m : Member). m.held) (put_own w v x) ∙ sym is;
+  pool = ap (λ (m : Member). w.pool ++ record { maker = v; was = m; content = Answered k parts } ∷ []) (sym (put_own w v x))
       ∙ ap (λ (bs : List BatchData). w.pool ++ record { maker = v; was = (put w v x).members v; content = Answered k bs } ∷ []) (sym items);
 }
 
@@ -132,13 +128,13 @@ sends_are_events group w v parts is = (refl, ap (λ (ps : List BatchData). w.poo
 
 pub sums_are_events : SumsAreEvents
 sums_are_events group w v summary same =
-    let is = itself w v (logged (w.members v) (Made (length w.pool))) in (
+    let is = put_own w v (logged (w.members v) (Made (length w.pool))) in (
       ap (λ (m : Member). m.held) is,
       ap (λ (m : Member). m.log) is,
       ap (λ (s : SummaryData). w.pool ++ record { maker = v; was = w.members v; content = Summed s } ∷ []) (sym same),
     )
 
--- ---- one validator by itself
+-- ---- one validator by put_own
 pub checks_are_calls : ChecksAreCalls
 checks_are_calls t w now token answer due form =
     let x = raised w.held now in

@@ -1,13 +1,12 @@
 -- A validator's record stays what it was told.
-use Rattle.std.proofs.Common.{◌≡◌, ℕ, ◌<◌, max, Bool, true, false, not, ◌&&◌, ◌||◌, nat_lt, List, [], ◌∷◌, take, refl, sym, ap, ◌∙◌, subst, inl, inr, arith}
-use Rattle.std.specs.Prelude.{IsTrue, Result, Ok, Err}
+use Rattle.std.proofs.Common.{◌≡◌, ℕ, max, Bool, true, false, not, ◌&&◌, ◌||◌, nat_lt, [], ◌∷◌, refl, sym, ap, ◌∙◌, inl, inr, arith}
+use Rattle.std.specs.Prelude.{Result, Ok, Err}
 use Rattle.std.proofs.lemmas.Bool.{and_parts, false≢true, ltb-true, lt-ltb, or_left, or_right, or_cases}
 use Rattle.svid_token.specs.declared.refusal.Refusal.{Refusal}
 use Rattle.svid_replay.specs.declared.token_use.Use.{Use}
 use Rattle.svid_replay.specs.Batches.{BatchData}
 use Rattle.svid_replay.specs.Records.{State, batch_state, join}
 use Rattle.svid_replay.specs.Sets.{holds, union}
-use Rattle.svid_replay.specs.Use.{use_cmp}
 use Rattle.svid_replay.specs.Uses.{Uses, live, uses_in}
 use Rattle.svid_replay.proofs.RecordsLemmas.{is_join}
 use Rattle.svid_replay.proofs.SetsLemmas.{holds-keep}

@@ -1,23 +1,19 @@
 -- Where the places and the moments of a group are in range, so are each use that is told and each record's moment.
-use Rattle.std.proofs.Common.{◌≡◌, ◌+◌, ◌-◌, ◌^◌, ◌<◌, ◌≤◌, ℕ, max, min, Bool, true, false, List, [], ◌∷◌, Contains, Option, Some, None, Result, Ok, Err, refl, sym, ap, subst, inl, inr, arith}
+use Rattle.std.proofs.Common.{◌≡◌, ◌+◌, ◌-◌, ◌^◌, ◌<◌, ◌≤◌, ℕ, max, min, List, [], ◌∷◌, Contains, Result, Ok, Err, refl, subst, inl, inr, arith}
 use Rattle.std.specs.List.{AllByRecursion}
 use Rattle.std.proofs.lemmas.List.Elements.{Contains-append_cases}
 use Rattle.svid_token.specs.declared.refusal.Refusal.{Refusal}
-use Rattle.svid_token.specs.declared.refusal.Refusal.TheVariants.{OutOfMemory}
 use Rattle.svid_replay.specs.declared.token_use.Use.{Use}
-use Rattle.svid_replay.specs.Batches.{BatchData}
 use Rattle.svid_replay.specs.Records.{State, batch_state, state_of}
 use Rattle.svid_replay.specs.Use.{IsUse}
 use Rattle.svid_replay.proofs.ListLemmas.{each_weaker, has_cases, has_none}
 use Rattle.svid_replay.proofs.RecordsLemmas.{moment-join}
 use Rattle.svid_check.specs.declared.accepted.Accepted.{Accepted}
-use Rattle.svid_check.specs.Changes.{horizon, raised, settled}
+use Rattle.svid_check.specs.Changes.{raised, settled}
 use Rattle.svid_check.specs.Headline.{HasPlaces, IsInRange}
-use Rattle.svid_check.specs.Lawful.{Accepts}
 use Rattle.svid_check.specs.Runs.{Terms}
-use Rattle.svid_check.specs.Setting.{Setting}
-use Rattle.svid_check.specs.Verdict.{verdict}
-use Rattle.svid_check.specs.World.{Answer, Check, Event, Member, Restart, Save, Send, Sum, Take, Tick, World, accepted, accepted_by, answer_at, answer_by, check_answer, happen, happens, start, used_in}
+use Rattle.svid_check.specs.World.{Answer, Check, Event, Member, Restart, Save, Send, Sum, Take, Tick, World, accepted, accepted_by, answer_at, happen, happens, start, used_in}
+use Rattle.svid_check.proofs.AnswersLemmas.{accepted_is}
 use Rattle.svid_check.proofs.EachToldLemmas.{AllTold, Everywhere, IsAt, IsKept, each_told, happen_everywhere, happens_everywhere, start_everywhere}
 use Rattle.svid_check.proofs.LawfulLemmas.{in_range}
 
@@ -49,16 +45,6 @@ moments_are_kept = record {
   joins = λ x maker b at h made. greater x.held.moment b.moment _ (moment-join x.held (batch_state b)) h at;
 }
 
--- what a check accepts, the verdict does
-verdict_of : (r : Result (Option Accepted) Refusal) (accepted : Accepted) → answer_by r ≡ Ok accepted → r ≡ Ok (Some accepted)
-verdict_of (Ok (Some a)) accepted e = let same : Ok a ≡ Ok accepted = e in cc
-verdict_of (Ok None) accepted e = let differ : Err OutOfMemory ≡ Ok accepted = e in absurd (cc)
-verdict_of (Err refusal) accepted e = let differ : Err refusal ≡ Ok accepted = e in absurd (cc)
-
-pub check_accepts : (s : Setting) (x : State) (token : List ℕ) (refused : Bool) (accepted : Accepted) → check_answer s x token refused ≡ Ok accepted → Accepts s x.moment x.uses token accepted.used
-check_accepts s x token true accepted e = absurd (cc)
-check_accepts s x token false accepted e = (accepted, verdict_of (verdict s x.moment x.uses token) accepted e, refl)
-
 in_answer : (group : ℕ → Terms) (answer : Result Accepted Refusal) (u : Use) → Contains (used_in group answer) u → (accepted : Accepted) × (answer ≡ Ok accepted) × (accepted.used ≡ u)
 in_answer group (Ok accepted) u has = elim (has_cases accepted.used [] u has) [ inl same ↦ (accepted, refl, same) | inr later ↦ has_none u later ]
 in_answer group (Err refusal) u has = has_none u has
@@ -83,9 +69,6 @@ module _ (group : ℕ → Terms) where
       happen_everywhere IsMoment (λ u. Unit {0}) HasMoment moments_are_kept group start events (each_weaker IsInRange (IsAt IsMoment) in_moment events at) (λ u has. tt)
       (start_everywhere IsMoment (λ u. Unit {0}) HasMoment moments_are_kept)
 
-  pub moments_are : (events : List Event) → AllByRecursion IsInRange events → (v : ℕ) → ((happen group start events).members v).held.moment < 2 ^ 64
-  moments_are events at v = (moments_everywhere events at).members v
-
   module _ (places : HasPlaces group) where
     use_by : (w : World) (e : Event) → IsInRange e → Everywhere HasMoment w → (u : Use) → Contains (accepted_by group w e) u → IsUse u
     use_by w (Check v now token refused) at h u has =
@@ -93,7 +76,7 @@ module _ (group : ℕ → Terms) where
         let y = raised x now in
         let found = in_answer group (answer_at group w v now token refused) u has in
         let low = greater x.moment now y.moment (moment-join x (state_of now [])) (h.members v) at in
-        subst IsUse found.2 (in_range (group v).setting y.moment y.uses token found.0.used (check_accepts (group v).setting y token refused found.0 found.1) (places v) low)
+        subst IsUse found.2 (in_range (group v).setting y.moment y.uses token found.0.used (accepted_is (group v).setting y token refused found.0 found.1) (places v) low)
     use_by w (Tick v now) at h u has = has_none u has
     use_by w (Send v) at h u has = has_none u has
     use_by w (Sum v) at h u has = has_none u has

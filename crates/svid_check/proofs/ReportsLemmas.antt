@@ -9,18 +9,15 @@ use Rattle.svid_replay.specs.declared.token_use.Use.{Use}
 use Rattle.svid_replay.specs.declared.twice.Twice.{Twice}
 use Rattle.svid_replay.specs.Records.{State}
 use Rattle.svid_replay.specs.Sets.{holds, rising}
-use Rattle.svid_replay.specs.Twice.{HasTwo, IsTwice, has_key, twice_of, uses_of}
+use Rattle.svid_replay.specs.Twice.{IsTwice, has_key, uses_of}
 use Rattle.svid_replay.specs.Use.{bytes_cmp, use_cmp}
-use Rattle.svid_replay.specs.Uses.{Uses, live}
 use Rattle.svid_replay.proofs.ListLemmas.{has_cases, has_first, has_later, has_none, in_kept, kept_in}
 use Rattle.svid_replay.proofs.SetsLemmas.{rising_rises}
 use Rattle.svid_replay.proofs.TestsLemmas.{equal}
 use Rattle.svid_replay.proofs.TwiceLemmas.{is_twice}
 use Rattle.svid_replay.proofs.UsesLemmas.{holds-live, rising_has_held}
 use Rattle.svid_check.specs.Headline.{IsLiveUse, IsUsedTwice, RecordsAreTold, ReportedWereAcceptedTwice, ReportsAreExact, ReportsAreWhole, TwoPlacesAreReported, member_after, report_of}
-use Rattle.svid_check.specs.Lawful.{Accepts, input_of}
-use Rattle.svid_check.specs.Runs.{Terms}
-use Rattle.svid_check.specs.Told.{Told, record_of}
+use Rattle.svid_check.specs.Told.{record_of}
 use Rattle.svid_check.specs.World.{Member}
 use Rattle.svid_check.proofs.EachToldLemmas.{told_were_accepted}
 use Rattle.svid_check.proofs.LawfulLemmas.{of_its_input}

@@ -1,10 +1,9 @@
 -- A new record that absorbs all parts of a record of what was told is that record.
-use Rattle.std.proofs.Common.{◌≡◌, ℕ, max, Bool, true, false, ◌&&◌, ◌||◌, nat_lt, [], refl, sym, ap, ◌∙◌, subst, arith}
-use Rattle.svid_replay.specs.declared.token_use.Use.{Use}
+use Rattle.std.proofs.Common.{◌≡◌, max, Bool, true, false, ◌&&◌, ◌||◌, nat_lt, [], refl, sym, ap, ◌∙◌, subst, arith}
 use Rattle.svid_replay.specs.Parts.{join_all, parts_of}
 use Rattle.svid_replay.specs.Records.{State, join, state_of}
 use Rattle.svid_replay.specs.Sets.{holds, rising}
-use Rattle.svid_replay.specs.Uses.{Uses, live}
+use Rattle.svid_replay.specs.Uses.{Uses}
 use Rattle.svid_replay.proofs.PartsLemmas.{cut_gives_parts, join_all-one}
 use Rattle.svid_replay.proofs.RecordsLemmas.{is_join}
 use Rattle.svid_replay.proofs.UsesLemmas.{holds-live, holds-uses_in, uses_in-rising}

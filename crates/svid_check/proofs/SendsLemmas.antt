@@ -1,18 +1,18 @@
 -- What a send tells.
-use Rattle.std.proofs.Common.{◌≡◌, ◌≢◌, ℕ, ◌<◌, ◌≤◌, max, Bool, true, false, not, cond, ◌&&◌, ◌||◌, nat_lt, List, [], ◌∷◌, ◌++◌, length, refl, sym, ap, ◌∙◌, subst, inl, inr, arith}
-use Rattle.std.specs.Prelude.{IsTrue, Option, Some, None, Result, Ok, Err, slice_get, ◌==◌}
+use Rattle.std.proofs.Common.{◌≡◌, ◌≢◌, ℕ, ◌<◌, ◌≤◌, Bool, true, false, not, cond, ◌||◌, nat_lt, List, [], ◌∷◌, length, refl, sym, ap, ◌∙◌, subst, inl, inr, arith}
+use Rattle.std.specs.Prelude.{IsTrue, Option, Some, None, Result, Ok, slice_get, ◌==◌}
 use Rattle.std.specs.Cmp.{both_ways}
-use Rattle.std.specs.List.{AllByRecursion, Contains}
+use Rattle.std.specs.List.{AllByRecursion}
 use Rattle.std.specs.Ordering.{eq_by_cmp, is_eq}
 use Rattle.std.proofs.lemmas.Cmp.{tied_itself}
 use Rattle.svid_token.specs.declared.refusal.Refusal.{Refusal}
-use Rattle.std.proofs.lemmas.Bool.{and_from, cases_eq, cases_lt, cond-false, cond-true, cond_both, eq-eqb, eqb-true, lt-ltb, ltb-false, ne_eqb, or_left, or_right}
+use Rattle.std.proofs.lemmas.Bool.{and_from, cases_eq, cases_lt, cond-false, cond-true, cond_both, eq-eqb, eqb-true, lt-ltb, ne_eqb, or_left, or_right}
 use Rattle.std.proofs.lemmas.Bool.Decides.{nat_tests}
-use Rattle.std.proofs.lemmas.Option.{none-some, same_Some}
+use Rattle.std.proofs.lemmas.Option.{same_Some}
 use Rattle.svid_replay.specs.declared.token_use.Use.{Use}
 use Rattle.svid_replay.specs.Batches.{BatchData}
 use Rattle.svid_replay.specs.Buckets.{answer_to, summary_of}
-use Rattle.svid_replay.specs.Parts.{cut, parts_of}
+use Rattle.svid_replay.specs.Parts.{parts_of}
 use Rattle.svid_replay.specs.Records.{State}
 use Rattle.svid_replay.specs.Sets.{holds, rising}
 use Rattle.svid_replay.specs.Summary.{SummaryData}
@@ -26,13 +26,13 @@ use Rattle.svid_check.specs.Headline.{AcceptanceGoesAlong, AcceptanceTells, Acce
 use Rattle.svid_check.specs.Lawful.{Accepts, input_of}
 use Rattle.svid_check.specs.Runs.{Terms}
 use Rattle.svid_check.specs.Setting.{Setting}
-use Rattle.svid_check.specs.Told.{Told, record_of, tell_now}
-use Rattle.svid_check.specs.World.{Answer, Answered, Check, Content, Entry, Event, Made, Member, Posting, Restart, Save, Saved, Send, Sent, Sum, Summed, Take, Tick, Took, World, answer_at, answer_content, answer_posting, answer_summary, carried, check_answer, checked, far, front, happen, happens, joined, logged, parts_in, post, put, restart, start, take_part, take_posting, ticked, took}
+use Rattle.svid_check.specs.Told.{record_of}
+use Rattle.svid_check.specs.World.{Answer, Answered, Check, Content, Entry, Event, Made, Member, Posting, Restart, Save, Saved, Send, Sent, Sum, Summed, Take, Tick, Took, World, answer_at, answer_content, answer_posting, answer_summary, carried, checked, far, front, happen, happens, joined, logged, parts_in, post, put, restart, start, take_part, take_posting, ticked, took}
 use Rattle.svid_check.proofs.AnswersLemmas.{accepted_is}
 use Rattle.svid_check.proofs.CutsLemmas.{first_part, in_part}
 use Rattle.svid_check.proofs.LawfulLemmas.{alive, fresh, of_its_input}
 use Rattle.svid_check.proofs.MembersLemmas.{IsTold, carried_within, holds-carried, union_within}
-use Rattle.svid_check.proofs.PlacesLemmas.{later_place}
+use Rattle.svid_check.proofs.PlacesLemmas.{later_place, put_own}
 use Rattle.svid_check.proofs.RestartsLemmas.{restart_absorbs}
 use Rattle.svid_check.proofs.RunsLemmas.{told_now}
 use Rattle.svid_check.proofs.SoundLemmas.{Arrived, Given, Sound, Stands, goes_on_sound, is_sound}
@@ -104,9 +104,6 @@ went_along w s u k (before ∷ chain) q send along =
 pub chains_tell : ChainsTell
 chains_tell group events v k q u chain send taken along =
     sends_tell group events v k q send taken u (went_along (happen group start events) (is_sound group events) u k chain q send along)
-
-put_own : (w : World) (v : ℕ) (x : Member) → (put w v x).members v ≡ x
-put_own w v x = cond-true (v == v) x (w.members v) (eq-eqb v v refl)
 
 accepted_told : (x : Member) (accepted : Accepted) → IsTrue (holds (checked x (Ok accepted)).told.uses accepted.used)
 accepted_told x accepted =

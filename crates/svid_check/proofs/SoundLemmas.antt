@@ -1,12 +1,11 @@
 -- What holds of a group whatever happened in it.
-use Rattle.std.proofs.Common.{◌≡◌, ℕ, Bool, true, false, cond, ◌&&◌, ◌||◌, nat_lt, List, [], ◌∷◌, ◌++◌, length, refl, sym, ap, ◌∙◌, subst, inl, inr, arith}
-use Rattle.std.specs.Prelude.{IsTrue, Option, Some, None, Result, Ok, Err, slice_get, ◌==◌}
+use Rattle.std.proofs.Common.{◌≡◌, ℕ, Bool, cond, ◌&&◌, nat_lt, List, [], ◌∷◌, ◌++◌, length, refl, sym, ap, ◌∙◌, subst, inl, inr}
+use Rattle.std.specs.Prelude.{IsTrue, Option, Some, None, Result, slice_get, ◌==◌}
 use Rattle.std.specs.List.{Contains}
-use Rattle.std.proofs.lemmas.Bool.{and_parts, cond_both, false≢true}
+use Rattle.std.proofs.lemmas.Bool.{and_parts, cond_both}
 use Rattle.std.proofs.lemmas.List.Elements.{Contains-push_cases}
 use Rattle.std.proofs.lemmas.Option.{none-some}
 use Rattle.svid_token.specs.declared.refusal.Refusal.{Refusal}
-use Rattle.svid_replay.specs.declared.token_use.Use.{Use}
 use Rattle.svid_replay.specs.Batches.{BatchData}
 use Rattle.svid_replay.specs.Buckets.{answer_to, differs, stale, summary_of}
 use Rattle.svid_replay.specs.Parts.{cut, parts_of}
@@ -21,7 +20,6 @@ use Rattle.svid_replay.proofs.TestsLemmas.{and-false}
 use Rattle.svid_check.specs.declared.accepted.Accepted.{Accepted}
 use Rattle.svid_check.specs.Headline.{IsWithin}
 use Rattle.svid_check.specs.Runs.{Terms}
-use Rattle.svid_check.specs.Told.{record_of, tell_now}
 use Rattle.svid_check.specs.World.{Answer, Answered, Check, Content, Entry, Event, Made, Member, Posting, Restart, Save, Saved, Send, Sent, Sum, Summed, Take, Tick, Took, World, answer_at, answer_content, answer_posting, answer_summary, carried, checked, far, front, happen, happens, joined, logged, new_member, parts_in, post, put, restart, save, start, take_part, take_posting, ticked, took}
 use Rattle.svid_check.proofs.CutsLemmas.{front_within, part_within}
 use Rattle.svid_check.proofs.MembersLemmas.{IsTold, checked_told, joined_told, live_within, ticked_told, told_before, union_tells, within_union}
