@@ -3,12 +3,17 @@
 
 mod acceptances;
 mod answering;
+mod bytes;
+mod chance;
+mod group;
 mod keys;
+mod laws;
 mod refusals;
 mod refusing;
 mod runs;
 mod sweep;
 mod taking;
+mod told;
 
 use crate::Validator;
 use base64::engine::general_purpose::URL_SAFE_NO_PAD;
