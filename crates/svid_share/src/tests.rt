@@ -1,4 +1,6 @@
 mod answer;
+mod engine;
+mod failing;
 mod faults;
 mod long;
 mod made;
