@@ -1,3 +1,4 @@
+mod hostile;
 mod refusing;
 
 use super::*;
@@ -5,6 +6,8 @@ use refusing::{refuse, was_refused};
 use std::alloc::Global;
 use std::cmp::Ordering;
 use std::convert::AsStr;
+use std::fmt;
+use std::fmt::Write;
 use std::test::Fail;
 
 // The bytes of `front`, and then `count` times `byte`.
@@ -322,4 +325,116 @@ fn answers_want_of_memory_for_a_clone(rt: HostRuntime) -> Result<(), Fail> {
         }
     }
     Err(Fail::from(NEVER_ENDS))
+}
+
+// A place for 32 bytes of text, which takes no memory.
+#[derive(Drop)]
+struct Shown {
+    bytes: [u8; 32],
+    len: usize,
+}
+
+impl fmt::Write for Shown {
+    fn write_str(&mut self, text: &str) -> fmt::Result {
+        for byte in text.as_bytes() {
+            let Some(at) = self.bytes.get_mut(self.len) else {
+                return Err(fmt::Error);
+            };
+            *at = *byte;
+            self.len = self.len.wrapping_add(1);
+        }
+        Ok(())
+    }
+}
+
+// Whether a value is shown as this text.
+fn is_shown_as<T: fmt::Display>(value: &T, text: &str) -> bool {
+    let mut shown = Shown {
+        bytes: [0; 32],
+        len: 0,
+    };
+    let done = write!(shown, "{value}").is_ok();
+    done && shown.bytes.get(..shown.len) == Some(text.as_bytes())
+}
+
+#[test]
+fn takes_no_memory_with_an_id(rt: HostRuntime) -> Result<(), Fail> {
+    let id = SpiffeId::parse(rt.alloc(), b"spiffe://a.b/c")?;
+    let other = SpiffeId::parse(rt.alloc(), b"spiffe://a.b/d")?;
+    refuse(rt.alloc(), 1);
+    let told = (id.as_str(), lent(&id), id.domain(), id.path());
+    let order = (
+        id.cmp(&other),
+        id.partial_cmp(&other),
+        id == other,
+        id < other,
+    );
+    let shown = is_shown_as(&id, "spiffe://a.b/c");
+    let refused = was_refused(rt.alloc());
+    refuse(rt.alloc(), 0);
+    assert!(rt; !refused);
+    assert_eq!(rt; told, ("spiffe://a.b/c", "spiffe://a.b/c", "a.b", "/c"));
+    assert_eq!(rt; order, (Ordering::Less, Some(Ordering::Less), false, true));
+    assert!(rt; shown);
+    Ok(())
+}
+
+#[test]
+fn takes_no_memory_with_a_name(rt: HostRuntime) -> Result<(), Fail> {
+    let name = TrustDomain::parse(rt.alloc(), b"a.b")?;
+    let other = TrustDomain::parse(rt.alloc(), b"a.c")?;
+    refuse(rt.alloc(), 1);
+    let told = (name.as_str(), lent(&name));
+    let order = (
+        name.cmp(&other),
+        name.partial_cmp(&other),
+        name == other,
+        name < other,
+    );
+    let shown = is_shown_as(&name, "a.b");
+    let names = (
+        is_domain_name(b"a.b"),
+        is_domain_name(b"a/b"),
+        is_domain_name(b""),
+    );
+    let refused = was_refused(rt.alloc());
+    refuse(rt.alloc(), 0);
+    assert!(rt; !refused);
+    assert_eq!(rt; told, ("a.b", "a.b"));
+    assert_eq!(rt; order, (Ordering::Less, Some(Ordering::Less), false, true));
+    assert!(rt; shown);
+    assert_eq!(rt; names, (true, false, false));
+    Ok(())
+}
+
+#[test]
+fn takes_no_memory_for_a_fault(rt: HostRuntime) -> Result<(), Fail> {
+    let long = with_run(rt.alloc(), b"spiffe://a/", b'b', 2038)?;
+    let long_name = with_run(rt.alloc(), b"", b'a', 256)?;
+    refuse(rt.alloc(), 1);
+    let faults = [
+        SpiffeId::parse(rt.alloc(), &long).err(),
+        SpiffeId::parse(rt.alloc(), b"spiffe:/a").err(),
+        SpiffeId::parse(rt.alloc(), b"spiffe://a/b/../c").err(),
+        SpiffeId::parse(rt.alloc(), b"spiffe://a/b/").err(),
+        SpiffeId::parse(rt.alloc(), b"spiffe://a/b c").err(),
+        TrustDomain::parse(rt.alloc(), b"").err(),
+        TrustDomain::parse(rt.alloc(), b"a/b").err(),
+        TrustDomain::parse(rt.alloc(), &long_name).err(),
+    ];
+    let refused = was_refused(rt.alloc());
+    refuse(rt.alloc(), 0);
+    assert!(rt; !refused);
+    let due = [
+        IdFault::TooLong,
+        IdFault::Scheme,
+        IdFault::SegmentDots(13),
+        IdFault::SegmentEmpty(13),
+        IdFault::PathByte(12),
+        IdFault::DomainEmpty,
+        IdFault::DomainByte(1),
+        IdFault::DomainLong,
+    ];
+    assert_eq!(rt; faults, due.map(Some));
+    Ok(())
 }
