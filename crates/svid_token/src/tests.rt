@@ -1,3 +1,4 @@
+mod changes;
 mod memory;
 mod refusing;
 
@@ -20,6 +21,9 @@ const PAYLOAD: &str = "eyJzdWIiOiJzcGlmZmU6Ly9hL2IiLCJhdWQiOiJzIiwiZXhwIjoxMDAxL
 
 // The digest of the bytes 01 00 00 00 01 61 6a 31, by Python's `hashlib`.
 const KEY_OF_J1: &str = "aa248ce528cb9cae518c0ae05cdaf85eda5482429ab9cc3d6d5681f47a1f4596";
+
+// The digest of the bytes 00 2e, by the same: a token without an ID of its own, whose signing input is a period.
+const KEY_OF_A_PERIOD: &str = "3639618e90314d0feb7ce289d97468263ca4af996ffc621399d092e1f12aa1dd";
 
 fn spell(alloc: Global, bytes: &[u8]) -> Result<String, AllocError> {
     URL_SAFE_NO_PAD.encode(alloc, bytes)
@@ -630,15 +634,14 @@ fn reads_times_of_digits_alone(rt: HostRuntime) -> Result<(), Fail> {
 #[test]
 fn keys_tokens(rt: HostRuntime) -> Result<(), Fail> {
     // Digests by Python's `hashlib`, of byte 00 and the signing input, and of the name `aj` and `1`.
-    let by_period = "3639618e90314d0feb7ce289d97468263ca4af996ffc621399d092e1f12aa1dd";
     let by_input = "3834f997cfc9f044a15349bc658d5d33cb71e22ff4a851591935a16dafbb0ebc";
     let of_aj = "11bcfa5b6ec3b9df18336df3252ed62ff699208b975ceb75b40d47507d583da0";
     let cases = [
         ("spiffe://a", Some("j1"), ".", KEY_OF_J1),
         ("spiffe://a/b", Some("j1"), "h.p", KEY_OF_J1),
-        ("spiffe://a", None, ".", by_period),
-        ("spiffe://a", Some(""), ".", by_period),
-        ("spiffe://aj/b", None, ".", by_period),
+        ("spiffe://a", None, ".", KEY_OF_A_PERIOD),
+        ("spiffe://a", Some(""), ".", KEY_OF_A_PERIOD),
+        ("spiffe://aj/b", None, ".", KEY_OF_A_PERIOD),
         ("spiffe://a", None, "h.p", by_input),
         ("spiffe://aj", Some("1"), ".", of_aj),
     ];
