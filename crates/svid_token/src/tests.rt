@@ -1,4 +1,5 @@
 mod changes;
+mod hostile;
 mod memory;
 mod refusing;
 
