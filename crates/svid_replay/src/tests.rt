@@ -1,4 +1,6 @@
 mod batch;
+mod joins;
+mod memoryless;
 mod record;
 mod refusing;
 mod summary;

@@ -112,7 +112,7 @@ fn a_record_is_merged_as_far_as_memory_goes(rt: HostRuntime) -> Result<(), Fail>
 }
 
 // A use of a key that no other of the numbers below 101 has; the keys don't rise with the numbers.
-fn keyed(number: u64) -> Use {
+pub(super) fn keyed(number: u64) -> Use {
     Use {
         exp: 5001 + number % 7,
         key: [(number % 101 * 37 % 101) as u8; 32],
