@@ -1,16 +1,17 @@
 // Calls that take no memory, made where the first allocation would be refused, if tools/failmalloc.c is
 // loaded; and calls whose memory is that of the sink or of what was there before.
+ghost use Rattle.std.specs.Prelude.{◌<◌};
+
 use super::refusing::{refuse, was_refused};
 use super::summaries::text_of_numbered;
-use super::{NO_USES, TWO_USES, joined, told_of};
+use super::{NO_USES, TWO_USES, joined, told_of, write_each};
 use crate::{
     Counted, Feed, MemSink, MemSource, Message, ReadFault, Reason, Sink, Source, Stopped,
-    WireFault, WriteFault, put_all, read_all, read_up_to, write_batch, write_summary,
+    WireFault, WriteFault, put_all, read_all, read_up_to,
 };
 use std::alloc::Global;
 use std::process::Abort;
 use std::test::Fail;
-use svid_replay::{Batch, Summary};
 
 #[test]
 fn streams_take_no_memory(rt: HostRuntime) -> Result<(), Fail> {
@@ -96,70 +97,43 @@ fn a_feed_that_failed_takes_no_memory(rt: HostRuntime) {
     assert_eq!(rt; (again, end), (Err(failed), Err(failed)));
 }
 
-// A batch and a summary, written to a sink in memory whose growths are refused in turn: what went out are
-// the first bytes of the texts, as many as the answer tells.
+// A message written to a sink in memory whose growths are refused in turn: what went out are the first
+// bytes of its text, as many as the answer tells.
 fn written_as_far_as_memory_goes(
     rt: &impl Abort,
     alloc: Global,
-    messages: (&Batch, &Summary),
+    messages: &[Message],
     text: &[u8],
 ) {
-    let (batch, summary) = messages;
     let mut refused = true;
     for nth in 1..1000usize {
         let mut sink = MemSink::new(alloc, 100, None);
         refuse(alloc, nth);
-        let one = write_batch(batch, &mut sink);
-        let two = write_summary(summary, &mut sink);
+        let answer = write_each(messages, &mut sink);
         refused = was_refused(alloc);
         refuse(alloc, 0);
-        assert_eq!(rt; one.is_err() || two.is_err(), refused, "growth {nth}");
         assert_eq!(rt; sink.faults(), u64::from(refused));
         if !refused {
-            assert!(rt; sink.bytes() == text);
+            assert!(rt; answer.is_ok() && sink.bytes() == text);
             break;
         }
-        assert_written(rt, &sink, text, one, two);
+        let written = sink.bytes().len();
+        assert_eq!(rt; answer, Err(WriteFault { written }), "growth {nth}");
+        assert!(rt; written < text.len() && text.starts_with(sink.bytes()));
     }
     assert!(rt; !refused);
-}
-
-// One of two writes was refused: the other text is whole.
-fn assert_written(
-    rt: &impl Abort,
-    sink: &MemSink,
-    text: &[u8],
-    one: Result<(), WriteFault>,
-    two: Result<(), WriteFault>,
-) {
-    assert!(rt; 145 <= text.len());
-    let (batch, summary) = text.split_at(145);
-    match (one, two) {
-        (Err(fault), Ok(())) => {
-            assert!(rt; fault.written <= 145);
-            let (front, rest) = (batch.split_at(fault.written).0, summary);
-            assert!(rt; sink.bytes().starts_with(front) && sink.bytes().ends_with(rest));
-            assert_eq!(rt; sink.bytes().len(), front.len().saturating_add(rest.len()));
-        }
-        (Ok(()), Err(fault)) => {
-            assert!(rt; text.starts_with(sink.bytes()));
-            assert_eq!(rt; sink.bytes().len(), fault.written.saturating_add(145));
-        }
-        _ => assert!(rt; false, "both were refused, or none"),
-    }
 }
 
 #[test]
 fn writing_tells_how_much_a_sink_had_memory_for(rt: HostRuntime) -> Result<(), Fail> {
     let alloc = rt.alloc();
-    let text = joined(alloc, &[TWO_USES, &text_of_numbered(alloc)?])?;
-    let mut out = Vec::new(alloc);
-    read_all(alloc, &text, &mut out)?;
-    if let [Message::Batch(batch), Message::Summary(summary)] = out.as_slice() {
-        written_as_far_as_memory_goes(&rt, alloc, (batch, summary), &text);
-        return Ok(());
+    let summary = text_of_numbered(alloc)?;
+    for text in [TWO_USES.as_slice(), NO_USES.as_slice(), summary.as_slice()] {
+        let mut messages = Vec::new(alloc);
+        read_all(alloc, text, &mut messages)?;
+        assert_eq!(rt; messages.len(), 1);
+        written_as_far_as_memory_goes(&rt, alloc, &messages, text);
     }
-    assert!(rt; false, "a batch and a summary");
     Ok(())
 }
 
