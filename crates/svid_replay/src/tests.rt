@@ -1,6 +1,5 @@
 mod batch;
 mod joins;
-mod lists;
 mod memoryless;
 mod record;
 mod refusing;

@@ -398,18 +398,3 @@ fn a_restart_between_two_parts_loses_the_first(rt: HostRuntime) -> Result<(), Fa
     assert_record(&rt, &v, 1000, 1);
     Ok(())
 }
-
-// So a log that a restart left as it was would say of a summary that it was answered, and be wrong.
-#[test]
-fn a_restart_behind_a_summary_loses_what_it_summed(rt: HostRuntime) -> Result<(), Fail> {
-    let alloc = rt.alloc();
-    let save = parts_of(alloc, &sharing(alloc, [0xAA; 16], 10)?)?;
-    let asking = accepting(alloc, 0xAA, 1000, PAYLOAD)?;
-    let mut asked = sharing(alloc, [0xBB; 16], 10)?;
-    send(alloc, &asking, &mut asked)?;
-    let texts = answer_to(alloc, &mut asked, &asking)?;
-    let mut again = restarted(alloc, 0xAA, &save)?;
-    take_all(alloc, &mut again, &texts)?;
-    assert_record(&rt, &again, 1000, 0);
-    Ok(())
-}
