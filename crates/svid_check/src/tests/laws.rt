@@ -249,6 +249,27 @@ fn two_places_are_reported_until_the_token_expires(rt: HostRuntime) -> Result<()
     Ok(())
 }
 
+// A validator that accepts a token at 1000 after a restart from the save of an empty record.
+fn begun_anew(alloc: Global) -> Result<Validator<Sig, IndexedUses>, Fail> {
+    let token = signed(alloc, PAYLOAD)?;
+    let save = parts_of(alloc, &sharing(alloc, [0xAA; 16], 10)?)?;
+    let mut v = restarted(alloc, 0xAA, &save)?;
+    v.check(1000, token.as_bytes())?;
+    Ok(v)
+}
+
+// What was sent before a restart tells that a token was accepted before and after it.
+#[test]
+fn what_was_sent_before_a_restart_tells_of_it(rt: HostRuntime) -> Result<(), Fail> {
+    let alloc = rt.alloc();
+    let sent = parts_of(alloc, &accepting(alloc, 0xAA, 999, PAYLOAD)?)?;
+    let mut v = begun_anew(alloc)?;
+    take_all(alloc, &mut v, &sent)?;
+    let before = Use { at: 999, ..USED };
+    assert_reports(&rt, alloc, &mut v, &[before, USED])?;
+    Ok(())
+}
+
 #[test]
 fn a_restart_from_the_parts_gives_the_record(rt: HostRuntime) -> Result<(), Fail> {
     let alloc = rt.alloc();
