@@ -6,7 +6,6 @@ mod answering;
 mod bytes;
 mod chance;
 mod group;
-mod hostile;
 mod keys;
 mod laws;
 mod refusals;

@@ -1,7 +1,6 @@
 mod candidates;
 mod check;
 mod id;
-mod long;
 mod refusing;
 mod sweep;
 

@@ -1,7 +1,5 @@
-mod damaged;
 mod decoding;
 mod feeding;
-mod memoryless;
 mod messages;
 mod refusing;
 mod streams;
