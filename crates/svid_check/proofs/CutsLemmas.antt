@@ -31,13 +31,6 @@ dropped n us u h =
     ∙ or_right (list_any (eq_by_cmp use_cmp u) (take n us)) (list_any (eq_by_cmp use_cmp u) (drop n us)) h
 
 -- ---- so many full batches, and one of the rest
-each_moment : (n m : ℕ) (us : List Use) (p : ℕ) (b : BatchData) → slice_get (full_batches n m us) p ≡ Some b → b.moment ≡ m
-unfolding full_batches
-each_moment zero m us zero b e = sym (ap (λ x. x.moment) (same_Some (record { moment = m; uses = us }) b e))
-each_moment zero m us (suc p) b e = absurd (none-some b e)
-each_moment (suc n) m us zero b e = sym (ap (λ x. x.moment) (same_Some (record { moment = m; uses = take 4096 us }) b e))
-each_moment (suc n) m us (suc p) b e = each_moment n m (drop 4096 us) p b e
-
 each_within : (n m : ℕ) (us : List Use) (p : ℕ) (b : BatchData) → slice_get (full_batches n m us) p ≡ Some b → (u : Use) → Listed b.uses u → Listed us u
 unfolding full_batches
 each_within zero m us zero b e u h = subst (λ (x : BatchData). Listed x.uses u) (sym (same_Some (record { moment = m; uses = us }) b e)) h
@@ -75,11 +68,6 @@ first_one zero m us = (record { moment = m; uses = us }, refl, refl)
 first_one (suc n) m us = (record { moment = m; uses = take 4096 us }, refl, refl)
 
 -- ---- the parts of what is cut
--- each part has the moment of the cut
-pub part_moment : (m : ℕ) (us : List Use) (p : ℕ) (b : BatchData) → slice_get (cut m us) p ≡ Some b → b.moment ≡ m
-unfolding cut
-part_moment m us p b e = each_moment ((length us - 1) / 4096) m us p b e
-
 -- what a part holds is of the uses that were cut
 pub part_within : (m : ℕ) (us : List Use) (p : ℕ) (b : BatchData) → slice_get (cut m us) p ≡ Some b → (u : Use) → IsTrue (holds (uses_in b.uses) u) → IsTrue (holds (uses_in us) u)
 unfolding cut

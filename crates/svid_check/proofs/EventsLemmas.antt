@@ -134,7 +134,7 @@ sums_are_events group w v summary same =
       ap (λ (s : SummaryData). w.pool ++ record { maker = v; was = w.members v; content = Summed s } ∷ []) (sym same),
     )
 
--- ---- one validator by put_own
+-- ---- one validator by itself
 pub checks_are_calls : ChecksAreCalls
 checks_are_calls t w now token answer due form =
     let x = raised w.held now in

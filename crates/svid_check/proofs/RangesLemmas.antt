@@ -6,7 +6,7 @@ use Rattle.svid_token.specs.declared.refusal.Refusal.{Refusal}
 use Rattle.svid_replay.specs.declared.token_use.Use.{Use}
 use Rattle.svid_replay.specs.Records.{State, batch_state, state_of}
 use Rattle.svid_replay.specs.Use.{IsUse}
-use Rattle.svid_replay.proofs.ListLemmas.{each_weaker, has_cases, has_none}
+use Rattle.svid_replay.proofs.ListLemmas.{has_cases, has_none}
 use Rattle.svid_replay.proofs.RecordsLemmas.{moment-join}
 use Rattle.svid_check.specs.declared.accepted.Accepted.{Accepted}
 use Rattle.svid_check.specs.Changes.{raised, settled}
@@ -14,7 +14,7 @@ use Rattle.svid_check.specs.Headline.{HasPlaces, IsInRange}
 use Rattle.svid_check.specs.Runs.{Terms}
 use Rattle.svid_check.specs.World.{Answer, Check, Event, Member, Restart, Save, Send, Sum, Take, Tick, World, accepted, accepted_by, answer_at, happen, happens, start, used_in}
 use Rattle.svid_check.proofs.AnswersLemmas.{accepted_is}
-use Rattle.svid_check.proofs.EachToldLemmas.{AllTold, Everywhere, IsAt, IsKept, each_told, happen_everywhere, happens_everywhere, start_everywhere}
+use Rattle.svid_check.proofs.EachToldLemmas.{AllTold, Everywhere, IsAt, IsKept, each_told, happens_everywhere, start_everywhere}
 use Rattle.svid_check.proofs.LawfulLemmas.{in_range}
 
 -- a moment
@@ -62,12 +62,6 @@ in_moment (Restart v s) h = tt
 module _ (group : ℕ → Terms) where
   next_moments : (w : World) (e : Event) → IsInRange e → Everywhere HasMoment w → Everywhere HasMoment (happens group w e)
   next_moments w e at h = happens_everywhere IsMoment (λ u. Unit {0}) HasMoment moments_are_kept group w e (in_moment e at) (λ u has. tt) h
-
-  -- each record, as it is, as it was at each posting, and as it was at each save, is of a moment
-  pub moments_everywhere : (events : List Event) → AllByRecursion IsInRange events → Everywhere HasMoment (happen group start events)
-  moments_everywhere events at =
-      happen_everywhere IsMoment (λ u. Unit {0}) HasMoment moments_are_kept group start events (each_weaker IsInRange (IsAt IsMoment) in_moment events at) (λ u has. tt)
-      (start_everywhere IsMoment (λ u. Unit {0}) HasMoment moments_are_kept)
 
   module _ (places : HasPlaces group) where
     use_by : (w : World) (e : Event) → IsInRange e → Everywhere HasMoment w → (u : Use) → Contains (accepted_by group w e) u → IsUse u
