@@ -6,6 +6,7 @@ mod answering;
 mod bytes;
 mod chance;
 mod group;
+mod hostile;
 mod keys;
 mod laws;
 mod refusals;

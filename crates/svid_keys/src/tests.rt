@@ -3,6 +3,8 @@
 
 ghost use Rattle.std.specs.Prelude.{◌≤◌};
 
+mod changes;
+mod hostile;
 mod memory;
 mod refusing;
 
@@ -52,6 +54,18 @@ fn kids(
 // Whether a key of the domain `a` was kept.
 fn has_key(bundles: &Bundles) -> bool {
     bundles.candidates("a", Alg::Es256, None).next().is_some()
+}
+
+// Bundles of the trust domains `d` and a number, from one number up to another, each with one key named by its
+// number; up to the comma behind the last of them.
+fn numbered(alloc: Global, from: u32, to: u32) -> Result<String, AllocError> {
+    let mut text = String::from_str(alloc, "{")?;
+    for number in from..to {
+        text.push_str(format!(in alloc;
+            "\"d{number}\":{{\"keys\":[{{\"kty\":\"EC\",\"use\":\"jwt-svid\",\"kid\":\"{number}\"}}]}},"
+        )?.as_str())?;
+    }
+    Ok(text)
 }
 
 // The first key of the domain `a`.

@@ -1,6 +1,7 @@
 mod candidates;
 mod check;
 mod id;
+mod long;
 mod refusing;
 mod sweep;
 

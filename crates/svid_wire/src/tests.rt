@@ -1,5 +1,7 @@
+mod damaged;
 mod decoding;
 mod feeding;
+mod memoryless;
 mod messages;
 mod refusing;
 mod streams;

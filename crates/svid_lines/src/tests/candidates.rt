@@ -1,6 +1,9 @@
+ghost use Rattle.std.specs.Prelude.{◌<◌};
+
 use super::{ONE_KEY, ONE_QUESTION, TOKEN};
 use crate::run_candidates;
 use std::alloc::Global;
+use std::process::Abort;
 use std::test::Fail;
 use svid_keys::BundleFault;
 use svid_share::ToolFault;
@@ -155,35 +158,75 @@ fn refuses_bundles_that_are_none(rt: HostRuntime) {
     }
 }
 
-// Each `get` and each `put` fails in turn, until a run has none left to fail. Bundles are judged before
-// tokens are read.
+// Each call of an input fails in turn, until one that the run does not make: nothing is written.
+fn assert_failed_reads(
+    rt: &impl Abort,
+    alloc: Global,
+    input: usize,
+    step: usize,
+) -> Result<(), Fail>
+    requires { 0 < step }
+{
+    let mut met = false;
+    for call in 1..1000u64 {
+        let at = |number: usize| if input == number { Some(call) } else { None };
+        let mut bundles = MemSource::new(ONE_KEY.to_vec(alloc)?, step, at(1));
+        let mut tokens = MemSource::new(TOKEN.to_vec(alloc)?, step, at(2));
+        let mut out = MemSink::new(alloc, 1000, None);
+        let answer = run_candidates(alloc, &mut bundles, &mut tokens, &mut out);
+        if answer == Ok(true) {
+            met = true;
+            break;
+        }
+        assert_eq!(rt; answer, Err(ToolFault::Read { input }));
+        assert!(rt; out.bytes().is_empty());
+    }
+    assert!(rt; met);
+    Ok(())
+}
+
+// Each call of the output fails in turn, until one that the run does not make: a part of the line is written.
+fn assert_failed_writes(rt: &impl Abort, alloc: Global, step: usize) -> Result<(), Fail>
+    requires { 0 < step }
+{
+    let mut met = false;
+    for call in 1..1000u64 {
+        let mut out = MemSink::new(alloc, step, Some(call));
+        let answer = run(alloc, ONE_KEY, TOKEN, &mut out);
+        if answer == Ok(true) {
+            assert_eq!(rt; out.bytes(), ONE_QUESTION);
+            met = true;
+            break;
+        }
+        assert_eq!(rt; answer, Err(ToolFault::Write));
+        assert!(rt; out.bytes().len() < ONE_QUESTION.len());
+        assert!(rt; ONE_QUESTION.starts_with(out.bytes()));
+    }
+    assert!(rt; met);
+    Ok(())
+}
+
 #[test]
 fn tells_each_failed_call(rt: HostRuntime) -> Result<(), Fail> {
-    let alloc = rt.alloc();
-    for input in [1, 2] {
-        for fail_at in 1..100u64 {
-            let at = |number: usize| if input == number { Some(fail_at) } else { None };
-            let mut bundles = MemSource::new(ONE_KEY.to_vec(alloc)?, 10, at(1));
-            let mut tokens = MemSource::new(TOKEN.to_vec(alloc)?, 10, at(2));
-            let mut out = MemSink::new(alloc, 1000, None);
-            match run_candidates(alloc, &mut bundles, &mut tokens, &mut out) {
-                Ok(true) => break,
-                answer => {
-                    assert_eq!(rt; answer, Err(ToolFault::Read { input }));
-                    assert!(rt; out.bytes().is_empty());
-                }
-            }
-        }
+    for step in [1, 7, 100] {
+        assert_failed_reads(&rt, rt.alloc(), 1, step)?;
+        assert_failed_reads(&rt, rt.alloc(), 2, step)?;
+        assert_failed_writes(&rt, rt.alloc(), step)?;
     }
+    Ok(())
+}
+
+#[test]
+fn judges_the_bundles_before_the_tokens_are_read(rt: HostRuntime) -> Result<(), Fail> {
+    let alloc = rt.alloc();
     let mut bundles = MemSource::new(b"[]".to_vec(alloc)?, 10, None);
     let mut tokens = MemSource::new(TOKEN.to_vec(alloc)?, 10, Some(1));
-    let mut out = MemSink::new(alloc, 10, Some(3));
+    let mut out = MemSink::new(alloc, 10, None);
     assert_eq!(rt;
         run_candidates(alloc, &mut bundles, &mut tokens, &mut out),
         Err(ToolFault::Bundles(BundleFault::NotObject))
     );
-    assert_eq!(rt; run(alloc, ONE_KEY, TOKEN, &mut out), Err(ToolFault::Write));
-    assert_eq!(rt; out.bytes(), ONE_QUESTION.split_at(20).0);
+    assert!(rt; out.bytes().is_empty());
     Ok(())
 }
 

@@ -12,7 +12,8 @@ use svid_share::ToolFault;
 use svid_wire::{MemSink, MemSource, Reason};
 
 // The question whether the token's signature is good, which the table answers with yes.
-const TABLE: &[u8] = b"bc905fb9ff409ccd144f0ea328f043d7d765a8e7d61f27505a41839950f6ed1e\n";
+pub(super) const TABLE: &[u8] =
+    b"bc905fb9ff409ccd144f0ea328f043d7d765a8e7d61f27505a41839950f6ed1e\n";
 
 // The record after the token was accepted at 1000: its key is the SHA-256 digest of 01, the length of
 // the trust domain name in four bytes, the name and the token's ID (Python's hashlib).
@@ -33,17 +34,17 @@ const BOTH_REPLAYED: &[u8] = b"refused Replayed\nrefused Replayed\n";
 
 // The inputs of a run, and which call of each fails.
 #[derive(Clone, Copy)]
-struct Given<'a> {
-    bundles: &'a [u8],
-    table: &'a [u8],
-    tokens: &'a [u8],
-    earlier: Option<&'a [u8]>,
-    fails: [Option<u64>; 4],
+pub(super) struct Given<'a> {
+    pub(super) bundles: &'a [u8],
+    pub(super) table: &'a [u8],
+    pub(super) tokens: &'a [u8],
+    pub(super) earlier: Option<&'a [u8]>,
+    pub(super) fails: [Option<u64>; 4],
 }
 
 impl<'a> Given<'a> {
     // The token's bundles and table.
-    fn of(tokens: &'a [u8]) -> Given<'a> {
+    pub(super) fn of(tokens: &'a [u8]) -> Given<'a> {
         Given {
             bundles: ONE_KEY,
             table: TABLE,
@@ -62,7 +63,7 @@ fn twice(alloc: Global) -> Result<Vec<u8>, AllocError> {
     Ok(tokens)
 }
 
-fn setting(alloc: Global) -> Result<CheckSetting, Fail> {
+pub(super) fn setting(alloc: Global) -> Result<CheckSetting, Fail> {
     let mut own = Vec::with_capacity(alloc, 1)?;
     own.push(String::from_str(alloc, "s")?)?;
     Ok(CheckSetting {
@@ -109,7 +110,7 @@ fn run(
 }
 
 // Runs the checks with ample memory, in pieces of 100 bytes.
-fn answer(
+pub(super) fn answer(
     alloc: Global,
     given: &Given<'_>,
     kept: &mut Option<MemSink>,
@@ -369,36 +370,92 @@ fn tells_each_failed_write(rt: HostRuntime) -> Result<(), Fail> {
     assert_failed_writes(&rt, alloc, &given, 100)
 }
 
+// What stands after a refusal: nothing was written where the run tells want of memory. Else a sink's own growth was
+// refused, and a part of the kept record stands, or all of it and a part of the lines. Says which.
+fn assert_stands(
+    rt: &impl Abort,
+    answer: Result<bool, ToolFault>,
+    kept: &Option<MemSink>,
+    out: &MemSink,
+) -> bool {
+    let record = match kept {
+        Some(sink) => sink.bytes(),
+        None => KEPT.as_slice(),
+    };
+    if answer == Err(ToolFault::OutOfMemory) {
+        assert!(rt; out.bytes().is_empty() && (record.is_empty() || kept.is_none()));
+        return false;
+    }
+    assert_eq!(rt; answer, Err(ToolFault::Write));
+    assert!(rt; KEPT.starts_with(record) && ACCEPTED_ONCE.starts_with(out.bytes()));
+    assert!(rt; out.bytes().is_empty() || record == KEPT.as_slice());
+    assert!(rt; out.bytes().len() < ACCEPTED_ONCE.len());
+    true
+}
+
+// Runs the checks while the nth allocation is refused. Says whether one was, and whether it was a sink's own.
+fn checks_or_tells(
+    rt: &impl Abort,
+    alloc: Global,
+    given: &Given<'_>,
+    keeps: bool,
+    nth: usize,
+) -> Result<(bool, bool), Fail>
+    requires { nth < 4294967296 }
+{
+    let mut kept = if keeps {
+        Some(MemSink::new(alloc, 7, None))
+    } else {
+        None
+    };
+    let mut out = MemSink::new(alloc, 7, None);
+    let (answered, refused) = run(alloc, given, 1000, nth, &mut kept, &mut out)?;
+    if refused {
+        let of_sink = assert_stands(rt, answered, &kept, &out);
+        return Ok((true, of_sink));
+    }
+    assert_eq!(rt; answered, Ok(false));
+    assert_eq!(rt; out.bytes(), ACCEPTED_ONCE);
+    assert!(rt; kept.is_none() || matches!(&kept, Some(sink) if sink.bytes() == KEPT.as_slice()));
+    Ok((false, false))
+}
+
+// Each growth of a run is refused in turn: first those of its own, and then those of its sinks. The same run with memory
+// answers as ever.
+fn assert_growths(
+    rt: &impl Abort,
+    alloc: Global,
+    given: &Given<'_>,
+    keeps: bool,
+) -> Result<(), Fail> {
+    let mut refused = true;
+    let mut began = false;
+    for nth in 1..10000usize {
+        let (one, of_sink) = checks_or_tells(rt, alloc, given, keeps, nth)?;
+        assert_eq!(rt;
+            checks_or_tells(rt, alloc, given, keeps, 0)?,
+            (false, false)
+        );
+        refused = one;
+        if !refused {
+            break;
+        }
+        assert!(rt; of_sink || !began);
+        began = of_sink;
+    }
+    assert!(rt; !refused);
+    Ok(())
+}
+
+// With an earlier record and without, and with one that is kept and without.
 #[test]
 fn check_tells_want_of_memory(rt: HostRuntime) -> Result<(), Fail> {
     let alloc = rt.alloc();
     let tokens = twice(alloc)?;
     let mut given = Given::of(&tokens);
+    assert_growths(&rt, alloc, &given, false)?;
+    assert_growths(&rt, alloc, &given, true)?;
     given.earlier = Some(TWO_USES);
-    let mut met = false;
-    for nth in 1..10000usize {
-        let mut kept = Some(MemSink::new(alloc, 1000, None));
-        let mut out = MemSink::new(alloc, 1000, None);
-        let (answered, refused) = run(alloc, &given, 1000, nth, &mut kept, &mut out)?;
-        if refused {
-            match answered {
-                Err(ToolFault::OutOfMemory) => {
-                    assert!(rt; out.bytes().is_empty());
-                    assert!(rt; matches!(&kept, Some(sink) if sink.bytes().is_empty()));
-                }
-                // (a sink's own growth was refused)
-                _ => assert_eq!(rt; answered, Err(ToolFault::Write)),
-            }
-        }
-        let mut out = MemSink::new(alloc, 1000, None);
-        assert_eq!(rt; answer(alloc, &given, &mut None, &mut out)?, Ok(false));
-        assert_eq!(rt; out.bytes(), ACCEPTED_ONCE);
-        if !refused {
-            assert_eq!(rt; answered, Ok(false));
-            met = true;
-            break;
-        }
-    }
-    assert!(rt; met);
-    Ok(())
+    assert_growths(&rt, alloc, &given, false)?;
+    assert_growths(&rt, alloc, &given, true)
 }

@@ -47,12 +47,29 @@ fn refuses_a_long_text_and_a_long_domain(rt: HostRuntime) -> Result<(), Fail> {
     Ok(())
 }
 
+// Each call of the output fails in turn, in pieces of 1, 7 and 100 bytes, until one that the run does not make.
 #[test]
-fn tells_a_failed_write(rt: HostRuntime) {
-    let mut out = MemSink::new(rt.alloc(), 5, Some(2));
-    assert_eq!(rt;
-        run_id(rt.alloc(), b"spiffe://a/b", &mut out),
-        Err(ToolFault::Write)
-    );
-    assert_eq!(rt; out.bytes(), b"domai".as_slice());
+fn tells_each_failed_write(rt: HostRuntime) -> Result<(), Fail> {
+    for (text, whole) in [
+        ("spiffe://a/b", "domain a\npath /b\n"),
+        ("spiffe://a/", "refused SegmentEmpty(11)\n"),
+    ] {
+        for step in [1, 7, 100] {
+            let mut met = false;
+            for call in 1..1000u64 {
+                let mut out = MemSink::new(rt.alloc(), step, Some(call));
+                let answer = run_id(rt.alloc(), text.as_bytes(), &mut out);
+                if answer.is_ok() {
+                    assert_eq!(rt; out.bytes(), whole.as_bytes());
+                    met = true;
+                    break;
+                }
+                assert_eq!(rt; answer, Err(ToolFault::Write));
+                assert!(rt; out.bytes().len() < whole.len());
+                assert!(rt; whole.as_bytes().starts_with(out.bytes()));
+            }
+            assert!(rt; met);
+        }
+    }
+    Ok(())
 }

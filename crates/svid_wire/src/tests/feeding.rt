@@ -14,7 +14,7 @@ fn fault(place: usize, reason: Reason) -> Result<(), WireFault> {
 }
 
 // Pushes the bytes in pieces of a length, the last as it is left.
-fn push_in_pieces(
+pub(super) fn push_in_pieces(
     feed: &mut Feed,
     bytes: &[u8],
     length: usize,

@@ -2,6 +2,7 @@
 // Without it no growth is refused, and each loop ends with its first round, the happy one.
 ghost use Rattle.std.specs.Prelude.{◌≤◌};
 
+use super::damaged::texts_of;
 use super::refusing::{refuse, was_refused};
 use super::summaries::text_of_numbered;
 use super::{A_SUMMARY, TWO_USES, many_uses, told, write_each};
@@ -36,13 +37,15 @@ fn four_messages(alloc: Global) -> Result<Vec<u8>, AllocError> {
     Ok(bytes)
 }
 
-// Whether these are the first of those messages.
-fn are_first(messages: &[Message]) -> bool {
-    messages.len() <= 4
+// Whether these are the first of those messages, whose bytes are these, and have the first of the bytes as
+// their texts.
+fn are_first(alloc: Global, messages: &[Message], bytes: &[u8]) -> Result<bool, Fail> {
+    let told = messages.len() <= 4
         && messages
             .iter()
             .zip(&FOUR)
-            .all(|(message, due)| told(message) == *due)
+            .all(|(message, due)| told(message) == *due);
+    Ok(told && bytes.starts_with(&texts_of(alloc, messages)?))
 }
 
 // Pushes the bytes in pieces of 100, the last as it is left.
@@ -63,7 +66,8 @@ fn pushing_answers_want_of_memory_and_then_failed(rt: HostRuntime) -> Result<(),
         let pushed = push_pieces(&mut feed, &bytes, &mut out);
         let refused = was_refused(rt.alloc());
         refuse(rt.alloc(), 0);
-        assert_eq!(rt; are_first(&out), true, "growth {nth}");
+        let first = are_first(rt.alloc(), &out, &bytes)?;
+        assert_eq!(rt; first, true, "growth {nth}");
         assert_eq!(rt; feed.held(), 0);
         if !refused {
             assert_eq!(rt; (pushed, out.len(), feed.finish()), (Ok(()), 4, Ok(())));
@@ -134,7 +138,8 @@ fn reading_messages_answers_want_of_memory_and_keeps_the_first(
         let read = read_all(rt.alloc(), &bytes, &mut out);
         let refused = was_refused(rt.alloc());
         refuse(rt.alloc(), 0);
-        assert_eq!(rt; are_first(&out), true, "growth {nth}");
+        let first = are_first(rt.alloc(), &out, &bytes)?;
+        assert_eq!(rt; first, true, "growth {nth}");
         if !refused {
             assert_eq!(rt; (read, out.len()), (Ok(()), 4));
             return Ok(());
