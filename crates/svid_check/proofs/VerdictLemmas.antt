@@ -61,4 +61,4 @@ lives s moment uses t none = by_test (nat_lt moment t.exp) refl (passed _ _ _ (p
 pub unused : (s : Setting) (moment : ℕ) (uses : Uses) (t : Said) → first_row (setting_rows s moment uses t) ≡ None → has_use_of uses (key_of t) ≡ false
 unused s moment uses t none =
     let rows = setting_rows s moment uses t in
-    (passed (has_use_of uses (key_of t)) Replayed None (none_of_both (take 6 rows) (drop 6 rows) none).1).0
+    (passed (has_use_of uses (key_of t)) Replayed None (none_of_both (take 7 rows) (drop 7 rows) none).1).0

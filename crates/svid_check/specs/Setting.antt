@@ -1,6 +1,6 @@
 -- What a validator is given, and what it holds.
-use Rattle.std.specs.Prelude.{ℕ, Bool, List, map, string_bytes, refl}
-use Rattle.std.specs.Coded.{Coded, code_by, coded×, coded_ℕ, coded_list}
+use Rattle.std.specs.Prelude.{ℕ, Bool, List, Option, map, string_bytes, refl}
+use Rattle.std.specs.Coded.{Coded, code_by, coded×, coded_ℕ, coded_list, coded_option}
 use Rattle.svid_token.specs.declared.alg.Alg.{Alg}
 use Rattle.svid_token.specs.contracts.kty.Kty.{the_row}
 use Rattle.svid_token.specs.declared.kty.Kty.{Kty}
@@ -19,6 +19,7 @@ pub record Setting : Type 0 where
   pub place : List ℕ
   pub bundles : List Bundle
   pub says : Says
+  pub longest : Option ℕ
 
 -- what a validator is to a contract; its verifier is a V
 pub record Held (V : Type 0) : Type 0 where
@@ -27,19 +28,20 @@ pub record Held (V : Type 0) : Type 0 where
   pub ahead : ℕ
   pub bundles : List Bundle
   pub verifier : V
+  pub longest : Option ℕ
   pub state : State
 
 -- the setting of a validator, where this is what verifiers say
 abbrev pub setting_of : {V : Type 0} → (V → Says) → Held V → Setting
-setting_of says held = record { own = held.own; place = held.place; bundles = held.bundles; says = says held.verifier }
+setting_of says held = record { own = held.own; place = held.place; bundles = held.bundles; says = says held.verifier; longest = held.longest }
 
 -- the setting of what a validator is given
 abbrev pub given_setting : {V : Type 0} → (V → Says) → Given V → Setting
-given_setting says given = record { own = map string_bytes given.own.items; place = given.place; bundles = given.bundles; says = says given.verifier }
+given_setting says given = record { own = map string_bytes given.own.items; place = given.place; bundles = given.bundles; says = says given.verifier; longest = given.longest }
 
 -- the same validator with another record
 abbrev pub with_state : {V : Type 0} → Held V → State → Held V
-with_state held state = record { own = held.own; place = held.place; ahead = held.ahead; bundles = held.bundles; verifier = held.verifier; state = state }
+with_state held state = record { own = held.own; place = held.place; ahead = held.ahead; bundles = held.bundles; verifier = held.verifier; longest = held.longest; state = state }
 
 -- how a key is stored
 abbrev pub key_code : Coded KeyData
@@ -54,8 +56,8 @@ bundle_code = code_by (List ℕ × List KeyData) (coded× (coded_list coded_ℕ)
 -- how a validator is stored, where this is how its verifier is
 abbrev pub held_code : {V : Type 0} → Coded V → Coded (Held V)
 held_code {V} verifier =
-    code_by (List (List ℕ) × (List ℕ × (ℕ × (List Bundle × (V × State)))))
-    (coded× (coded_list (coded_list coded_ℕ)) (coded× (coded_list coded_ℕ) (coded× coded_ℕ (coded× (coded_list bundle_code) (coded× verifier state_code)))))
-    (λ h. (h.own, (h.place, (h.ahead, (h.bundles, (h.verifier, h.state))))))
-    (λ p. record { own = p.0; place = p.1.0; ahead = p.1.1.0; bundles = p.1.1.1.0; verifier = p.1.1.1.1.0; state = p.1.1.1.1.1 })
+    code_by (List (List ℕ) × (List ℕ × (ℕ × (List Bundle × (V × (Option ℕ × State))))))
+    (coded× (coded_list (coded_list coded_ℕ)) (coded× (coded_list coded_ℕ) (coded× coded_ℕ (coded× (coded_list bundle_code) (coded× verifier (coded× (coded_option coded_ℕ) state_code))))))
+    (λ h. (h.own, (h.place, (h.ahead, (h.bundles, (h.verifier, (h.longest, h.state)))))))
+    (λ p. record { own = p.0; place = p.1.0; ahead = p.1.1.0; bundles = p.1.1.1.0; verifier = p.1.1.1.1.0; longest = p.1.1.1.1.1.0; state = p.1.1.1.1.1.1 })
     (λ _. refl)

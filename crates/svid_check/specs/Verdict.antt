@@ -1,9 +1,9 @@
--- The verdict on a token: a table of 23 refusals, and the acceptance where none of them holds.
-use Rattle.std.specs.Prelude.{◌≢◌, ℕ, Bool, not, nat_lt, ◌==◌, List, [], ◌∷◌, ◌++◌, length, bytes_eq, Option, Some, None, is_none, option_map, Result, Ok}
+-- The verdict on a token: a table of 24 refusals, and the acceptance where none of them holds.
+use Rattle.std.specs.Prelude.{◌≢◌, ℕ, ◌+◌, Bool, not, nat_lt, ◌==◌, List, [], ◌∷◌, ◌++◌, length, bytes_eq, Option, Some, None, is_none, option_map, Result, Ok}
 use Rattle.std.specs.List.{list_any}
 use Rattle.sha2.specs.Sha256.{sha256}
 use Rattle.svid_token.specs.declared.refusal.Refusal.{Refusal}
-use Rattle.svid_token.specs.declared.refusal.Refusal.TheVariants.{NotAudience, Expired, NotYet, UnknownDomain, NoKey, BadSignature, Replayed}
+use Rattle.svid_token.specs.declared.refusal.Refusal.TheVariants.{NotAudience, Expired, NotYet, TooLongLived, UnknownDomain, NoKey, BadSignature, Replayed}
 use Rattle.svid_token.specs.Rows.{Row, first_row, holds_of, judged}
 use Rattle.svid_token.specs.TokenKey.{token_text}
 use Rattle.svid_keys.specs.Bundles.{Bundle}
@@ -31,11 +31,12 @@ keys_for bundles t = candidates_of bundles t.sub.domain t.alg t.kid
 abbrev pub is_signed : Setting → Said → Bool
 is_signed s t = list_any (λ key. s.says key t.alg t.input t.signature) (keys_for s.bundles t)
 
--- the refusals of a token for its time (RFC 7519, sections 4.1.4 and 4.1.5)
-abbrev pub time_rows : ℕ → Said → List Row
-time_rows moment t =
+-- the refusals of a token for its time (RFC 7519, sections 4.1.4 and 4.1.5; the last is the setting's own)
+abbrev pub time_rows : Setting → ℕ → Said → List Row
+time_rows s moment t =
     (Expired, not (nat_lt moment t.exp))
     ∷ (NotYet, holds_of t.nbf (λ nbf. nat_lt moment nbf))
+    ∷ (TooLongLived, holds_of s.longest (λ longest. nat_lt (moment + longest) t.exp))
     ∷ []
 
 -- the refusals of a token for its keys (JWT-SVID, section 4)
@@ -53,7 +54,7 @@ keys_due bundles t = judged (first_row (keys_rows bundles t)) (keys_for bundles 
 abbrev pub setting_rows : Setting → ℕ → Uses → Said → List Row
 setting_rows s moment uses t =
     (NotAudience, not (list_any (is_own s.own) t.aud))
-    ∷ (time_rows moment t
+    ∷ (time_rows s moment t
     ++ (keys_rows s.bundles t
     ++ ((BadSignature, not (is_signed s t))
     ∷ (Replayed, has_use_of uses (key_of t))

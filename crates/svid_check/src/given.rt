@@ -8,4 +8,5 @@ pub(crate) struct Given<V> {
     pub(crate) ahead: u64,
     pub(crate) bundles: Bundles,
     pub(crate) verifier: V,
+    pub(crate) longest: Option<u64>,
 }

@@ -1,4 +1,4 @@
-ghost use Rattle.std.specs.Prelude.{◌≡◌, ◌≤◌, length, map, nat_lt, string_bytes};
+ghost use Rattle.std.specs.Prelude.{◌≡◌, ◌≤◌, ◌+◌, length, map, nat_lt, string_bytes};
 ghost use Rattle.std.specs.List.{list_any};
 ghost use Rattle.svid_token.specs.Rows.{first_row, holds_of};
 ghost use Rattle.svid_check.specs.Said.{said_in};
@@ -45,6 +45,17 @@ fn is_early(moment: u64, nbf: Option<u64>) -> bool
     }
 }
 
+// Whether a token expires later than any may at this moment. The sum has no limit, so that a long time
+// is never taken for a short one.
+fn lasts_too_long(moment: u64, longest: Option<u64>, exp: u64) -> bool
+    ensures { result ≡ holds_of longest (λ longest. nat_lt (moment + longest) exp) }
+{
+    match longest {
+        Some(longest) => exp.saturating_sub(moment) > longest,
+        None => false,
+    }
+}
+
 // Whether a candidate made the signature, as the verifier says.
 fn is_signed<V: Verifier>(given: &Given<V>, reading: &Reading<'_>) -> bool
     requires input_len { length reading.now.input.now ≤ 65536 }
@@ -83,6 +94,9 @@ pub(crate) fn refusal<V: Verifier, S: UseStore>(
     }
     if is_early(replay.moment(), reading.claims.nbf) {
         return Some(Refusal::NotYet);
+    }
+    if lasts_too_long(replay.moment(), given.longest, reading.claims.exp) {
+        return Some(Refusal::TooLongLived);
     }
     if let Some(refusal) = reading.keys_refusal(&given.bundles) {
         return Some(refusal);

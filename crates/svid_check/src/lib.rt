@@ -1,4 +1,4 @@
-//! The validator of JWT-SVIDs: it accepts a token, or names the first of 23 refusals.
+//! The validator of JWT-SVIDs: it accepts a token, or names the first of 24 refusals.
 //!
 //! A [`Validator`] is given its own audiences, its place, trust bundles, a verifier of signatures and
 //! the record of the tokens that were used. [`Validator::check`] answers for a token at a moment that
@@ -17,7 +17,7 @@
 //! let bundles = Bundles::read(alloc, bundles_json)?;
 //! let verifier = TableVerifier::read(alloc, table_text)?;
 //! let record = Record::new(IndexedUses::new(alloc));
-//! let mut validator = Validator::new(alloc, audiences, place, 10, bundles, verifier, record);
+//! let mut validator = Validator::new(alloc, audiences, place, 10, bundles, verifier, record, None);
 //! match validator.check(now, token) {
 //!     Ok(accepted) => println!(rt; "{}", accepted.id.as_str())?,
 //!     Err(refusal) => println!(rt; "{refusal}")?,

@@ -9,6 +9,7 @@ mod group;
 mod hostile;
 mod keys;
 mod laws;
+mod longest;
 mod refusals;
 mod refusing;
 mod runs;
@@ -104,7 +105,7 @@ fn validator_of<V: Verifier + Drop>(
     }
     let bundles = Bundles::read(alloc, bundles)?;
     let record = Record::new(IndexedUses::new(alloc));
-    Ok(Validator::new(alloc, names, PLACE, 10, bundles, verifier, record))
+    Ok(Validator::new(alloc, names, PLACE, 10, bundles, verifier, record, None))
 }
 
 // A validator with the audience `s`, one key and an empty record.
@@ -121,7 +122,7 @@ fn with_record<S: UseStore + Drop>(
 ) -> Result<Validator<Sig, S>, Fail> {
     let own = vec![in alloc; String::from_str(alloc, "s")?]?;
     let bundles = Bundles::read(alloc, ONE_KEY)?;
-    Ok(Validator::new(alloc, own, place, ahead, bundles, Sig, record))
+    Ok(Validator::new(alloc, own, place, ahead, bundles, Sig, record, None))
 }
 
 // One of several validators that share their records, each with a place of its own; with an empty record.

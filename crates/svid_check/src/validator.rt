@@ -41,6 +41,7 @@ impl<V: Verifier, S: UseStore> Model for Validator<V, S> {
       ahead = v.given.ahead;
       bundles = v.given.bundles;
       verifier = v.given.verifier;
+      longest = v.given.longest;
       state = v.replay;
     } };
 }
@@ -50,7 +51,8 @@ impl<V: Verifier, S: UseStore> Validator<V, S> {
     ///
     /// `own` are the audiences that it answers to, `place` tells it from every other validator that
     /// shares its record, and `ahead` is how many seconds the moment of a message may lie ahead of its
-    /// own. Later calls take their memory from `alloc`.
+    /// own. Where `longest` is there, a token is refused that expires more than so many seconds past
+    /// the moment at which it is judged. Later calls take their memory from `alloc`.
     pub fn new(
         alloc: Global,
         own: Vec<String>,
@@ -59,8 +61,9 @@ impl<V: Verifier, S: UseStore> Validator<V, S> {
         bundles: Bundles,
         verifier: V,
         replay: Record<S>,
+        longest: Option<u64>,
     ) -> Self
-        ensures { result ≡ record { own = map string_bytes own.items; place = place; ahead = ahead; bundles = bundles; verifier = verifier; state = replay } }
+        ensures { result ≡ record { own = map string_bytes own.items; place = place; ahead = ahead; bundles = bundles; verifier = verifier; longest = longest; state = replay } }
     {
         Validator {
             alloc,
@@ -70,6 +73,7 @@ impl<V: Verifier, S: UseStore> Validator<V, S> {
                 ahead,
                 bundles,
                 verifier,
+                longest,
             },
             replay,
         }

@@ -1,4 +1,4 @@
-use Rattle.std.proofs.Common.{◌≡◌, ◌≢◌, ℕ, List, [], map, string_bytes, Option, None, Some, inl, inr, refl, ap, ◌∙◌}
+use Rattle.std.proofs.Common.{◌≡◌, ◌≢◌, ℕ, List, [], Option, None, Some, inl, inr, refl, ap, ◌∙◌}
 use Rattle.svid_keys.specs.Bundles.{Bundle}
 use Rattle.svid_keys.specs.Lines.{lines_of}
 use Rattle.svid_keys.specs.Question.{question_of}
@@ -9,7 +9,7 @@ use Rattle.svid_wire.specs.Messages.{batches_of}
 use Rattle.svid_wire.specs.Streams.{Drawn, IsRead}
 use Rattle.svid_check.specs.Setting.{Says}
 use Rattle.svid_lines.specs.Bundles.{AreBundlesRead, IsBundlesFault}
-use Rattle.svid_lines.specs.Check.{CheckInputs, CheckOutputs, IsCheckFault, IsEarlier, IsEarlierFault, IsOneRefused, IsOutcome, IsTableFault, IsTableOf, Outcome, outcome_from}
+use Rattle.svid_lines.specs.Check.{CheckInputs, CheckOutputs, IsCheckFault, IsEarlier, IsEarlierFault, IsOneRefused, IsOutcome, IsTableFault, IsTableOf, Outcome, outcome_from, setting_under}
 use Rattle.svid_lines.specs.Checks.{tokens_of}
 use Rattle.svid_share.specs.Inputs.{IsUnread, most_bytes}
 use Rattle.svid_share.specs.Joined.{Joins}
@@ -34,12 +34,12 @@ same_says table questions same = λ i key alg input signature. same (question_of
 -- what the checks come to is what is due to the inputs
 pub comes_to : (given : CheckSetting) (inputs : CheckInputs) (bundles : List Bundle) (table : List (List ℕ)) (tokens : List ℕ) (earlier : State) (outcome : Outcome)
     → AreBundlesRead inputs.bundles bundles → IsTableOf inputs.table table → IsRead inputs.tokens most_bytes tokens → IsEarlier inputs.earlier earlier
-    → outcome ≡ outcome_from (record { own = map string_bytes given.own.items; place = given.place; bundles = bundles; says = table_says table }) given.now earlier (tokens_of (lines_of tokens))
+    → outcome ≡ outcome_from (setting_under given bundles (table_says table)) given.now earlier (tokens_of (lines_of tokens))
     → IsOutcome given inputs outcome
 comes_to given inputs bundles table tokens earlier outcome first second third fourth is = record {
   said = record { bundles = bundles; questions = second.questions; tokens = tokens; earlier = earlier };
   read = record { bundles = first; table = second.read; tokens = third; earlier = fourth };
-  is = is ∙ ap (λ (says : Says). outcome_from (record { own = map string_bytes given.own.items; place = given.place; bundles = bundles; says = says }) given.now earlier (tokens_of (lines_of tokens))) (same_says table second.questions second.same);
+  is = is ∙ ap (λ (says : Says). outcome_from (setting_under given bundles says) given.now earlier (tokens_of (lines_of tokens))) (same_says table second.questions second.same);
 }
 
 pub first_refused : (inputs : CheckInputs) (fault : ToolFault) → IsBundlesFault inputs.bundles fault → IsOneRefused inputs fault

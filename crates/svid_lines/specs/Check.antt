@@ -11,7 +11,7 @@ use Rattle.svid_wire.specs.Messages.{batches_of}
 use Rattle.svid_wire.specs.RecordText.{record_text}
 use Rattle.svid_wire.specs.Streams.{Drawn, IsRead, Taken, TookAll, TookPart, drawn, taken}
 use Rattle.svid_wire.specs.declared.message.Message.{Message}
-use Rattle.svid_check.specs.Setting.{Setting}
+use Rattle.svid_check.specs.Setting.{Says, Setting}
 use Rattle.svid_lines.specs.Bundles.{AreBundlesRead, IsBundlesFault}
 use Rattle.svid_lines.specs.Checks.{are_accepted, judgement_lines, judgements, record_after, tokens_of}
 use Rattle.svid_share.specs.Inputs.{IsInputFault, IsUnread, IsWhole, most_bytes}
@@ -91,9 +91,13 @@ pub record Outcome : Type 0 where
 abbrev pub outcome_view : OutcomeMade → Outcome
 outcome_view made = record { accepted = made.accepted; kept = flat_map batch_text made.kept.items; lines = string_bytes made.lines }
 
+-- the setting of the checks, under these bundles and with a verifier that says this
+abbrev pub setting_under : CheckSetting → List Bundle → Says → Setting
+setting_under given bundles says = record { own = map string_bytes given.own.items; place = given.place; bundles = bundles; says = says; longest = given.longest }
+
 -- the setting of the checks: the verifier says yes to the questions of the table
 abbrev pub setting_for : CheckSetting → Read → Setting
-setting_for given said = record { own = map string_bytes given.own.items; place = given.place; bundles = said.bundles; says = table_says said.questions }
+setting_for given said = setting_under given said.bundles (table_says said.questions)
 
 -- what the checks of some tokens come to
 abbrev pub outcome_from : Setting → ℕ → State → List (List ℕ) → Outcome

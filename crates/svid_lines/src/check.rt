@@ -1,4 +1,4 @@
-ghost use Rattle.std.specs.Prelude.{◌≡◌, ◌≢◌, IfOk, IfErr, OnOk, OnErr, Some, map, string_bytes};
+ghost use Rattle.std.specs.Prelude.{◌≡◌, ◌≢◌, IfOk, IfErr, OnOk, OnErr, Some};
 ghost use Rattle.std.specs.List.{flat_map};
 ghost use Rattle.svid_keys.specs.Lines.{lines_of};
 ghost use Rattle.svid_keys.specs.Table.{table_says};
@@ -6,7 +6,7 @@ ghost use Rattle.svid_wire.specs.BatchText.{batch_text};
 ghost use Rattle.svid_wire.specs.Streams.{drawn, taken};
 ghost use Rattle.svid_lines.specs.Checks.{tokens_of};
 ghost use Rattle.svid_share.specs.Inputs.{IsInputFault};
-ghost use Rattle.svid_lines.specs.Check.{AreChecked, IsCheckFault, IsEarlier, IsEarlierFault, IsOfInput, IsOneRefused, IsOutcome, IsTableFault, IsTableOf, TookAllIf, TookPartIf, drawn_if, outcome_from, outcome_view, taken_if};
+ghost use Rattle.svid_lines.specs.Check.{AreChecked, IsCheckFault, IsEarlier, IsEarlierFault, IsOfInput, IsOneRefused, IsOutcome, IsTableFault, IsTableOf, TookAllIf, TookPartIf, drawn_if, outcome_from, outcome_view, setting_under, taken_if};
 
 use crate::bundles::read_bundles;
 use crate::checks::check_lines;
@@ -26,6 +26,8 @@ pub struct CheckSetting {
     pub place: [u8; 16],
     /// The moment at which the tokens are checked, in seconds.
     pub now: u64,
+    /// How many seconds past the moment a token may expire; any number where there is none.
+    pub longest: Option<u64>,
 }
 
 // What a run of checks comes to: whether all are accepted, the record after the last one, and a line for each.
@@ -83,10 +85,15 @@ fn check_all(
     tokens: &[u8],
 ) -> Result<Outcome, AllocError>
     ensures { IfOk result (λ outcome. outcome_view outcome
-        ≡ outcome_from (record { own = map string_bytes given.own.items; place = given.place; bundles = bundles; says = table_says table }) given.now begun (tokens_of (lines_of tokens.now))) }
+        ≡ outcome_from (setting_under given bundles (table_says table)) given.now begun (tokens_of (lines_of tokens.now))) }
 {
-    let CheckSetting { own, place, now } = given;
-    let mut validator = Validator::new(alloc, own, place, 0, bundles, table, begun);
+    let CheckSetting {
+        own,
+        place,
+        now,
+        longest,
+    } = given;
+    let mut validator = Validator::new(alloc, own, place, 0, bundles, table, begun, longest);
     let (accepted, lines) = check_lines(alloc, &mut validator, now, tokens)?;
     let kept = validator.replay().parts(alloc)?;
     Ok(Outcome {

@@ -28,6 +28,7 @@ fn refusal_name(refusal: Refusal) -> Option<&'static str>
         Refusal::NotAudience => "NotAudience",
         Refusal::Expired => "Expired",
         Refusal::NotYet => "NotYet",
+        Refusal::TooLongLived => "TooLongLived",
         Refusal::UnknownDomain => "UnknownDomain",
         Refusal::NoKey => "NoKey",
         Refusal::BadSignature => "BadSignature",

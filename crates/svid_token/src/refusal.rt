@@ -63,6 +63,9 @@ pub enum Refusal {
     /// The token is not valid yet.
     #[error("the token is not valid yet")]
     NotYet,
+    /// The token expires later than the validator lets any token last.
+    #[error("the token lasts too long")]
+    TooLongLived,
     /// There is no bundle of the subject's trust domain.
     #[error("the subject's trust domain is unknown")]
     UnknownDomain,

@@ -122,6 +122,11 @@ fn check_command<'a>(alloc: Global) -> Result<Command<'a>, AllocError> {
         .value_name("P")
         .required(true)
         .help("What tells this validator from every other one: 32 hexadecimal digits");
+    let longest = Arg::new(alloc, "longest")
+        .long("longest")
+        .value_name("N")
+        .value_parser(clap::value_parser!(u64))
+        .help("How many seconds past the moment a token may expire; without it, any number");
     let audience = Arg::new(alloc, "audience")
         .value_name("AUD")
         .required(true)
@@ -145,6 +150,7 @@ fn check_command<'a>(alloc: Global) -> Result<Command<'a>, AllocError> {
         .arg(file_option(alloc, "out", false).help(
             "The file that gets the record after the last check",
         ))?
+        .arg(longest)?
         .arg(audience)
 }
 
@@ -329,7 +335,13 @@ fn check_setting(rt: &HostRuntime, matches: &ArgMatches<'_>) -> Result<CheckSett
     let place = place_of(rt.alloc(), matches.get_str("place").unwrap_or(""))?;
     let own = audiences(rt.alloc(), matches.get_strs("audience").unwrap_or(&[]))?;
     let now = matches.get_one::<u64>("now").unwrap_or(0);
-    Ok(CheckSetting { own, place, now })
+    let longest = matches.get_one::<u64>("longest");
+    Ok(CheckSetting {
+        own,
+        place,
+        now,
+        longest,
+    })
 }
 
 fn check(rt: &HostRuntime, matches: &ArgMatches<'_>) -> Result<u8, Failure> {

@@ -28,6 +28,9 @@ const KEPT: &[u8; 81] = b"JSR\x01\x01\
 // The record of moment 0 with no use.
 const NOTHING_KEPT: &[u8; 17] = b"JSR\x01\x01\x00\x00\x00\x00\x00\x00\x00\x00\x00\x00\x00\x00";
 
+// The record of moment 1000 with no use.
+const RAISED: &[u8; 17] = b"JSR\x01\x01\x00\x00\x00\x00\x00\x00\x03\xe8\x00\x00\x00\x00";
+
 const ACCEPTED_ONCE: &[u8] = b"accepted spiffe://a/b 1001\nrefused Replayed\n";
 
 const BOTH_REPLAYED: &[u8] = b"refused Replayed\nrefused Replayed\n";
@@ -39,6 +42,7 @@ pub(super) struct Given<'a> {
     pub(super) table: &'a [u8],
     pub(super) tokens: &'a [u8],
     pub(super) earlier: Option<&'a [u8]>,
+    pub(super) longest: Option<u64>,
     pub(super) fails: [Option<u64>; 4],
 }
 
@@ -50,6 +54,7 @@ impl<'a> Given<'a> {
             table: TABLE,
             tokens,
             earlier: None,
+            longest: None,
             fails: [None; 4],
         }
     }
@@ -70,6 +75,7 @@ pub(super) fn setting(alloc: Global) -> Result<CheckSetting, Fail> {
         own,
         place: [0xAA; 16],
         now: 1000,
+        longest: None,
     })
 }
 
@@ -85,7 +91,8 @@ fn run(
     requires step { 0 < step }
     requires nth { nth < 4294967296 }
 {
-    let setting = setting(alloc)?;
+    let mut setting = setting(alloc)?;
+    setting.longest = given.longest;
     let mut bundles = MemSource::new(given.bundles.to_vec(alloc)?, step, given.fails[0]);
     let mut table = MemSource::new(given.table.to_vec(alloc)?, step, given.fails[1]);
     let mut tokens = MemSource::new(given.tokens.to_vec(alloc)?, step, given.fails[2]);
@@ -169,6 +176,18 @@ fn accepts_a_token_once(rt: HostRuntime) -> Result<(), Fail> {
         b"accepted spiffe://a/b 1001\n",
         KEPT,
     )
+}
+
+#[test]
+fn refuses_what_lasts_too_long(rt: HostRuntime) -> Result<(), Fail> {
+    let alloc = rt.alloc();
+    let tokens = twice(alloc)?;
+    let mut given = Given::of(&tokens);
+    given.longest = Some(0);
+    let both = b"refused TooLongLived\nrefused TooLongLived\n";
+    assert_run(&rt, alloc, &given, false, both, RAISED)?;
+    given.longest = Some(1);
+    assert_run(&rt, alloc, &given, false, ACCEPTED_ONCE, KEPT)
 }
 
 #[test]

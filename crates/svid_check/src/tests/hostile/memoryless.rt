@@ -19,7 +19,7 @@ fn a_validator_is_made_without_memory(rt: HostRuntime) -> Result<(), Fail> {
     let bundles = Bundles::read(alloc, ONE_KEY)?;
     let record = Record::new(IndexedUses::new(alloc));
     refuse(alloc, 1);
-    let mut v = Validator::new(alloc, own, PLACE, 10, bundles, Sig, record);
+    let mut v = Validator::new(alloc, own, PLACE, 10, bundles, Sig, record, None);
     let begins = (v.replay().moment(), v.replay().len());
     v.tick(1000);
     let refused = was_refused(alloc);
