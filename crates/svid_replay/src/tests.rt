@@ -1,5 +1,6 @@
 mod batch;
 mod joins;
+mod lists;
 mod memoryless;
 mod record;
 mod refusing;
