@@ -4,6 +4,7 @@ mod failing;
 mod faults;
 mod long;
 mod made;
+mod memoryless;
 mod merge;
 mod refusing;
 mod report;

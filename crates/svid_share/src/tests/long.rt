@@ -4,7 +4,7 @@ ghost use Rattle.std.specs.Io.KnownBytes.{ReadConsumes};
 ghost use Rattle.svid_wire.specs.Faults.{CountsFault};
 
 use super::EMPTY_REPORT;
-use crate::{ToolFault, run_report};
+use crate::{ToolFault, run_answer, run_report};
 use std::alloc::{AllocError, Global};
 use std::test::Fail;
 use svid_wire::{MemSink, Reason, Source, Stopped};
@@ -72,6 +72,23 @@ fn takes_64_mebibytes_and_no_byte_more(rt: HostRuntime) -> Result<(), Fail> {
         let mut out = MemSink::new(rt.alloc(), 1000, None);
         assert_eq!(rt; run_report(rt.alloc(), &mut inputs, None, &mut out), answer);
         assert!(rt; out.bytes() == EMPTY_REPORT || answer.is_err() && out.bytes().is_empty());
+    }
+    Ok(())
+}
+
+// The input that a summary is read from is bounded as the others are, and is judged before them.
+#[test]
+fn takes_no_summary_of_more_than_64_mebibytes(rt: HostRuntime) -> Result<(), Fail> {
+    for (left, fault) in [
+        (67_108_860, ToolFault::NotSummary),
+        (67_108_865, ToolFault::TooMuch { input: 1 }),
+    ] {
+        let mut summary = Empties::new(rt.alloc(), left)?;
+        let mut inputs = [Empties::new(rt.alloc(), 1)?];
+        let mut out = MemSink::new(rt.alloc(), 1000, None);
+        let answer = run_answer(rt.alloc(), &mut summary, &mut inputs, &mut out);
+        assert_eq!(rt; answer, Err(fault));
+        assert!(rt; out.bytes().is_empty() && inputs[0].left == 1);
     }
     Ok(())
 }

@@ -1,5 +1,5 @@
 // Each growth of what reads the command line is refused in turn, where tools/failmalloc.c is loaded; else
-// the happy path runs alone.
+// the happy path runs alone. After each refusal the same call has its answer.
 use super::line::Line;
 use super::refusing::{refuse, was_refused};
 use crate::cli::command;
@@ -23,6 +23,7 @@ fn words_tell_want_of_memory(rt: HostRuntime) -> Result<(), Fail> {
             break;
         }
         assert!(rt; answer.is_err());
+        assert_eq!(rt; words(&Line { count: 30 }, alloc).map(|words| words.len()), Ok(30));
     }
     assert!(rt; met);
     Ok(())
@@ -54,6 +55,7 @@ fn a_word_tells_want_of_memory(rt: HostRuntime) -> Result<(), Fail> {
             break;
         }
         assert!(rt; refused);
+        assert_eq!(rt; there_and_back(alloc, &word)?.as_slice(), word.as_slice());
     }
     assert!(rt; met);
     Ok(())
@@ -97,6 +99,7 @@ fn the_command_line_tells_want_of_memory(rt: HostRuntime) -> Result<(), Fail> {
                 break;
             }
             assert!(rt; refused);
+            assert_eq!(rt; is_understood(alloc, words)?, understood);
         }
         assert!(rt; met);
     }
