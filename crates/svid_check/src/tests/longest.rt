@@ -97,7 +97,11 @@ fn refuses_what_lasts_too_long_behind_what_is_not_valid_yet(rt: HostRuntime) -> 
     for (payload, refusal) in PLACED {
         let text = token(alloc, HEADER, payload, OTHER_SIG)?;
         let mut v = lasting(alloc, Some(0))?;
-        assert_eq!(rt; v.check(1000, text.as_bytes()).err(), Some(refusal), "{payload}");
+        assert_eq!(rt;
+            v.check(1000, text.as_bytes()).err(),
+            Some(refusal),
+            "{payload}"
+        );
         assert_record(&rt, &v, 1000, 0);
     }
     Ok(())

@@ -174,7 +174,16 @@ fn validator(alloc: Global) -> Result<Validator<TableVerifier, IndexedUses>, Fai
     let bundles = Bundles::read(alloc, ONE_KEY)?;
     let table = TableVerifier::read(alloc, TABLE)?;
     let record = Record::new(IndexedUses::new(alloc));
-    Ok(Validator::new(alloc, given.own, given.place, 0, bundles, table, record, given.longest))
+    Ok(Validator::new(
+        alloc,
+        given.own,
+        given.place,
+        0,
+        bundles,
+        table,
+        record,
+        given.longest,
+    ))
 }
 
 // Checks three lines while the nth allocation is refused, and says whether one was. After a refusal the record stands

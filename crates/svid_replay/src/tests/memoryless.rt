@@ -39,7 +39,10 @@ fn a_batch_is_made_or_refused_without_memory(rt: HostRuntime) -> Result<(), Fail
     let refused = was_refused(alloc);
     refuse(alloc, 0);
     assert!(rt; !refused);
-    assert_eq!(rt; (known.moment(), known.uses()), (100, [FIRST, SECOND].as_slice()));
+    assert_eq!(rt;
+        (known.moment(), known.uses()),
+        (100, [FIRST, SECOND].as_slice())
+    );
     assert_eq!(rt; faults[0], Some(BatchFault::Order(1)));
     assert_eq!(rt; faults[1], Some(BatchFault::Expired(0)));
     assert_eq!(rt; faults[2], Some(BatchFault::Future(1)));

@@ -42,7 +42,10 @@ fn putting_takes_no_memory(rt: HostRuntime) -> Result<(), Fail> {
     assert_eq!(rt; text.as_slice(), b"twice 0\n");
     assert!(rt; messages.starts_with(TWO_USES) && messages.ends_with(TWO_USES));
     assert_eq!(rt; messages.len(), 290);
-    assert_eq!(rt; (failed, failed_too), (Err(ToolFault::Write), Err(ToolFault::Write)));
+    assert_eq!(rt;
+        (failed, failed_too),
+        (Err(ToolFault::Write), Err(ToolFault::Write))
+    );
     assert!(rt; stopped.bytes().is_empty() && stopped_too.bytes().is_empty());
     assert_eq!(rt; status, 2);
     Ok(())

@@ -23,7 +23,10 @@ fn words_tell_want_of_memory(rt: HostRuntime) -> Result<(), Fail> {
             break;
         }
         assert!(rt; answer.is_err());
-        assert_eq!(rt; words(&Line { count: 30 }, alloc).map(|words| words.len()), Ok(30));
+        assert_eq!(rt;
+            words(&Line { count: 30 }, alloc).map(|words| words.len()),
+            Ok(30)
+        );
     }
     assert!(rt; met);
     Ok(())
