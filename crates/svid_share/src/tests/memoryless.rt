@@ -39,7 +39,7 @@ fn putting_takes_no_memory(rt: HostRuntime) -> Result<(), Fail> {
     refuse(alloc, 0);
     assert!(rt; !refused);
     assert_eq!(rt; (put, put_too), (Ok(()), Ok(())));
-    assert_eq!(rt; text.as_slice(), b"twice 0\n");
+    assert_eq!(rt; text.as_slice(), b"twice 0\n".as_slice());
     assert!(rt; messages.starts_with(TWO_USES) && messages.ends_with(TWO_USES));
     assert_eq!(rt; messages.len(), 290);
     assert_eq!(rt;
