@@ -1,20 +1,18 @@
 # shellcheck shell=bash
 # Three validators that share one record: what each of them does, and what the group is to show. Whoever
 # reads this file (files, run) sets here to its folder and over to what carries the messages, and has four
-# functions of its own, which are all that knows of it:
-#   tell FILE          gives the file to the group as a message
-#   next WHO           gets the first message behind WHO's place into WHO/message, and that message's place
-#                      into id; says 1 where there is none
-#   send BOX FILE      gives the file to whoever asks for the box
-#   receive BOX FILE   gets what was sent to the box
-# A validator is a folder in the room: its name, the record it kept, its place (how far it has read), and
-# the messages that it put aside. SVID names another program than ../../svid.
-set -u
+# functions of its own, which are all that knows of that:
+#   tell FILE          gives the file to the group as a message, and puts that message's mark into id
+#   next WHO           gets the first message behind WHO's mark into WHO/message, and its mark into id;
+#                      its status is 1 where there is none
+#   send BOX FILE      gives the file to whoever looks into the box
+#   receive BOX FILE   gets what is in the box
+# A validator is a folder in the room: its place (by which the program tells it from others), the record
+# that it kept, its mark (that of the last message that it heard), and the messages that it put aside.
+# SVID names another program than ../../svid.
 export LC_ALL=C
 examples=${here:?}/..
 svid=$(readlink -f -- "${SVID:-$examples/../svid}")
-bundles=$examples/bundles.json
-table=$examples/table.txt
 mapfile -t tokens <"$examples/tokens.txt"
 # The clock, in seconds, and how far past it the moment of a message may lie.
 now=1767225600
@@ -42,60 +40,60 @@ fail() {
   exit 1
 }
 
-[ -x "$svid" ] || { echo "examples/group: $svid is no program"; exit 2; }
+[ -x "$svid" ] || { echo "examples/group: ${SVID:-$examples/../svid} is no program"; exit 2; }
 # (the first run may prove and build the program, and says so)
 "$svid" --help >/dev/null || exit 2
 room=$(mktemp -d) || exit 2
 cd "$room" || exit 2
 
-# make WHO NAME: a validator that knows nothing. The program tells it from others by its name.
+# make WHO PLACE: a validator that knows nothing.
 make() {
   rm -rf "$1"
   mkdir -p "$1/aside"
-  echo "$2" >"$1/name"
-  echo 0 >"$1/place"
+  echo "$2" >"$1/place"
+  echo 0 >"$1/mark"
   : >"$1/record"
 }
 
-# keep WHO: WHO's next record takes the place of the one before, at once.
-keep() { mv "$1/next" "$1/record" || exit 2; }
+# keep WHO: WHO's next record takes the place of the one before, all at once.
+keep() { mv "$1/next" "$1/record" || fail "$1 cannot keep its record"; }
 
-# judge NAME N LINE OUT RECORD: the program's word on a token of tokens.txt at the moment N.
+# judge LINE WORD..: the program's word on the token in this line of tokens.txt.
 judge() {
-  "$svid" check --bundles "$bundles" --table "$table" --now "$2" --place "$1" --out "$4" ${5:+--record "$5"} \
-    ledger <<<"${tokens[$3 - 1]}"
+  "$svid" check --bundles "$examples/bundles.json" --table "$examples/table.txt" "${@:2}" ledger \
+    <<<"${tokens[$1 - 1]}"
 }
 
-# check WHO LINE WANT: WHO judges a token, keeps its record and only then answers; the answer must be WANT.
+# check WHO LINE WANT: WHO judges a token, keeps its record, and only then answers: what begins with WANT.
 check() {
   local said
   now=$((now + 1))
-  said=$(judge "$(cat "$1/name")" "$now" "$2" "$1/next" "$1/record")
-  [ $? -le 1 ] || fail "$1 cannot check a token"
+  said=$(judge "$2" --now "$now" --place "$(<"$1/place")" --record "$1/record" --out "$1/next")
+  [ $? -le 1 ] || fail "$1 cannot check token $2"
   keep "$1"
-  [[ $said == "$3"* ]] || fail "$1 answers token $2 with $said, and not with $3"
+  [[ $said == "$3"* ]] || fail "$1 answers token $2 with '$said', and not with '$3'"
 }
 
 # is_more A B: A is the greater number. A moment may be too great for the shell's own numbers.
 is_more() { [ ${#1} -gt ${#2} ] || { [ ${#1} = ${#2} ] && [[ $1 > $2 ]]; }; }
 
-# aside WHO WHY: WHO puts the message away, and goes on.
+# aside WHO WHY: WHO puts its message away, and says so.
 aside() {
-  mv "$1/message" "$1/aside/$id" || exit 2
+  mv "$1/message" "$1/aside/$id" || fail "$1 cannot put $id aside"
   say "$1 puts $id aside: $2"
 }
 
-# take WHO: WHO judges WHO/message by itself. What is no message, what is too long to be read, and what lies
+# take WHO: WHO judges its message by itself. What is no message, what is too long to be read, and what lies
 # too far past WHO's clock is put aside; the rest is joined with WHO's record.
 take() {
   local moment status
   "$svid" report "$1/message" >"$1/report" 2>"$1/fault"
   status=$?
   if [ "$status" = 1 ] || grep -q '^svid: input 1 too long$' "$1/fault"; then
-    aside "$1" "$(cat "$1/fault")"
+    aside "$1" "$(<"$1/fault")"
     return
   fi
-  [ "$status" = 0 ] || fail "$1 cannot judge $id: $(cat "$1/fault")"
+  [ "$status" = 0 ] || fail "$1 cannot judge $id: $(<"$1/fault")"
   read -r _ moment <"$1/report"
   if is_more "$moment" $((now + ahead)); then
     aside "$1" "moment $moment is past $((now + ahead))"
@@ -105,32 +103,32 @@ take() {
   keep "$1"
 }
 
-# hear WHO..: each takes what lies behind its place. The place is kept after the record: who is stopped in
+# hear WHO..: each takes what lies behind its mark. The mark is kept after the record: who is stopped in
 # between takes a message again, which changes nothing.
 hear() {
   local who
   for who; do
     while next "$who"; do
       take "$who"
-      echo "$id" >"$who/place"
+      echo "$id" >"$who/mark"
     done
   done
 }
 
-# same FILE FILE WHAT: the two are the same, byte for byte.
+# same FILE FILE WHAT: the two are the same, byte for byte, or this is what is wrong.
 same() { cmp -s "$1" "$2" || fail "$3"; }
 
 # reports LINE: the report of each validator has this line.
 reports() {
   local who
   for who in a b c; do
-    "$svid" report "$who/record" | grep -qx "$1" || fail "$who does not report: $1"
+    "$svid" report "$who/record" | grep -qx "$1" || fail "$who does not report '$1'"
   done
 }
 
 # All that is to be shown, step by step.
 show() {
-  local who n
+  local who what bytes='' byte
   make a 00112233445566778899aabbccddeeff
   make b 11112233445566778899aabbccddeeff
   make c 22112233445566778899aabbccddeeff
@@ -140,7 +138,7 @@ show() {
   hear a b c
   check b 1 'refused Replayed'
   check c 1 'refused Replayed'
-  say "a accepted a token; b and c heard of it and refuse it as Replayed"
+  say "a accepted a token; b and c heard of it, and refuse it as Replayed"
 
   check a 2 accepted
   check b 2 accepted
@@ -150,16 +148,16 @@ show() {
   reports 'twice 1'
   say "a and b accepted one token before they heard of each other: each report says twice 1"
 
-  # c asks, and a answers with the place to which it has read: c goes on from there.
+  # A new c asks, and a answers, with its mark: c goes on from there.
   make c 33112233445566778899aabbccddeeff
   "$svid" summary c/record >c/asked || fail "c has no summary"
   send asked c/asked
   receive asked a/asked
   "$svid" answer --summary a/asked a/record >a/answer || fail "a does not answer"
   send answer a/answer
-  send place a/place
+  send mark a/mark
   receive answer c/message
-  receive place c/place
+  receive mark c/mark
   id=answer
   take c
   same a/record c/record "c has not caught up"
@@ -170,37 +168,37 @@ show() {
   tell a/record
   hear a b c
   cp b/record before
+  what=$(<b/mark)
   tell a/record
   tell a/record
-  n=$(cat b/place)
   hear b
-  [ "$n" != "$(cat b/place)" ] || fail "b heard nothing"
-  same before b/record "a message that b had before changed its record"
+  [ "$what" != "$(<b/mark)" ] || fail "b heard nothing"
+  same before b/record "a message that b had heard before changed its record"
   say "a message that comes again changes nothing"
 
   # Bytes that are no message: each byte there is, and two line ends behind them. Then the records of two
   # whose clocks are wrong: one a second too far ahead, and one at the end of all time.
-  for n in {0..255}; do printf '%b' "\\x$(printf %02x "$n")"; done >none
-  printf '\n\n' >>none
-  tell none
-  judge 44112233445566778899aabbccddeeff $((now + 1 + ahead + 1)) 1 early >said || fail "no token for an early clock"
-  judge 55112233445566778899aabbccddeeff 18446744073709551615 1 last >said
-  tell early
-  tell last
+  for byte in {0..255}; do
+    printf -v byte '\\x%02x' "$byte"
+    bytes+=$byte
+  done
+  printf '%b\n\n' "$bytes" >none
+  judge 1 --now $((now + 1 + ahead + 1)) --place 44112233445566778899aabbccddeeff --out early >said
+  judge 1 --now 18446744073709551615 --place 55112233445566778899aabbccddeeff --out last >said
+  mkdir bad
+  for what in none early last; do
+    tell "$what"
+    mv "$what" "bad/$id"
+  done
   check c 3 accepted
   tell c/record
   hear a b c
   for who in a b c; do
-    set -- "$who"/aside/*
-    [ $# = 3 ] || fail "$who put $# messages aside"
-    for n in none early last; do
-      same "$n" "$1" "$who put aside other bytes than those of $n"
-      shift
-    done
+    diff -r bad "$who/aside" >said || fail "$who has other messages aside"
   done
   check a 3 'refused Replayed'
   check b 3 'refused Replayed'
-  say "what is no message and what is too far ahead is put aside, and what comes behind it is heard"
+  say "what is no message or too far ahead is aside, byte for byte, and what came behind it was heard"
 
   for who in a b c; do tell "$who/record"; done
   hear a b c
