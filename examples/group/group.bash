@@ -20,12 +20,10 @@ ahead=300
 id=
 room=
 
-# Ends what was started beside the script, and takes the room away.
+# Ends what still runs beside the script, and takes the room away. (A command before it may be among the jobs.)
 end() {
-  local started
   trap '' HUP INT TERM
-  started=$(jobs -p)
-  [ -z "$started" ] || { kill "$started"; wait "$started"; } 2>/dev/null
+  if jobs -p | grep -qx "${!-}"; then kill "$!"; wait "$!"; fi 2>/dev/null
   [ -z "$room" ] || rm -rf "$room"
 }
 trap end EXIT
