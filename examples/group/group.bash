@@ -39,8 +39,11 @@ fail() {
 }
 
 [ -x "$svid" ] || { echo "examples/group: ${SVID:-$examples/../svid} is no program"; exit 2; }
-# (the first run may prove and build the program, and says so)
+# ../../svid looks at each source before it runs the program, and builds it where it must. Once is enough:
+# the program is asked many times.
 "$svid" --help >/dev/null || exit 2
+built=$examples/../crates/svid_tool/out/svid_tool
+if [ -z "${SVID:-}" ] && [ -x "$built" ]; then svid=$built; fi
 room=$(mktemp -d) || exit 2
 cd "$room" || exit 2
 
