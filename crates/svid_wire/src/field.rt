@@ -1,13 +1,16 @@
-ghost use Rattle.std.specs.Prelude.{◌≡◌, length};
-ghost use Rattle.std.specs.Int.{to_be_bytes, w32, w64};
+ghost use Rattle.std.specs.Prelude.{◌≡◌, ◌≢◌, MatchOption, length};
+ghost use Rattle.std.specs.Int.{from_bool, to_be_bytes, w32, w64};
 ghost use Rattle.svid_replay.specs.Use.{IsBytes, text_of};
 ghost use Rattle.svid_wire.specs.BatchText.{numbers_text};
+ghost use Rattle.svid_wire.specs.Stage.{IsNoUse};
+ghost use Rattle.svid_wire.specs.declared.version.Version.{Version};
 ghost use Rattle.svid_wire.specs.SummaryText.{moment_text};
 
 use crate::layout::DIGEST_LEN;
+use crate::version_1::old_use_of;
 use svid_replay::Use;
 
-fn u64_of(bytes: &[u8]) -> u64
+pub(crate) fn u64_of(bytes: &[u8]) -> u64
     requires { length bytes.now ≡ 8 }
     ensures { to_be_bytes w64 result ≡ bytes.now }
 {
@@ -23,7 +26,7 @@ fn u32_of(bytes: &[u8]) -> u32
     u32::from_be_bytes([bytes[0], bytes[1], bytes[2], bytes[3]])
 }
 
-fn array_of<const N: usize>(bytes: &[u8]) -> [u8; N]
+pub(crate) fn array_of<const N: usize>(bytes: &[u8]) -> [u8; N]
     requires { length bytes.now ≡ N }
     ensures { result ≡ bytes.now }
 {
@@ -32,20 +35,30 @@ fn array_of<const N: usize>(bytes: &[u8]) -> [u8; N]
     array
 }
 
-/// The use with this text.
-#[tactic(auto, using(std::proofs::lemmas::Grind::common_steps), unfolding(svid_replay::specs::Use::text_of))]
-pub(crate) fn use_of(field: &[u8]) -> Use
-    requires { length field.now ≡ 64 }
-    ensures { text_of result ≡ field.now }
+// Whether a byte says that a use is a withdrawal.
+fn withdrawn_of(kind: u8) -> Option<bool>
+    ensures { MatchOption result ((kind ≢ 0) × (kind ≢ 1)) (λ withdrawn. from_bool withdrawn ≡ kind) }
 {
-    let (exp, rest) = field.split_at(8);
-    let (key, rest) = rest.split_at(32);
-    let (place, at) = rest.split_at(16);
-    Use {
-        exp: u64_of(exp),
-        key: array_of(key),
-        place: array_of(place),
-        at: u64_of(at),
+    match kind {
+        0 => Some(false),
+        1 => Some(true),
+        _ => None,
+    }
+}
+
+/// The use with this text, or none where the last byte is that of no kind. (But for that byte it is as
+/// version 1 had it.)
+pub(crate) fn use_of(field: &[u8]) -> Option<Use>
+    requires { length field.now ≡ 65 }
+    ensures { MatchOption result (IsNoUse Version.Two field.now) (λ used. text_of used ≡ field.now) }
+{
+    let (front, kind) = field.split_at(64);
+    match withdrawn_of(kind[0]) {
+        None => None,
+        Some(withdrawn) => Some(Use {
+            withdrawn,
+            ..old_use_of(front)
+        }),
     }
 }
 
