@@ -159,7 +159,7 @@ All-behind P bytes front rest parts h =
     All-same P rest (drop (length front) bytes) (sym (ap (drop (length front)) parts ∙ drop_at front rest (length front) refl)) (All-drop P (length front) bytes h)
 
 -- a message has bytes
-some_bytes : (m : Written) → 0 < length (written_text m)
+pub some_bytes : (m : Written) → 0 < length (written_text m)
 some_bytes (batch_in One b) = omega arith
 some_bytes (batch_in Two b) = omega arith
 some_bytes (summary s) = omega arith
