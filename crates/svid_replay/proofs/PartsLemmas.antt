@@ -54,13 +54,13 @@ held_is_batch m us fits few up held = record { few = few; moment = fits; fields 
 -- ---- how uses are cut
 pub cut_few : (m : ℕ) (us : List Use) → length us ≤ 65536 → cut m us ≡ record { moment = m; uses = us } ∷ []
 unfolding cut full_batches
-cut_few m us few = let none : (length us - 1) / 65536 ≡ 0 = omega arith in ap (λ n. full_batches n m us) none
+cut_few m us few = let none : (length us - 1) / 65536 ≡ 0 = omega arith in ap (λ n. full_batches 65536 n m us) none
 
 cut_many : (m : ℕ) (us : List Use) → 65536 < length us → cut m us ≡ record { moment = m; uses = take 65536 us } ∷ cut m (drop 65536 us)
 unfolding cut full_batches
 cut_many m us many =
     let one_less : (length us - 1) / 65536 ≡ suc ((length (drop 65536 us) - 1) / 65536) = omega (arith, length-drop 65536 us) in
-    ap (λ n. full_batches n m us) one_less
+    ap (λ n. full_batches 65536 n m us) one_less
 
 -- what a loop has cut off when these uses are left
 pub record HasCut (m : ℕ) (us rest : List Use) (batches : List BatchData) : Type 0 where
@@ -95,7 +95,7 @@ cuts_last m us rest last batches items b so_far few e is pushed =
     rw (pushed, is, e) (ap (λ bs. batches ++ bs) (sym (cut_few m rest few)) ∙ so_far.value)
 
 -- ---- the sizes of what is cut
-full_cut : (n m : ℕ) (us : List Use) → length us ≤ 65536 * suc n → (0 < n → 65536 * n < length us) → AreParts m us (full_batches n m us)
+full_cut : (n m : ℕ) (us : List Use) → length us ≤ 65536 * suc n → (0 < n → 65536 * n < length us) → AreParts m us (full_batches 65536 n m us)
 unfolding full_batches
 full_cut zero m us few many = record {
   full = [];
@@ -131,7 +131,7 @@ cut_gives_parts m us = full_cut ((length us - 1) / 65536) m us (omega arith) (λ
 pub each_held : (r : State) → IsRecord r → AllByRecursion (IsHeldAt r.moment) (rising r.uses)
 each_held r is = recursion_from_All (IsHeldAt r.moment) (rising r.uses) (λ k d h. is.each (get_or (rising r.uses) k d) (held_in_rising r.uses k d h))
 
-full_batches_are : (n m : ℕ) (us : List Use) → m < 2 ^ 64 → length us ≤ 65536 * suc n → IsRising us → AllByRecursion (IsHeldAt m) us → AllByRecursion IsBatch (full_batches n m us)
+full_batches_are : (n m : ℕ) (us : List Use) → m < 2 ^ 64 → length us ≤ 65536 * suc n → IsRising us → AllByRecursion (IsHeldAt m) us → AllByRecursion IsBatch (full_batches 65536 n m us)
 unfolding full_batches
 full_batches_are zero m us fits few up held = (held_is_batch m us fits (omega arith) up held, tt)
 full_batches_are (suc n) m us fits few up held = (

@@ -5,14 +5,14 @@ use Rattle.svid_replay.specs.Batches.{BatchData, IsBatch}
 use Rattle.svid_replay.specs.Records.{State, IsRecord, join, state_of, batch_state}
 use Rattle.svid_replay.specs.Sets.{rising}
 
--- so many batches of 65,536 uses, and one of the rest
-unfoldable pub full_batches : ℕ → ℕ → List Use → List BatchData
-full_batches zero moment us = record { moment = moment; uses = us } ∷ []
-full_batches (suc n) moment us = record { moment = moment; uses = take 65536 us } ∷ full_batches n moment (drop 65536 us)
+-- n batches of so many uses each, and one of the rest
+unfoldable pub full_batches : ℕ → ℕ → ℕ → List Use → List BatchData
+full_batches size zero moment us = record { moment = moment; uses = us } ∷ []
+full_batches size (suc n) moment us = record { moment = moment; uses = take size us } ∷ full_batches size n moment (drop size us)
 
 -- the uses as batches of one moment, as few as hold them
 unfoldable pub cut : ℕ → List Use → List BatchData
-cut moment us = full_batches ((length us - 1) / 65536) moment us
+cut moment us = full_batches 65536 ((length us - 1) / 65536) moment us
 
 -- batches of one moment that hold the uses in their order: 65,536 in each but the last, which has one or more where there is a use at all
 pub record AreParts (moment : ℕ) (us : List Use) (batches : List BatchData) : Type 0 where
