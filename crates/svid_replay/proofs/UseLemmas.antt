@@ -11,7 +11,7 @@ use Rattle.std.specs.declared.cmp.Ordering.{Ordering}
 use Rattle.std.specs.declared.cmp.Ordering.TheVariants.{Less, Equal, Greater}
 use Rattle.std.specs.Int.{from_bool, to_be_bytes, w64}
 use Rattle.svid_replay.specs.declared.token_use.Use.{Use}
-use Rattle.svid_replay.specs.Use.{IsBytes, IsUse, text_of, use_cmp, bytes_cmp, OrderIsTextOrder}
+use Rattle.svid_replay.specs.Use.{IsBytes, IsUse, front_text, text_of, use_cmp, bytes_cmp, OrderIsTextOrder}
 
 -- a use whose fields have their types' ranges, by index, is within them
 pub use_of_fields : (u : Use) → u.exp < 2 ^ 64 → length u.key ≡ 32 → ((i : ℕ) → get_or u.key i 0 < 256) → length u.place ≡ 16 → ((i : ℕ) → get_or u.place i 0 < 256) → u.at < 2 ^ 64 → IsUse u
@@ -21,7 +21,7 @@ use_of_fields u exp long_key key long_place place at =
 
 -- five pieces put one behind the other fill a text of 65 bytes
 pub pieces_fill : (t1 t2 t3 t4 t5 a b c d : List ℕ) (k : ℕ) (u : Use) → a ≡ to_be_bytes w64 u.exp → b ≡ u.key → c ≡ u.place → d ≡ to_be_bytes w64 u.at → k ≡ from_bool u.withdrawn → length b ≡ 32 → length c ≡ 16 → take (0 + length a) t1 ≡ a → take (8 + length b) t2 ≡ take 8 t1 ++ b → take (40 + length c) t3 ≡ take 40 t2 ++ c → take (56 + length d) t4 ≡ take 56 t3 ++ d → take 65 t5 ≡ take 64 t4 ++ k ∷ [] → length t5 ≡ 65 → t5 ≡ text_of u
-unfolding text_of
+unfolding text_of front_text
 pieces_fill t1 t2 t3 t4 t5 a b c d k u ea eb ec ed ek lb lc p1 p2 p3 p4 p5 l5 =
     let e1 : take 8 t1 ≡ a = subst (λ (n : ℕ). take (0 + n) t1 ≡ a) (ap length ea) p1 in
     let e2 : take 40 t2 ≡ a ++ b = subst (λ (n : ℕ). take (8 + n) t2 ≡ take 8 t1 ++ b) lb p2 ∙ ap (λ x. x ++ b) e1 in
@@ -95,7 +95,7 @@ bytes_cmp-parts e f k l p q a b c d le lk lp la =
     (ordering_then-assoc _ (bytes_cmp a b) (bytes_cmp c d) ∙ ordering_then-assoc _ (bytes_cmp p q) _ ∙ ordering_then-assoc (bytes_cmp e f) (bytes_cmp k l) _)
 
 pub order_is_text_order : OrderIsTextOrder
-unfolding text_of
+unfolding text_of front_text
 order_is_text_order u v a b =
     let exps = to_be_bytes w64 u.exp in
     let others = to_be_bytes w64 v.exp in

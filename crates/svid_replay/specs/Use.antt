@@ -18,9 +18,13 @@ pub record IsUse (u : Use) : Type 0 where
   pub place : IsBytes 16 u.place
   pub at : u.at < 2 ^ 64
 
--- the 65 bytes of a use: exp, key, place, at, each number with its greatest byte first, and 1 for a withdrawal or else 0
+-- the first 64 bytes of a use: exp, key, place, at, each number with its greatest byte first
+unfoldable pub front_text : Use → List ℕ
+front_text u = to_be_bytes w64 u.exp ++ u.key ++ u.place ++ to_be_bytes w64 u.at
+
+-- the 65 bytes of a use: these, and 1 for a withdrawal or else 0
 unfoldable pub text_of : Use → List ℕ
-text_of u = to_be_bytes w64 u.exp ++ u.key ++ u.place ++ to_be_bytes w64 u.at ++ from_bool u.withdrawn ∷ []
+text_of u = front_text u ++ from_bool u.withdrawn ∷ []
 
 -- the order of uses: by exp, then by key, by place, by at, and then a withdrawal behind a use
 abbrev pub use_cmp : Use → Use → Ordering

@@ -10,12 +10,11 @@ use Rattle.std.proofs.lemmas.Bool.Decides.{nat_tests}
 use Rattle.svid_replay.specs.declared.token_use.Use.{Use}
 use Rattle.svid_replay.specs.declared.flaw.Flaw.{Flaw}
 use Rattle.svid_replay.specs.declared.flaw.Flaw.TheVariants.{Expired, Future, Order}
-use Rattle.svid_replay.specs.Use.{IsBytes, IsUse, text_of}
+use Rattle.svid_replay.specs.Use.{IsBytes, IsUse, front_text, text_of}
 use Rattle.svid_replay.specs.Batches.{BatchData, IsBatch, AllGood, flaw, last_of}
 use Rattle.svid_replay.specs.Summary.{SummaryData, IsSummary}
 use Rattle.svid_replay.proofs.BatchesLemmas.{last_of-push}
 use Rattle.svid_wire.specs.BatchText.{IsBatchIn, batch_kind, numbers_text, head_text, batch_text_in}
-use Rattle.svid_wire.specs.Version1.{old_use_text}
 use Rattle.svid_wire.specs.Versions.{CanTell, magic_of, most_of, use_len_of, use_text}
 use Rattle.svid_wire.specs.SummaryText.{summary_kind, moment_text, summary_head, digest_text, summary_text}
 use Rattle.svid_wire.specs.Messages.{Written, batch_in, summary, written_text, IsWritten, BeginsOneMessage, TextHasNoFault}
@@ -72,35 +71,30 @@ front_of-append e k p a w le lk lp =
     let at : drop 56 (e ++ k ++ p ++ a) ≡ a = drop_at (e ++ k ++ p) a 56 three in
     rw (exp, key, place, at)
 
-front_of-old : (u : Use) → IsUse u → front_of (old_use_text u) u.withdrawn ≡ u
-unfolding old_use_text use_of_pieces
-front_of-old u h =
+front_of-front : (u : Use) → IsUse u → front_of (front_text u) u.withdrawn ≡ u
+unfolding front_text use_of_pieces
+front_of-front u h =
     front_of-append (to_be_bytes w64 u.exp) u.key u.place (to_be_bytes w64 u.at) u.withdrawn refl h.key.size h.place.size
     ∙ ap (λ (n : ℕ). record u { exp = n; at = from_be_bytes w64 (to_be_bytes w64 u.at) }) (from_be_bytes-to_be_bytes_8 u.exp h.exp)
     ∙ ap (λ (n : ℕ). record u { at = n }) (from_be_bytes-to_be_bytes_8 u.at h.at)
 
--- but for its last byte, the text of a use is that of version 1
-pub text_of-old : (u : Use) → text_of u ≡ old_use_text u ++ from_bool u.withdrawn ∷ []
-unfolding text_of old_use_text
-text_of-old u = refl
+-- the text of a use is its front and its kind
+pub text_of-front : (u : Use) → text_of u ≡ front_text u ++ from_bool u.withdrawn ∷ []
+unfolding text_of
+text_of-front u = refl
 
 length_pieces : (e k p a : List ℕ) → length e ≡ 8 → length k ≡ 32 → length p ≡ 16 → length a ≡ 8 → length (e ++ k ++ p ++ a) ≡ 64
 length_pieces e k p a le lk lp la =
     omega (arith, length-append e k, length-append (e ++ k) p, length-append (e ++ k ++ p) a)
 
--- a use of another kind has another last byte alone
-pub text_of-kind : (u : Use) (w : Bool) → text_of (record u { withdrawn = w }) ≡ old_use_text u ++ from_bool w ∷ []
-unfolding text_of old_use_text
-text_of-kind u w = refl
-
-length-old : (u : Use) → IsUse u → length (old_use_text u) ≡ 64
-unfolding old_use_text
-length-old u h =
+length-front : (u : Use) → IsUse u → length (front_text u) ≡ 64
+unfolding front_text
+length-front u h =
     length_pieces (to_be_bytes w64 u.exp) u.key u.place (to_be_bytes w64 u.at) refl h.key.size h.place.size refl
 
 pub length-use_text : (v : Version) (u : Use) → IsUse u → length (use_text v u) ≡ use_len_of v
-length-use_text One u h = length-old u h
-length-use_text Two u h = omega (arith, ap length (text_of-old u), length-append (old_use_text u) (from_bool u.withdrawn ∷ []), length-old u h)
+length-use_text One u h = length-front u h
+length-use_text Two u h = omega (arith, ap length (text_of-front u), length-append (front_text u) (from_bool u.withdrawn ∷ []), length-front u h)
 
 -- the use whose bytes these are, or none, since the last is that of no kind
 abbrev pub kind_of : List ℕ → Option Bool
@@ -120,14 +114,14 @@ kind_of-bool true = refl
 
 use_in-text : (v : Version) (u : Use) → IsUse u → CanTell v u → use_in v (use_text v u) ≡ Some u
 unfolding use_in
-use_in-text One u h tells = ap (λ w. Some (front_of (old_use_text u) w)) (sym tells) ∙ ap Some (front_of-old u h)
+use_in-text One u h tells = ap (λ w. Some (front_of (front_text u) w)) (sym tells) ∙ ap Some (front_of-front u h)
 use_in-text Two u h tells =
-    let long = length-old u h in
-    ap (λ x. use_with (take 64 x) (kind_of (drop 64 x))) (text_of-old u)
-    ∙ ap (λ x. use_with x (kind_of (drop 64 (old_use_text u ++ from_bool u.withdrawn ∷ [])))) (take_at (old_use_text u) (from_bool u.withdrawn ∷ []) 64 long)
-    ∙ ap (λ x. use_with (old_use_text u) (kind_of x)) (drop_at (old_use_text u) (from_bool u.withdrawn ∷ []) 64 long)
-    ∙ ap (use_with (old_use_text u)) (kind_of-bool u.withdrawn)
-    ∙ ap Some (front_of-old u h)
+    let long = length-front u h in
+    ap (λ x. use_with (take 64 x) (kind_of (drop 64 x))) (text_of-front u)
+    ∙ ap (λ x. use_with x (kind_of (drop 64 (front_text u ++ from_bool u.withdrawn ∷ [])))) (take_at (front_text u) (from_bool u.withdrawn ∷ []) 64 long)
+    ∙ ap (λ x. use_with (front_text u) (kind_of x)) (drop_at (front_text u) (from_bool u.withdrawn ∷ []) 64 long)
+    ∙ ap (use_with (front_text u)) (kind_of-bool u.withdrawn)
+    ∙ ap Some (front_of-front u h)
 
 -- goes on behind a good use
 abbrev pub judged : Version → Option Flaw → List Use → Found → Found

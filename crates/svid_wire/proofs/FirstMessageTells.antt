@@ -12,11 +12,10 @@ use Rattle.std.proofs.lemmas.Bool.Decides.{nat_tests}
 use Rattle.std.proofs.Math.Seq.{take-add}
 use Rattle.svid_replay.specs.declared.token_use.Use.{Use}
 use Rattle.svid_replay.specs.declared.flaw.Flaw.{Flaw}
-use Rattle.svid_replay.specs.Use.{IsUse, IsBytes}
+use Rattle.svid_replay.specs.Use.{IsUse, IsBytes, front_text}
 use Rattle.svid_replay.specs.Batches.{AllGood, flaw, last_of}
 use Rattle.svid_replay.proofs.BatchesLemmas.{AllGood-push, AllByRecursion-push}
 use Rattle.svid_wire.specs.BatchText.{batch_kind, numbers_text, head_text}
-use Rattle.svid_wire.specs.Version1.{old_use_text}
 use Rattle.svid_wire.specs.Versions.{CanTell, magic_of, most_of, use_len_of, use_text}
 use Rattle.svid_wire.specs.declared.version.Version.{Version}
 use Rattle.svid_wire.specs.declared.version.Version.TheVariants.{One, Two}
@@ -25,7 +24,7 @@ use Rattle.svid_wire.specs.Messages.{written_text, IsWritten, BeginsMessage, Has
 use Rattle.svid_wire.specs.SummaryText.{summary_kind, moment_text, summary_head, digest_text}
 use Rattle.svid_wire.specs.declared.reason.Reason.TheVariants as reason
 use Rattle.svid_wire.proofs.StageLemmas.{IsFieldFault-use}
-use Rattle.svid_wire.proofs.FirstMessage.{Found, message, fault, cut, fault_at, at_field, front_of, use_of_pieces, kind_of, use_with, use_in, text_of-old, judged, with_use, find_uses, found_uses, find_numbers, find_digests, find_moment, find_summary_kind, find_kind, find_magic}
+use Rattle.svid_wire.proofs.FirstMessage.{Found, message, fault, cut, fault_at, at_field, front_of, use_of_pieces, kind_of, use_with, use_in, text_of-front, judged, with_use, find_uses, found_uses, find_numbers, find_digests, find_moment, find_summary_kind, find_kind, find_magic}
 
 -- bytes as a slice knows them
 AreBytes : List ℕ → Type 0
@@ -86,9 +85,9 @@ numbers_text-of f size h =
     ∙ take-append-drop 8 f
 
 -- the first 64 bytes of a use
-old_text-of : (f : List ℕ) (w : Bool) → length f ≡ 64 → AreBytes f → old_use_text (front_of f w) ≡ f
-unfolding old_use_text front_of use_of_pieces
-old_text-of f w size h =
+front_text-of : (f : List ℕ) (w : Bool) → length f ≡ 64 → AreBytes f → front_text (front_of f w) ≡ f
+unfolding front_text front_of use_of_pieces
+front_text-of f w size h =
     ap (λ x. x ++ take 32 (drop 8 f) ++ take 16 (drop 40 f) ++ to_be_bytes w64 (from_be_bytes w64 (drop 56 f))) (be_bytes_8 (take 8 f) _ (length-take-le 8 f (omega arith)) (AreBytes-at _ (AreBytes-take 8 f h)) refl)
     ∙ ap (λ x. take 8 f ++ take 32 (drop 8 f) ++ take 16 (drop 40 f) ++ x) (be_bytes_8 (drop 56 f) _ (omega (arith, length-drop 56 f)) (AreBytes-at _ (AreBytes-drop 56 f h)) refl)
     ∙ ap (λ x. x ++ take 16 (drop 40 f) ++ drop 56 f) (sym (take-add 8 32 f))
@@ -160,7 +159,7 @@ read_with : (f front : List ℕ) (k : ℕ) (o : Option Bool) → f ≡ front ++ 
 unfolding IsReading IsKind
 read_with f front k None parts size are is = record { two = refl; front = front; kind = k; parts = parts; size = size; no_use = is.0; no_withdrawal = is.1 }
 read_with f front k (Some w) parts size are is = record {
-  text = text_of-old (front_of front w) ∙ ap (λ b. old_use_text (front_of front w) ++ from_bool b ∷ []) (front_kind front w) ∙ ap (λ x. x ++ from_bool w ∷ []) (old_text-of front w size are) ∙ ap (λ n. front ++ n ∷ []) is ∙ sym parts;
+  text = text_of-front (front_of front w) ∙ ap (λ b. front_text (front_of front w) ++ from_bool b ∷ []) (front_kind front w) ∙ ap (λ x. x ++ from_bool w ∷ []) (front_text-of front w size are) ∙ ap (λ n. front ++ n ∷ []) is ∙ sym parts;
   fields = IsUse-front_of front w size are;
   tells = tt;
 }
@@ -172,7 +171,7 @@ one_byte (k ∷ b ∷ f) size = absurd (omega arith)
 
 reading_is : (v : Version) (f : List ℕ) → length f ≡ use_len_of v → AreBytes f → IsReading v f (use_in v f)
 unfolding IsReading use_in
-reading_is One f size are = record { text = old_text-of f false size are; fields = IsUse-front_of f false size are; tells = front_kind f false }
+reading_is One f size are = record { text = front_text-of f false size are; fields = IsUse-front_of f false size are; tells = front_kind f false }
 reading_is Two f size are =
     let front = take 64 f in
     let (k, last) = one_byte (drop 64 f) (omega (arith, length-drop 64 f)) in

@@ -1,7 +1,7 @@
 -- Version 1 of messages, which knew no withdrawals: its batches are still read, and nothing is written in it.
-use Rattle.std.specs.Prelude.{◌≡◌, ℕ, false, List, [], ◌∷◌, ◌++◌}
-use Rattle.std.specs.Int.{to_be_bytes, w64}
+use Rattle.std.specs.Prelude.{◌≡◌, ℕ, false, List, [], ◌∷◌}
 use Rattle.svid_replay.specs.declared.token_use.Use.{Use}
+use Rattle.svid_replay.specs.Use.{front_text}
 
 -- what its messages begin with: `JSR`, and 1
 abbrev pub old_magic : List ℕ
@@ -15,6 +15,6 @@ old_most = 4096
 abbrev pub OldTells : Use → Type 0
 OldTells u = u.withdrawn ≡ false
 
--- the 64 bytes of a use in it: exp, key, place, at, each number with its greatest byte first
-unfoldable pub old_use_text : Use → List ℕ
-old_use_text u = to_be_bytes w64 u.exp ++ u.key ++ u.place ++ to_be_bytes w64 u.at
+-- the 64 bytes of a use in it: those before the kind
+abbrev pub old_use_text : Use → List ℕ
+old_use_text u = front_text u

@@ -1,16 +1,15 @@
 ghost use Rattle.std.specs.Prelude.{◌≡◌, ◌≢◌, MatchOption, length};
 ghost use Rattle.std.specs.Int.{from_bool, to_be_bytes, w32, w64};
-ghost use Rattle.svid_replay.specs.Use.{IsBytes, text_of};
+ghost use Rattle.svid_replay.specs.Use.{IsBytes, front_text, text_of};
 ghost use Rattle.svid_wire.specs.BatchText.{numbers_text};
 ghost use Rattle.svid_wire.specs.Stage.{IsNoUse};
 ghost use Rattle.svid_wire.specs.declared.version.Version.{Version};
 ghost use Rattle.svid_wire.specs.SummaryText.{moment_text};
 
 use crate::layout::DIGEST_LEN;
-use crate::version_1::old_use_of;
 use svid_replay::Use;
 
-pub(crate) fn u64_of(bytes: &[u8]) -> u64
+fn u64_of(bytes: &[u8]) -> u64
     requires { length bytes.now ≡ 8 }
     ensures { to_be_bytes w64 result ≡ bytes.now }
 {
@@ -26,13 +25,32 @@ fn u32_of(bytes: &[u8]) -> u32
     u32::from_be_bytes([bytes[0], bytes[1], bytes[2], bytes[3]])
 }
 
-pub(crate) fn array_of<const N: usize>(bytes: &[u8]) -> [u8; N]
+fn array_of<const N: usize>(bytes: &[u8]) -> [u8; N]
     requires { length bytes.now ≡ N }
     ensures { result ≡ bytes.now }
 {
     let mut array = [0; N];
     array.copy_from_slice(bytes);
     array
+}
+
+/// The use of this kind with these bytes before it.
+#[tactic(auto, using(std::proofs::lemmas::Grind::common_steps), unfolding(svid_replay::specs::Use::front_text))]
+pub(crate) fn use_of_kind(front: &[u8], withdrawn: bool) -> Use
+    requires { length front.now ≡ 64 }
+    ensures text { front_text result ≡ front.now }
+    ensures kind { result.withdrawn ≡ withdrawn }
+{
+    let (exp, rest) = front.split_at(8);
+    let (key, rest) = rest.split_at(32);
+    let (place, at) = rest.split_at(16);
+    Use {
+        exp: u64_of(exp),
+        key: array_of(key),
+        place: array_of(place),
+        at: u64_of(at),
+        withdrawn,
+    }
 }
 
 // Whether a byte says that a use is a withdrawal.
@@ -46,8 +64,7 @@ fn withdrawn_of(kind: u8) -> Option<bool>
     }
 }
 
-/// The use with this text, or none where the last byte is that of no kind. (But for that byte it is as
-/// version 1 had it.)
+/// The use with this text, or none where the last byte is that of no kind.
 pub(crate) fn use_of(field: &[u8]) -> Option<Use>
     requires { length field.now ≡ 65 }
     ensures { MatchOption result (IsNoUse Version.Two field.now) (λ used. text_of used ≡ field.now) }
@@ -55,10 +72,7 @@ pub(crate) fn use_of(field: &[u8]) -> Option<Use>
     let (front, kind) = field.split_at(64);
     match withdrawn_of(kind[0]) {
         None => None,
-        Some(withdrawn) => Some(Use {
-            withdrawn,
-            ..old_use_of(front)
-        }),
+        Some(withdrawn) => Some(use_of_kind(front, withdrawn)),
     }
 }
 

@@ -4,7 +4,7 @@
 ghost use Rattle.std.specs.Prelude.{◌≡◌, length};
 ghost use Rattle.svid_wire.specs.Version1.{OldTells, old_use_text};
 
-use crate::field::{array_of, u64_of};
+use crate::field::use_of_kind;
 use svid_replay::Use;
 
 /// What its messages begin with.
@@ -17,20 +17,10 @@ pub(crate) const OLD_MOST_USES: usize = 4096;
 pub(crate) const OLD_USE_LEN: usize = 64;
 
 /// The use with these bytes.
-#[tactic(auto, using(std::proofs::lemmas::Grind::common_steps), unfolding(crate::specs::Version1::old_use_text))]
 pub(crate) fn old_use_of(field: &[u8]) -> Use
     requires { length field.now ≡ 64 }
     ensures text { old_use_text result ≡ field.now }
     ensures tells { OldTells result }
 {
-    let (exp, rest) = field.split_at(8);
-    let (key, rest) = rest.split_at(32);
-    let (place, at) = rest.split_at(16);
-    Use {
-        exp: u64_of(exp),
-        key: array_of(key),
-        place: array_of(place),
-        at: u64_of(at),
-        withdrawn: false,
-    }
+    use_of_kind(field, false)
 }

@@ -1,6 +1,7 @@
-use Rattle.std.proofs.Common.{◌≡◌, ◌∙◌, ℕ, List, [], ◌∷◌, ◌++◌, length, get_or, length-append, refl, ap, sym, arith}
+use Rattle.std.proofs.Common.{◌≡◌, ◌∙◌, ℕ, Bool, List, [], ◌∷◌, ◌++◌, length, get_or, length-append, refl, ap, sym, arith}
 use Rattle.std.specs.Int.{from_bool}
-use Rattle.svid_wire.proofs.FirstMessage.{text_of-kind}
+use Rattle.svid_replay.specs.Use.{front_text}
+use Rattle.svid_wire.proofs.FirstMessage.{text_of-front}
 use Rattle.svid_wire.proofs.field.use_of.Goals as goal
 
 -- a field is its front and its last byte
@@ -14,6 +15,7 @@ last_byte front back field parts long size = ap (λ x. front ++ x) (one back (om
 
 pub returns-in-Some : goal.returns-in-Some
 returns-in-Some c =
+    let used = c.use_of_kind.result in
     let front = c.split_at.result.0.now in
-    text_of-kind c.old_use_of.result c.in-Some.withdrawn ∙ ap (λ x. x ++ from_bool c.in-Some.withdrawn ∷ []) c.old_use_of.ensures.text ∙ ap (λ n. front ++ n ∷ []) c.in-Some.ensures
+    text_of-front used ∙ ap (λ (b : Bool). front_text used ++ from_bool b ∷ []) c.use_of_kind.ensures.kind ∙ ap (λ x. x ++ from_bool c.in-Some.withdrawn ∷ []) c.use_of_kind.ensures.text ∙ ap (λ n. front ++ n ∷ []) c.in-Some.ensures
     ∙ last_byte front c.split_at.result.1.now c.args.field.now c.split_at.ensures.by_index.0 (omega arith) c.requires
