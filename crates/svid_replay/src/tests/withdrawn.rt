@@ -1,4 +1,6 @@
 // Withdrawals among the uses of stores and records.
+ghost use Rattle.std.specs.Prelude.{◌<◌};
+
 use super::{FIRST, GONE, SECOND, absorb, add, at, indexed, sorted, uses_to};
 use crate::{IndexedUses, Raised, Record, SortedUses, Use, UseStore};
 use std::alloc::Global;
