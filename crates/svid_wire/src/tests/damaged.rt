@@ -67,7 +67,7 @@ fn is_read(rt: &impl Abort, alloc: Global, bytes: &[u8], length: usize) -> Resul
     assert!(rt; is_of_bytes(&answer));
     let texts = texts_as_told(alloc, bytes, &whole)?;
     assert!(rt; bytes.starts_with(&texts));
-    assert!(rt; texts_of(alloc, &whole)? == texts_of(alloc, &cut)?);
+    assert!(rt; texts == texts_as_told(alloc, bytes, &cut)?);
     assert!(rt; answer.is_err() || texts.len() == bytes.len());
     Ok(answer.is_ok())
 }

@@ -110,26 +110,36 @@ fn the_versions_may_alternate_in_pieces_of_any_length(rt: HostRuntime) -> Result
     Ok(())
 }
 
+// What is wrong with the second of two texts.
+fn fault_behind(
+    alloc: Global,
+    first: &[u8],
+    second: &[u8],
+) -> Result<Option<WireFault>, AllocError> {
+    let mut bytes = first.to_vec(alloc)?;
+    bytes.extend_from_slice(second)?;
+    Ok(fault_of(alloc, &bytes))
+}
+
+fn expired(place: usize) -> Option<WireFault> {
+    Some(WireFault {
+        place,
+        reason: Reason::UseExpired,
+    })
+}
+
 // A use stands behind those before it by the length of its own version.
 #[test]
 fn a_fault_is_placed_by_the_version_of_its_message(rt: HostRuntime) -> Result<(), Fail> {
-    let alloc = rt.alloc();
     let mut new = *TWO_USES;
     new[89] = 100;
     let mut old = *OLD_TWO_USES;
     old[88] = 100;
-    for (texts, place) in [
-        ([OLD_TWO_USES.as_slice(), &new].as_slice(), 82),
-        ([TWO_USES.as_slice(), &new].as_slice(), 82),
-        ([TWO_USES.as_slice(), &old].as_slice(), 81),
-        ([OLD_TWO_USES.as_slice(), &old].as_slice(), 81),
-    ] {
-        let want = WireFault {
-            place,
-            reason: Reason::UseExpired,
-        };
-        let found = fault_of(alloc, &joined(alloc, texts)?);
-        assert_eq!(rt; found, Some(want));
+    for first in [TWO_USES.as_slice(), OLD_TWO_USES.as_slice()] {
+        let of_new = fault_behind(rt.alloc(), first, &new)?;
+        assert_eq!(rt; of_new, expired(82));
+        let of_old = fault_behind(rt.alloc(), first, &old)?;
+        assert_eq!(rt; of_old, expired(81));
     }
     Ok(())
 }
