@@ -221,7 +221,8 @@ fn goes_on_with_an_earlier_record_of_version_1(rt: HostRuntime) -> Result<(), Fa
     let tokens = twice(alloc)?;
     let mut earlier = Vec::with_capacity(alloc, 81)?;
     earlier.extend_from_slice(b"JSR\x01")?;
-    earlier.extend_from_slice(&KEPT[4..81])?;
+    let kept = KEPT.as_slice();
+    earlier.extend_from_slice(&kept[4..81])?;
     let mut given = Given::of(&tokens);
     given.earlier = Some(&earlier);
     assert_run(&rt, alloc, &given, false, BOTH_REPLAYED, KEPT)
