@@ -1,7 +1,5 @@
 use crate::accepted::Accepted;
 use crate::take_fault::TakeFault;
-use crate::withdraw_fault::WithdrawFault;
-use svid_replay::Use;
 use svid_token::Refusal;
 
 /// What a validator answers to an event.
@@ -13,6 +11,4 @@ pub enum Answer {
     Ticked,
     /// To a take.
     Taken(Result<(), TakeFault>),
-    /// To a withdrawal.
-    Withdrawn(Result<Use, WithdrawFault>),
 }

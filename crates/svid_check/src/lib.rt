@@ -1,4 +1,4 @@
-//! The validator of JWT-SVIDs: it accepts a token, or names the first of 25 refusals.
+//! The validator of JWT-SVIDs: it accepts a token, or names the first of 24 refusals.
 //!
 //! A [`Validator`] is given its own audiences, its place, trust bundles, a verifier of signatures and
 //! the record of the tokens that were used. [`Validator::check`] answers for a token at a moment that
@@ -42,8 +42,6 @@ mod taking;
 #[cfg(test)]
 mod tests;
 mod validator;
-mod withdraw_fault;
-mod withdrawing;
 
 pub use accepted::Accepted;
 pub use answer::Answer;
@@ -51,4 +49,3 @@ pub use event::Event;
 pub use reading::Reading;
 pub use take_fault::TakeFault;
 pub use validator::Validator;
-pub use withdraw_fault::WithdrawFault;

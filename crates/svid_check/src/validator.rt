@@ -137,7 +137,6 @@ fn judge<V: Verifier, S: UseStore>(
         key,
         place: given.place,
         at: replay.moment(),
-        withdrawn: false,
     };
     let Reading {
         header: _,

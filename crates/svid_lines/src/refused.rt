@@ -32,7 +32,6 @@ fn refusal_name(refusal: Refusal) -> Option<&'static str>
         Refusal::UnknownDomain => "UnknownDomain",
         Refusal::NoKey => "NoKey",
         Refusal::BadSignature => "BadSignature",
-        Refusal::Withdrawn => "Withdrawn",
         Refusal::Replayed => "Replayed",
         Refusal::OutOfMemory => return None,
     };

@@ -6,8 +6,6 @@ mod record;
 mod refusing;
 mod summary;
 mod sweep;
-mod token_use;
-mod withdrawn;
 
 use crate::{Batch, IndexedUses, Record, SortedUses, Use, UseStore};
 use std::alloc::{AllocError, Global};
@@ -19,7 +17,6 @@ const FIRST: Use = Use {
     key: [0x11; 32],
     place: [0x22; 16],
     at: 99,
-    withdrawn: false,
 };
 
 const SECOND: Use = Use {
@@ -27,23 +24,15 @@ const SECOND: Use = Use {
     key: [0x11; 32],
     place: [0x33; 16],
     at: 100,
-    withdrawn: false,
 };
 
-// The first of them, but a withdrawal.
-const GONE: Use = Use {
-    withdrawn: true,
-    ..FIRST
-};
-
-// The use of that key that expires at 70000 and was made at `at`.
+// The use of that key that expires at 5001 and was made at `at`.
 fn at(at: u64) -> Use {
     Use {
-        exp: 70_000,
+        exp: 5001,
         key: [0x11; 32],
         place: [0x22; 16],
         at,
-        withdrawn: false,
     }
 }
 

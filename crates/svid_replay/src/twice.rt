@@ -1,7 +1,7 @@
 ghost use Rattle.std.specs.Prelude.{◌≡◌, ℕ, List, IfOk, take, drop, length, nat_lt};
 ghost use Rattle.std.specs.List.{prefix_len};
 ghost use Rattle.svid_replay.specs.Use.{IsRising};
-ghost use Rattle.svid_replay.specs.Twice.{IsKeySorted, IsTwice, has_key, twice_of, uses_of, withdraws};
+ghost use Rattle.svid_replay.specs.Twice.{IsKeySorted, IsTwice, has_key, twice_of, uses_of};
 
 use crate::{Use, UseList};
 use std::alloc::{AllocError, Global};
@@ -19,12 +19,6 @@ pub(crate) fn has_key(key: &[u8; 32], used: &Use) -> bool
     ensures { result ≡ has_key key.now used.now }
 {
     key.cmp(&used.key).is_eq()
-}
-
-pub(crate) fn withdraws(key: &[u8; 32], used: &Use) -> bool
-    ensures { result ≡ withdraws key.now used.now }
-{
-    has_key(key, used) && used.withdrawn
 }
 
 // Whether a key with these uses was used twice.

@@ -67,7 +67,7 @@ fn end_field(
     let (field, _) = part.split_at(filled + last.len());
     match judge(alloc, stage, field) {
         Ok(Progress::More(next)) => Ok(Partial::behind(next)),
-        Ok(Progress::Batch(_, batch)) => {
+        Ok(Progress::Batch(batch)) => {
             append_batch(batch, out)?;
             Ok(Partial::start())
         }

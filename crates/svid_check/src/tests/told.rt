@@ -78,16 +78,12 @@ impl Told {
         if exp <= self.greatest {
             return Some(Refusal::Expired);
         }
-        let mut refusal = None;
         for used in &self.uses {
             if self.greatest < used.exp && used.key == *key {
-                if used.withdrawn {
-                    return Some(Refusal::Withdrawn);
-                }
-                refusal = Some(Refusal::Replayed);
+                return Some(Refusal::Replayed);
             }
         }
-        refusal
+        None
     }
 
     pub(super) fn made(&self, posting: usize) -> bool {

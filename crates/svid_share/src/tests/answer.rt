@@ -50,7 +50,7 @@ fn merged(
 
 // The batch of this moment with no uses.
 fn nothing_at(alloc: Global, moment: u64) -> Result<Vec<u8>, AllocError> {
-    let mut bytes = b"JSR\x02\x01".to_vec(alloc)?;
+    let mut bytes = b"JSR\x01\x01".to_vec(alloc)?;
     bytes.extend_from_slice(&moment.to_be_bytes())?;
     bytes.extend_from_slice(&[0; 4])?;
     Ok(bytes)
