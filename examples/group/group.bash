@@ -26,10 +26,6 @@ end() {
   if jobs -p | grep -qx "${!-}"; then kill "$!"; wait "$!"; fi 2>/dev/null
   [ -z "$room" ] || rm -rf "$room"
 }
-trap end EXIT
-trap 'exit 129' HUP
-trap 'exit 130' INT
-trap 'exit 143' TERM
 
 say() { echo "group over ${over:?}: $*"; }
 
@@ -44,7 +40,18 @@ fail() {
 "$svid" --help >/dev/null || exit 2
 built=$examples/../crates/svid_tool/out/svid_tool
 if [ -z "${SVID:-}" ] && [ -x "$built" ]; then svid=$built; fi
+
+# A signal ends the script as a failed check does. It waits until the room's name is known.
+late=
+trap end EXIT
+trap 'late=129' HUP
+trap 'late=130' INT
+trap 'late=143' TERM
 room=$(mktemp -d) || exit 2
+trap 'exit 129' HUP
+trap 'exit 130' INT
+trap 'exit 143' TERM
+[ -z "$late" ] || exit "$late"
 cd "$room" || exit 2
 
 # make WHO PLACE: a validator that knows nothing.

@@ -4,11 +4,11 @@ use crate::token_use::{take, Use};
 use std::io::{self, Write};
 
 /// How many uses a batch has at most.
-const MOST_USES: usize = 4096;
+const MOST_USES: usize = 65_536;
 
 /// How many bytes stand before the first use, and how many a use has.
 const HEAD_LEN: usize = 17;
-const USE_LEN: usize = 64;
+const USE_LEN: usize = 65;
 
 /// Where the number of uses stands.
 const COUNT_PLACE: usize = 13;
@@ -31,9 +31,11 @@ impl Batch {
         }
         let mut uses: Vec<Use> = Vec::with_capacity(count);
         for index in 0..count {
+            let place = HEAD_LEN + USE_LEN * index;
             let used = Use::read(rest).ok_or(truncated)?;
+            let used = used.ok_or(fault(place, Reason::UseKind))?;
             if let Some(reason) = flaw(moment, uses.last(), &used) {
-                return Err(fault(HEAD_LEN + USE_LEN * index, reason));
+                return Err(fault(place, reason));
             }
             uses.push(used);
         }
@@ -64,7 +66,7 @@ fn write(moment: u64, uses: &[Use], out: &mut impl Write) -> io::Result<()> {
     uses.iter().try_for_each(|used| out.write_all(&used.text()))
 }
 
-/// Writes uses as batches of this moment, each of 4,096 uses but the last; no use as one empty batch.
+/// Writes uses as batches of this moment, each of 65,536 uses but the last; no use as one empty batch.
 pub fn write_parts(moment: u64, uses: &[Use], out: &mut impl Write) -> io::Result<()> {
     if uses.is_empty() {
         return write(moment, &[], out);

@@ -3,12 +3,14 @@ use std::fmt;
 /// What is wrong with bytes that are no message.
 #[derive(Clone, Copy, Debug, PartialEq, Eq)]
 pub enum Reason {
-    /// The first four bytes are not `JSR` and the version 1.
+    /// The first four bytes are not `JSR` and the version 2.
     Magic,
     /// The message is neither a batch nor a summary.
     Kind,
-    /// There are more than 4,096 uses.
+    /// There are more than 65,536 uses.
     Count,
+    /// A use's last byte is neither that of a use nor that of a withdrawal.
+    UseKind,
     /// A use's `exp` is not greater than the moment.
     UseExpired,
     /// A use's `at` is greater than the moment.

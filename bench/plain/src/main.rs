@@ -1,5 +1,6 @@
 //! The commands `report`, `merge`, `summary` and `answer` of `svid` as a plain Rust program over std alone,
-//! to be measured beside it. It prints what `svid` prints; docs/FORMATS.md has the formats.
+//! to be measured beside it. It prints what `svid` prints, and reads version 2
+//! alone; docs/FORMATS.md has the formats.
 
 mod batch;
 mod fault;

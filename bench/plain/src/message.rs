@@ -5,7 +5,7 @@ use crate::token_use::take;
 use std::io::{self, Write};
 
 /// What every message begins with: `JSR`, and the version.
-const MAGIC: [u8; 4] = *b"JSR\x01";
+const MAGIC: [u8; 4] = *b"JSR\x02";
 
 /// Where the fields stand that every message has.
 const MAGIC_PLACE: usize = 0;

@@ -1,5 +1,5 @@
 use crate::batch::Batch;
-use crate::token_use::Use;
+use crate::token_use::{Told, Use};
 use std::collections::hash_map::Entry;
 use std::collections::{BTreeSet, HashMap};
 
@@ -8,7 +8,7 @@ use std::collections::{BTreeSet, HashMap};
 pub struct Record {
     moment: u64,
     uses: BTreeSet<Use>,
-    /// How many of the uses each key has.
+    /// How many of the uses each key has, withdrawals left out.
     keys: HashMap<[u8; 32], usize>,
 }
 
@@ -58,7 +58,7 @@ impl Record {
     }
 
     fn insert(&mut self, used: Use) {
-        if self.uses.insert(used) {
+        if self.uses.insert(used) && used.told == Told::Used {
             *self.keys.entry(used.key).or_insert(0) += 1;
         }
     }
@@ -67,6 +67,9 @@ impl Record {
         let Some(used) = self.uses.pop_first() else {
             return;
         };
+        if used.told == Told::Withdrawn {
+            return;
+        }
         if let Entry::Occupied(mut count) = self.keys.entry(used.key) {
             *count.get_mut() -= 1;
             if *count.get() == 0 {

@@ -1,5 +1,6 @@
 use crate::hex::Hex;
 use crate::record::Record;
+use crate::token_use::Told;
 use std::io::{self, Write};
 
 /// Writes the report of a record: its moment, its uses, and the keys that are used more than once.
@@ -9,7 +10,11 @@ pub fn write(record: &Record, out: &mut impl Write) -> io::Result<()> {
     writeln!(out, "uses {}", uses.len())?;
     for used in uses {
         let (key, place) = (Hex(used.key), Hex(used.place));
-        writeln!(out, "{} {key} {place} {}", used.exp, used.at)?;
+        write!(out, "{} {key} {place} {}", used.exp, used.at)?;
+        match used.told {
+            Told::Used => writeln!(out)?,
+            Told::Withdrawn => writeln!(out, " withdrawn")?,
+        }
     }
     let twice = record.twice();
     writeln!(out, "twice {}", twice.len())?;

@@ -9,9 +9,9 @@ use crate::record::Record;
 use crate::report;
 use crate::sha256::Sha256;
 use crate::summary::Summary;
-use crate::token_use::Use;
+use crate::token_use::{Told, Use};
 
-const MAGIC: &[u8] = b"JSR\x01";
+const MAGIC: &[u8] = b"JSR\x02";
 
 /// A use of a key of ones, at a place of twos.
 fn used(exp: u64, at: u64) -> Use {
@@ -20,6 +20,15 @@ fn used(exp: u64, at: u64) -> Use {
         key: [0x11; 32],
         place: [0x22; 16],
         at,
+        told: Told::Used,
+    }
+}
+
+/// The same as a withdrawal.
+fn withdrawn(exp: u64, at: u64) -> Use {
+    Use {
+        told: Told::Withdrawn,
+        ..used(exp, at)
     }
 }
 
@@ -50,28 +59,37 @@ fn summary_text(summary: &Summary) -> Vec<u8> {
 
 #[test]
 fn tells_the_first_bad_field() {
+    let mut bad_kind = message(9, 1, &[used(9, 10)]);
+    bad_kind[81] = 2;
+    let bad_kind = bad_kind.as_slice();
     let short = &message(9, 1, &[used(10, 9)])[..80];
     let short_summary = &summary_text(&Summary::of(&record(9, &[])))[..8204];
-    let table: [(&[u8], usize, Reason); 12] = [
-        (b"JSR\x02", 0, Reason::Magic),
+    let table: [(&[u8], usize, Reason); 14] = [
+        (b"JSR\x01", 0, Reason::Magic),
         (b"JSR", 3, Reason::Truncated),
-        (b"JSR\x01\x03", 4, Reason::Kind),
-        (b"JSR\x01\x02", 5, Reason::Truncated),
+        (b"JSR\x02\x03", 4, Reason::Kind),
+        (b"JSR\x02\x02", 5, Reason::Truncated),
         (short_summary, 8204, Reason::Truncated),
-        (&message(9, 4097, &[]), 13, Reason::Count),
-        (&message(9, 4096, &[]), 17, Reason::Truncated),
+        (&message(9, 65_537, &[]), 13, Reason::Count),
+        (&message(9, 65_536, &[]), 17, Reason::Truncated),
         (&message(10, 1, &[used(10, 11)]), 17, Reason::UseExpired),
         (&message(9, 1, &[used(10, 10)]), 17, Reason::UseFuture),
         (
             &message(9, 2, &[used(10, 9), used(10, 9)]),
-            81,
+            82,
             Reason::UseOrder,
         ),
         (
             &message(9, 2, &[used(10, 9), used(9, 9)]),
-            81,
+            82,
             Reason::UseExpired,
         ),
+        (
+            &message(9, 2, &[withdrawn(10, 9), used(10, 9)]),
+            82,
+            Reason::UseOrder,
+        ),
+        (bad_kind, 17, Reason::UseKind),
         (short, 80, Reason::Truncated),
     ];
     for (bytes, place, reason) in table {
@@ -99,6 +117,23 @@ fn drops_what_expired_in_either_order() {
         let (key, place) = ("11".repeat(32), "22".repeat(16));
         let expected =
             format!("moment 8\nuses 2\n9 {key} {place} 5\n9 {key} {place} 6\ntwice 1\n{key} 2\n");
+        assert_eq!(String::from_utf8(text).unwrap(), expected);
+    }
+}
+
+#[test]
+fn marks_withdrawals_and_counts_none_of_them() {
+    let mut record = record(5, &[used(9, 4), withdrawn(9, 4), withdrawn(9, 5)]);
+    let (key, place) = ("11".repeat(32), "22".repeat(16));
+    let lines =
+        format!("9 {key} {place} 4\n9 {key} {place} 4 withdrawn\n9 {key} {place} 5 withdrawn\n");
+    for (moment, expected) in [
+        (5, format!("moment 5\nuses 3\n{lines}twice 0\n")),
+        (9, "moment 9\nuses 0\ntwice 0\n".to_string()),
+    ] {
+        record.raise(moment);
+        let mut text = Vec::new();
+        report::write(&record, &mut text).unwrap();
         assert_eq!(String::from_utf8(text).unwrap(), expected);
     }
 }
@@ -174,10 +209,10 @@ fn digests_pieces_of_any_length() {
 fn summarizes_each_bucket() {
     let text = summary_text(&Summary::of(&record(5, &[used(8, 4), used(9, 4)])));
     assert_eq!(text.len(), 8205);
-    assert_eq!(text[..13], *b"JSR\x01\x02\0\0\0\0\0\0\0\x05");
+    assert_eq!(text[..13], *b"JSR\x02\x02\0\0\0\0\0\0\0\x05");
     for (bucket, digest) in text[13..].chunks_exact(32).enumerate() {
         let expected = match bucket {
-            0x11 => "4313b011fcf3a9d7d6534e3a5400c7fbb49bef6bd691b2fb44fdabb91294c73b",
+            0x11 => "7ec6142944d12d6f834f4834076f28e6982e49c6e8947283312d5245971d6d83",
             _ => "e3b0c44298fc1c149afbf4c8996fb92427ae41e4649b934ca495991b7852b855",
         };
         assert_eq!(

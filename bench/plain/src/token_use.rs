@@ -1,15 +1,32 @@
-/// The fact that a token was accepted once. The fields stand in the order by which uses are told apart
-/// and sorted.
+/// Whether a token was accepted or withdrawn. A use stands before a withdrawal.
+#[derive(Clone, Copy, Debug, PartialEq, Eq, PartialOrd, Ord)]
+pub enum Told {
+    Used = 0,
+    Withdrawn = 1,
+}
+
+impl Told {
+    fn read(byte: u8) -> Option<Told> {
+        [Told::Used, Told::Withdrawn]
+            .into_iter()
+            .find(|&told| told as u8 == byte)
+    }
+}
+
+/// The fact that a token was accepted once, or withdrawn. The fields stand in the order by which uses are
+/// told apart and sorted.
 #[derive(Clone, Copy, Debug, PartialEq, Eq, PartialOrd, Ord)]
 pub struct Use {
     /// When the token expires, in seconds.
     pub exp: u64,
     /// The key of the token.
     pub key: [u8; 32],
-    /// The validator that accepted it.
+    /// The validator that accepted or withdrew it.
     pub place: [u8; 16],
     /// When it did, in seconds.
     pub at: u64,
+    /// Which of the two it is.
+    pub told: Told,
 }
 
 /// Takes the first `N` bytes of what is left, or nothing where there are fewer.
@@ -20,23 +37,28 @@ pub fn take<const N: usize>(rest: &mut &[u8]) -> Option<[u8; N]> {
 }
 
 impl Use {
-    /// Takes the use that stands first in what is left, or answers `None` where the bytes end within it.
-    pub fn read(rest: &mut &[u8]) -> Option<Use> {
-        Some(Use {
-            exp: u64::from_be_bytes(take(rest)?),
-            key: take(rest)?,
-            place: take(rest)?,
-            at: u64::from_be_bytes(take(rest)?),
-        })
+    /// Takes the use that stands first in what is left. Answers `None` where the bytes end within it, and
+    /// `Some(None)` where its last byte is no kind.
+    pub fn read(rest: &mut &[u8]) -> Option<Option<Use>> {
+        let (exp, key, place) = (take(rest)?, take(rest)?, take(rest)?);
+        let (at, [told]) = (take(rest)?, take(rest)?);
+        Some(Told::read(told).map(|told| Use {
+            exp: u64::from_be_bytes(exp),
+            key,
+            place,
+            at: u64::from_be_bytes(at),
+            told,
+        }))
     }
 
-    /// The 64 bytes of the use.
-    pub fn text(&self) -> [u8; 64] {
-        let mut text = [0; 64];
+    /// The 65 bytes of the use.
+    pub fn text(&self) -> [u8; 65] {
+        let mut text = [0; 65];
         text[..8].copy_from_slice(&self.exp.to_be_bytes());
         text[8..40].copy_from_slice(&self.key);
         text[40..56].copy_from_slice(&self.place);
-        text[56..].copy_from_slice(&self.at.to_be_bytes());
+        text[56..64].copy_from_slice(&self.at.to_be_bytes());
+        text[64] = self.told as u8;
         text
     }
 

@@ -16,8 +16,8 @@ use Rattle.svid_replay.proofs.TestsLemmas.{same_some}
 use Rattle.svid_replay.proofs.UseLemmas.{use_total}
 use Rattle.svid_replay.proofs.UsesLemmas.{holds-uses_in}
 use Rattle.svid_check.specs.declared.accepted.Accepted.{Accepted}
-use Rattle.svid_check.specs.Alone.{AcceptsOnce, Alone, Answer, Call, Check, PutsBackFrom, Restart, Save, Take, Tick, answer_alone, called, calls, joined_of, put_back, with_held}
-use Rattle.svid_check.specs.Changes.{horizon, raised, settled}
+use Rattle.svid_check.specs.Alone.{AcceptsOnce, Alone, Answer, Call, Check, PutsBackFrom, Restart, Save, Take, Tick, Withdraw, answer_alone, called, calls, joined_of, put_back, with_held, withdrawal_alone}
+use Rattle.svid_check.specs.Changes.{accepted_in, gains, horizon, raised, settled, withdrawn_in}
 use Rattle.svid_check.specs.Lawful.{Accepts, input_of}
 use Rattle.svid_check.specs.Runs.{Terms}
 use Rattle.svid_check.specs.Setting.{Setting}
@@ -41,9 +41,9 @@ join_spent u a b (inr h) =
 raised_spent : (u : Use) (a : State) (now : ℕ) → Spent u a → Spent u (raised a now)
 raised_spent u a now h = join_spent u a (state_of now []) h
 
-settled_spent : (u : Use) (a : State) (answer : Result Accepted Refusal) → Spent u a → Spent u (settled a answer)
-settled_spent u a (Ok accepted) h = join_spent u a (state_of a.moment (accepted.used ∷ [])) h
-settled_spent u a (Err refusal) h = h
+gains_spent : (u : Use) (a : State) (added : Option Use) → Spent u a → Spent u (gains a added)
+gains_spent u a (Some v) h = join_spent u a (state_of a.moment (v ∷ [])) h
+gains_spent u a None h = h
 
 either_spent : (u : Use) (test : Bool) (a b : State) → Spent u a → Spent u b → Spent u (if test then a else b)
 either_spent u true a b h k = h
@@ -86,7 +86,11 @@ module _ (t : Terms) where
   calls_spent u n (Check now token refused ∷ more) w from h =
       let answer = answer_alone t w now token refused in
       calls_spent u n more (called t w (Check now token refused)) from
-      (with_spent u n w (settled (raised w.held now) answer) h (settled_spent u (raised w.held now) answer (raised_spent u w.held now h.held)))
+      (with_spent u n w (settled (raised w.held now) answer) h (gains_spent u (raised w.held now) (accepted_in answer) (raised_spent u w.held now h.held)))
+  calls_spent u n (Withdraw now key exp refused ∷ more) w from h =
+      let added = withdrawn_in (withdrawal_alone t w now key exp refused) in
+      calls_spent u n more (called t w (Withdraw now key exp refused)) from
+      (with_spent u n w (gains (raised w.held now) added) h (gains_spent u (raised w.held now) added (raised_spent u w.held now h.held)))
   calls_spent u n (Tick now ∷ more) w from h =
       calls_spent u n more (called t w (Tick now)) from (with_spent u n w (raised w.held now) h (raised_spent u w.held now h.held))
   calls_spent u n (Take now b refused ∷ more) w from h =

@@ -14,7 +14,7 @@ use Rattle.svid_replay.specs.Use.{IsUse}
 use Rattle.svid_check.specs.Headline.{AnswersTellAll, HasTaken, IsClash, IsWithin}
 use Rattle.svid_check.specs.World.{Answered, Content, Made, Posting, Summed, Took, World, carried, happen, parts_in, start}
 use Rattle.svid_check.proofs.ClashesLemmas.{stale_in, unless_clash}
-use Rattle.svid_check.proofs.CutsLemmas.{first_part, in_part}
+use Rattle.svid_check.proofs.CutsLemmas.{cut_are_cut, first_part, in_part}
 use Rattle.svid_check.proofs.EachToldLemmas.{AllTold}
 use Rattle.svid_check.proofs.MembersLemmas.{IsTold}
 use Rattle.svid_check.proofs.RangesLemmas.{told_are_uses}
@@ -57,12 +57,12 @@ module _ (w : World) (v j k : ℕ) (answer summary : Posting) (parts : List Batc
       let moment = answer.was.held.moment in
       let us = rising (stale gave.0 answer.was.held.uses) in
       elim (cases_lt moment u.exp) [
-        | inr ge ↦ let f = first_part moment us in part_told 0 f.0 u f.1 (carried_expired answer.was.told.uses f.0 u h (subst (λ (m : ℕ). u.exp ≤ m) (sym f.2) ge))
+        | inr ge ↦ let f = first_part moment us (cut moment us) (cut_are_cut moment us) in part_told 0 f.0 u f.1 (carried_expired answer.was.told.uses f.0 u h (subst (λ (m : ℕ). u.exp ≤ m) (sym f.2) ge))
         | inl lt ↦
             let held = told_is_held answer.was u answerer_told h lt in
             elim (cases_Bool (differs gave.0 answer.was.held.uses u)) [
               | inl d ↦
-                  let i = in_part moment us u (stale_in gave.0 answer.was.held.uses u ∙ and_from (holds answer.was.held.uses u) (differs gave.0 answer.was.held.uses u) held d) in
+                  let i = in_part moment us (cut moment us) u (cut_are_cut moment us) (stale_in gave.0 answer.was.held.uses u ∙ and_from (holds answer.was.held.uses u) (differs gave.0 answer.was.held.uses u) held d) in
                   part_told i.0 i.1 u i.2 (carried_listed answer.was.told.uses i.1 u h i.3)
               | inr d ↦
                   summary_told u (held_within summary.was (sound.makers k summary at_k).is_told u

@@ -1,8 +1,9 @@
 -- Where a run begins, and how far it can get.
 use Rattle.std.proofs.Common.{◌≡◌, ◌<◌, ◌≤◌, ◌^◌, ℕ, max, Bool, true, false, ◌&&◌, nat_lt, [], ◌∷◌, refl, sym, ap, ◌∙◌, subst, arith}
-use Rattle.std.specs.Prelude.{Result, Ok, Err}
+use Rattle.std.specs.Prelude.{Option, None, Some, Result, Ok, Err}
 use Rattle.std.proofs.lemmas.Bool.{lt-ltb}
 use Rattle.svid_token.specs.declared.refusal.Refusal.{Refusal}
+use Rattle.svid_replay.specs.declared.token_use.Use.{Use}
 use Rattle.svid_replay.specs.Batches.{BatchData}
 use Rattle.svid_replay.specs.Records.{State, batch_state, join, state_of}
 use Rattle.svid_replay.specs.Sets.{holds}
@@ -11,15 +12,15 @@ use Rattle.svid_replay.proofs.RecordsLemmas.{moment-join}
 use Rattle.svid_replay.proofs.UsesLemmas.{holds-live, same_uses}
 use Rattle.svid_check.specs.declared.accepted.Accepted.{Accepted}
 use Rattle.svid_check.specs.declared.answer.Answer.{Answer}
-use Rattle.svid_check.specs.declared.answer.Answer.TheVariants.{Checked, Ticked, Taken}
+use Rattle.svid_check.specs.declared.answer.Answer.TheVariants.{Checked, Ticked, Taken, Withdrawn}
 use Rattle.svid_check.specs.declared.event.Event.{Event}
-use Rattle.svid_check.specs.declared.event.Event.TheVariants.{Check, Tick, Take}
+use Rattle.svid_check.specs.declared.event.Event.TheVariants.{Check, Tick, Take, Withdraw}
 use Rattle.svid_check.specs.declared.take_fault.TakeFault.{TakeFault}
 use Rattle.svid_check.specs.declared.take_fault.TakeFault.TheVariants.{TooFarAhead, OutOfMemory}
-use Rattle.svid_check.specs.Bounds.{AnswersAreBounded, ChecksAreBounded, RecordsAreBounded, RunsAreBounded, TakesAreBounded, TicksAreBounded, latest, now_of, reach}
-use Rattle.svid_check.specs.Changes.{horizon, raised, settled}
+use Rattle.svid_check.specs.Bounds.{AnswersAreBounded, ChecksAreBounded, RecordsAreBounded, RunsAreBounded, TakesAreBounded, TicksAreBounded, WithdrawalsAreBounded, latest, now_of, reach}
+use Rattle.svid_check.specs.Changes.{accepted_in, gains, horizon, raised, withdrawn_in}
 use Rattle.svid_check.specs.Runs.{Step, Terms}
-use Rattle.svid_check.specs.Told.{BeginsAsGiven, TellsBatch, Told, begun, tell_now, tell_use}
+use Rattle.svid_check.specs.Told.{BeginsAsGiven, TellsBatch, Told, begun, tell_now, tell_one}
 
 held_live : (lives held : Bool) → (held ≡ true → lives ≡ true) → (lives && held) ≡ held
 held_live true held so = refl
@@ -47,12 +48,18 @@ pub ticks_are_bounded : TicksAreBounded
 ticks_are_bounded x now ahead small = subst (λ n. n ≤ reach x.moment now ahead) (sym (moment-join x (state_of now []))) (at_now x.moment now ahead small)
 
 -- a use of the record's own moment leaves the moment
-same_moment : (x : State) (accepted : Accepted) → (settled x (Ok accepted)).moment ≡ x.moment
-same_moment x accepted = moment-join x (state_of x.moment (accepted.used ∷ [])) ∙ omega arith
+same_moment : (x : State) (added : Option Use) → (gains x added).moment ≡ x.moment
+same_moment x (Some u) = moment-join x (state_of x.moment (u ∷ [])) ∙ omega arith
+same_moment x None = refl
+
+gained_is_bounded : (x : State) (now ahead : ℕ) (added : Option Use) → now < 2 ^ 64 → (gains (raised x now) added).moment ≤ reach x.moment now ahead
+gained_is_bounded x now ahead added small = subst (λ n. n ≤ reach x.moment now ahead) (sym (same_moment (raised x now) added)) (ticks_are_bounded x now ahead small)
 
 pub checks_are_bounded : ChecksAreBounded
-checks_are_bounded x now ahead (Ok accepted) small = subst (λ n. n ≤ reach x.moment now ahead) (sym (same_moment (raised x now) accepted)) (ticks_are_bounded x now ahead small)
-checks_are_bounded x now ahead (Err refusal) small = ticks_are_bounded x now ahead small
+checks_are_bounded x now ahead answer small = gained_is_bounded x now ahead (accepted_in answer) small
+
+pub withdrawals_are_bounded : WithdrawalsAreBounded
+withdrawals_are_bounded x now ahead answer small = gained_is_bounded x now ahead (withdrawn_in answer) small
 
 -- a join with what lies within the horizon
 within : (x y b : State) (now ahead : ℕ) → now < 2 ^ 64 → b.moment ≤ horizon now ahead → y ≡ join (raised x now) b → y.moment ≤ reach x.moment now ahead
@@ -71,9 +78,9 @@ answers_are_bounded x y now ahead s (Ok batches) small h = within x y (state_of 
 answers_are_bounded x y now ahead s (Err TooFarAhead) small h = subst (λ (r : State). r.moment ≤ reach x.moment now ahead) (sym h.1) (ticks_are_bounded x now ahead small)
 answers_are_bounded x y now ahead s (Err OutOfMemory) small h = within x y (state_of s.moment []) now ahead small h.0 h.1
 
-told_check : (x : Told) (now ahead : ℕ) (answer : Result Accepted Refusal) → now < 2 ^ 64 → (tell_use (tell_now x now) answer).greatest ≤ reach x.greatest now ahead
-told_check x now ahead (Ok accepted) small = at_now x.greatest now ahead small
-told_check x now ahead (Err refusal) small = at_now x.greatest now ahead small
+told_added : (x : Told) (now ahead : ℕ) (added : Option Use) → now < 2 ^ 64 → (tell_one (tell_now x now) added).greatest ≤ reach x.greatest now ahead
+told_added x now ahead (Some u) small = at_now x.greatest now ahead small
+told_added x now ahead None small = at_now x.greatest now ahead small
 
 told_take : (x y : Told) (now ahead : ℕ) (b : BatchData) (answer : Result (Unit {0}) TakeFault) → now < 2 ^ 64 → TellsBatch (tell_now x now) (horizon now ahead) b answer y → y.greatest ≤ reach x.greatest now ahead
 told_take x y now ahead b (Ok taken) small h = subst (λ (z : Told). z.greatest ≤ reach x.greatest now ahead) (sym h.1) (at_batch x.greatest now b.moment ahead small h.0)
@@ -81,15 +88,22 @@ told_take x y now ahead b (Err TooFarAhead) small h = subst (λ (z : Told). z.gr
 told_take x y now ahead b (Err OutOfMemory) small h = subst (λ (z : Told). z.greatest ≤ reach x.greatest now ahead) (sym h.1.told) (at_batch x.greatest now b.moment ahead small h.0)
 
 step_is_bounded : (t : Terms) (x y : Told) (event : Event) (answer : Answer) → now_of event < 2 ^ 64 → Step t x event answer y → y.greatest ≤ reach x.greatest (now_of event) t.ahead
-step_is_bounded t x y (Check now token) (Checked answer) small h = subst (λ (z : Told). z.greatest ≤ reach x.greatest now t.ahead) (sym h.1) (told_check x now t.ahead answer small)
+step_is_bounded t x y (Check now token) (Checked answer) small h = subst (λ (z : Told). z.greatest ≤ reach x.greatest now t.ahead) (sym h.1) (told_added x now t.ahead (accepted_in answer) small)
+step_is_bounded t x y (Withdraw now key exp) (Withdrawn answer) small h = subst (λ (z : Told). z.greatest ≤ reach x.greatest now t.ahead) (sym h.1) (told_added x now t.ahead (withdrawn_in answer) small)
 step_is_bounded t x y (Tick now) Ticked small h = subst (λ (z : Told). z.greatest ≤ reach x.greatest now t.ahead) (sym h) (at_now x.greatest now t.ahead small)
 step_is_bounded t x y (Take now batch) (Taken answer) small h = told_take x y now t.ahead batch.now answer small h
 step_is_bounded t x y (Check now token) Ticked small h = absurd h
 step_is_bounded t x y (Check now token) (Taken answer) small h = absurd h
+step_is_bounded t x y (Check now token) (Withdrawn answer) small h = absurd h
 step_is_bounded t x y (Tick now) (Checked answer) small h = absurd h
 step_is_bounded t x y (Tick now) (Taken answer) small h = absurd h
+step_is_bounded t x y (Tick now) (Withdrawn answer) small h = absurd h
 step_is_bounded t x y (Take now batch) (Checked answer) small h = absurd h
 step_is_bounded t x y (Take now batch) Ticked small h = absurd h
+step_is_bounded t x y (Take now batch) (Withdrawn answer) small h = absurd h
+step_is_bounded t x y (Withdraw now key exp) (Checked answer) small h = absurd h
+step_is_bounded t x y (Withdraw now key exp) Ticked small h = absurd h
+step_is_bounded t x y (Withdraw now key exp) (Taken answer) small h = absurd h
 
 pub runs_are_bounded : RunsAreBounded
 runs_are_bounded t x y [] [] small h = subst (λ (z : Told). z.greatest ≤ reach x.greatest 0 t.ahead) (sym h) (unmoved x.greatest t.ahead)

@@ -19,7 +19,8 @@ use Rattle.svid_replay.proofs.SetsLemmas.{holds-rising}
 use Rattle.svid_replay.proofs.TestsLemmas.{equal}
 use Rattle.svid_replay.proofs.UseLemmas.{order_is_text_order, use_exact, use_total}
 use Rattle.svid_replay.proofs.UsesLemmas.{uses_in-rising}
-use Rattle.svid_wire.proofs.FirstMessage.{length-text_of}
+use Rattle.svid_wire.specs.declared.version.Version.TheVariants.{Two}
+use Rattle.svid_wire.proofs.FirstMessage.{length-use_text}
 use Rattle.svid_check.specs.Headline.{IsClash}
 
 -- ---- a use is known by its text, and a list of uses by its texts
@@ -40,14 +41,14 @@ same_use : (u w : Use) → IsUse u → IsUse w → text_of u ≡ text_of w → u
 same_use u w f g e = use_exact u w (order_is_text_order u w f g ∙ ap (bytes_cmp (text_of u)) (sym e) ∙ tied_itself nat_list_cmp_total (text_of u))
 
 no_text : (u : Use) (us : List Use) → IsUse u → [] ≡ text_of u ++ flat_map text_of us → ⊥
-no_text u us f e = omega (arith, ap length e, length-append (text_of u) (flat_map text_of us), length-text_of u f)
+no_text u us f e = omega (arith, ap length e, length-append (text_of u) (flat_map text_of us), length-use_text Two u f)
 
 same_uses : (us ws : List Use) → AllByRecursion IsUse us → AllByRecursion IsUse ws → flat_map text_of us ≡ flat_map text_of ws → us ≡ ws
 same_uses [] [] f g e = refl
 same_uses [] (w ∷ ws) f g e = absurd (no_text w ws g.0 e)
 same_uses (u ∷ us) [] f g e = absurd (no_text u us f.0 (sym e))
 same_uses (u ∷ us) (w ∷ ws) f g e =
-    let split = same_parts (text_of u) (text_of w) (flat_map text_of us) (flat_map text_of ws) (length-text_of u f.0 ∙ sym (length-text_of w g.0)) e in
+    let split = same_parts (text_of u) (text_of w) (flat_map text_of us) (flat_map text_of ws) (length-use_text Two u f.0 ∙ sym (length-use_text Two w g.0)) e in
     let head = same_use u w f.0 g.0 split.0 in
     let tail = same_uses us ws f.1 g.1 split.1 in
     λ i. head i ∷ tail i

@@ -10,11 +10,12 @@ use Rattle.std.proofs.lemmas.Option.{none-some, same_Some}
 use Rattle.svid_replay.specs.declared.token_use.Use.{Use}
 use Rattle.svid_replay.specs.Batches.{BatchData}
 use Rattle.svid_replay.specs.Parts.{cut, full_batches}
-use Rattle.svid_replay.specs.Sets.{holds}
+use Rattle.svid_replay.specs.Records.{State}
+use Rattle.svid_replay.specs.Sets.{holds, rising}
 use Rattle.svid_replay.specs.Use.{use_cmp}
 use Rattle.svid_replay.specs.Uses.{uses_in}
 use Rattle.svid_replay.proofs.UsesLemmas.{holds-uses_in}
-use Rattle.svid_check.specs.World.{front}
+use Rattle.svid_check.specs.World.{front, old_parts_of}
 
 abbrev Listed : List Use → Use → Type 0
 Listed us u = list_any (eq_by_cmp use_cmp u) us ≡ true
@@ -31,12 +32,12 @@ dropped n us u h =
     ∙ or_right (list_any (eq_by_cmp use_cmp u) (take n us)) (list_any (eq_by_cmp use_cmp u) (drop n us)) h
 
 -- ---- so many full batches, and one of the rest
-each_within : (n m : ℕ) (us : List Use) (p : ℕ) (b : BatchData) → slice_get (full_batches n m us) p ≡ Some b → (u : Use) → Listed b.uses u → Listed us u
+each_within : (size n m : ℕ) (us : List Use) (p : ℕ) (b : BatchData) → slice_get (full_batches size n m us) p ≡ Some b → (u : Use) → Listed b.uses u → Listed us u
 unfolding full_batches
-each_within zero m us zero b e u h = subst (λ (x : BatchData). Listed x.uses u) (sym (same_Some (record { moment = m; uses = us }) b e)) h
-each_within zero m us (suc p) b e u h = absurd (none-some b e)
-each_within (suc n) m us zero b e u h = taken 4096 us u (subst (λ (x : BatchData). Listed x.uses u) (sym (same_Some (record { moment = m; uses = take 4096 us }) b e)) h)
-each_within (suc n) m us (suc p) b e u h = dropped 4096 us u (each_within n m (drop 4096 us) p b e u h)
+each_within size zero m us zero b e u h = subst (λ (x : BatchData). Listed x.uses u) (sym (same_Some (record { moment = m; uses = us }) b e)) h
+each_within size zero m us (suc p) b e u h = absurd (none-some b e)
+each_within size (suc n) m us zero b e u h = taken size us u (subst (λ (x : BatchData). Listed x.uses u) (sym (same_Some (record { moment = m; uses = take size us }) b e)) h)
+each_within size (suc n) m us (suc p) b e u h = dropped size us u (each_within size n m (drop size us) p b e u h)
 
 -- a batch of these lists the use
 record InOne (batches : List BatchData) (u : Use) : Type 0 where
@@ -51,39 +52,52 @@ here b bs u h = record { place = zero; part = b; stands = refl; lists = h }
 later : (b : BatchData) (bs : List BatchData) (u : Use) → InOne bs u → InOne (b ∷ bs) u
 later b bs u i = record { place = suc i.place; part = i.part; stands = i.stands; lists = i.lists }
 
-in_one : (n m : ℕ) (us : List Use) (u : Use) → Listed us u → InOne (full_batches n m us) u
+in_one : (size n m : ℕ) (us : List Use) (u : Use) → Listed us u → InOne (full_batches size n m us) u
 unfolding full_batches
-in_one zero m us u h = here (record { moment = m; uses = us }) [] u h
-in_one (suc n) m us u h =
-    let b : BatchData = record { moment = m; uses = take 4096 us } in
+in_one size zero m us u h = here (record { moment = m; uses = us }) [] u h
+in_one size (suc n) m us u h =
+    let b : BatchData = record { moment = m; uses = take size us } in
     let tied = eq_by_cmp use_cmp u in
-    elim (or_cases (list_any tied (take 4096 us)) (list_any tied (drop 4096 us)) (sym (ap (list_any tied) (sym (take-append-drop 4096 us)) ∙ list_any-append tied (take 4096 us) (drop 4096 us)) ∙ h)) [
-      | inl a ↦ here b (full_batches n m (drop 4096 us)) u a
-      | inr r ↦ later b (full_batches n m (drop 4096 us)) u (in_one n m (drop 4096 us) u r)
+    elim (or_cases (list_any tied (take size us)) (list_any tied (drop size us)) (sym (ap (list_any tied) (sym (take-append-drop size us)) ∙ list_any-append tied (take size us) (drop size us)) ∙ h)) [
+      | inl a ↦ here b (full_batches size n m (drop size us)) u a
+      | inr r ↦ later b (full_batches size n m (drop size us)) u (in_one size n m (drop size us) u r)
     ]
 
-first_one : (n m : ℕ) (us : List Use) → (b : BatchData) × (slice_get (full_batches n m us) 0 ≡ Some b) × (b.moment ≡ m)
-unfolding full_batches
-first_one zero m us = (record { moment = m; uses = us }, refl, refl)
-first_one (suc n) m us = (record { moment = m; uses = take 4096 us }, refl, refl)
+-- ---- what uses are cut into
+-- the batches are such, of some size and as many as may be
+pub record AreCut (m : ℕ) (us : List Use) (batches : List BatchData) : Type 0 where
+  pub size : ℕ
+  pub full : ℕ
+  pub is : batches ≡ full_batches size full m us
 
--- ---- the parts of what is cut
--- what a part holds is of the uses that were cut
-pub part_within : (m : ℕ) (us : List Use) (p : ℕ) (b : BatchData) → slice_get (cut m us) p ≡ Some b → (u : Use) → IsTrue (holds (uses_in b.uses) u) → IsTrue (holds (uses_in us) u)
+pub cut_are_cut : (m : ℕ) (us : List Use) → AreCut m us (cut m us)
 unfolding cut
-part_within m us p b e u h = holds-uses_in us u ∙ each_within ((length us - 1) / 4096) m us p b e u (sym (holds-uses_in b.uses u) ∙ h)
+cut_are_cut m us = record { size = 65536; full = (length us - 1) / 65536; is = refl }
+
+pub old_are_cut : (r : State) → AreCut r.moment (rising r.uses) (old_parts_of r)
+old_are_cut r = record { size = 4096; full = (length (rising r.uses) - 1) / 4096; is = refl }
+
+-- what a part holds is of the uses that were cut
+pub part_within : (m : ℕ) (us : List Use) (batches : List BatchData) (p : ℕ) (b : BatchData) → AreCut m us batches → slice_get batches p ≡ Some b → (u : Use) → IsTrue (holds (uses_in b.uses) u) → IsTrue (holds (uses_in us) u)
+part_within m us batches p b are e u h =
+    holds-uses_in us u ∙ each_within are.size are.full m us p b (subst (λ (bs : List BatchData). slice_get bs p ≡ Some b) are.is e) u (sym (holds-uses_in b.uses u) ∙ h)
 
 -- each of the uses that were cut is in a part
-pub in_part : (m : ℕ) (us : List Use) (u : Use) → IsTrue (holds (uses_in us) u) → (p : ℕ) × (b : BatchData) × (slice_get (cut m us) p ≡ Some b) × IsTrue (holds (uses_in b.uses) u)
-unfolding cut
-in_part m us u h =
-    let i = in_one ((length us - 1) / 4096) m us u (sym (holds-uses_in us u) ∙ h) in
-    (i.place, i.part, i.stands, holds-uses_in i.part.uses u ∙ i.lists)
+pub in_part : (m : ℕ) (us : List Use) (batches : List BatchData) (u : Use) → AreCut m us batches → IsTrue (holds (uses_in us) u) → (p : ℕ) × (b : BatchData) × (slice_get batches p ≡ Some b) × IsTrue (holds (uses_in b.uses) u)
+in_part m us batches u are h =
+    let i = in_one are.size are.full m us u (sym (holds-uses_in us u) ∙ h) in
+    (i.place, i.part, ap (λ (bs : List BatchData). slice_get bs i.place) are.is ∙ i.stands, holds-uses_in i.part.uses u ∙ i.lists)
+
+first_one : (size n m : ℕ) (us : List Use) → (b : BatchData) × (slice_get (full_batches size n m us) 0 ≡ Some b) × (b.moment ≡ m)
+unfolding full_batches
+first_one size zero m us = (record { moment = m; uses = us }, refl, refl)
+first_one size (suc n) m us = (record { moment = m; uses = take size us }, refl, refl)
 
 -- there is a first part
-pub first_part : (m : ℕ) (us : List Use) → (b : BatchData) × (slice_get (cut m us) 0 ≡ Some b) × (b.moment ≡ m)
-unfolding cut
-first_part m us = first_one ((length us - 1) / 4096) m us
+pub first_part : (m : ℕ) (us : List Use) (batches : List BatchData) → AreCut m us batches → (b : BatchData) × (slice_get batches 0 ≡ Some b) × (b.moment ≡ m)
+first_part m us batches are =
+    let f = first_one are.size are.full m us in
+    (f.0, ap (λ (bs : List BatchData). slice_get bs 0) are.is ∙ f.1, f.2)
 
 -- ---- what a batch tells
 -- the first uses of a batch are of its uses

@@ -18,13 +18,15 @@ use Rattle.svid_replay.specs.Uses.{Uses}
 use Rattle.svid_check.specs.declared.accepted.Accepted.{Accepted}
 use Rattle.svid_check.specs.declared.take_fault.TakeFault.{TakeFault}
 use Rattle.svid_check.specs.declared.take_fault.TakeFault.TheVariants.{OutOfMemory, TooFarAhead}
-use Rattle.svid_check.specs.Changes.{Replies, Takes, horizon, raised, settled}
-use Rattle.svid_check.specs.Events.{AnswersAreEvents, ChecksAreEvents, SendsAreEvents, SumsAreEvents, TakesAreEvents, TicksAreEvents, entries, posted}
+use Rattle.svid_check.specs.declared.withdraw_fault.WithdrawFault.{WithdrawFault}
+use Rattle.svid_check.specs.declared.withdraw_fault.WithdrawFault.TheVariants as withdraw
+use Rattle.svid_check.specs.Changes.{IsWithdrawal, Replies, Takes, gains, horizon, raised, settled, withdrawal, withdrawn_in}
+use Rattle.svid_check.specs.Events.{AnswersAreEvents, ChecksAreEvents, SendsAreEvents, SumsAreEvents, TakesAreEvents, TicksAreEvents, WithdrawalsAreEvents, entries, posted}
 use Rattle.svid_check.specs.Said.{RefusesForm}
-use Rattle.svid_check.specs.Alone.{AnswersAreCalls, ChecksAreCalls, TakesAreCalls, TicksAreCalls}
+use Rattle.svid_check.specs.Alone.{AnswersAreCalls, ChecksAreCalls, TakesAreCalls, TicksAreCalls, WithdrawalsAreCalls}
 use Rattle.svid_check.specs.Setting.{Setting}
 use Rattle.svid_check.specs.Verdict.{verdict}
-use Rattle.svid_check.specs.World.{Answer, Answered, Content, Entry, Made, Member, Posting, Sent, Summed, Take, Took, World, answer_at, answer_by, answer_content, answer_posting, answer_summary, check_answer, checked, far, form_or_memory, front, happens, joined, logged, post, put, take_part, take_posting, ticked, took}
+use Rattle.svid_check.specs.World.{Answer, Answered, Content, Entry, Made, Member, Posting, Sent, Summed, Take, Took, World, answer_at, answer_by, answer_content, answer_posting, answer_summary, check_answer, checked, far, form_or_memory, front, happens, joined, logged, post, put, take_part, take_posting, ticked, took, withdraw_answer, withdrawal_at, withdrew}
 use Rattle.svid_check.proofs.PlacesLemmas.{put_own}
 use Rattle.svid_check.proofs.RowsLemmas.{told}
 
@@ -48,6 +50,22 @@ checks_are_events group w v now token answer due form =
     let x = raised (w.members v).held now in
     let g = check_gives (group v).setting x token answer due form in
     (g.0, g.1, ap (λ (m : Member). m.held) (put_own w v (checked (ticked (w.members v) now) (answer_at group w v now token g.0))) ∙ ap (settled x) g.1)
+
+-- ---- withdrawals
+withdraw_gives : (place : List ℕ) (x : State) (key : List ℕ) (exp : ℕ) (answer : Result Use WithdrawFault) → IsWithdrawal place x.moment key exp answer → (refused : Bool) × (withdraw_answer place x key exp refused ≡ answer)
+withdraw_gives place x key exp (Ok used) h =
+    let due = withdrawal place x.moment key exp in
+    (false, ap (λ (test : Bool). if test then Ok due else Err withdraw.Expired) (lt-ltb x.moment exp h.0) ∙ ap Ok (sym h.1))
+withdraw_gives place x key exp (Err withdraw.Expired) h =
+    let due = withdrawal place x.moment key exp in
+    (false, ap (λ (test : Bool). if test then Ok due else Err withdraw.Expired) (le-ltb x.moment exp h))
+withdraw_gives place x key exp (Err withdraw.OutOfMemory) h = (true, ap (λ (test : Bool). if test then Err withdraw.OutOfMemory else Err withdraw.Expired) (lt-ltb x.moment exp h))
+
+pub withdrawals_are_events : WithdrawalsAreEvents
+withdrawals_are_events group w v now key exp answer h =
+    let x = raised (w.members v).held now in
+    let g = withdraw_gives (group v).setting.place x key exp answer h in
+    (g.0, g.1, ap (λ (m : Member). m.held) (put_own w v (withdrew (ticked (w.members v) now) (withdrawal_at group w v now key exp g.0))) ∙ ap (λ (a : Result Use WithdrawFault). gains x (withdrawn_in a)) g.1)
 
 -- ---- ticks
 pub ticks_are_events : TicksAreEvents
@@ -140,6 +158,12 @@ checks_are_calls t w now token answer due form =
     let x = raised w.held now in
     let g = check_gives t.setting x token answer due form in
     (g.0, g.1, ap (settled x) g.1)
+
+pub withdrawals_are_calls : WithdrawalsAreCalls
+withdrawals_are_calls t w now key exp answer h =
+    let x = raised w.held now in
+    let g = withdraw_gives t.setting.place x key exp answer h in
+    (g.0, g.1, ap (λ (a : Result Use WithdrawFault). gains x (withdrawn_in a)) g.1)
 
 pub ticks_are_calls : TicksAreCalls
 ticks_are_calls t w now = refl

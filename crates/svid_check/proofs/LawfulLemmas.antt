@@ -34,7 +34,7 @@ use Rattle.svid_replay.proofs.ListLemmas.{any_in}
 use Rattle.svid_replay.proofs.SetsLemmas.{holds-rising}
 use Rattle.svid_replay.proofs.UseLemmas.{use_exact}
 use Rattle.svid_check.specs.declared.accepted.Accepted.{Accepted}
-use Rattle.svid_check.specs.Lawful.{Accepts, IsAlive, IsFresh, IsInRange, IsMadeNow, IsOfItsInput, input_of}
+use Rattle.svid_check.specs.Lawful.{Accepts, IsAlive, IsFresh, IsInRange, IsMadeNow, IsOfItsInput, IsUsed, input_of}
 use Rattle.svid_check.specs.Said.{Said, parts_say, said_by, said_of, token_rows}
 use Rattle.svid_check.specs.Setting.{Setting}
 use Rattle.svid_check.specs.Verdict.{acceptance, key_of, rows_if_said, setting_rows, use_of, verdict, verdict_rows}
@@ -70,6 +70,9 @@ module _ (s : Setting) (moment : ℕ) (uses : Uses) (token : List ℕ) (u : Use)
 
 pub made_now : IsMadeNow
 made_now s moment uses token u a = sym (ap (λ (v : Use). v.at) (is_accepted s moment uses token u a).is_used)
+
+pub is_used : IsUsed
+is_used s moment uses token u a = sym (ap (λ (v : Use). v.withdrawn) (is_accepted s moment uses token u a).is_used)
 
 pub alive : IsAlive
 alive s moment uses token u a =

@@ -1,8 +1,7 @@
 -- A validator's record stays what it was told.
 use Rattle.std.proofs.Common.{◌≡◌, ℕ, max, Bool, true, false, not, ◌&&◌, ◌||◌, nat_lt, [], ◌∷◌, refl, sym, ap, ◌∙◌, inl, inr, arith}
-use Rattle.std.specs.Prelude.{Result, Ok, Err}
+use Rattle.std.specs.Prelude.{Option, None, Some}
 use Rattle.std.proofs.lemmas.Bool.{and_parts, false≢true, ltb-true, lt-ltb, or_left, or_right, or_cases}
-use Rattle.svid_token.specs.declared.refusal.Refusal.{Refusal}
 use Rattle.svid_replay.specs.declared.token_use.Use.{Use}
 use Rattle.svid_replay.specs.Batches.{BatchData}
 use Rattle.svid_replay.specs.Records.{State, batch_state, join}
@@ -12,11 +11,10 @@ use Rattle.svid_replay.proofs.RecordsLemmas.{is_join}
 use Rattle.svid_replay.proofs.SetsLemmas.{holds-keep}
 use Rattle.svid_replay.proofs.UseLemmas.{use_exact, use_total}
 use Rattle.svid_replay.proofs.UsesLemmas.{holds-live, holds-union, with_holds_one_more}
-use Rattle.svid_check.specs.declared.accepted.Accepted.{Accepted}
 use Rattle.svid_check.specs.Headline.{IsWithin}
-use Rattle.svid_check.specs.Told.{Told, record_of, tell, tell_use}
-use Rattle.svid_check.specs.World.{Member, carried, checked, joined, ticked}
-use Rattle.svid_check.proofs.RunsLemmas.{told_now, told_use}
+use Rattle.svid_check.specs.Told.{Told, record_of, tell, tell_one}
+use Rattle.svid_check.specs.World.{Member, carried, gained, joined, ticked}
+use Rattle.svid_check.proofs.RunsLemmas.{told_now, told_one}
 
 -- a validator's record is what it was told
 abbrev pub IsTold : Member → Type 0
@@ -29,9 +27,9 @@ holds-carried s b u = holds-keep use_total use_exact (λ v. holds (uses_in b.use
 pub ticked_told : (x : Member) (now : ℕ) → IsTold x → IsTold (ticked x now)
 ticked_told x now is = sym (told_now x.told x.held now (sym is))
 
-pub checked_told : (x : Member) (answer : Result Accepted Refusal) → IsTold x → IsTold (checked x answer)
-checked_told x (Ok accepted) is = sym (told_use x.told (Ok accepted) ∙ ap (λ (r : State). join r (record { moment = r.moment; uses = uses_in (accepted.used ∷ []) })) (sym is))
-checked_told x (Err refusal) is = is
+pub gained_told : (x : Member) (added : Option Use) → IsTold x → IsTold (gained x added)
+gained_told x (Some u) is = sym (told_one x.told (Some u) ∙ ap (λ (r : State). join r (record { moment = r.moment; uses = uses_in (u ∷ []) })) (sym is))
+gained_told x None is = is
 
 -- of a batch that a sender's told has, what has not expired is told
 both_ways : (late soon own has has_it : Bool) → (has_it ≡ true → has ≡ true) → (late ≡ true → soon ≡ true) → (late ≡ true → own ≡ true)
@@ -92,10 +90,10 @@ carried_within s b u h = (and_parts (holds (uses_in b.uses) u || not (nat_lt b.m
 pub live_within : (s : Uses) (m : ℕ) → IsWithin (live s m) s
 live_within s m u h = (and_parts (nat_lt m u.exp) (holds s u) (sym (holds-live s m u) ∙ h)).1
 
--- whoever is told an answer's use, was told it, and what was told before
-pub told_before : (x : Told) (answer : Result Accepted Refusal) → IsWithin x.uses (tell_use x answer).uses
-told_before x (Ok accepted) u h = with_holds_one_more x.uses accepted.used u ∙ or_right _ (holds x.uses u) h
-told_before x (Err refusal) u h = h
+-- whoever is told one use more was told what was told before
+pub told_before : (x : Told) (added : Option Use) → IsWithin x.uses (tell_one x added).uses
+told_before x (Some v) u h = with_holds_one_more x.uses v u ∙ or_right _ (holds x.uses u) h
+told_before x None u h = h
 
 pub union_tells : (s t : Uses) → IsWithin t (union s t)
 union_tells s t u h = holds-union s t u ∙ or_left (holds t u) (holds s u) h

@@ -1,15 +1,16 @@
 -- What a validator's record reports, where the record is what was told.
-use Rattle.std.proofs.Common.{◌≡◌, ◌≢◌, ◌↔◌, ◌<◌, ℕ, nat_lt, List, [], ◌∷◌, map, Contains, IsTrue, true, ◌&&◌, refl, sym, ap, ◌∙◌, subst, inl, inr}
+use Rattle.std.proofs.Common.{◌≡◌, ◌≢◌, ◌↔◌, ◌<◌, ℕ, nat_lt, Bool, not, List, [], ◌∷◌, map, Contains, IsTrue, true, false, ◌&&◌, refl, sym, ap, ◌∙◌, subst, inl, inr}
 use Rattle.std.specs.FinMap.{nat_cmp-IsAntisymmetric, slice_cmp-IsAntisymmetric}
 use Rattle.std.specs.Ordering.{is_eq}
-use Rattle.std.proofs.lemmas.Bool.{and_parts, lt-ltb, ltb-true}
+use Rattle.std.proofs.lemmas.Bool.{and_parts, lt-ltb, ltb-true, not-true}
 use Rattle.std.proofs.lemmas.Cmp.{nat_list_cmp_total, tied_itself}
 use Rattle.std.proofs.lemmas.List.Elements.{All-contains}
+use Rattle.std.proofs.lemmas.List.Kept.{IsStrictlySortedBy-filter}
 use Rattle.svid_replay.specs.declared.token_use.Use.{Use}
 use Rattle.svid_replay.specs.declared.twice.Twice.{Twice}
 use Rattle.svid_replay.specs.Records.{State}
 use Rattle.svid_replay.specs.Sets.{holds, rising}
-use Rattle.svid_replay.specs.Twice.{IsTwice, has_key, uses_of}
+use Rattle.svid_replay.specs.Twice.{IsTwice, has_key, used, uses_of}
 use Rattle.svid_replay.specs.Use.{bytes_cmp, use_cmp}
 use Rattle.svid_replay.proofs.ListLemmas.{has_cases, has_first, has_later, has_none, in_kept, kept_in}
 use Rattle.svid_replay.proofs.SetsLemmas.{rising_rises}
@@ -20,7 +21,11 @@ use Rattle.svid_check.specs.Headline.{IsLiveUse, IsUsedTwice, RecordsAreTold, Re
 use Rattle.svid_check.specs.Told.{record_of}
 use Rattle.svid_check.specs.World.{Member}
 use Rattle.svid_check.proofs.EachToldLemmas.{told_were_accepted}
-use Rattle.svid_check.proofs.LawfulLemmas.{of_its_input}
+use Rattle.svid_check.proofs.LawfulLemmas.{is_used, of_its_input}
+
+-- the test of what is no withdrawal
+abbrev is_use : Use → Bool
+is_use u = not u.withdrawn
 
 -- the test of a key
 own_key : (key : List ℕ) (u : Use) → u.key ≡ key → has_key key u ≡ true
@@ -38,19 +43,23 @@ listed_with (t ∷ ts) key has = elim (has_cases t.key (map (λ (r : Twice). r.k
 ]
 
 module _ (x : Member) (told : x.held ≡ record_of x.told) where
-  held_live : (key : List ℕ) (u : Use) → Contains (rising x.held.uses) u → u.key ≡ key → IsLiveUse x.told key u
+  abbrev us : List Use
+  us = used (rising x.held.uses)
+
+  held_live : (key : List ℕ) (u : Use) → Contains us u → u.key ≡ key → IsLiveUse x.told key u
   held_live key u has same =
-      let held = (rising_has_held x.held.uses u).1 has in
+      let kept = kept_in is_use (rising x.held.uses) u has in
+      let held = (rising_has_held x.held.uses u).1 kept.0 in
       let parts = and_parts (nat_lt x.told.greatest u.exp) (holds x.told.uses u) (sym (holds-live x.told.uses x.told.greatest u) ∙ (sym (ap (λ (a : State). holds a.uses u) told) ∙ held)) in
-      (parts.1, ltb-true x.told.greatest u.exp parts.0, same)
+      (parts.1, ltb-true x.told.greatest u.exp parts.0, same, not-true u.withdrawn kept.1)
 
-  live_held : (key : List ℕ) (u : Use) → IsLiveUse x.told key u → Contains (rising x.held.uses) u
+  live_held : (key : List ℕ) (u : Use) → IsLiveUse x.told key u → Contains us u
   live_held key u is =
-      (rising_has_held x.held.uses u).0
-      (ap (λ (a : State). holds a.uses u) told ∙ (holds-live x.told.uses x.told.greatest u ∙ (ap (λ b. b && holds x.told.uses u) (lt-ltb x.told.greatest u.exp is.1) ∙ is.0)))
+      in_kept is_use (rising x.held.uses) u ((rising_has_held x.held.uses u).0
+      (ap (λ (a : State). holds a.uses u) told ∙ (holds-live x.told.uses x.told.greatest u ∙ (ap (λ b. b && holds x.told.uses u) (lt-ltb x.told.greatest u.exp is.1) ∙ is.0)))) (ap not is.3)
 
-  listing : IsTwice (rising x.held.uses) (report_of x)
-  listing = is_twice (rising x.held.uses) (rising_rises use_cmp x.held.uses)
+  listing : IsTwice us (report_of x)
+  listing = is_twice us (IsStrictlySortedBy-filter use_cmp is_use (rising x.held.uses) (rising_rises use_cmp x.held.uses))
 
   report_is_exact : (key : List ℕ) → Contains (map (λ t. t.key) (report_of x)) key ↔ IsUsedTwice x.told key
   report_is_exact key = (
@@ -70,17 +79,16 @@ module _ (x : Member) (told : x.held ≡ record_of x.told) where
 
   report_is_whole : (t : Twice) (u : Use) → Contains (report_of x) t → Contains t.uses u ↔ IsLiveUse x.told t.key u
   report_is_whole t u listed =
-      let us = rising x.held.uses in
       let all : t.uses ≡ uses_of t.key us = All-contains (λ (r : Twice). r.uses ≡ uses_of r.key us) (report_of x) t listing.whole listed in (
         λ has. let kept = kept_in (has_key t.key) us u (subst (λ vs. Contains vs u) all has) in held_live t.key u kept.0 (key_is t.key u kept.1),
         λ is. subst (λ vs. Contains vs u) (sym all) (in_kept (has_key t.key) us u (live_held t.key u is) (own_key t.key u is.2)),
       )
 
-  two_are_reported : (a b : Use) → a ≢ b → a.key ≡ b.key → a.exp ≡ b.exp → IsTrue (holds x.told.uses a) → IsTrue (holds x.told.uses b) → x.told.greatest < a.exp
+  two_are_reported : (a b : Use) → a ≢ b → a.withdrawn ≡ false → b.withdrawn ≡ false → a.key ≡ b.key → a.exp ≡ b.exp → IsTrue (holds x.told.uses a) → IsTrue (holds x.told.uses b) → x.told.greatest < a.exp
       → (listed : Twice) × Contains (report_of x) listed × (listed.key ≡ a.key) × Contains listed.uses a × Contains listed.uses b
-  two_are_reported a b differ key exp told_a told_b later =
-      let one : IsLiveUse x.told a.key a = (told_a, later, refl) in
-      let other : IsLiveUse x.told a.key b = (told_b, subst (λ n. x.told.greatest < n) exp later, sym key) in
+  two_are_reported a b differ used_a used_b key exp told_a told_b later =
+      let one : IsLiveUse x.told a.key a = (told_a, later, refl, used_a) in
+      let other : IsLiveUse x.told a.key b = (told_b, subst (λ n. x.told.greatest < n) exp later, sym key, used_b) in
       let found = listed_with (report_of x) a.key ((report_is_exact a.key).1 (record { one = a; other = b; differ = differ; first = one; second = other })) in (
         found.0,
         found.1,
@@ -100,9 +108,9 @@ module _ (records : RecordsAreTold) where
   pub two_places_are_reported : TwoPlacesAreReported
   two_places_are_reported group events v s other moment later uses others token again a b accepts accepts_also input places told_a told_b live_at =
       let same = of_its_input s other moment later uses others token again a b accepts accepts_also input in
-      two_are_reported (member_after group events v) (records group events v) a b (λ e. places (ap (λ (u : Use). u.place) e)) same.0 same.1 told_a told_b live_at
+      two_are_reported (member_after group events v) (records group events v) a b (λ e. places (ap (λ (u : Use). u.place) e)) (is_used s moment uses token a accepts) (is_used other later others again b accepts_also) same.0 same.1 told_a told_b live_at
 
   pub reported_were_accepted_twice : ReportedWereAcceptedTwice
   reported_were_accepted_twice group events v key listed =
       let two = (report_is_exact (member_after group events v) (records group events v) key).0 listed in
-      (two.one, two.other, two.differ, two.first.2, two.second.2, told_were_accepted group events v two.one two.first.0, told_were_accepted group events v two.other two.second.0)
+      (two.one, two.other, two.differ, two.first.2, two.second.2, told_were_accepted group events v two.one two.first.0 two.first.3, told_were_accepted group events v two.other two.second.0 two.second.3)

@@ -79,6 +79,7 @@ told token.TooLongLived one other = (λ h. inr h, λ h. h)
 told token.UnknownDomain one other = (λ h. inr h, λ h. h)
 told token.NoKey one other = (λ h. inr h, λ h. h)
 told token.BadSignature one other = (λ h. inr h, λ h. h)
+told token.Withdrawn one other = (λ h. inr h, λ h. h)
 told token.Replayed one other = (λ h. inr h, λ h. h)
 told token.OutOfMemory one other = (λ h. inl refl, λ h. tt)
 

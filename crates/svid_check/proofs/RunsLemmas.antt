@@ -1,5 +1,5 @@
 -- To tell a validator is to join its record.
-use Rattle.std.proofs.Common.{◌≡◌, ◌<◌, ◌≤◌, ◌+◌, ℕ, max, Bool, true, false, ◌&&◌, ◌||◌, nat_lt, List, [], ◌∷◌, ◌++◌, length, take, drop, get_or, Some, refl, sym, ap, ◌∙◌, subst, arith}
+use Rattle.std.proofs.Common.{◌≡◌, ◌<◌, ◌≤◌, ◌+◌, ℕ, max, Bool, true, false, ◌&&◌, ◌||◌, nat_lt, List, [], ◌∷◌, ◌++◌, length, take, drop, get_or, Option, None, Some, refl, sym, ap, ◌∙◌, subst, arith}
 use Rattle.std.specs.Prelude.{Result, Ok, Err}
 use Rattle.std.specs.Ordering.{eq_by_cmp}
 use Rattle.std.proofs.lemmas.Bool.{ltb-true, lt-ltb}
@@ -17,16 +17,17 @@ use Rattle.svid_replay.proofs.TestsLemmas.{or-false}
 use Rattle.svid_replay.proofs.UsesLemmas.{holds-live, holds-union, holds-uses_in, with_holds_one_more}
 use Rattle.svid_check.specs.declared.accepted.Accepted.{Accepted}
 use Rattle.svid_check.specs.declared.answer.Answer.{Answer}
-use Rattle.svid_check.specs.declared.answer.Answer.TheVariants.{Checked, Ticked, Taken}
+use Rattle.svid_check.specs.declared.answer.Answer.TheVariants.{Checked, Ticked, Taken, Withdrawn}
 use Rattle.svid_check.specs.declared.event.Event.{Event}
-use Rattle.svid_check.specs.declared.event.Event.TheVariants.{Check, Tick, Take}
+use Rattle.svid_check.specs.declared.event.Event.TheVariants.{Check, Tick, Take, Withdraw}
 use Rattle.svid_check.specs.declared.take_fault.TakeFault.{TakeFault}
 use Rattle.svid_check.specs.declared.take_fault.TakeFault.TheVariants.{TooFarAhead, OutOfMemory}
-use Rattle.svid_check.specs.Calls.{AnswersTellMoments, ChecksAreSteps, RecordsGoOn, RunsGoOn, TakesAreSteps, TicksAreSteps}
-use Rattle.svid_check.specs.Changes.{Takes, horizon, raised, settled}
+use Rattle.svid_check.specs.declared.withdraw_fault.WithdrawFault.{WithdrawFault}
+use Rattle.svid_check.specs.Calls.{AnswersTellMoments, ChecksAreSteps, RecordsGoOn, RunsGoOn, TakesAreSteps, TicksAreSteps, WithdrawalsAreSteps}
+use Rattle.svid_check.specs.Changes.{IsWithdrawal, Takes, accepted_in, gains, horizon, raised, settled, withdrawn_in}
 use Rattle.svid_check.specs.Runs.{IsAnswered, Runs, RunsFrom, Step, Terms}
 use Rattle.svid_check.specs.Said.{RefusesForm}
-use Rattle.svid_check.specs.Told.{TellsBatch, Told, record_of, tell, tell_now, tell_use}
+use Rattle.svid_check.specs.Told.{TellsBatch, Told, record_of, tell, tell_now, tell_one, tell_use}
 use Rattle.svid_check.specs.Verdict.{verdict}
 
 -- what is live at the greater moment is live at the lesser
@@ -53,12 +54,14 @@ told_now x a now is =
     joined x (tell_now x now) (state_of now []) refl (λ u. ap (λ h. h || holds x.uses u) (sym (holds-uses_in [] u)))
     ∙ ap (λ (r : State). raised r now) is
 
+pub told_one : (x : Told) (added : Option Use) → record_of (tell_one x added) ≡ gains (record_of x) added
+told_one x (Some v) =
+    joined x (tell_one x (Some v)) (state_of x.greatest (v ∷ [])) (omega arith) (λ u.
+    with_holds_one_more x.uses v u ∙ ap (λ h. h || holds x.uses u) (sym (holds-uses_in (v ∷ []) u ∙ or-false (eq_by_cmp use_cmp u v))))
+told_one x None = refl
+
 pub told_use : (x : Told) (answer : Result Accepted Refusal) → record_of (tell_use x answer) ≡ settled (record_of x) answer
-told_use x (Ok accepted) =
-    joined x (tell_use x (Ok accepted)) (state_of x.greatest (accepted.used ∷ [])) (omega arith) (λ u.
-    with_holds_one_more x.uses accepted.used u
-    ∙ ap (λ h. h || holds x.uses u) (sym (holds-uses_in (accepted.used ∷ []) u ∙ or-false (eq_by_cmp use_cmp u accepted.used))))
-told_use x (Err refusal) = refl
+told_use x answer = told_one x (accepted_in answer)
 
 pub told_all : (x : Told) (b : State) → record_of (tell x b) ≡ join (record_of x) b
 told_all x b = joined x (tell x b) b refl (λ u. holds-union x.uses b.uses u)
@@ -76,6 +79,21 @@ checks t a b now event answer token due form left step x is =
       tell_use y answer,
       (tell_use y answer, step x (subst (λ (r : State). Answers Some answer (verdict t.setting r.moment r.uses token)) (sym told) due, form), refl),
       told_use y answer ∙ ap (λ (r : State). settled r answer) told ∙ sym left,
+    )
+
+-- a withdrawal
+pub withdraws : (t : Terms) (a b : State) (now : ℕ) (event : Event) (key : List ℕ) (exp : ℕ) (answer : Result Use WithdrawFault)
+    → IsWithdrawal t.setting.place (raised a now).moment key exp answer
+    → b ≡ gains (raised a now) (withdrawn_in answer)
+    → ((x : Told) → IsWithdrawal t.setting.place (tell_now x now).greatest key exp answer → Step t x event (Withdrawn answer) (tell_one (tell_now x now) (withdrawn_in answer)))
+    → RunsFrom t a (event ∷ []) (Withdrawn answer ∷ []) b
+withdraws t a b now event key exp answer due left step x is =
+    let y = tell_now x now in
+    let told = told_now x a now is in
+    let z = tell_one y (withdrawn_in answer) in (
+      z,
+      (z, step x (subst (λ (r : State). IsWithdrawal t.setting.place r.moment key exp answer) (sym told) due), refl),
+      told_one y (withdrawn_in answer) ∙ ap (λ (r : State). gains r (withdrawn_in answer)) told ∙ sym left,
     )
 
 -- a tick
@@ -140,6 +158,9 @@ ticks_are_steps t a now = ticks t a (raised a now) now (Tick now) refl (λ x. re
 
 pub takes_are_steps : TakesAreSteps
 takes_are_steps t a b now batch answer h = takes t a b now (Take now batch) batch.now answer h (λ x y told. told)
+
+pub withdrawals_are_steps : WithdrawalsAreSteps
+withdrawals_are_steps t a now key exp answer h = withdraws t a (gains (raised a now) (withdrawn_in answer)) now (Withdraw now key exp) key exp answer h refl (λ x due. (due, refl))
 
 pub answers_tell_moments : AnswersTellMoments
 answers_tell_moments x b now far s (Ok batches) h = told_now (tell_now x now) (raised (record_of x) now) s.moment (told_now x (record_of x) now refl) ∙ sym h.2

@@ -22,14 +22,14 @@ use Rattle.svid_replay.proofs.UseLemmas.{use_total}
 use Rattle.svid_replay.proofs.UsesLemmas.{holds-live, same_uses, uses_in-rising, with_holds_one_more}
 use Rattle.svid_check.specs.declared.accepted.Accepted.{Accepted}
 use Rattle.svid_check.specs.Changes.{raised}
-use Rattle.svid_check.specs.Headline.{AcceptanceGoesAlong, AcceptanceTells, AcceptedIsRefused, ChainsTell, HasTaken, IsRefusedBy, IsSend, IsUseOf, IsWithin, RestartsPutBack, SendsMakeEqual, SendsTellAll, TakesOnly, ToldIsRefused, WentAlong}
+use Rattle.svid_check.specs.Headline.{AcceptanceGoesAlong, AcceptanceTells, AcceptedIsRefused, ChainsTell, HasTaken, IsRefusedBy, IsSend, IsUseOf, IsWithin, RestartsPutBack, SendsMakeEqual, SendsTellAll, TakesOnly, ToldIsRefused, WentAlong, WithdrawnAreRefused}
 use Rattle.svid_check.specs.Lawful.{Accepts, input_of}
 use Rattle.svid_check.specs.Runs.{Terms}
 use Rattle.svid_check.specs.Setting.{Setting}
 use Rattle.svid_check.specs.Told.{record_of}
-use Rattle.svid_check.specs.World.{Answer, Answered, Check, Content, Entry, Event, Made, Member, Posting, Restart, Save, Saved, Send, Sent, Sum, Summed, Take, Tick, Took, World, answer_at, answer_content, answer_posting, answer_summary, carried, checked, far, front, happen, happens, joined, logged, parts_in, post, put, restart, start, take_part, take_posting, ticked, took}
+use Rattle.svid_check.specs.World.{Answer, Answered, Check, Content, Entry, Event, Made, Member, OldSend, Posting, Restart, Save, Saved, Send, Sent, Sum, Summed, Take, Tick, Took, Withdraw, World, answer_at, answer_content, answer_posting, answer_summary, carried, checked, far, front, happen, happens, has_withdrawal, joined, logged, old_parts_of, parts_in, post, put, restart, start, take_part, take_posting, ticked, took, withdrawal_at, withdrew}
 use Rattle.svid_check.proofs.AnswersLemmas.{accepted_is}
-use Rattle.svid_check.proofs.CutsLemmas.{first_part, in_part}
+use Rattle.svid_check.proofs.CutsLemmas.{AreCut, first_part, in_part}
 use Rattle.svid_check.proofs.LawfulLemmas.{alive, fresh, of_its_input}
 use Rattle.svid_check.proofs.MembersLemmas.{IsTold, carried_within, holds-carried, union_within}
 use Rattle.svid_check.proofs.PlacesLemmas.{later_place, put_own}
@@ -72,23 +72,23 @@ arrived_within pool k p told q b a e f =
     subst (λ (x : BatchData). IsWithin (carried q.was.told.uses x) told) part (subst (λ (x : Posting). IsWithin (carried x.was.told.uses a.part) told) same a.within)
 
 -- some part of a record's parts carries each use that was told
-pub cut_carries : (x : Member) (u : Use) → IsTold x → IsTrue (holds x.told.uses u) → (p : ℕ) × (b : BatchData) × (slice_get (parts_of x.held) p ≡ Some b) × IsTrue (holds (carried x.told.uses b) u)
-cut_carries x u is h =
+pub cut_carries : (x : Member) (parts : List BatchData) (u : Use) → AreCut x.held.moment (rising x.held.uses) parts → IsTold x → IsTrue (holds x.told.uses u) → (p : ℕ) × (b : BatchData) × (slice_get parts p ≡ Some b) × IsTrue (holds (carried x.told.uses b) u)
+cut_carries x parts u are is h =
     elim (cases_lt x.held.moment u.exp) [
       | inl lt ↦
-          let i = in_part x.held.moment (rising x.held.uses) u (ap (λ (s : Uses). holds s u) (uses_in-rising x.held.uses) ∙ told_is_held x u is h lt) in
+          let i = in_part x.held.moment (rising x.held.uses) parts u are (ap (λ (s : Uses). holds s u) (uses_in-rising x.held.uses) ∙ told_is_held x u is h lt) in
           (i.0, i.1, i.2, carried_listed x.told.uses i.1 u h i.3)
       | inr ge ↦
-          let f = first_part x.held.moment (rising x.held.uses) in
+          let f = first_part x.held.moment (rising x.held.uses) parts are in
           (0, f.0, f.1, carried_expired x.told.uses f.0 u h (subst (λ (m : ℕ). u.exp ≤ m) (sym f.2) ge))
     ]
 
 -- whoever stands in a group and took a send whole was told what its sender had been told
 pub send_told : (w : World) (x : Member) (k : ℕ) (q : Posting) → Sound w → Stands w.pool x → IsSend w k q → HasTaken x.log k q → IsWithin q.was.told.uses x.told.uses
 send_told w x k q s stands send taken u h =
-    let g : send.1.0 ≡ parts_of q.was.held = subst (Given w.pool q.was.held) send.1.1 (s.pool k q send.0) in
-    let i = cut_carries q.was u (s.makers k q send.0).is_told h in
-    let place = ap (λ (c : Content). slice_get (parts_in c) i.0) send.1.1 ∙ (ap (λ (ps : List BatchData). slice_get ps i.0) g ∙ i.2) in
+    let are : AreCut q.was.held.moment (rising q.was.held.uses) send.1.0 = subst (Given w.pool q.was.held) send.1.1 (s.pool k q send.0) in
+    let i = cut_carries q.was send.1.0 u are (s.makers k q send.0).is_told h in
+    let place = ap (λ (c : Content). slice_get (parts_in c) i.0) send.1.1 ∙ i.2 in
     arrived_within w.pool k i.0 x.told.uses q i.1 (stands.entries (Took k i.0) (taken i.0 i.1 place)) send.0 place u i.3
 
 pub sends_tell : SendsTellAll
@@ -119,6 +119,14 @@ told_refuses t x input u is h of token now refused accepted is_input e =
     let same = of t.setting y.held.moment y.held.uses token accepted.used is_input accepts in
     let lives : y.held.moment < u.exp = subst (λ (n : ℕ). y.held.moment < n) same.1 (alive t.setting y.held.moment y.held.uses token accepted.used accepts) in
     fresh t.setting y.held.moment y.held.uses token accepted.used u accepts (told_is_held y u told h lives) (sym same.0)
+
+pub withdrawn_are_refused : WithdrawnAreRefused
+withdrawn_are_refused group events v now token refused accepted u h gone lives e same =
+    let x = (happen group start events).members v in
+    let y = ticked x now in
+    let told : y.held ≡ record_of y.told = sym (told_now x.told x.held now (sym ((is_sound group events).members v).is_told)) in
+    let held = told_is_held y u told h (subst (λ (r : State). r.moment < u.exp) (sym told) lives) in
+    fresh (group v).setting y.held.moment y.held.uses token accepted.used u (accepted_is (group v).setting y.held token refused accepted e) held same
 
 accepted_use_of : (s : Setting) (moment : ℕ) (uses : Uses) (token input : List ℕ) (u : Use) → Accepts s moment uses token u → input_of token ≡ Some input → IsUseOf u input
 accepted_use_of s moment uses token input u first is other later others again added same accepts =
@@ -219,6 +227,10 @@ module _ (group : ℕ → Terms) (v k : ℕ) (q : Posting) where
 
   one_under : (w : World) (e : Event) → TakesOnly v k e → Under w → Under (happens group w e)
   one_under w (Check n now token refused) d h = other_put w n (checked (ticked (w.members n) now) (answer_at group w n now token refused)) d h
+  one_under w (Withdraw n now key exp refused) d h = other_put w n (withdrew (ticked (w.members n) now) (withdrawal_at group w n now key exp refused)) d h
+  one_under w (OldSend n) d h =
+      let x = w.members n in
+      cond_both (has_withdrawal x.held) w (post w n x (Sent (old_parts_of x.held))) Under (λ _. h) (λ _. posted w n x (Sent (old_parts_of x.held)) h)
   one_under w (Tick n now) d h = other_put w n (ticked (w.members n) now) d h
   one_under w (Send n) d h = posted w n (w.members n) (Sent (parts_of (w.members n).held)) h
   one_under w (Sum n) d h =

@@ -1,11 +1,11 @@
 -- What holds of a group whatever happened in it.
 use Rattle.std.proofs.Common.{◌≡◌, ℕ, Bool, cond, ◌&&◌, nat_lt, List, [], ◌∷◌, ◌++◌, length, refl, sym, ap, ◌∙◌, subst, inl, inr}
-use Rattle.std.specs.Prelude.{IsTrue, Option, Some, None, Result, slice_get, ◌==◌}
+use Rattle.std.specs.Prelude.{IsTrue, Option, Some, None, slice_get, ◌==◌}
 use Rattle.std.specs.List.{Contains}
 use Rattle.std.proofs.lemmas.Bool.{and_parts, cond_both}
 use Rattle.std.proofs.lemmas.List.Elements.{Contains-push_cases}
 use Rattle.std.proofs.lemmas.Option.{none-some}
-use Rattle.svid_token.specs.declared.refusal.Refusal.{Refusal}
+use Rattle.svid_replay.specs.declared.token_use.Use.{Use}
 use Rattle.svid_replay.specs.Batches.{BatchData}
 use Rattle.svid_replay.specs.Buckets.{answer_to, differs, stale, summary_of}
 use Rattle.svid_replay.specs.Parts.{cut, parts_of}
@@ -17,12 +17,12 @@ use Rattle.svid_replay.proofs.ListLemmas.{has_none}
 use Rattle.svid_replay.proofs.UsesLemmas.{holds-live, no_uses_hold_none, same_uses, uses_in-rising}
 use Rattle.svid_replay.proofs.BucketsLemmas.{stale_holds_differing}
 use Rattle.svid_replay.proofs.TestsLemmas.{and-false}
-use Rattle.svid_check.specs.declared.accepted.Accepted.{Accepted}
+use Rattle.svid_check.specs.Changes.{accepted_in, withdrawn_in}
 use Rattle.svid_check.specs.Headline.{IsWithin}
 use Rattle.svid_check.specs.Runs.{Terms}
-use Rattle.svid_check.specs.World.{Answer, Answered, Check, Content, Entry, Event, Made, Member, Posting, Restart, Save, Saved, Send, Sent, Sum, Summed, Take, Tick, Took, World, answer_at, answer_content, answer_posting, answer_summary, carried, checked, far, front, happen, happens, joined, logged, new_member, parts_in, post, put, restart, save, start, take_part, take_posting, ticked, took}
-use Rattle.svid_check.proofs.CutsLemmas.{front_within, part_within}
-use Rattle.svid_check.proofs.MembersLemmas.{IsTold, checked_told, joined_told, live_within, ticked_told, told_before, union_tells, within_union}
+use Rattle.svid_check.specs.World.{Answer, Answered, Check, Content, Entry, Event, Made, Member, OldSend, Posting, Restart, Save, Saved, Send, Sent, Sum, Summed, Take, Tick, Took, Withdraw, World, answer_at, answer_content, answer_posting, answer_summary, carried, far, front, gained, happen, happens, has_withdrawal, joined, logged, new_member, old_parts_of, parts_in, post, put, restart, save, start, take_part, take_posting, ticked, took, withdrawal_at}
+use Rattle.svid_check.proofs.CutsLemmas.{AreCut, cut_are_cut, front_within, old_are_cut, part_within}
+use Rattle.svid_check.proofs.MembersLemmas.{IsTold, gained_told, joined_told, live_within, ticked_told, told_before, union_tells, within_union}
 use Rattle.svid_check.proofs.PlacesLemmas.{last_place, later_place, place_cases}
 
 -- a part of a posting was taken: what it carries is told
@@ -73,15 +73,15 @@ stands_logged pool x e s m = record {
 pub stands_ticked : (pool : List Posting) (x : Member) (now : ℕ) → Stands pool x → Stands pool (ticked x now)
 stands_ticked pool x now s = stands_more pool x (ticked x now) refl (λ u h. h) s (ticked_told x now s.is_told)
 
-stands_checked : (pool : List Posting) (x : Member) (answer : Result Accepted Refusal) → Stands pool x → Stands pool (checked x answer)
-stands_checked pool x answer s = stands_more pool x (checked x answer) refl (told_before x.told answer) s (checked_told x answer s.is_told)
+stands_gained : (pool : List Posting) (x : Member) (added : Option Use) → Stands pool x → Stands pool (gained x added)
+stands_gained pool x added s = stands_more pool x (gained x added) refl (told_before x.told added) s (gained_told x added s.is_told)
 
 stands_joined : (pool : List Posting) (x : Member) (sender : Uses) (b : BatchData) → Stands pool x → IsWithin (uses_in b.uses) sender → Stands pool (joined x sender b)
 stands_joined pool x sender b s w = stands_more pool x (joined x sender b) refl (within_union x.told.uses (carried sender b)) s (joined_told x sender b w s.is_told)
 
 -- what is posted is what its maker's record gave
 abbrev pub Given : List Posting → State → Content → Type 0
-Given pool held (Sent parts) = parts ≡ parts_of held
+Given pool held (Sent parts) = AreCut held.moment (rising held.uses) parts
 Given pool held (Summed s) = s ≡ summary_of held
 Given pool held (Answered k parts) = (s : SummaryData) × (q : Posting) × (slice_get pool k ≡ Some q) × (q.content ≡ Summed s) × (parts ≡ cut held.moment (rising (stale s held.uses)))
 
@@ -99,12 +99,13 @@ pub parts_within : (pool : List Posting) (x : Member) (c : Content) → IsTold x
 parts_within pool x (Sent parts) is g p b e u h =
     held_within x is u
     (sym (ap (λ (s : Uses). holds s u) (uses_in-rising x.held.uses))
-    ∙ part_within x.held.moment (rising x.held.uses) p b (subst (λ (ps : List BatchData). slice_get ps p ≡ Some b) g e) u h)
+    ∙ part_within x.held.moment (rising x.held.uses) parts p b g e u h)
 parts_within pool x (Summed s) is g p b e u h = absurd (none-some b e)
 parts_within pool x (Answered k parts) is g p b e u h =
+    let us = rising (stale g.0 x.held.uses) in
     let w : IsTrue (holds (stale g.0 x.held.uses) u) =
     sym (ap (λ (s : Uses). holds s u) (uses_in-rising (stale g.0 x.held.uses)))
-    ∙ part_within x.held.moment (rising (stale g.0 x.held.uses)) p b (subst (λ (ps : List BatchData). slice_get ps p ≡ Some b) g.4 e) u h in
+    ∙ part_within x.held.moment us (cut x.held.moment us) p b (cut_are_cut x.held.moment us) (subst (λ (ps : List BatchData). slice_get ps p ≡ Some b) g.4 e) u h in
     held_within x is u (and_parts (holds x.held.uses u) (differs g.0 x.held.uses u) (sym (stale_holds_differing g.0 x.held.uses u) ∙ w)).0
 
 new_told : IsTold new_member
@@ -221,10 +222,19 @@ module _ (group : ℕ → Terms) where
   happens_sound : (w : World) (e : Event) → Sound w → Sound (happens group w e)
   happens_sound w (Check v now token refused) s =
       let x = ticked (w.members v) now in
-      let answer = answer_at group w v now token refused in
-      put_sound w v (checked x answer) s (stands_checked w.pool x answer (stands_ticked w.pool (w.members v) now (s.members v)))
+      let added = accepted_in (answer_at group w v now token refused) in
+      put_sound w v (gained x added) s (stands_gained w.pool x added (stands_ticked w.pool (w.members v) now (s.members v)))
+  happens_sound w (Withdraw v now key exp refused) s =
+      let x = ticked (w.members v) now in
+      let added = withdrawn_in (withdrawal_at group w v now key exp refused) in
+      put_sound w v (gained x added) s (stands_gained w.pool x added (stands_ticked w.pool (w.members v) now (s.members v)))
   happens_sound w (Tick v now) s = put_sound w v (ticked (w.members v) now) s (stands_ticked w.pool (w.members v) now (s.members v))
-  happens_sound w (Send v) s = post_sound w v (w.members v) (Sent (parts_of (w.members v).held)) s (s.members v) refl
+  happens_sound w (Send v) s =
+      let x = w.members v in
+      post_sound w v x (Sent (parts_of x.held)) s (s.members v) (cut_are_cut x.held.moment (rising x.held.uses))
+  happens_sound w (OldSend v) s =
+      let x = w.members v in
+      cond_both (has_withdrawal x.held) w (post w v x (Sent (old_parts_of x.held))) Sound (λ _. s) (λ _. post_sound w v x (Sent (old_parts_of x.held)) s (s.members v) (old_are_cut x.held))
   happens_sound w (Sum v) s = sum_sound w v s
   happens_sound w (Answer v now k refused) s =
       answer_sound w v (far group v now) (ticked (w.members v) now) k refused (slice_get w.pool k) s (stands_ticked w.pool (w.members v) now (s.members v)) refl

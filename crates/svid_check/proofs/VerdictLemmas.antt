@@ -1,11 +1,11 @@
 -- The verdict, one table after the other.
-use Rattle.std.proofs.Common.{◌≡◌, ◌≢◌, ◌<◌, ℕ, Bool, true, false, List, take, drop, Option, Some, None, refl, ap, ◌∙◌}
+use Rattle.std.proofs.Common.{◌≡◌, ◌≢◌, ◌<◌, ℕ, Bool, true, false, List, take, drop, Option, Some, None, refl, ap, ◌∙◌, if◌then◌else◌}
 use Rattle.std.specs.Prelude.{IsSome, Ok, option_map, not, nat_lt}
 use Rattle.std.proofs.lemmas.Bool.{false≢true, ltb-true}
 use Rattle.svid_token.specs.Rows.{Row, Refuses, first_row}
 use Rattle.svid_token.specs.declared.refusal.Refusal.{Refusal}
-use Rattle.svid_token.specs.declared.refusal.Refusal.TheVariants.{Replayed}
-use Rattle.svid_replay.specs.Uses.{Uses, has_use_of}
+use Rattle.svid_token.specs.declared.refusal.Refusal.TheVariants.{Replayed, Withdrawn}
+use Rattle.svid_replay.specs.Uses.{Uses, has_use_of, has_withdrawal_of}
 use Rattle.svid_check.specs.Said.{Said, reading_of, said_of, token_rows}
 use Rattle.svid_check.specs.Setting.{Setting}
 use Rattle.svid_check.specs.Verdict.{acceptance, key_of, rows_if_said, setting_rows, verdict, verdict_rows}
@@ -61,4 +61,5 @@ lives s moment uses t none = by_test (nat_lt moment t.exp) refl (passed _ _ _ (p
 pub unused : (s : Setting) (moment : ℕ) (uses : Uses) (t : Said) → first_row (setting_rows s moment uses t) ≡ None → has_use_of uses (key_of t) ≡ false
 unused s moment uses t none =
     let rows = setting_rows s moment uses t in
-    (passed (has_use_of uses (key_of t)) Replayed None (none_of_both (take 7 rows) (drop 7 rows) none).1).0
+    let behind = passed (has_withdrawal_of uses (key_of t)) Withdrawn (if has_use_of uses (key_of t) then Some Replayed else None) (none_of_both (take 7 rows) (drop 7 rows) none).1 in
+    (passed (has_use_of uses (key_of t)) Replayed None behind.1).0

@@ -3,17 +3,19 @@ use Rattle.std.specs.Prelude.{◌≡◌, ◌≢◌, ℕ, ◌≤◌, Bool, false,
 use Rattle.std.specs.declared.alloc.Global.{Global}
 use Rattle.svid_token.specs.Rows.{Answers}
 use Rattle.svid_token.specs.declared.refusal.Refusal.{Refusal}
+use Rattle.svid_replay.specs.declared.token_use.Use.{Use}
 use Rattle.svid_replay.specs.Batches.{BatchData}
 use Rattle.svid_replay.specs.Records.{State, batch_state, join}
 use Rattle.svid_replay.specs.Summary.{SummaryData}
 use Rattle.svid_check.specs.declared.accepted.Accepted.{Accepted}
 use Rattle.svid_check.specs.declared.take_fault.TakeFault.{TakeFault}
-use Rattle.svid_check.specs.Changes.{Replies, Takes, horizon, raised, settled}
+use Rattle.svid_check.specs.declared.withdraw_fault.WithdrawFault.{WithdrawFault}
+use Rattle.svid_check.specs.Changes.{IsWithdrawal, Replies, Takes, gains, horizon, raised, settled, withdrawn_in}
 use Rattle.svid_check.specs.Lawful.{input_of}
 use Rattle.svid_check.specs.Runs.{Terms}
 use Rattle.svid_check.specs.Said.{RefusesForm}
 use Rattle.svid_check.specs.Verdict.{verdict}
-use Rattle.svid_check.specs.World.{check_answer, front}
+use Rattle.svid_check.specs.World.{check_answer, front, withdraw_answer}
 
 -- a validator's record, and its saves
 pub record Alone : Type 0 where
@@ -23,6 +25,7 @@ pub record Alone : Type 0 where
 -- What may be called, at the moment `now`, with any batch and any summary. `refused` is the memory that was refused in it.
 pub data Call : Type 0 where
   Check : (now : ℕ) (token : List ℕ) (refused : Bool) → Call
+  Withdraw : (now : ℕ) (key : List ℕ) (exp : ℕ) (refused : Bool) → Call
   Tick : (now : ℕ) → Call
   Take : (now : ℕ) (batch : BatchData) (refused : Option ℕ) → Call
   Answer : (now : ℕ) (summary : SummaryData) → Call
@@ -48,9 +51,14 @@ module _ (t : Terms) where
   abbrev pub answer_alone : Alone → ℕ → List ℕ → Bool → Result Accepted Refusal
   answer_alone w now token refused = check_answer t.setting (raised w.held now) token refused
 
+  -- what a withdrawal answers
+  abbrev pub withdrawal_alone : Alone → ℕ → List ℕ → ℕ → Bool → Result Use WithdrawFault
+  withdrawal_alone w now key exp refused = withdraw_answer t.setting.place (raised w.held now) key exp refused
+
   -- what a call leaves
   abbrev pub called : Alone → Call → Alone
   called w (Check now token refused) = with_held w (settled (raised w.held now) (answer_alone w now token refused))
+  called w (Withdraw now key exp refused) = with_held w (gains (raised w.held now) (withdrawn_in (withdrawal_alone w now key exp refused)))
   called w (Tick now) = with_held w (raised w.held now)
   called w (Take now b refused) =
       with_held w (if nat_lt (horizon now t.ahead) b.moment then raised w.held now else join (raised w.held now) (batch_state (joined_of b refused)))
@@ -70,7 +78,14 @@ ChecksAreCalls = (t : Terms) (w : Alone) (now : ℕ) (token : List ℕ) (answer 
     Answers Some answer (verdict t.setting x.moment x.uses token) → RefusesForm token answer
     → (refused : Bool) × (answer_alone t w now token refused ≡ answer) × ((called t w (Check now token refused)).held ≡ settled x answer)
 
--- so do a tick
+-- so do a withdrawal
+abbrev pub WithdrawalsAreCalls : Type 0
+WithdrawalsAreCalls = (t : Terms) (w : Alone) (now : ℕ) (key : List ℕ) (exp : ℕ) (answer : Result Use WithdrawFault)
+    → let x = raised w.held now in
+    IsWithdrawal t.setting.place x.moment key exp answer
+    → (refused : Bool) × (withdrawal_alone t w now key exp refused ≡ answer) × ((called t w (Withdraw now key exp refused)).held ≡ gains x (withdrawn_in answer))
+
+-- a tick
 abbrev pub TicksAreCalls : Type 0
 TicksAreCalls = (t : Terms) (w : Alone) (now : ℕ) → (called t w (Tick now)).held ≡ raised w.held now
 

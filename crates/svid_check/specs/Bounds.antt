@@ -3,15 +3,17 @@ use Rattle.std.specs.Prelude.{ℕ, ◌<◌, ◌≤◌, ◌^◌, max, List, [], �
 use Rattle.std.specs.declared.alloc.Global.{Global}
 use Rattle.std.specs.List.{AllByRecursion}
 use Rattle.svid_token.specs.declared.refusal.Refusal.{Refusal}
+use Rattle.svid_replay.specs.declared.token_use.Use.{Use}
 use Rattle.svid_replay.specs.Batches.{BatchData}
 use Rattle.svid_replay.specs.Records.{IsRecord, State}
 use Rattle.svid_replay.specs.Summary.{SummaryData}
 use Rattle.svid_check.specs.declared.accepted.Accepted.{Accepted}
 use Rattle.svid_check.specs.declared.answer.Answer.{Answer}
 use Rattle.svid_check.specs.declared.event.Event.{Event}
-use Rattle.svid_check.specs.declared.event.Event.TheVariants.{Check, Tick, Take}
+use Rattle.svid_check.specs.declared.event.Event.TheVariants.{Check, Tick, Take, Withdraw}
 use Rattle.svid_check.specs.declared.take_fault.TakeFault.{TakeFault}
-use Rattle.svid_check.specs.Changes.{Replies, Takes, horizon, raised, settled}
+use Rattle.svid_check.specs.declared.withdraw_fault.WithdrawFault.{WithdrawFault}
+use Rattle.svid_check.specs.Changes.{Replies, Takes, gains, horizon, raised, settled, withdrawn_in}
 use Rattle.svid_check.specs.Runs.{Runs, RunsFrom, Terms}
 use Rattle.svid_check.specs.Told.{Told}
 
@@ -24,6 +26,7 @@ abbrev pub now_of : Event → ℕ
 now_of (Check now token) = now
 now_of (Tick now) = now
 now_of (Take now batch) = now
+now_of (Withdraw now key exp) = now
 
 -- the greatest moment of events, 0 for none
 abbrev pub latest : List Event → ℕ
@@ -41,6 +44,10 @@ ChecksAreBounded = (x : State) (now ahead : ℕ) (answer : Result Accepted Refus
 -- so does a tick
 abbrev pub TicksAreBounded : Type 0
 TicksAreBounded = (x : State) (now ahead : ℕ) → now < 2 ^ 64 → (raised x now).moment ≤ reach x.moment now ahead
+
+-- and a withdrawal
+abbrev pub WithdrawalsAreBounded : Type 0
+WithdrawalsAreBounded = (x : State) (now ahead : ℕ) (answer : Result Use WithdrawFault) → now < 2 ^ 64 → (gains (raised x now) (withdrawn_in answer)).moment ≤ reach x.moment now ahead
 
 -- and a take
 abbrev pub TakesAreBounded : Type 0

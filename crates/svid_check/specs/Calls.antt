@@ -4,16 +4,18 @@ use Rattle.std.specs.declared.alloc.Global.{Global}
 use Rattle.std.specs.Borrow.{Bor}
 use Rattle.svid_token.specs.Rows.{Answers}
 use Rattle.svid_token.specs.declared.refusal.Refusal.{Refusal}
+use Rattle.svid_replay.specs.declared.token_use.Use.{Use}
 use Rattle.svid_replay.specs.Batches.{BatchData}
 use Rattle.svid_replay.specs.Records.{State}
 use Rattle.svid_replay.specs.Summary.{SummaryData}
 use Rattle.svid_check.specs.declared.accepted.Accepted.{Accepted}
 use Rattle.svid_check.specs.declared.answer.Answer.{Answer}
-use Rattle.svid_check.specs.declared.answer.Answer.TheVariants.{Checked, Ticked, Taken}
+use Rattle.svid_check.specs.declared.answer.Answer.TheVariants.{Checked, Ticked, Taken, Withdrawn}
 use Rattle.svid_check.specs.declared.event.Event.{Event}
-use Rattle.svid_check.specs.declared.event.Event.TheVariants.{Check, Tick, Take}
+use Rattle.svid_check.specs.declared.event.Event.TheVariants.{Check, Tick, Take, Withdraw}
 use Rattle.svid_check.specs.declared.take_fault.TakeFault.{TakeFault}
-use Rattle.svid_check.specs.Changes.{Replies, Takes, horizon, raised, settled}
+use Rattle.svid_check.specs.declared.withdraw_fault.WithdrawFault.{WithdrawFault}
+use Rattle.svid_check.specs.Changes.{IsWithdrawal, Replies, Takes, gains, horizon, raised, settled, withdrawn_in}
 use Rattle.svid_check.specs.Runs.{Runs, RunsFrom, Terms}
 use Rattle.svid_check.specs.Said.{RefusesForm}
 use Rattle.svid_check.specs.Told.{Told, record_of, tell_now, tell_summary}
@@ -33,6 +35,11 @@ TicksAreSteps = (t : Terms) (a : State) (now : ℕ) → RunsFrom t a (Tick now �
 abbrev pub TakesAreSteps : Type 0
 TakesAreSteps = (t : Terms) (a b : State) (now : ℕ) (batch : Bor BatchData) (answer : Result (Unit {0}) TakeFault)
     → Takes (raised a now) (horizon now t.ahead) batch.now answer b → RunsFrom t a (Take now batch ∷ []) (Taken answer ∷ []) b
+
+-- and a withdrawal
+abbrev pub WithdrawalsAreSteps : Type 0
+WithdrawalsAreSteps = (t : Terms) (a : State) (now : ℕ) (key : List ℕ) (exp : ℕ) (answer : Result Use WithdrawFault)
+    → IsWithdrawal t.setting.place (raised a now).moment key exp answer → RunsFrom t a (Withdraw now key exp ∷ []) (Withdrawn answer ∷ []) (gains (raised a now) (withdrawn_in answer))
 
 -- an answer to a summary is no event: of what was told it moves the moment alone
 abbrev pub AnswersTellMoments : Type 0

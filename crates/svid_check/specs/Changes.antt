@@ -1,7 +1,8 @@
 -- What the calls of a validator leave of its record.
-use Rattle.std.specs.Prelude.{◌≡◌, ℕ, ◌+◌, ◌-◌, ◌^◌, ◌<◌, ◌≤◌, min, [], ◌∷◌, Result, Ok, Err, Vec}
+use Rattle.std.specs.Prelude.{◌≡◌, ℕ, ◌+◌, ◌-◌, ◌^◌, ◌<◌, ◌≤◌, min, true, List, [], ◌∷◌, Option, None, Some, Result, Ok, Err, Vec}
 use Rattle.std.specs.declared.alloc.Global.{Global}
 use Rattle.svid_token.specs.declared.refusal.Refusal.{Refusal}
+use Rattle.svid_replay.specs.declared.token_use.Use.{Use}
 use Rattle.svid_replay.specs.Batches.{BatchData}
 use Rattle.svid_replay.specs.Buckets.{answer_to}
 use Rattle.svid_replay.specs.Records.{State, IsPartlyJoined, batch_state, join, state_of}
@@ -9,15 +10,41 @@ use Rattle.svid_replay.specs.Summary.{SummaryData}
 use Rattle.svid_check.specs.declared.accepted.Accepted.{Accepted}
 use Rattle.svid_check.specs.declared.take_fault.TakeFault.{TakeFault}
 use Rattle.svid_check.specs.declared.take_fault.TakeFault.TheVariants.{TooFarAhead, OutOfMemory}
+use Rattle.svid_check.specs.declared.withdraw_fault.WithdrawFault.{WithdrawFault}
+use Rattle.svid_check.specs.declared.withdraw_fault.WithdrawFault.TheVariants as withdraw
 
 -- a record raised to a moment
 abbrev pub raised : State → ℕ → State
 raised x now = join x (state_of now [])
 
+-- a record that gains a use, or none
+abbrev pub gains : State → Option Use → State
+gains x (Some u) = join x (state_of x.moment (u ∷ []))
+gains x None = x
+
+-- what a check adds: the use of an acceptance
+abbrev pub accepted_in : Result Accepted Refusal → Option Use
+accepted_in (Ok accepted) = Some accepted.used
+accepted_in (Err refusal) = None
+
 -- a record after a check: an acceptance adds its use, a refusal nothing
 abbrev pub settled : State → Result Accepted Refusal → State
-settled x (Ok accepted) = join x (state_of x.moment (accepted.used ∷ []))
-settled x (Err refusal) = x
+settled x answer = gains x (accepted_in answer)
+
+-- the withdrawal of tokens with this key and expiry, made at this place and moment
+abbrev pub withdrawal : List ℕ → ℕ → List ℕ → ℕ → Use
+withdrawal place moment key exp = record { exp = exp; key = key; place = place; at = moment; withdrawn = true }
+
+-- what a call to withdraw answers, at the record's moment: the withdrawal or want of memory, unless the tokens have expired
+abbrev pub IsWithdrawal : List ℕ → ℕ → List ℕ → ℕ → Result Use WithdrawFault → Type 0
+IsWithdrawal place moment key exp (Ok used) = (moment < exp) × (used ≡ withdrawal place moment key exp)
+IsWithdrawal place moment key exp (Err withdraw.Expired) = exp ≤ moment
+IsWithdrawal place moment key exp (Err withdraw.OutOfMemory) = moment < exp
+
+-- what it adds: the withdrawal that it answers
+abbrev pub withdrawn_in : Result Use WithdrawFault → Option Use
+withdrawn_in (Ok used) = Some used
+withdrawn_in (Err fault) = None
 
 -- the moment up to which messages are taken: so many seconds ahead of now, held at the greatest moment
 abbrev pub horizon : ℕ → ℕ → ℕ

@@ -3,6 +3,7 @@ use Rattle.std.specs.Prelude.{◌≡◌, ℕ, Bool, List, [], ◌∷◌, ◌++�
 use Rattle.std.specs.declared.alloc.Global.{Global}
 use Rattle.svid_token.specs.Rows.{Answers}
 use Rattle.svid_token.specs.declared.refusal.Refusal.{Refusal}
+use Rattle.svid_replay.specs.declared.token_use.Use.{Use}
 use Rattle.svid_replay.specs.Batches.{BatchData}
 use Rattle.svid_replay.specs.Buckets.{summary_of}
 use Rattle.svid_replay.specs.Parts.{cut}
@@ -11,11 +12,12 @@ use Rattle.svid_replay.specs.Sets.{rising}
 use Rattle.svid_replay.specs.Summary.{SummaryData}
 use Rattle.svid_check.specs.declared.accepted.Accepted.{Accepted}
 use Rattle.svid_check.specs.declared.take_fault.TakeFault.{TakeFault}
-use Rattle.svid_check.specs.Changes.{Replies, Takes, raised, settled}
+use Rattle.svid_check.specs.declared.withdraw_fault.WithdrawFault.{WithdrawFault}
+use Rattle.svid_check.specs.Changes.{IsWithdrawal, Replies, Takes, gains, raised, settled, withdrawn_in}
 use Rattle.svid_check.specs.Runs.{Terms}
 use Rattle.svid_check.specs.Said.{RefusesForm}
 use Rattle.svid_check.specs.Verdict.{verdict}
-use Rattle.svid_check.specs.World.{Answer, Answered, Check, Entry, Made, Member, Posting, Send, Sent, Sum, Summed, Take, Tick, Took, World, answer_at, far, happens, parts_in}
+use Rattle.svid_check.specs.World.{Answer, Answered, Check, Entry, Made, Member, Posting, Send, Sent, Sum, Summed, Take, Tick, Took, Withdraw, World, answer_at, far, happens, parts_in, withdrawal_at}
 
 -- a check that is answered as its contract says is an event with this answer, which leaves the record that the contract says
 abbrev pub ChecksAreEvents : Type 0
@@ -23,6 +25,13 @@ ChecksAreEvents = (group : ℕ → Terms) (w : World) (v now : ℕ) (token : Lis
     → let x = raised (w.members v).held now in
     Answers Some answer (verdict (group v).setting x.moment x.uses token) → RefusesForm token answer
     → (refused : Bool) × (answer_at group w v now token refused ≡ answer) × (((happens group w (Check v now token refused)).members v).held ≡ settled x answer)
+
+-- so is a withdrawal
+abbrev pub WithdrawalsAreEvents : Type 0
+WithdrawalsAreEvents = (group : ℕ → Terms) (w : World) (v now : ℕ) (key : List ℕ) (exp : ℕ) (answer : Result Use WithdrawFault)
+    → let x = raised (w.members v).held now in
+    IsWithdrawal (group v).setting.place x.moment key exp answer
+    → (refused : Bool) × (withdrawal_at group w v now key exp refused ≡ answer) × (((happens group w (Withdraw v now key exp refused)).members v).held ≡ gains x (withdrawn_in answer))
 
 -- so is a tick
 abbrev pub TicksAreEvents : Type 0

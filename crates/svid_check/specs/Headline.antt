@@ -1,5 +1,5 @@
 -- What is proved of a group of validators, over every list of events.
-use Rattle.std.specs.Prelude.{◌≡◌, ◌≢◌, ◌⊎◌, ◌↔◌, ℕ, ◌<◌, ◌^◌, Bool, false, List, [], ◌∷◌, map, slice_get, Some, IsTrue, Ok}
+use Rattle.std.specs.Prelude.{◌≡◌, ◌≢◌, ◌⊎◌, ◌↔◌, ℕ, ◌<◌, ◌^◌, Bool, false, true, List, [], ◌∷◌, map, slice_get, Some, IsTrue, Ok}
 use Rattle.std.specs.List.{AllByRecursion, Contains}
 use Rattle.svid_token.specs.Rows.{seen}
 use Rattle.svid_replay.specs.declared.token_use.Use.{Use}
@@ -10,7 +10,7 @@ use Rattle.svid_replay.specs.Parts.{join_all, parts_of}
 use Rattle.svid_replay.specs.Records.{state_of}
 use Rattle.svid_replay.specs.Sets.{holds, rising}
 use Rattle.svid_replay.specs.Summary.{SummaryData}
-use Rattle.svid_replay.specs.Twice.{twice_of}
+use Rattle.svid_replay.specs.Twice.{twice_of, used}
 use Rattle.svid_replay.specs.Use.{IsBytes}
 use Rattle.svid_replay.specs.Uses.{Uses, live}
 use Rattle.svid_wire.specs.RecordText.{record_text}
@@ -21,7 +21,7 @@ use Rattle.svid_check.specs.Runs.{IsAnswered, Terms}
 use Rattle.svid_check.specs.Setting.{Setting}
 use Rattle.svid_check.specs.Told.{Told, record_of, tell_now}
 use Rattle.svid_check.specs.Verdict.{verdict}
-use Rattle.svid_check.specs.World.{Answered, Check, Entry, Event, Made, Member, Posting, Restart, Save, Saved, Send, Sent, Sum, Summed, Take, Tick, Answer, Took, World, accepted, answer_at, check_answer, happen, happens, parts_in, start}
+use Rattle.svid_check.specs.World.{Answered, Check, Entry, Event, Made, Member, OldSend, Posting, Restart, Save, Saved, Send, Sent, Sum, Summed, Take, Tick, Withdraw, Answer, Took, World, accepted, answer_at, check_answer, happen, happens, parts_in, start, withdrawn}
 
 -- each use of the one set is in the other
 abbrev pub IsWithin : Uses → Uses → Type 0
@@ -69,8 +69,10 @@ HasTaken log k q = (p : ℕ) (b : BatchData) → slice_get (parts_in q.content) 
 abbrev pub TakesOnly : ℕ → ℕ → Event → Type 0
 TakesOnly v k (Take n now posting part refused) = n ≡ v → posting ≡ k
 TakesOnly v k (Check n now token refused) = n ≢ v
+TakesOnly v k (Withdraw n now key exp refused) = n ≢ v
 TakesOnly v k (Tick n now) = n ≢ v
 TakesOnly v k (Send n) = n ≢ v
+TakesOnly v k (OldSend n) = n ≢ v
 TakesOnly v k (Sum n) = n ≢ v
 TakesOnly v k (Answer n now posting refused) = n ≢ v
 TakesOnly v k (Save n) = n ≢ v
@@ -134,13 +136,21 @@ AcceptanceGoesAlong = (group : ℕ → Terms) (events : List Event) (v k moment 
     → let w = happen group start events in
     Accepts s moment uses token u → input_of token ≡ Some input → IsSend w k q → HasTaken (w.members v).log k q → WentAlong w u k chain → IsRefusedBy (group v) (w.members v) input
 
+-- ---- withdrawals
+
+-- a check accepts no token of whose key a withdrawal was told that is live
+abbrev pub WithdrawnAreRefused : Type 0
+WithdrawnAreRefused = (group : ℕ → Terms) (events : List Event) (v now : ℕ) (token : List ℕ) (refused : Bool) (accepted : Accepted) (u : Use)
+    → let x = tell_now (member_after group events v).told now in
+    IsTrue (holds x.uses u) → u.withdrawn ≡ true → x.greatest < u.exp → answer_at group (happen group start events) v now token refused ≡ Ok accepted → u.key ≢ accepted.used.key
+
 -- ---- reports
 
--- a use of this key was told, and is live
+-- a use of this key was told that is no withdrawal, and is live
 abbrev pub IsLiveUse : Told → List ℕ → Use → Type 0
-IsLiveUse x key u = IsTrue (holds x.uses u) × (x.greatest < u.exp) × (u.key ≡ key)
+IsLiveUse x key u = IsTrue (holds x.uses u) × (x.greatest < u.exp) × (u.key ≡ key) × (u.withdrawn ≡ false)
 
--- two different uses of this key were told, and are live
+-- two different uses of this key were told, are live, and are no withdrawals
 pub record IsUsedTwice (x : Told) (key : List ℕ) : Type 0 where
   pub one : Use
   pub other : Use
@@ -150,24 +160,29 @@ pub record IsUsedTwice (x : Told) (key : List ℕ) : Type 0 where
 
 -- what a validator's record reports
 abbrev pub report_of : Member → List Twice
-report_of x = twice_of (rising x.held.uses)
+report_of x = twice_of (used (rising x.held.uses))
 
--- the report lists the keys of which two different uses were told that are live
+-- the report lists the keys of which two different uses were told that are live, and are no withdrawals
 abbrev pub ReportsAreExact : Type 0
 ReportsAreExact = (group : ℕ → Terms) (events : List Event) (v : ℕ) (key : List ℕ)
     → let x = member_after group events v in
     Contains (map (λ t. t.key) (report_of x)) key ↔ IsUsedTwice x.told key
 
--- each key that is listed stands with all of its uses that were told and are live
+-- each key that is listed stands with all of its uses that were told, are live, and are no withdrawals
 abbrev pub ReportsAreWhole : Type 0
 ReportsAreWhole = (group : ℕ → Terms) (events : List Event) (v : ℕ) (t : Twice) (u : Use)
     → let x = member_after group events v in
     Contains (report_of x) t → Contains t.uses u ↔ IsLiveUse x.told t.key u
 
--- each use that was told is one that a check of the group accepted
+-- each use that was told and is no withdrawal is one that a check of the group accepted
 abbrev pub ToldWereAccepted : Type 0
 ToldWereAccepted = (group : ℕ → Terms) (events : List Event) (v : ℕ) (u : Use)
-    → IsTrue (holds (member_after group events v).told.uses u) → Contains (accepted group start events) u
+    → IsTrue (holds (member_after group events v).told.uses u) → u.withdrawn ≡ false → Contains (accepted group start events) u
+
+-- and each withdrawal that was told is one that a validator of the group made
+abbrev pub ToldWereWithdrawn : Type 0
+ToldWereWithdrawn = (group : ℕ → Terms) (events : List Event) (v : ℕ) (u : Use)
+    → IsTrue (holds (member_after group events v).told.uses u) → u.withdrawn ≡ true → Contains (withdrawn group start events) u
 
 -- so each key that is reported was accepted at least twice
 abbrev pub ReportedWereAcceptedTwice : Type 0
@@ -201,9 +216,10 @@ RestartsPutBack = (group : ℕ → Terms) (events : List Event) (v k : ℕ) (s :
 abbrev pub HasPlaces : (ℕ → Terms) → Type 0
 HasPlaces group = (v : ℕ) → IsBytes 16 (group v).setting.place
 
--- the moment of an event is one
+-- the moment of an event is one, and so is the expiry of a withdrawal, whose key has 32 bytes
 abbrev pub IsInRange : Event → Type 0
 IsInRange (Check v now token refused) = now < 2 ^ 64
+IsInRange (Withdraw v now key exp refused) = (now < 2 ^ 64) × IsBytes 32 key × (exp < 2 ^ 64)
 IsInRange (Tick v now) = now < 2 ^ 64
 IsInRange (Answer v now posting refused) = now < 2 ^ 64
 IsInRange (Take v now posting part refused) = now < 2 ^ 64

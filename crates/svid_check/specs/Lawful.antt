@@ -1,5 +1,5 @@
 -- What a group of validators needs of their verdicts.
-use Rattle.std.specs.Prelude.{◌≡◌, ◌≢◌, ℕ, ◌<◌, ◌^◌, List, IsTrue, Option, Some, option_map, Ok}
+use Rattle.std.specs.Prelude.{◌≡◌, ◌≢◌, ℕ, ◌<◌, ◌^◌, false, List, IsTrue, Option, Some, option_map, Ok}
 use Rattle.svid_token.specs.Compact.{parts_of, signing_input}
 use Rattle.svid_replay.specs.declared.token_use.Use.{Use}
 use Rattle.svid_replay.specs.Sets.{holds}
@@ -20,6 +20,10 @@ Accepts s moment uses token used = (accepted : Accepted) × (verdict s moment us
 -- an accepted use is made at the moment
 abbrev pub IsMadeNow : Type 0
 IsMadeNow = (s : Setting) (moment : ℕ) (uses : Uses) (token : List ℕ) (u : Use) → Accepts s moment uses token u → u.at ≡ moment
+
+-- an accepted use is no withdrawal
+abbrev pub IsUsed : Type 0
+IsUsed = (s : Setting) (moment : ℕ) (uses : Uses) (token : List ℕ) (u : Use) → Accepts s moment uses token u → u.withdrawn ≡ false
 
 -- an accepted use expires later
 abbrev pub IsAlive : Type 0

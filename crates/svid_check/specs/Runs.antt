@@ -6,13 +6,13 @@ use Rattle.svid_replay.specs.Records.{State}
 use Rattle.svid_replay.specs.Uses.{live}
 use Rattle.svid_check.specs.declared.accepted.Accepted.{Accepted}
 use Rattle.svid_check.specs.declared.answer.Answer.{Answer}
-use Rattle.svid_check.specs.declared.answer.Answer.TheVariants.{Checked, Ticked, Taken}
+use Rattle.svid_check.specs.declared.answer.Answer.TheVariants.{Checked, Ticked, Taken, Withdrawn}
 use Rattle.svid_check.specs.declared.event.Event.{Event}
-use Rattle.svid_check.specs.declared.event.Event.TheVariants.{Check, Tick, Take}
-use Rattle.svid_check.specs.Changes.{horizon}
+use Rattle.svid_check.specs.declared.event.Event.TheVariants.{Check, Tick, Take, Withdraw}
+use Rattle.svid_check.specs.Changes.{IsWithdrawal, horizon, withdrawn_in}
 use Rattle.svid_check.specs.Said.{RefusesForm}
 use Rattle.svid_check.specs.Setting.{Says, Setting, Held, setting_of}
-use Rattle.svid_check.specs.Told.{Told, TellsBatch, record_of, tell_now, tell_use}
+use Rattle.svid_check.specs.Told.{Told, TellsBatch, record_of, tell_now, tell_one, tell_use}
 use Rattle.svid_check.specs.Verdict.{verdict}
 
 -- what a run depends on, beside the record: the setting of the checks, and how far ahead a take may be
@@ -33,6 +33,7 @@ abbrev pub Step : Terms → Told → Event → Answer → Told → Type 0
 Step t x (Check now token) (Checked answer) y = IsAnswered t.setting (tell_now x now) token.now answer × (y ≡ tell_use (tell_now x now) answer)
 Step t x (Tick now) Ticked y = y ≡ tell_now x now
 Step t x (Take now batch) (Taken answer) y = TellsBatch (tell_now x now) (horizon now t.ahead) batch.now answer y
+Step t x (Withdraw now key exp) (Withdrawn answer) y = IsWithdrawal t.setting.place (tell_now x now).greatest key exp answer × (y ≡ tell_one (tell_now x now) (withdrawn_in answer))
 Step t x _ _ y = ⊥
 
 -- it may give the events these answers, one for each in their order, and then was told y

@@ -1,5 +1,5 @@
--- What a validator was told: the moments and the uses, which are never pruned.
-use Rattle.std.specs.Prelude.{◌≡◌, ℕ, ◌<◌, ◌≤◌, max, false, List, ◌∷◌, ◌++◌, Result, Ok, Err, Vec}
+-- What a validator was told: the moments, and the uses, withdrawals among them, which are never pruned.
+use Rattle.std.specs.Prelude.{◌≡◌, ℕ, ◌<◌, ◌≤◌, max, false, List, ◌∷◌, ◌++◌, Option, None, Some, Result, Ok, Err, Vec}
 use Rattle.std.specs.declared.alloc.Global.{Global}
 use Rattle.svid_token.specs.declared.refusal.Refusal.{Refusal}
 use Rattle.svid_replay.specs.declared.token_use.Use.{Use}
@@ -10,6 +10,7 @@ use Rattle.svid_replay.specs.Uses.{Uses, live}
 use Rattle.svid_replay.specs.Summary.{SummaryData}
 use Rattle.svid_check.specs.declared.accepted.Accepted.{Accepted}
 use Rattle.svid_check.specs.declared.take_fault.TakeFault.{TakeFault}
+use Rattle.svid_check.specs.Changes.{accepted_in}
 use Rattle.svid_check.specs.declared.take_fault.TakeFault.TheVariants.{TooFarAhead, OutOfMemory}
 
 -- the greatest moment that a validator was told, and the uses
@@ -29,10 +30,14 @@ record_of x = record { moment = x.greatest; uses = live x.uses x.greatest }
 abbrev pub tell_now : Told → ℕ → Told
 tell_now x now = record { greatest = max x.greatest now; uses = x.uses }
 
+-- a use is told, or none
+abbrev pub tell_one : Told → Option Use → Told
+tell_one x (Some u) = record { greatest = x.greatest; uses = with x.uses u }
+tell_one x None = x
+
 -- an acceptance tells its use, a refusal nothing
 abbrev pub tell_use : Told → Result Accepted Refusal → Told
-tell_use x (Ok accepted) = record { greatest = x.greatest; uses = with x.uses accepted.used }
-tell_use x (Err refusal) = x
+tell_use x answer = tell_one x (accepted_in answer)
 
 -- a moment and uses are told
 abbrev pub tell : Told → State → Told

@@ -1,16 +1,16 @@
--- The verdict on a token: a table of 24 refusals, and the acceptance where none of them holds.
-use Rattle.std.specs.Prelude.{◌≢◌, ℕ, ◌+◌, Bool, not, nat_lt, ◌==◌, List, [], ◌∷◌, ◌++◌, length, bytes_eq, Option, Some, None, is_none, option_map, Result, Ok}
+-- The verdict on a token: a table of 25 refusals, and the acceptance where none of them holds.
+use Rattle.std.specs.Prelude.{◌≢◌, ℕ, ◌+◌, Bool, false, not, nat_lt, ◌==◌, List, [], ◌∷◌, ◌++◌, length, bytes_eq, Option, Some, None, is_none, option_map, Result, Ok}
 use Rattle.std.specs.List.{list_any}
 use Rattle.sha2.specs.Sha256.{sha256}
 use Rattle.svid_token.specs.declared.refusal.Refusal.{Refusal}
-use Rattle.svid_token.specs.declared.refusal.Refusal.TheVariants.{NotAudience, Expired, NotYet, TooLongLived, UnknownDomain, NoKey, BadSignature, Replayed}
+use Rattle.svid_token.specs.declared.refusal.Refusal.TheVariants.{NotAudience, Expired, NotYet, TooLongLived, UnknownDomain, NoKey, BadSignature, Withdrawn, Replayed}
 use Rattle.svid_token.specs.Rows.{Row, first_row, holds_of, judged}
 use Rattle.svid_token.specs.TokenKey.{token_text}
 use Rattle.svid_keys.specs.Bundles.{Bundle}
 use Rattle.svid_keys.specs.Candidates.{bundle_at, candidates_of}
 use Rattle.svid_keys.specs.Key.{KeyData}
 use Rattle.svid_replay.specs.declared.token_use.Use.{Use}
-use Rattle.svid_replay.specs.Uses.{Uses, has_use_of}
+use Rattle.svid_replay.specs.Uses.{Uses, has_use_of, has_withdrawal_of}
 use Rattle.svid_check.specs.declared.accepted.Accepted.{Accepted}
 use Rattle.svid_check.specs.Said.{Said, said_of, token_rows}
 use Rattle.svid_check.specs.Setting.{Setting}
@@ -57,6 +57,7 @@ setting_rows s moment uses t =
     ∷ (time_rows s moment t
     ++ (keys_rows s.bundles t
     ++ ((BadSignature, not (is_signed s t))
+    ∷ (Withdrawn, has_withdrawal_of uses (key_of t))
     ∷ (Replayed, has_use_of uses (key_of t))
     ∷ [])))
 
@@ -71,7 +72,7 @@ verdict_rows s moment uses token = token_rows token ++ rows_if_said (setting_row
 
 -- the use that an acceptance adds
 abbrev pub use_of : Setting → ℕ → Said → Use
-use_of s moment t = record { exp = t.exp; key = key_of t; place = s.place; at = moment }
+use_of s moment t = record { exp = t.exp; key = key_of t; place = s.place; at = moment; withdrawn = false }
 
 -- an acceptance: the ID of the subject, and the use
 abbrev pub acceptance : Setting → ℕ → Said → Accepted

@@ -1,5 +1,6 @@
 -- A group of validators that send each other their records, their summaries, and answers to summaries: what may happen in it, and what that leaves.
-use Rattle.std.specs.Prelude.{ℕ, Bool, not, nat_lt, ◌==◌, ◌||◌, if◌then◌else◌, List, [], ◌∷◌, ◌++◌, length, slice_get, take, Option, Some, None, Result, Ok, Err}
+use Rattle.std.specs.Prelude.{ℕ, ◌-◌, ◌/◌, Bool, not, nat_lt, ◌==◌, ◌||◌, if◌then◌else◌, List, [], ◌∷◌, ◌++◌, length, slice_get, take, Option, Some, None, Result, Ok, Err}
+use Rattle.std.specs.List.{list_any}
 use Rattle.svid_token.specs.Compact.{compact_rows}
 use Rattle.svid_token.specs.Rows.{first_row}
 use Rattle.svid_token.specs.declared.refusal.Refusal.{Refusal}
@@ -7,16 +8,18 @@ use Rattle.svid_token.specs.declared.refusal.Refusal.TheVariants.{OutOfMemory}
 use Rattle.svid_replay.specs.declared.token_use.Use.{Use}
 use Rattle.svid_replay.specs.Batches.{BatchData}
 use Rattle.svid_replay.specs.Buckets.{answer_to, summary_of}
-use Rattle.svid_replay.specs.Parts.{parts_of}
+use Rattle.svid_replay.specs.Parts.{full_batches, parts_of}
 use Rattle.svid_replay.specs.Records.{State, batch_state, join, state_of}
-use Rattle.svid_replay.specs.Sets.{holds, keep}
+use Rattle.svid_replay.specs.Sets.{holds, keep, rising}
 use Rattle.svid_replay.specs.Summary.{SummaryData}
 use Rattle.svid_replay.specs.Uses.{Uses, uses_in}
 use Rattle.svid_check.specs.declared.accepted.Accepted.{Accepted}
-use Rattle.svid_check.specs.Changes.{horizon, raised, settled}
+use Rattle.svid_check.specs.declared.withdraw_fault.WithdrawFault.{WithdrawFault}
+use Rattle.svid_check.specs.declared.withdraw_fault.WithdrawFault.TheVariants as withdraw
+use Rattle.svid_check.specs.Changes.{accepted_in, gains, horizon, raised, withdrawal, withdrawn_in}
 use Rattle.svid_check.specs.Runs.{Terms}
 use Rattle.svid_check.specs.Setting.{Setting}
-use Rattle.svid_check.specs.Told.{Told, begun, tell, tell_now, tell_use}
+use Rattle.svid_check.specs.Told.{Told, begun, tell, tell_now, tell_one}
 use Rattle.svid_check.specs.Verdict.{verdict}
 
 -- what a log holds: that this part of this posting was taken, or that this posting, a summary, was made
@@ -56,8 +59,10 @@ pub record World : Type 0 where
 -- What may happen to validator v, at the moment `now`. `refused` is the memory that was refused in it: whether, and of a take also how many uses of the batch were joined before.
 pub data Event : Type 0 where
   Check : (v now : ℕ) (token : List ℕ) (refused : Bool) → Event
+  Withdraw : (v now : ℕ) (key : List ℕ) (exp : ℕ) (refused : Bool) → Event
   Tick : (v now : ℕ) → Event
   Send : (v : ℕ) → Event
+  OldSend : (v : ℕ) → Event
   Sum : (v : ℕ) → Event
   Answer : (v now posting : ℕ) (refused : Bool) → Event
   Take : (v now posting part : ℕ) (refused : Option ℕ) → Event
@@ -101,9 +106,21 @@ form_or_memory (Some refusal) = refusal
 abbrev pub check_answer : Setting → State → List ℕ → Bool → Result Accepted Refusal
 check_answer s x token refused = if refused then Err (form_or_memory (first_row (compact_rows token))) else answer_by (verdict s x.moment x.uses token)
 
+-- what a withdrawal of a raised record answers
+abbrev pub withdraw_answer : List ℕ → State → List ℕ → ℕ → Bool → Result Use WithdrawFault
+withdraw_answer place x key exp refused = if nat_lt x.moment exp then (if refused then Err withdraw.OutOfMemory else Ok (withdrawal place x.moment key exp)) else Err withdraw.Expired
+
+-- a use is added and told, or none
+abbrev pub gained : Member → Option Use → Member
+gained x u = record { held = gains x.held u; told = tell_one x.told u; log = x.log }
+
 -- a check is answered so: an acceptance adds its use and tells it
 abbrev pub checked : Member → Result Accepted Refusal → Member
-checked x answer = record { held = settled x.held answer; told = tell_use x.told answer; log = x.log }
+checked x answer = gained x (accepted_in answer)
+
+-- and so is a withdrawal
+abbrev pub withdrew : Member → Result Use WithdrawFault → Member
+withdrew x answer = gained x (withdrawn_in answer)
 
 -- of what a sender was told, the uses that its batch tells: those that the batch has, and those that had expired by its moment, which it says are gone
 unfoldable pub carried : Uses → BatchData → Uses
@@ -133,6 +150,18 @@ post w v x content = record { members = w.members; pool = w.pool ++ record { mak
 -- validator v is saved, being x
 abbrev pub save : World → ℕ → Member → World
 save w v x = record { members = w.members; pool = w.pool; saves = w.saves ++ record { owner = v; was = x } ∷ [] }
+
+-- a record has a withdrawal
+abbrev pub has_withdrawal : State → Bool
+has_withdrawal r = list_any (λ u. u.withdrawn) (rising r.uses)
+
+-- the parts of a record as messages of version 1 tell them: 4,096 uses in each but the last
+abbrev pub old_parts_of : State → List BatchData
+old_parts_of r = full_batches 4096 ((length (rising r.uses) - 1) / 4096) r.moment (rising r.uses)
+
+-- validator v, being x, sends its record in version 1, if that has no withdrawal
+abbrev pub send_old : World → ℕ → Member → World
+send_old w v x = if has_withdrawal x.held then w else post w v x (Sent (old_parts_of x.held))
 
 -- validator v, raised to x, takes this part of posting k
 abbrev pub take_part : World → ℕ → ℕ → Member → Entry → Option ℕ → Posting → Option BatchData → World
@@ -168,6 +197,11 @@ abbrev pub restart : World → ℕ → Option Saved → World
 restart w v None = w
 restart w v (Some s) = if s.owner == v then put w v s.was else w
 
+-- a use as a list
+abbrev pub one_or_none : Option Use → List Use
+one_or_none (Some u) = u ∷ []
+one_or_none None = []
+
 module _ (group : ℕ → Terms) where
   -- the horizon of validator v at a moment
   abbrev pub far : ℕ → ℕ → ℕ
@@ -177,11 +211,17 @@ module _ (group : ℕ → Terms) where
   abbrev pub answer_at : World → ℕ → ℕ → List ℕ → Bool → Result Accepted Refusal
   answer_at w v now token refused = check_answer (group v).setting (raised (w.members v).held now) token refused
 
+  -- what validator v answers to a withdrawal
+  abbrev pub withdrawal_at : World → ℕ → ℕ → List ℕ → ℕ → Bool → Result Use WithdrawFault
+  withdrawal_at w v now key exp refused = withdraw_answer (group v).setting.place (raised (w.members v).held now) key exp refused
+
   -- what an event leaves; one that names a part or a summary that is not there, or a save that is not there or another's, leaves all as it was
   abbrev pub happens : World → Event → World
   happens w (Check v now token refused) = put w v (checked (ticked (w.members v) now) (answer_at w v now token refused))
+  happens w (Withdraw v now key exp refused) = put w v (withdrew (ticked (w.members v) now) (withdrawal_at w v now key exp refused))
   happens w (Tick v now) = put w v (ticked (w.members v) now)
   happens w (Send v) = post w v (w.members v) (Sent (parts_of (w.members v).held))
+  happens w (OldSend v) = send_old w v (w.members v)
   happens w (Sum v) = post (put w v (logged (w.members v) (Made (length w.pool)))) v (w.members v) (Summed (summary_of (w.members v).held))
   happens w (Answer v now k refused) = answer_posting w v (far v now) (ticked (w.members v) now) k refused (slice_get w.pool k)
   happens w (Take v now k p refused) = take_posting w v (far v now) (ticked (w.members v) now) k p refused (slice_get w.pool k)
@@ -193,17 +233,22 @@ module _ (group : ℕ → Terms) where
   happen w [] = w
   happen w (event ∷ events) = happen (happens w event) events
 
-  -- the use that an answer accepts
-  abbrev pub used_in : Result Accepted Refusal → List Use
-  used_in (Ok accepted) = accepted.used ∷ []
-  used_in (Err refusal) = []
-
   -- the uses that an event accepts
   abbrev pub accepted_by : World → Event → List Use
-  accepted_by w (Check v now token refused) = used_in (answer_at w v now token refused)
+  accepted_by w (Check v now token refused) = one_or_none (accepted_in (answer_at w v now token refused))
   accepted_by w _ = []
 
   -- the uses that a list of events accepts, in their order
   abbrev pub accepted : World → List Event → List Use
   accepted w [] = []
   accepted w (event ∷ events) = accepted_by w event ++ accepted (happens w event) events
+
+  -- the withdrawals that an event makes
+  abbrev pub withdrawn_by : World → Event → List Use
+  withdrawn_by w (Withdraw v now key exp refused) = one_or_none (withdrawn_in (withdrawal_at w v now key exp refused))
+  withdrawn_by w _ = []
+
+  -- the withdrawals that a list of events makes, in their order
+  abbrev pub withdrawn : World → List Event → List Use
+  withdrawn w [] = []
+  withdrawn w (event ∷ events) = withdrawn_by w event ++ withdrawn (happens w event) events

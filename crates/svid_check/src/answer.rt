@@ -1,5 +1,7 @@
 use crate::accepted::Accepted;
 use crate::take_fault::TakeFault;
+use crate::withdraw_fault::WithdrawFault;
+use svid_replay::Use;
 use svid_token::Refusal;
 
 /// What a validator answers to an event.
@@ -11,4 +13,6 @@ pub enum Answer {
     Ticked,
     /// To a take.
     Taken(Result<(), TakeFault>),
+    /// To a withdrawal.
+    Withdrawn(Result<Use, WithdrawFault>),
 }

@@ -22,4 +22,13 @@ pub enum Event<'a> {
         /// The batch.
         batch: &'a Batch,
     },
+    /// [`Validator::withdraw`](crate::Validator::withdraw).
+    Withdraw {
+        /// The moment, in seconds.
+        now: u64,
+        /// The key of the tokens.
+        key: [u8; 32],
+        /// When they expire, in seconds.
+        exp: u64,
+    },
 }

@@ -104,6 +104,9 @@ pub(crate) fn refusal<V: Verifier, S: UseStore>(
     if !is_signed(given, reading) {
         return Some(Refusal::BadSignature);
     }
+    if replay.is_withdrawn(key) {
+        return Some(Refusal::Withdrawn);
+    }
     if replay.has(key) {
         return Some(Refusal::Replayed);
     }

@@ -1,13 +1,13 @@
 //! Laws of the verdicts, of runs, and of a group of validators, carried by functions that compute
 //! nothing.
 
-ghost use Rattle.svid_check.specs.Bounds.{AnswersAreBounded, ChecksAreBounded, RecordsAreBounded, RunsAreBounded, TakesAreBounded, TicksAreBounded};
-ghost use Rattle.svid_check.specs.Calls.{AnswersTellMoments, ChecksAreSteps, RecordsGoOn, RunsGoOn, TakesAreSteps, TicksAreSteps};
-ghost use Rattle.svid_check.specs.Alone.{AcceptsOnce, AnswersAreCalls, ChecksAreCalls, TakesAreCalls, TicksAreCalls};
-ghost use Rattle.svid_check.specs.Events.{AnswersAreEvents, ChecksAreEvents, SendsAreEvents, SumsAreEvents, TakesAreEvents, TicksAreEvents};
+ghost use Rattle.svid_check.specs.Bounds.{AnswersAreBounded, ChecksAreBounded, RecordsAreBounded, RunsAreBounded, TakesAreBounded, TicksAreBounded, WithdrawalsAreBounded};
+ghost use Rattle.svid_check.specs.Calls.{AnswersTellMoments, ChecksAreSteps, RecordsGoOn, RunsGoOn, TakesAreSteps, TicksAreSteps, WithdrawalsAreSteps};
+ghost use Rattle.svid_check.specs.Alone.{AcceptsOnce, AnswersAreCalls, ChecksAreCalls, TakesAreCalls, TicksAreCalls, WithdrawalsAreCalls};
+ghost use Rattle.svid_check.specs.Events.{AnswersAreEvents, ChecksAreEvents, SendsAreEvents, SumsAreEvents, TakesAreEvents, TicksAreEvents, WithdrawalsAreEvents};
 ghost use Rattle.svid_check.specs.Forgetful.{AnswersAreForgotten, SendsAreForgotten};
-ghost use Rattle.svid_check.specs.Headline.{AcceptanceGoesAlong, AcceptanceTells, AcceptedIsRefused, AnswersTellAll, ChainsTell, ChecksAreVerdicts, EqualTellings, RecordsAreTold, ReportedWereAcceptedTwice, ReportsAreExact, ReportsAreWhole, RestartsAbsorb, RestartsPutBack, SendsMakeEqual, SendsTellAll, ToldIsRefused, ToldWereAccepted, TwoPlacesAreReported, WithMemoryVerdicts};
-ghost use Rattle.svid_check.specs.Lawful.{IsAlive, IsFresh, IsInRange, IsMadeNow, IsOfItsInput};
+ghost use Rattle.svid_check.specs.Headline.{AcceptanceGoesAlong, AcceptanceTells, AcceptedIsRefused, AnswersTellAll, ChainsTell, ChecksAreVerdicts, EqualTellings, RecordsAreTold, ReportedWereAcceptedTwice, ReportsAreExact, ReportsAreWhole, RestartsAbsorb, RestartsPutBack, SendsMakeEqual, SendsTellAll, ToldIsRefused, ToldWereAccepted, ToldWereWithdrawn, TwoPlacesAreReported, WithMemoryVerdicts, WithdrawnAreRefused};
+ghost use Rattle.svid_check.specs.Lawful.{IsAlive, IsFresh, IsInRange, IsMadeNow, IsOfItsInput, IsUsed};
 ghost use Rattle.svid_check.specs.Said.{UnrefusedIsSaid};
 ghost use Rattle.svid_check.specs.Told.{BeginsAsGiven};
 ghost use Rattle.svid_check.specs.Verdict.{AcceptsNoSilence};
@@ -20,10 +20,11 @@ pub fn accepted_tokens_say_all()
 {}
 
 /// What validators that share their records rely on, whatever their settings: each use that an
-/// acceptance adds is of the record's moment and expires later, no use that is held has its key, one
+/// acceptance adds is no withdrawal, is of the record's moment and expires later, no use that is held has its key, one
 /// signing input gives one key and one expiry, and the use's fields have their ranges.
 pub fn verdicts_are_lawful()
     ensures made_now { IsMadeNow }
+    ensures used { IsUsed }
     ensures alive { IsAlive }
     ensures fresh { IsFresh }
     ensures of_its_input { IsOfItsInput }
@@ -41,6 +42,7 @@ pub fn calls_are_steps()
     ensures checks { ChecksAreSteps }
     ensures ticks { TicksAreSteps }
     ensures takes { TakesAreSteps }
+    ensures withdrawals { WithdrawalsAreSteps }
 {}
 
 /// An answer to a summary is no event of a run: of what a validator was told it moves the greatest
@@ -63,6 +65,7 @@ pub fn calls_are_bounded()
     ensures ticks { TicksAreBounded }
     ensures takes { TakesAreBounded }
     ensures answers { AnswersAreBounded }
+    ensures withdrawals { WithdrawalsAreBounded }
 {}
 
 /// Nor does a run, with the greatest moment of its events: over what was told, and from one record to
@@ -108,13 +111,20 @@ pub fn tokens_are_accepted_once()
     ensures { AcceptsOnce }
 {}
 
-/// A report lists the keys of which two different uses were told that are live, with all of them; each
-/// use that was told was accepted by a check of the group; and one signing input that was accepted at
+/// A check accepts no token of whose key a withdrawal was told that is live.
+pub fn withdrawn_tokens_are_refused()
+    ensures { WithdrawnAreRefused }
+{}
+
+/// A report lists the keys of which two different uses were told that are live, with all of them, and
+/// no withdrawal; each use that was told was accepted by a check of the group, and each withdrawal was
+/// made by a validator of it; and one signing input that was accepted at
 /// two places is reported wherever both uses were told, until it expires.
 pub fn reports_are_exact()
     ensures exact { ReportsAreExact }
     ensures whole { ReportsAreWhole }
     ensures accepted { ToldWereAccepted }
+    ensures withdrawn { ToldWereWithdrawn }
     ensures twice { ReportedWereAcceptedTwice }
     ensures places { TwoPlacesAreReported }
 {}
@@ -128,8 +138,8 @@ pub fn restarts_absorb()
 
 /// A validator that made a summary and took all parts of an answer to it was told all uses that the
 /// answerer had been told by then; or else some bucket of its own, when it made the summary, and of the
-/// answerer, when it answered, had two texts of one digest. Places have 16 bytes, and moments are below
-/// 2^64.
+/// answerer, when it answered, had two texts of one digest. Places have 16 bytes, the keys of withdrawals
+/// 32, and moments and their expiries are below 2^64.
 pub fn answers_tell_all()
     ensures { AnswersTellAll }
 {}
@@ -151,6 +161,7 @@ pub fn calls_are_events()
     ensures answers { AnswersAreEvents }
     ensures sends { SendsAreEvents }
     ensures sums { SumsAreEvents }
+    ensures withdrawals { WithdrawalsAreEvents }
 {}
 
 /// So it is with the calls of one validator by itself, with any batch and any summary.
@@ -159,4 +170,5 @@ pub fn calls_stand_alone()
     ensures ticks { TicksAreCalls }
     ensures takes { TakesAreCalls }
     ensures answers { AnswersAreCalls }
+    ensures withdrawals { WithdrawalsAreCalls }
 {}

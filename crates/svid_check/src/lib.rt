@@ -1,13 +1,14 @@
-//! The validator of JWT-SVIDs: it accepts a token, or names the first of 24 refusals.
+//! The validator of JWT-SVIDs: it accepts a token, or names the first of 25 refusals.
 //!
 //! A [`Validator`] is given its own audiences, its place, trust bundles, a verifier of signatures and
-//! the record of the tokens that were used. [`Validator::check`] answers for a token at a moment that
+//! the record of the tokens that were used or withdrawn. [`Validator::check`] answers for a token at a moment that
 //! is handed in: no clock is looked at. An accepted token is added to the record, so that it is
 //! refused as `Replayed` from then on, and the record can be told to other validators: they take its
 //! parts by [`Validator::take`], as far as these lie at most so many seconds ahead of the moment of the
 //! call, or send the summary of their own record, which [`Validator::answer`] answers with the uses of all
 //! buckets whose digests differ from the summary's: whole buckets, so also uses that both records have.
-//! [`Validator::run`] makes a list of checks, ticks and takes.
+//! [`Validator::withdraw`] withdraws a token before it expires, so that it is refused as `Withdrawn`.
+//! [`Validator::run`] makes a list of checks, withdrawals, ticks and takes.
 //!
 //! ```rust
 //! use svid_check::Validator;
@@ -42,6 +43,8 @@ mod taking;
 #[cfg(test)]
 mod tests;
 mod validator;
+mod withdraw_fault;
+mod withdrawing;
 
 pub use accepted::Accepted;
 pub use answer::Answer;
@@ -49,3 +52,4 @@ pub use event::Event;
 pub use reading::Reading;
 pub use take_fault::TakeFault;
 pub use validator::Validator;
+pub use withdraw_fault::WithdrawFault;

@@ -34,6 +34,7 @@ impl<V: Verifier, S: UseStore> Validator<V, S> {
                 Answer::Ticked
             }
             Event::Take { now, batch } => Answer::Taken(self.take(*now, batch)),
+            Event::Withdraw { now, key, exp } => Answer::Withdrawn(self.withdraw(*now, *key, *exp)),
         }
     }
 

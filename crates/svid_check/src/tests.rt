@@ -16,6 +16,7 @@ mod runs;
 mod sweep;
 mod taking;
 mod told;
+mod withdrawing;
 
 use crate::Validator;
 use base64::engine::general_purpose::URL_SAFE_NO_PAD;
@@ -56,6 +57,7 @@ const USED: Use = Use {
     key: KEY,
     place: PLACE,
     at: 1000,
+    withdrawn: false,
 };
 
 // It says yes where the signature is the three bytes `sig`.

@@ -17,7 +17,7 @@ use svid_replay::{Record, Use, UseStore};
 use svid_token::{Claims, Refusal};
 
 /// What checks tokens: its own audiences, its place, trust bundles, a verifier of signatures, and the
-/// record of the tokens that it knows to have been used.
+/// record of the tokens that it knows to have been used or withdrawn.
 ///
 /// Contracts see it as these, with the record's moment and uses.
 #[derive(Drop)]
@@ -79,7 +79,7 @@ impl<V: Verifier, S: UseStore> Validator<V, S> {
         }
     }
 
-    /// The record of used tokens. No memory is taken.
+    /// The record of used and withdrawn tokens. No memory is taken.
     pub fn replay(&self) -> &Record<S>
         ensures value { result.now ≡ self.now.state }
         ensures is_record { IsRecord result.now }
@@ -137,6 +137,7 @@ fn judge<V: Verifier, S: UseStore>(
         key,
         place: given.place,
         at: replay.moment(),
+        withdrawn: false,
     };
     let Reading {
         header: _,

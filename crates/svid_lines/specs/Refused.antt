@@ -28,6 +28,7 @@ refusal_name token.TooLongLived = Some (codes "TooLongLived")
 refusal_name token.UnknownDomain = Some (codes "UnknownDomain")
 refusal_name token.NoKey = Some (codes "NoKey")
 refusal_name token.BadSignature = Some (codes "BadSignature")
+refusal_name token.Withdrawn = Some (codes "Withdrawn")
 refusal_name token.Replayed = Some (codes "Replayed")
 refusal_name token.OutOfMemory = None
 

@@ -154,8 +154,8 @@ fn put_kept<P: Sink>(kept: &mut Option<P>, parts: &[Batch]) -> Result<(), ToolFa
 ///
 /// The verifier says yes to the questions of the table. The record of used tokens begins with what the
 /// batches of `earlier` come to, where it is there, and else new; each acceptance adds its use, so a
-/// token that comes again is refused. Where there is `kept`, the record after the last check goes there
-/// whole before the first line goes out.
+/// token that comes again is refused, and so is one that the record has a withdrawal of. Where there is
+/// `kept`, the record after the last check goes there whole before the first line goes out.
 ///
 /// The inputs are read and judged in this order, before anything is written: the bundles, the table, the
 /// tokens, the earlier record. Refused for the first that could not be read (`Read`), has more than

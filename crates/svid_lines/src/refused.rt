@@ -32,6 +32,7 @@ fn refusal_name(refusal: Refusal) -> Option<&'static str>
         Refusal::UnknownDomain => "UnknownDomain",
         Refusal::NoKey => "NoKey",
         Refusal::BadSignature => "BadSignature",
+        Refusal::Withdrawn => "Withdrawn",
         Refusal::Replayed => "Replayed",
         Refusal::OutOfMemory => return None,
     };

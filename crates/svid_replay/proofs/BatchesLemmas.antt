@@ -62,14 +62,14 @@ no_batch_at_flaw m us j f found good =
     let fine : flaw m (last_of None found.front) found.bad ≡ None = AllGood-at m None found.front found.bad found.rest (subst (AllGood m None) found.parts good) in
     cc (found.flawed)
 
-pub fault_of_first : (m : ℕ) (us : List Use) (j : ℕ) (f : Flaw) → length us ≤ 4096 → IsFirstFlaw m us j f → IsBatchFault m us (fault_of f j)
+pub fault_of_first : (m : ℕ) (us : List Use) (j : ℕ) (f : Flaw) → length us ≤ 65536 → IsFirstFlaw m us j f → IsBatchFault m us (fault_of f j)
 fault_of_first m us j Expired few found = (few, found)
 fault_of_first m us j Future few found = (few, found)
 fault_of_first m us j Order few found = (few, found)
 
 -- a refused list of uses is no batch
 pub no_batch_at_fault : (m : ℕ) (us : List Use) (f : BatchFault) → IsBatchFault m us f → IsBatch (record { moment = m; uses = us }) → ⊥
-no_batch_at_fault m us fault.TooMany many b = let few : length us ≤ 4096 = b.few in omega arith
+no_batch_at_fault m us fault.TooMany many b = let few : length us ≤ 65536 = b.few in omega arith
 no_batch_at_fault m us (fault.Expired j) found b = no_batch_at_flaw m us j Expired found.1 b.good
 no_batch_at_fault m us (fault.Future j) found b = no_batch_at_flaw m us j Future found.1 b.good
 no_batch_at_fault m us (fault.Order j) found b = no_batch_at_flaw m us j Order found.1 b.good

@@ -68,9 +68,11 @@ rising-stale : (summary : SummaryData) (s : Uses) → rising (stale summary s) �
 unfolding stale
 rising-stale summary s = rising-keep (differs summary s) s
 
+pub picked : (test : Use → Bool) (s : Uses) (after : Option Use) (picked : List Use) → HasPicked test s after picked → find (is_after after) (rising s) ≡ None → picked ≡ filter test (rising s)
+picked test s after list so_far none = so_far.value ∙ ap (filter test) (walk_end (rising s) after so_far.front so_far.walked none)
+
 pub picked_stale : (summary : SummaryData) (s : Uses) (after : Option Use) (picked : List Use) → HasPicked (differs summary s) s after picked → find (is_after after) (rising s) ≡ None → picked ≡ rising (stale summary s)
-picked_stale summary s after picked so_far none =
-    so_far.value ∙ ap (filter (differs summary s)) (walk_end (rising s) after so_far.front so_far.walked none) ∙ sym (rising-stale summary s)
+picked_stale summary s after list so_far none = picked (differs summary s) s after list so_far none ∙ sym (rising-stale summary s)
 
 -- ---- answers
 pub stale_is_held : (s : SummaryData) (r : State) → IsRecord r → AllByRecursion (IsHeldAt r.moment) (rising (stale s r.uses))

@@ -5,18 +5,18 @@ use Rattle.std.proofs.lemmas.Cmp.{on_total, then_total, nat_cmp_total, nat_list_
 use Rattle.std.proofs.lemmas.List.Elements.{filter_agree}
 use Rattle.std.proofs.lemmas.Map.Lookups.{exact_pairs, exact_unsigned, exact_bytes}
 use Rattle.std.specs.BTreeMap.{is_at}
-use Rattle.std.specs.Cmp.{IsTotalOrder, eq_by_cmp_equiv}
+use Rattle.std.specs.Cmp.{IsTotalOrder, bool_cmp_total, eq_by_cmp_equiv}
 use Rattle.std.specs.Cmp.Lexicographic.{slice_cmp}
 use Rattle.std.specs.List.{AllByRecursion, list_any, filter}
 use Rattle.std.specs.List.Sorted.{IsStrictlySortedBy}
 use Rattle.std.specs.Option.{option_copied}
-use Rattle.std.specs.Ordering.{is_eq, is_gt, eq_by_cmp, nat_cmp, ordering_reverse, ordering_then}
+use Rattle.std.specs.Ordering.{is_eq, is_gt, eq_by_cmp, nat_cmp, bool_cmp, ordering_reverse, ordering_then}
 use Rattle.std.specs.Set.{remove_key}
 use Rattle.std.specs.declared.cmp.Ordering.{Ordering}
 use Rattle.std.specs.declared.cmp.Ordering.TheVariants.{Less, Equal, Greater}
 use Rattle.svid_replay.specs.declared.token_use.Use.{Use}
 use Rattle.svid_replay.specs.declared.key_first.KeyFirst.{KeyFirst}
-use Rattle.svid_replay.specs.Indexed.{key_first_cmp, key_first, has_use, has_key_first, IsIndexed, first_expired}
+use Rattle.svid_replay.specs.Indexed.{key_first_cmp, key_first, has_use, has_key_first, is_sought, IsIndexed, first_expired}
 use Rattle.svid_replay.specs.Sets.{holds, with}
 use Rattle.svid_replay.specs.Twice.{has_key}
 use Rattle.svid_replay.specs.Use.{bytes_cmp, use_cmp, IsRising}
@@ -24,23 +24,23 @@ use Rattle.svid_replay.specs.Uses.{uses_in, live, count}
 use Rattle.svid_replay.proofs.ListLemmas.{all_same}
 use Rattle.svid_replay.proofs.SetsLemmas.{holds-with}
 use Rattle.svid_replay.proofs.TestsLemmas.{equal}
-use Rattle.svid_replay.proofs.UseLemmas.{use_total, use_exact}
+use Rattle.svid_replay.proofs.UseLemmas.{use_total, use_exact, exact_kinds}
 use Rattle.svid_replay.proofs.UsesLemmas.{holds-uses_in, same_uses, less_exp, rising-uses_in, uses_in-filter}
 
 pub key_first_total : IsTotalOrder key_first_cmp
 key_first_total =
-    then_total (on_total (λ (k : KeyFirst). k.key) nat_list_cmp_total) (then_total (on_total (λ (k : KeyFirst). k.exp) nat_cmp_total) (then_total (on_total (λ (k : KeyFirst). k.place) nat_list_cmp_total) (on_total (λ (k : KeyFirst). k.at) nat_cmp_total)))
+    then_total (on_total (λ (k : KeyFirst). k.key) nat_list_cmp_total) (then_total (on_total (λ (k : KeyFirst). k.withdrawn) bool_cmp_total) (then_total (on_total (λ (k : KeyFirst). k.exp) nat_cmp_total) (then_total (on_total (λ (k : KeyFirst). k.place) nat_list_cmp_total) (on_total (λ (k : KeyFirst). k.at) nat_cmp_total))))
 
 -- the fields of a use with its key first, and the use of such fields
-abbrev row : KeyFirst → List ℕ × (ℕ × (List ℕ × ℕ))
-row k = (k.key, (k.exp, (k.place, k.at)))
+abbrev row : KeyFirst → List ℕ × (Bool × (ℕ × (List ℕ × ℕ)))
+row k = (k.key, (k.withdrawn, (k.exp, (k.place, k.at))))
 
-abbrev use_of : List ℕ × (ℕ × (List ℕ × ℕ)) → Use
-use_of p = record { exp = p.1.0; key = p.0; place = p.1.1.0; at = p.1.1.1 }
+abbrev use_of : List ℕ × (Bool × (ℕ × (List ℕ × ℕ))) → Use
+use_of p = record { exp = p.1.1.0; key = p.0; place = p.1.1.1.0; at = p.1.1.1.1; withdrawn = p.1.0 }
 
 key_first_exact : (u v : Use) → key_first_cmp (key_first u) (key_first v) ≡ Equal → u ≡ v
 key_first_exact u v h =
-    ap use_of (exact_pairs (slice_cmp nat_cmp) _ exact_bytes (exact_pairs nat_cmp _ exact_unsigned (exact_pairs (slice_cmp nat_cmp) nat_cmp exact_bytes exact_unsigned)) (row (key_first u)) (row (key_first v)) h)
+    ap use_of (exact_pairs (slice_cmp nat_cmp) _ exact_bytes (exact_pairs bool_cmp _ exact_kinds (exact_pairs nat_cmp _ exact_unsigned (exact_pairs (slice_cmp nat_cmp) nat_cmp exact_bytes exact_unsigned))) (row (key_first u)) (row (key_first v)) h)
 
 -- ---- the two orders tell the same uses apart
 one_test : (a b : Bool) → (a ≡ true → b ≡ true) → (b ≡ true → a ≡ true) → a ≡ b
@@ -217,8 +217,43 @@ all_pass [] = refl
 all_pass (u ∷ us) = ap (λ vs. u ∷ vs) (all_pass us)
 
 -- ---- a look by key
-abbrev pub least_of : List ℕ → KeyFirst
-least_of key = record { key = key; exp = 0; place = replicate 16 0; at = 0 }
+abbrev pub least_of : Bool → List ℕ → KeyFirst
+least_of withdrawn key = record { key = key; withdrawn = withdrawn; exp = 0; place = replicate 16 0; at = 0 }
+
+-- a withdrawal is there where one is sought
+abbrev Fits : Bool → Bool → Type 0
+Fits sought withdrawn = sought ≡ true → withdrawn ≡ true
+
+sought_key : (s : Bool) (key : List ℕ) (u : Use) → is_sought s key u ≡ true → has_key key u ≡ true
+sought_key false key u e = e
+sought_key true key u e = and_first (has_key key u) u.withdrawn e
+  where
+    and_first : (a b : Bool) → (a && b) ≡ true → a ≡ true
+    and_first true b e = refl
+    and_first false b e = e
+
+sought_kind : (s : Bool) (key : List ℕ) (u : Use) → is_sought s key u ≡ true → Fits s u.withdrawn
+sought_kind false key u e = λ no. absurd (true≢false (sym no))
+sought_kind true key u e = λ _. and_second (has_key key u) u.withdrawn e
+  where
+    and_second : (a b : Bool) → (a && b) ≡ true → b ≡ true
+    and_second true b e = e
+    and_second false b e = absurd (true≢false (sym e))
+
+is_sought_by : (s : Bool) (key : List ℕ) (u : Use) → has_key key u ≡ true → Fits s u.withdrawn → is_sought s key u ≡ true
+is_sought_by false key u e fits = e
+is_sought_by true key u e fits = (λ i. e i && fits refl i)
+
+kind_le : (s w : Bool) → Fits s w → is_gt (bool_cmp s w) ≡ false
+kind_le false false fits = refl
+kind_le false true fits = refl
+kind_le true false fits = sym (fits refl)
+kind_le true true fits = refl
+
+kind_above : (s w : Bool) → is_gt (bool_cmp s w) ≡ false → Fits s w
+kind_above false w e = λ no. absurd (true≢false (sym no))
+kind_above true false e = λ _. sym e
+kind_above true true e = λ _. refl
 
 not_gt_then : (a b : Ordering) → is_gt (ordering_then a b) ≡ false → is_gt a ≡ false
 not_gt_then Less b e = refl
@@ -240,11 +275,18 @@ zeros_le zero (x ∷ p) e = absurd (omega arith)
 zeros_le (suc n) [] e = absurd (omega arith)
 zeros_le (suc n) (x ∷ p) e = gt_then (nat_cmp 0 x) _ (zero_le x) (zeros_le n p (omega arith))
 
--- no use of a key is below the least
-least_le : (key : List ℕ) (k : KeyFirst) → k.key ≡ key → length k.place ≡ 16 → is_gt (key_first_cmp (least_of key) k) ≡ false
-least_le key k is wide =
-    let same : slice_cmp nat_cmp key k.key ≡ Equal = ap (slice_cmp nat_cmp key) is ∙ tied_itself nat_list_cmp_total key in
-    gt_then (slice_cmp nat_cmp key k.key) _ (ap is_gt same) (gt_then (nat_cmp 0 k.exp) _ (zero_le k.exp) (gt_then (slice_cmp nat_cmp (replicate 16 0) k.place) _ (zeros_le 16 k.place wide) (zero_le k.at)))
+same_rows : (key other : List ℕ) → other ≡ key → slice_cmp nat_cmp key other ≡ Equal
+same_rows key other is = ap (slice_cmp nat_cmp key) is ∙ tied_itself nat_list_cmp_total key
+
+-- nothing that is sought is below the least
+least_le : (s : Bool) (key : List ℕ) (k : KeyFirst) → k.key ≡ key → Fits s k.withdrawn → length k.place ≡ 16 → is_gt (key_first_cmp (least_of s key) k) ≡ false
+least_le s key k is fits wide =
+    gt_then (slice_cmp nat_cmp key k.key) _ (ap is_gt (same_rows key k.key is)) (gt_then (bool_cmp s k.withdrawn) _ (kind_le s k.withdrawn fits) (gt_then (nat_cmp 0 k.exp) _ (zero_le k.exp) (gt_then (slice_cmp nat_cmp (replicate 16 0) k.place) _ (zeros_le 16 k.place wide) (zero_le k.at))))
+
+-- what has the key and is not below the least is of the kind that is sought
+above_least : (s : Bool) (key : List ℕ) (k : KeyFirst) → k.key ≡ key → is_gt (key_first_cmp (least_of s key) k) ≡ false → Fits s k.withdrawn
+above_least s key k is low =
+    kind_above s k.withdrawn (not_gt_then (bool_cmp s k.withdrawn) _ (subst (λ o. is_gt (ordering_then o (ordering_then (bool_cmp s k.withdrawn) (ordering_then (nat_cmp 0 k.exp) (ordering_then (slice_cmp nat_cmp (replicate 16 0) k.place) (nat_cmp 0 k.at))))) ≡ false) (same_rows key k.key is) low))
 
 equal_of : (o : Ordering) → is_gt o ≡ false → is_gt (ordering_reverse o) ≡ false → o ≡ Equal
 equal_of Less p q = absurd (true≢false q)
@@ -255,8 +297,8 @@ squeezed : (a b : List ℕ) → is_gt (slice_cmp nat_cmp a b) ≡ false → is_g
 squeezed a b p q = exact_bytes a b (equal_of (slice_cmp nat_cmp a b) p (ap is_gt (sym (nat_list_cmp_total.antisymm b a)) ∙ q))
 
 -- what stands between the least of a key and a use of that key has the key
-between_key : (key : List ℕ) (k h : KeyFirst) → h.key ≡ key → is_gt (key_first_cmp (least_of key) k) ≡ false → is_gt (key_first_cmp k h) ≡ false → k.key ≡ key
-between_key key k h is low high =
+between_key : (s : Bool) (key : List ℕ) (k h : KeyFirst) → h.key ≡ key → is_gt (key_first_cmp (least_of s key) k) ≡ false → is_gt (key_first_cmp k h) ≡ false → k.key ≡ key
+between_key s key k h is low high =
     sym (squeezed key k.key (not_gt_then (slice_cmp nat_cmp key k.key) _ low) (subst (λ b. is_gt (slice_cmp nat_cmp k.key b) ≡ false) is (not_gt_then (slice_cmp nat_cmp k.key h.key) _ high)))
 
 same_key : (key other : List ℕ) → is_eq (bytes_cmp key other) ≡ true → other ≡ key
@@ -278,20 +320,24 @@ no_use p (v ∷ us) each =
     ap (λ b. b || list_any p us) (each v (ap (λ o. is_eq o || has_use us v) (tied_itself use_total v)))
     ∙ no_use p us (λ u held. each u (or_right (eq_by_cmp use_cmp u v) (has_use us u) held))
 
-pub none_in_range : (us : List Use) (ks : List KeyFirst) (key : List ℕ) → IsIndexed us ks → ((k : KeyFirst) → is_gt (key_first_cmp (least_of key) k) ≡ false → has_key_first ks k ≡ false) → false ≡ list_any (has_key key) us
-none_in_range us ks key is none = sym (no_use (has_key key) us (λ u held. false_from_ne_true _ (λ with_key.
-    true≢false (sym held ∙ sym (is.same u) ∙ none (key_first u) (least_le key (key_first u) (same_key key u.key with_key) (is.wide u held))))))
+-- a use that is sought is not below the least
+sought_above : (s : Bool) (us : List Use) (ks : List KeyFirst) (key : List ℕ) (u : Use) → IsIndexed us ks → has_use us u ≡ true → is_sought s key u ≡ true → is_gt (key_first_cmp (least_of s key) (key_first u)) ≡ false
+sought_above s us ks key u is held sought = least_le s key (key_first u) (same_key key u.key (sought_key s key u sought)) (sought_kind s key u sought) (is.wide u held)
+
+pub none_in_range : (s : Bool) (us : List Use) (ks : List KeyFirst) (key : List ℕ) → IsIndexed us ks → ((k : KeyFirst) → is_gt (key_first_cmp (least_of s key) k) ≡ false → has_key_first ks k ≡ false) → false ≡ list_any (is_sought s key) us
+none_in_range s us ks key is none = sym (no_use (is_sought s key) us (λ u held. false_from_ne_true _ (λ sought.
+    true≢false (sym held ∙ sym (is.same u) ∙ none (key_first u) (sought_above s us ks key u is held sought)))))
 
 -- the first of the list that is not below the least of a key
-pub record IsFirstFrom (key : List ℕ) (ks : List KeyFirst) (k : KeyFirst) : Type 0 where
-  pub low : is_gt (key_first_cmp (least_of key) k) ≡ false
+pub record IsFirstFrom (s : Bool) (key : List ℕ) (ks : List KeyFirst) (k : KeyFirst) : Type 0 where
+  pub low : is_gt (key_first_cmp (least_of s key) k) ≡ false
   pub held : has_key_first ks k ≡ true
-  pub least : (j : KeyFirst) → is_gt (key_first_cmp (least_of key) j) ≡ false → has_key_first ks j ≡ true → is_gt (key_first_cmp k j) ≡ false
+  pub least : (j : KeyFirst) → is_gt (key_first_cmp (least_of s key) j) ≡ false → has_key_first ks j ≡ true → is_gt (key_first_cmp k j) ≡ false
 
-pub first_in_range : (us : List Use) (ks : List KeyFirst) (key : List ℕ) (k : KeyFirst) → IsIndexed us ks → IsFirstFrom key ks k → is_eq (bytes_cmp key k.key) ≡ list_any (has_key key) us
-first_in_range us ks key k is first = one_test (is_eq (bytes_cmp key k.key)) (list_any (has_key key) us)
-    (λ with_key. any_use (has_key key) us (use_of (row k)) (sym (is.same (use_of (row k))) ∙ first.held) with_key)
-    (λ found. true_from_ne_false _ (λ other. true≢false (sym found ∙ no_use (has_key key) us (λ u held. false_from_ne_true _ (λ with_key.
-    let own : u.key ≡ key = same_key key u.key with_key in
-    let above = first.least (key_first u) (least_le key (key_first u) own (is.wide u held)) (is.same u ∙ held) in
-    true≢false (sym (own_key key k.key (between_key key k (key_first u) own first.low above)) ∙ other))))))
+pub first_in_range : (s : Bool) (us : List Use) (ks : List KeyFirst) (key : List ℕ) (k : KeyFirst) → IsIndexed us ks → IsFirstFrom s key ks k → is_eq (bytes_cmp key k.key) ≡ list_any (is_sought s key) us
+first_in_range s us ks key k is first = one_test (is_eq (bytes_cmp key k.key)) (list_any (is_sought s key) us)
+    (λ with_key. any_use (is_sought s key) us (use_of (row k)) (sym (is.same (use_of (row k))) ∙ first.held) (is_sought_by s key (use_of (row k)) with_key (above_least s key k (same_key key k.key with_key) first.low)))
+    (λ found. true_from_ne_false _ (λ other. true≢false (sym found ∙ no_use (is_sought s key) us (λ u held. false_from_ne_true _ (λ sought.
+    let own : u.key ≡ key = same_key key u.key (sought_key s key u sought) in
+    let above = first.least (key_first u) (sought_above s us ks key u is held sought) (is.same u ∙ held) in
+    true≢false (sym (own_key key k.key (between_key s key k (key_first u) own first.low above)) ∙ other))))))

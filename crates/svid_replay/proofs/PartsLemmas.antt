@@ -48,19 +48,19 @@ unfolding IsStrictlySortedBy
 good m [] up held = tt
 good m (u ∷ us) up held = (no_flaw_held m None u held.0 refl, good_behind m u us up.0 up.1 held.1)
 
-pub held_is_batch : (m : ℕ) (us : List Use) → m < 2 ^ 64 → length us ≤ 4096 → IsRising us → AllByRecursion (IsHeldAt m) us → IsBatch (record { moment = m; uses = us })
+pub held_is_batch : (m : ℕ) (us : List Use) → m < 2 ^ 64 → length us ≤ 65536 → IsRising us → AllByRecursion (IsHeldAt m) us → IsBatch (record { moment = m; uses = us })
 held_is_batch m us fits few up held = record { few = few; moment = fits; fields = each_weaker (IsHeldAt m) IsUse (λ u h. h.fields) us held; good = good m us up held }
 
 -- ---- how uses are cut
-pub cut_few : (m : ℕ) (us : List Use) → length us ≤ 4096 → cut m us ≡ record { moment = m; uses = us } ∷ []
+pub cut_few : (m : ℕ) (us : List Use) → length us ≤ 65536 → cut m us ≡ record { moment = m; uses = us } ∷ []
 unfolding cut full_batches
-cut_few m us few = let none : (length us - 1) / 4096 ≡ 0 = omega arith in ap (λ n. full_batches n m us) none
+cut_few m us few = let none : (length us - 1) / 65536 ≡ 0 = omega arith in ap (λ n. full_batches 65536 n m us) none
 
-cut_many : (m : ℕ) (us : List Use) → 4096 < length us → cut m us ≡ record { moment = m; uses = take 4096 us } ∷ cut m (drop 4096 us)
+cut_many : (m : ℕ) (us : List Use) → 65536 < length us → cut m us ≡ record { moment = m; uses = take 65536 us } ∷ cut m (drop 65536 us)
 unfolding cut full_batches
 cut_many m us many =
-    let one_less : (length us - 1) / 4096 ≡ suc ((length (drop 4096 us) - 1) / 4096) = omega (arith, length-drop 4096 us) in
-    ap (λ n. full_batches n m us) one_less
+    let one_less : (length us - 1) / 65536 ≡ suc ((length (drop 65536 us) - 1) / 65536) = omega (arith, length-drop 65536 us) in
+    ap (λ n. full_batches 65536 n m us) one_less
 
 -- what a loop has cut off when these uses are left
 pub record HasCut (m : ℕ) (us rest : List Use) (batches : List BatchData) : Type 0 where
@@ -70,32 +70,32 @@ pub record HasCut (m : ℕ) (us rest : List Use) (batches : List BatchData) : Ty
 
 -- what a turn of the loop cuts off, and what it leaves
 pub record IsTurn (rest full others : List Use) : Type 0 where
-  pub many : 4096 < length rest
-  pub front : full ≡ take 4096 rest
-  pub left : others ≡ drop 4096 rest
+  pub many : 65536 < length rest
+  pub front : full ≡ take 65536 rest
+  pub left : others ≡ drop 65536 rest
 
 pub cuts_more : (m : ℕ) (us rest full others : List Use) (batches items : List BatchData) (b : BatchData) → HasCut m us rest batches → IsTurn rest full others → b ≡ record { moment = m; uses = full } → items ≡ batches ++ b ∷ [] → HasCut m us others items
 cuts_more m us rest full others batches items b so_far turn is pushed =
     rw (pushed, is, turn.front, turn.left) (record {
-      up = rises_drop 4096 rest so_far.up;
-      held = each_drop (IsHeldAt m) 4096 rest so_far.held;
-      value = append_assoc batches (record { moment = m; uses = take 4096 rest } ∷ []) (cut m (drop 4096 rest)) ∙ ap (λ bs. batches ++ bs) (sym (cut_many m rest turn.many)) ∙ so_far.value;
+      up = rises_drop 65536 rest so_far.up;
+      held = each_drop (IsHeldAt m) 65536 rest so_far.held;
+      value = append_assoc batches (record { moment = m; uses = take 65536 rest } ∷ []) (cut m (drop 65536 rest)) ∙ ap (λ bs. batches ++ bs) (sym (cut_many m rest turn.many)) ∙ so_far.value;
     })
 
 pub full_is_batch : (m : ℕ) (us rest full others : List Use) (batches : List BatchData) → m < 2 ^ 64 → HasCut m us rest batches → IsTurn rest full others → IsBatch (record { moment = m; uses = full })
 full_is_batch m us rest full others batches fits so_far turn =
-    let many : 4096 < length rest = turn.many in
-    rw turn.front (held_is_batch m (take 4096 rest) fits (omega (arith, length-take-le 4096 rest (omega arith))) (rises_take 4096 rest so_far.up) (each_take (IsHeldAt m) 4096 rest so_far.held))
+    let many : 65536 < length rest = turn.many in
+    rw turn.front (held_is_batch m (take 65536 rest) fits (omega (arith, length-take-le 65536 rest (omega arith))) (rises_take 65536 rest so_far.up) (each_take (IsHeldAt m) 65536 rest so_far.held))
 
-pub last_is_batch : (m : ℕ) (us rest last : List Use) (batches : List BatchData) → m < 2 ^ 64 → HasCut m us rest batches → length rest ≤ 4096 → last ≡ rest → IsBatch (record { moment = m; uses = last })
+pub last_is_batch : (m : ℕ) (us rest last : List Use) (batches : List BatchData) → m < 2 ^ 64 → HasCut m us rest batches → length rest ≤ 65536 → last ≡ rest → IsBatch (record { moment = m; uses = last })
 last_is_batch m us rest last batches fits so_far few e = rw e (held_is_batch m rest fits few so_far.up so_far.held)
 
-pub cuts_last : (m : ℕ) (us rest last : List Use) (batches items : List BatchData) (b : BatchData) → HasCut m us rest batches → length rest ≤ 4096 → last ≡ rest → b ≡ record { moment = m; uses = last } → items ≡ batches ++ b ∷ [] → items ≡ cut m us
+pub cuts_last : (m : ℕ) (us rest last : List Use) (batches items : List BatchData) (b : BatchData) → HasCut m us rest batches → length rest ≤ 65536 → last ≡ rest → b ≡ record { moment = m; uses = last } → items ≡ batches ++ b ∷ [] → items ≡ cut m us
 cuts_last m us rest last batches items b so_far few e is pushed =
     rw (pushed, is, e) (ap (λ bs. batches ++ bs) (sym (cut_few m rest few)) ∙ so_far.value)
 
 -- ---- the sizes of what is cut
-full_cut : (n m : ℕ) (us : List Use) → length us ≤ 4096 * suc n → (0 < n → 4096 * n < length us) → AreParts m us (full_batches n m us)
+full_cut : (n m : ℕ) (us : List Use) → length us ≤ 65536 * suc n → (0 < n → 65536 * n < length us) → AreParts m us (full_batches 65536 n m us)
 unfolding full_batches
 full_cut zero m us few many = record {
   full = [];
@@ -108,41 +108,41 @@ full_cut zero m us few many = record {
   some = λ h. h;
 }
 full_cut (suc n) m us few many =
-    let more : 4096 * suc n < length us = many (omega arith) in
-    let first : length (take 4096 us) ≡ 4096 = length-take-le 4096 us (omega arith) in
-    let rest : length (drop 4096 us) ≡ length us - 4096 = length-drop 4096 us in
-    let cut = full_cut n m (drop 4096 us) (omega arith) (λ _. omega arith) in
+    let more : 65536 * suc n < length us = many (omega arith) in
+    let first : length (take 65536 us) ≡ 65536 = length-take-le 65536 us (omega arith) in
+    let rest : length (drop 65536 us) ≡ length us - 65536 = length-drop 65536 us in
+    let cut = full_cut n m (drop 65536 us) (omega arith) (λ _. omega arith) in
     record {
-      full = record { moment = m; uses = take 4096 us } ∷ cut.full;
+      full = record { moment = m; uses = take 65536 us } ∷ cut.full;
       last = cut.last;
-      parts = ap (λ bs. record { moment = m; uses = take 4096 us } ∷ bs) cut.parts;
-      whole = ap (λ xs. take 4096 us ++ xs) cut.whole ∙ take-append-drop 4096 us;
+      parts = ap (λ bs. record { moment = m; uses = take 65536 us } ∷ bs) cut.parts;
+      whole = ap (λ xs. take 65536 us ++ xs) cut.whole ∙ take-append-drop 65536 us;
       moments = All-cons (λ b. b.moment ≡ m) _ _ refl cut.moments;
-      sizes = All-cons (λ b. length b.uses ≡ 4096) _ _ first cut.sizes;
+      sizes = All-cons (λ b. length b.uses ≡ 65536) _ _ first cut.sizes;
       few = cut.few;
       some = λ _. cut.some (omega arith);
     }
 
 pub cut_gives_parts : CutGivesParts
 unfolding cut
-cut_gives_parts m us = full_cut ((length us - 1) / 4096) m us (omega arith) (λ some. omega arith)
+cut_gives_parts m us = full_cut ((length us - 1) / 65536) m us (omega arith) (λ some. omega arith)
 
 -- ---- a record's uses
 pub each_held : (r : State) → IsRecord r → AllByRecursion (IsHeldAt r.moment) (rising r.uses)
 each_held r is = recursion_from_All (IsHeldAt r.moment) (rising r.uses) (λ k d h. is.each (get_or (rising r.uses) k d) (held_in_rising r.uses k d h))
 
-full_batches_are : (n m : ℕ) (us : List Use) → m < 2 ^ 64 → length us ≤ 4096 * suc n → IsRising us → AllByRecursion (IsHeldAt m) us → AllByRecursion IsBatch (full_batches n m us)
+full_batches_are : (n m : ℕ) (us : List Use) → m < 2 ^ 64 → length us ≤ 65536 * suc n → IsRising us → AllByRecursion (IsHeldAt m) us → AllByRecursion IsBatch (full_batches 65536 n m us)
 unfolding full_batches
 full_batches_are zero m us fits few up held = (held_is_batch m us fits (omega arith) up held, tt)
 full_batches_are (suc n) m us fits few up held = (
-  held_is_batch m (take 4096 us) fits (omega (arith, length-take 4096 us)) (rises_take 4096 us up) (each_take (IsHeldAt m) 4096 us held),
-  full_batches_are n m (drop 4096 us) fits (omega (arith, length-drop 4096 us)) (rises_drop 4096 us up) (each_drop (IsHeldAt m) 4096 us held),
+  held_is_batch m (take 65536 us) fits (omega (arith, length-take 65536 us)) (rises_take 65536 us up) (each_take (IsHeldAt m) 65536 us held),
+  full_batches_are n m (drop 65536 us) fits (omega (arith, length-drop 65536 us)) (rises_drop 65536 us up) (each_drop (IsHeldAt m) 65536 us held),
 )
 
 -- each part of a record is a batch
 pub parts_are_batches : PartsAreBatches
 unfolding cut
-parts_are_batches r is = full_batches_are ((length (rising r.uses) - 1) / 4096) r.moment (rising r.uses) is.moment (omega arith) (rising_rises use_cmp r.uses) (each_held r is)
+parts_are_batches r is = full_batches_are ((length (rising r.uses) - 1) / 65536) r.moment (rising r.uses) is.moment (omega arith) (rising_rises use_cmp r.uses) (each_held r is)
 
 -- what the parts tell
 moment_told : (m n : ℕ) (us vs : List Use) → cut m us ≡ cut n vs → m ≡ n

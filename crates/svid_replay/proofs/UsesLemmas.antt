@@ -12,7 +12,7 @@ use Rattle.std.proofs.lemmas.Bool.{cases_lt, false≢true, eqb-true, eq-eqb}
 use Rattle.std.specs.Cmp.Lexicographic.{slice_cmp}
 use Rattle.std.specs.List.{AllByRecursion, list_any, filter, insert, prefix_len, find, slice_get}
 use Rattle.std.specs.List.Sorted.{IsStrictlySortedBy, IsSorted, IsPartitionedBy, IsPartitionPoint, IsNonDecreasingBy}
-use Rattle.std.specs.Ordering.{eq_by_cmp, is_lt, is_eq, nat_cmp, ordering_then, ordering_reverse, ordering_index}
+use Rattle.std.specs.Ordering.{eq_by_cmp, is_lt, is_eq, nat_cmp, bool_cmp, ordering_then, ordering_reverse, ordering_index}
 use Rattle.std.specs.declared.cmp.Ordering.{Ordering}
 use Rattle.std.specs.declared.cmp.Ordering.TheVariants.{Less, Equal, Greater}
 use Rattle.svid_replay.specs.declared.token_use.Use.{Use}
@@ -165,7 +165,7 @@ place_is_free us new i is =
 
 -- ---- tests that a front of rising uses alone passes
 pub less_exp : (u v : Use) → use_cmp u v ≡ Less → u.exp ≤ v.exp
-less_exp u v less = by_ranked (u.exp < v.exp) (u.exp ≡ v.exp) (v.exp < u.exp) (nat_cmp u.exp v.exp) (ranked u.exp v.exp (nat_cmp u.exp v.exp) refl) (λ _ h. omega arith) (λ _ h. omega arith) (λ e h. absurd (subst T (ap is_lt (sym less ∙ ap (λ (r : Ordering). ordering_then r (ordering_then (slice_cmp nat_cmp u.key v.key) (ordering_then (slice_cmp nat_cmp u.place v.place) (nat_cmp u.at v.at)))) e)) tt))
+less_exp u v less = by_ranked (u.exp < v.exp) (u.exp ≡ v.exp) (v.exp < u.exp) (nat_cmp u.exp v.exp) (ranked u.exp v.exp (nat_cmp u.exp v.exp) refl) (λ _ h. omega arith) (λ _ h. omega arith) (λ e h. absurd (subst T (ap is_lt (sym less ∙ ap (λ (r : Ordering). ordering_then r (ordering_then (slice_cmp nat_cmp u.key v.key) (ordering_then (slice_cmp nat_cmp u.place v.place) (ordering_then (nat_cmp u.at v.at) (bool_cmp u.withdrawn v.withdrawn))))) e)) tt))
 
 not_before : (last u v : Use) → use_cmp u v ≡ Less → not (is_lt (use_cmp last v)) ≡ true → (r : Ordering) → use_cmp last u ≡ r → not (is_lt r) ≡ true
 not_before last u v less e Less r = absurd (false≢true (ap (λ o. not (is_lt o)) (sym (use_total.trans last u v r less)) ∙ e))

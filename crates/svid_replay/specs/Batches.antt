@@ -33,9 +33,9 @@ abbrev pub last_of : Option Use → List Use → Option Use
 last_of before [] = before
 last_of before (u ∷ us) = last_of (Some u) us
 
--- what a batch may tell: at most 4,096 uses, nothing wrong with any, all within the ranges of their fields
+-- what a batch may tell: at most 65,536 uses, nothing wrong with any, all within the ranges of their fields
 pub record IsBatch (b : BatchData) : Type 0 where
-  pub few : length b.uses ≤ 4096
+  pub few : length b.uses ≤ 65536
   pub moment : b.moment < 2 ^ 64
   pub fields : AllByRecursion IsUse b.uses
   pub good : AllGood b.moment None b.uses
@@ -58,7 +58,7 @@ fault_of Order index = fault.Order index
 
 -- why such uses are no batch of this moment: they are too many, else what is wrong with the first bad one
 abbrev pub IsBatchFault : ℕ → List Use → BatchFault → Type 0
-IsBatchFault moment uses fault.TooMany = 4096 < length uses
-IsBatchFault moment uses (fault.Expired index) = (length uses ≤ 4096) × IsFirstFlaw moment uses index Expired
-IsBatchFault moment uses (fault.Future index) = (length uses ≤ 4096) × IsFirstFlaw moment uses index Future
-IsBatchFault moment uses (fault.Order index) = (length uses ≤ 4096) × IsFirstFlaw moment uses index Order
+IsBatchFault moment uses fault.TooMany = 65536 < length uses
+IsBatchFault moment uses (fault.Expired index) = (length uses ≤ 65536) × IsFirstFlaw moment uses index Expired
+IsBatchFault moment uses (fault.Future index) = (length uses ≤ 65536) × IsFirstFlaw moment uses index Future
+IsBatchFault moment uses (fault.Order index) = (length uses ≤ 65536) × IsFirstFlaw moment uses index Order

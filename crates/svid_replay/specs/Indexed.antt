@@ -1,20 +1,26 @@
-use Rattle.std.specs.Prelude.{◌≡◌, ℕ, Bool, true, List, [], ◌∷◌, Option, Some, None, length, nat_lt, if◌then◌else◌}
+use Rattle.std.specs.Prelude.{◌≡◌, ℕ, Bool, true, false, List, [], ◌∷◌, Option, Some, None, length, nat_lt, if◌then◌else◌}
 use Rattle.std.specs.List.{list_any}
 use Rattle.std.specs.List.Sorted.{IsStrictlySortedBy}
-use Rattle.std.specs.Ordering.{nat_cmp, ordering_then, eq_by_cmp}
+use Rattle.std.specs.Ordering.{nat_cmp, bool_cmp, ordering_then, eq_by_cmp}
 use Rattle.std.specs.Cmp.Lexicographic.{slice_cmp}
 use Rattle.std.specs.declared.cmp.Ordering.{Ordering}
 use Rattle.svid_replay.specs.declared.token_use.Use.{Use}
 use Rattle.svid_replay.specs.declared.key_first.KeyFirst.{KeyFirst}
+use Rattle.svid_replay.specs.Twice.{has_key, withdraws}
 use Rattle.svid_replay.specs.Use.{IsRising, use_cmp}
 
--- the order by key: by key, then by exp, by place, by at
+-- the order by key: by key, then withdrawals behind uses, by exp, by place, by at
 abbrev pub key_first_cmp : KeyFirst → KeyFirst → Ordering
-key_first_cmp j k = ordering_then (slice_cmp nat_cmp j.key k.key) (ordering_then (nat_cmp j.exp k.exp) (ordering_then (slice_cmp nat_cmp j.place k.place) (nat_cmp j.at k.at)))
+key_first_cmp j k = ordering_then (slice_cmp nat_cmp j.key k.key) (ordering_then (bool_cmp j.withdrawn k.withdrawn) (ordering_then (nat_cmp j.exp k.exp) (ordering_then (slice_cmp nat_cmp j.place k.place) (nat_cmp j.at k.at))))
 
--- a use with its key first
+-- a use with its key first, and then its kind
 abbrev pub key_first : Use → KeyFirst
-key_first u = record { key = u.key; exp = u.exp; place = u.place; at = u.at }
+key_first u = record { key = u.key; withdrawn = u.withdrawn; exp = u.exp; place = u.place; at = u.at }
+
+-- what a look by key is for: a use of the key, or a withdrawal of it
+abbrev pub is_sought : Bool → List ℕ → Use → Bool
+is_sought false key u = has_key key u
+is_sought true key u = withdraws key u
 
 -- whether the list has the use
 abbrev pub has_use : List Use → Use → Bool

@@ -1,4 +1,4 @@
-use Rattle.std.specs.Prelude.{◌≡◌, ◌≢◌, ◌↔◌, ℕ, Bool, false, List, [], ◌∷◌, length, map, filter, nat_lt, All, Contains}
+use Rattle.std.specs.Prelude.{◌≡◌, ◌≢◌, ◌↔◌, ◌&&◌, ℕ, Bool, false, List, [], ◌∷◌, length, map, filter, nat_lt, not, All, Contains}
 use Rattle.std.specs.List.{AllByRecursion}
 use Rattle.std.specs.List.Sorted.{IsStrictlySortedBy}
 use Rattle.std.specs.Ordering.{is_eq, is_lt}
@@ -10,6 +10,14 @@ use Rattle.svid_replay.specs.Use.{bytes_cmp}
 -- a use has this key
 abbrev pub has_key : List ℕ → Use → Bool
 has_key key u = is_eq (bytes_cmp key u.key)
+
+-- a withdrawal has this key
+abbrev pub withdraws : List ℕ → Use → Bool
+withdraws key u = has_key key u && u.withdrawn
+
+-- the uses that are no withdrawals, in their order
+abbrev pub used : List Use → List Use
+used us = filter (λ u. not u.withdrawn) us
 
 -- the uses of one key, in their order
 abbrev pub uses_of : List ℕ → List Use → List Use

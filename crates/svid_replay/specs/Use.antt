@@ -1,9 +1,9 @@
-use Rattle.std.specs.Prelude.{◌≡◌, ℕ, ◌<◌, ◌^◌, List, ◌++◌, length, All}
-use Rattle.std.specs.Ordering.{nat_cmp, ordering_then}
+use Rattle.std.specs.Prelude.{◌≡◌, ℕ, ◌<◌, ◌^◌, List, [], ◌∷◌, ◌++◌, length, All}
+use Rattle.std.specs.Ordering.{nat_cmp, bool_cmp, ordering_then}
 use Rattle.std.specs.Cmp.Lexicographic.{slice_cmp}
 use Rattle.std.specs.declared.cmp.Ordering.{Ordering}
 use Rattle.std.specs.List.Sorted.{IsStrictlySortedBy}
-use Rattle.std.specs.Int.{to_be_bytes, w64}
+use Rattle.std.specs.Int.{from_bool, to_be_bytes, w64}
 use Rattle.svid_replay.specs.declared.token_use.Use.{Use}
 
 -- a row of so many bytes
@@ -18,13 +18,17 @@ pub record IsUse (u : Use) : Type 0 where
   pub place : IsBytes 16 u.place
   pub at : u.at < 2 ^ 64
 
--- the 64 bytes of a use: exp, key, place, at, each number with its greatest byte first
-unfoldable pub text_of : Use → List ℕ
-text_of u = to_be_bytes w64 u.exp ++ u.key ++ u.place ++ to_be_bytes w64 u.at
+-- the first 64 bytes of a use: exp, key, place, at, each number with its greatest byte first
+unfoldable pub front_text : Use → List ℕ
+front_text u = to_be_bytes w64 u.exp ++ u.key ++ u.place ++ to_be_bytes w64 u.at
 
--- the order of uses: by exp, then by key, then by place, then by at
+-- the 65 bytes of a use: these, and 1 for a withdrawal or else 0
+unfoldable pub text_of : Use → List ℕ
+text_of u = front_text u ++ from_bool u.withdrawn ∷ []
+
+-- the order of uses: by exp, then by key, by place, by at, and then a withdrawal behind a use
 abbrev pub use_cmp : Use → Use → Ordering
-use_cmp u v = ordering_then (nat_cmp u.exp v.exp) (ordering_then (slice_cmp nat_cmp u.key v.key) (ordering_then (slice_cmp nat_cmp u.place v.place) (nat_cmp u.at v.at)))
+use_cmp u v = ordering_then (nat_cmp u.exp v.exp) (ordering_then (slice_cmp nat_cmp u.key v.key) (ordering_then (slice_cmp nat_cmp u.place v.place) (ordering_then (nat_cmp u.at v.at) (bool_cmp u.withdrawn v.withdrawn))))
 
 -- byte rows in the order of a dictionary
 abbrev pub bytes_cmp : List ℕ → List ℕ → Ordering

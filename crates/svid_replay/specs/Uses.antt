@@ -1,13 +1,13 @@
 use Rattle.std.specs.Prelude.{◌≡◌, ◌↔◌, ◌||◌, ◌&&◌, ℕ, Bool, false, List, Option, length, nat_lt, find, refl, Contains, IsTrue}
 use base.Stored.{coded_unit}
-use Rattle.std.specs.Coded.{Coded, code_by, coded×, coded_list, coded_ℕ}
+use Rattle.std.specs.Coded.{Coded, code_by, coded×, coded_bool, coded_list, coded_ℕ}
 use Rattle.std.specs.FinMap as finmap
 use Rattle.std.specs.List.{list_any}
 use Rattle.std.specs.Ordering.{eq_by_cmp}
 use Rattle.svid_replay.specs.declared.token_use.Use.{Use}
 use Rattle.svid_replay.specs.Batches.{is_after}
 use Rattle.svid_replay.specs.Sets.{Set, empty, holds, keep, rising, set_of, union, with}
-use Rattle.svid_replay.specs.Twice.{has_key}
+use Rattle.svid_replay.specs.Twice.{has_key, withdraws}
 use Rattle.svid_replay.specs.Use.{use_cmp}
 
 -- a finite set of uses
@@ -17,7 +17,7 @@ Uses = Set use_cmp
 -- a use is stored as the tuple of its fields
 abbrev pub use_code : Coded Use
 use_code =
-    code_by (ℕ × (List ℕ × (List ℕ × ℕ))) (coded× coded_ℕ (coded× (coded_list coded_ℕ) (coded× (coded_list coded_ℕ) coded_ℕ))) (λ u. (u.exp, (u.key, (u.place, u.at)))) (λ p. record { exp = p.0; key = p.1.0; place = p.1.1.0; at = p.1.1.1 }) (λ _. refl)
+    code_by (ℕ × (List ℕ × (List ℕ × (ℕ × Bool)))) (coded× coded_ℕ (coded× (coded_list coded_ℕ) (coded× (coded_list coded_ℕ) (coded× coded_ℕ coded_bool)))) (λ u. (u.exp, (u.key, (u.place, (u.at, u.withdrawn))))) (λ p. record { exp = p.0; key = p.1.0; place = p.1.1.0; at = p.1.1.1.0; withdrawn = p.1.1.1.1 }) (λ _. refl)
 
 -- a set is stored as the list of its uses
 abbrev pub uses_code : Coded Uses
@@ -38,6 +38,10 @@ live s moment = keep (λ u. nat_lt moment u.exp) s
 -- some use of the set has this key
 abbrev pub has_use_of : Uses → List ℕ → Bool
 has_use_of s key = list_any (has_key key) (rising s)
+
+-- some withdrawal of the set has this key
+abbrev pub has_withdrawal_of : Uses → List ℕ → Bool
+has_withdrawal_of s key = list_any (withdraws key) (rising s)
 
 -- how many uses the set has
 abbrev pub count : Uses → ℕ

@@ -7,7 +7,7 @@ use crate::flaw::{Flaw, flaw_of};
 use crate::{BatchFault, MOST_USES, Use};
 use std::marker::Model;
 
-/// A moment, and up to 4,096 uses that are live at it, in strictly rising order.
+/// A moment, and up to 65,536 uses that are live at it, in strictly rising order.
 #[derive(Debug, Drop)]
 pub struct Batch {
     moment: u64,
@@ -35,7 +35,7 @@ fn fault_of(flaw: Flaw, index: usize) -> BatchFault
 }
 
 fn first_fault(moment: u64, uses: &[Use]) -> Option<BatchFault>
-    requires { length uses.now ≤ 4096 }
+    requires { length uses.now ≤ 65536 }
     ensures { MatchOption result (AllByRecursion IsUse uses.now × AllGood moment None uses.now) (IsBatchFault moment uses.now) }
 {
     let mut before = None;

@@ -3,8 +3,8 @@ use thiserror::Error;
 /// Why a moment and some uses are no batch.
 #[derive(Clone, Copy, Debug, PartialEq, Eq, Error)]
 pub enum BatchFault {
-    /// There are more than 4,096 uses.
-    #[error("more than 4096 uses")]
+    /// There are more than 65,536 uses.
+    #[error("more than 65536 uses")]
     TooMany,
     /// The use at this index, the first with a flaw, expires at the moment or before it.
     #[error("use {0} is expired")]

@@ -1,5 +1,7 @@
-ghost use Rattle.std.specs.Prelude.{◌≡◌, ◌+◌, IsTrue, IsOk, OnOk, OnErr};
-ghost use Rattle.svid_replay.specs.Indexed.{IsIndexed, first_expired};
+ghost use Rattle.std.specs.Prelude.{◌≡◌, ◌+◌, List, IsTrue, IsOk, OnOk, OnErr};
+ghost use Rattle.std.specs.List.{list_any};
+ghost use Rattle.svid_replay.specs.declared.token_use.Use.{Use};
+ghost use Rattle.svid_replay.specs.Indexed.{IsIndexed, first_expired, is_sought};
 ghost use Rattle.svid_replay.specs.Sets.{holds, with};
 ghost use Rattle.svid_replay.specs.Uses.{count, live, no_uses, uses_in};
 
@@ -87,6 +89,27 @@ fn drop_expired(by_use: &mut BTreeSet<Use>, by_key: &mut BTreeSet<KeyFirst>, mom
     before - by_use.len()
 }
 
+// Whether there is a use of this key, or a withdrawal of it: they stand side by side, so a look at the first that is
+// not below the least there could be tells.
+fn has_from(by_key: &BTreeSet<KeyFirst>, key: &[u8; 32], withdrawn: bool) -> bool
+    ensures { (us : List Use) → IsIndexed us by_key.now.keys → result ≡ list_any (is_sought withdrawn key.now) us }
+{
+    let least = KeyFirst {
+        key: *key,
+        withdrawn,
+        exp: 0,
+        place: [0; 16],
+        at: 0,
+    };
+    match by_key
+        .range((Bound::Included(least), Bound::Unbounded))
+        .next()
+    {
+        None => false,
+        Some(found) => found.has_key(key),
+    }
+}
+
 impl IndexedUses {
     /// The empty set. Takes no memory.
     pub fn new(alloc: Global) -> IndexedUses
@@ -112,20 +135,11 @@ impl UseStore for IndexedUses {
     }
 
     fn has(&self, key: &[u8; 32]) -> bool {
-        let least = KeyFirst {
-            key: *key,
-            exp: 0,
-            place: [0; 16],
-            at: 0,
-        };
-        match self
-            .by_key
-            .range((Bound::Included(least), Bound::Unbounded))
-            .next()
-        {
-            None => false,
-            Some(found) => found.has_key(key),
-        }
+        has_from(&self.by_key, key, false)
+    }
+
+    fn is_withdrawn(&self, key: &[u8; 32]) -> bool {
+        has_from(&self.by_key, key, true)
     }
 
     fn len(&self) -> usize {

@@ -5,10 +5,12 @@ ghost use Rattle.svid_replay.specs.Use.{bytes_cmp};
 
 use crate::Use;
 
-// A use with its key first, so that the uses of one key stand side by side.
+// A use with its key first and then its kind, so that the uses of one key stand side by side, and its withdrawals
+// behind its other uses.
 #[derive(Clone, Copy, Debug, PartialEq, Eq, PartialOrd, Ord)]
 pub(crate) struct KeyFirst {
     pub(crate) key: [u8; 32],
+    pub(crate) withdrawn: bool,
     pub(crate) exp: u64,
     pub(crate) place: [u8; 16],
     pub(crate) at: u64,
@@ -23,9 +25,11 @@ impl KeyFirst {
             key,
             place,
             at,
+            withdrawn,
         } = used;
         KeyFirst {
             key,
+            withdrawn,
             exp,
             place,
             at,

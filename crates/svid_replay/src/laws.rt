@@ -7,7 +7,7 @@ ghost use Rattle.svid_replay.specs.Records.{JoinHoldsUnexpired, JoinIsAssociativ
 ghost use Rattle.svid_replay.specs.Use.{OrderIsTextOrder};
 ghost use Rattle.svid_replay.specs.Uses.{LiveHoldsUnexpired, NoUsesHoldNone, RisingHasHeld, SameHeldSameSet, UnionHoldsEither, WithHoldsOneMore};
 
-/// Uses are ordered as their texts of 64 bytes are.
+/// Uses are ordered as their texts of 65 bytes are.
 pub fn use_order_is_text_order()
     ensures { OrderIsTextOrder }
 {}
@@ -40,7 +40,7 @@ pub fn records_join()
     ensures closed { JoinIsClosed }
 {}
 
-/// Uses are cut into batches that hold all of them in their order: 4,096 in each but the last.
+/// Uses are cut into batches that hold all of them in their order: 65,536 in each but the last.
 pub fn uses_are_cut_into_full_batches()
     ensures { CutGivesParts }
 {}

@@ -1,10 +1,10 @@
 // The numbers of the layout: how many uses a batch has, and where the fields of a use stand in its text.
 
 /// How many uses a batch has at most.
-pub const MOST_USES: usize = 4096;
+pub const MOST_USES: usize = 65_536;
 
 /// How many bytes the text of a use has.
-pub const USE_LEN: usize = 64;
+pub const USE_LEN: usize = 65;
 
 pub(crate) const EXP_START: usize = 0;
 
@@ -13,3 +13,5 @@ pub(crate) const KEY_START: usize = 8;
 pub(crate) const PLACE_START: usize = 40;
 
 pub(crate) const AT_START: usize = 56;
+
+pub(crate) const KIND_START: usize = 64;

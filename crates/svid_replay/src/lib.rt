@@ -1,8 +1,8 @@
-//! The record of used tokens that validators share: uses, the batches that carry them, stores, and
-//! the record itself.
+//! The record of used and withdrawn tokens that validators share: uses, the batches that carry them,
+//! stores, and the record itself.
 //!
-//! A [`Use`] says that a token, told by its key, was accepted at a place and a time, and when it
-//! expires. A [`Record`] is a moment and the set of the uses that were made by then and expire later,
+//! A [`Use`] says that a token, told by its key, was accepted or withdrawn at a place and a time, and
+//! when it expires. A [`Record`] is a moment and the set of the uses that were made by then and expire later,
 //! kept in a [`UseStore`]. Whatever happens to it is a join: the greater moment, and of the uses of
 //! both sides those that expire after it. So records may be merged in any order, any number of times,
 //! and come out the same ([`laws`]). Where memory is refused on the way, the record is the join with
@@ -17,7 +17,7 @@
 //! ```rust
 //! use svid_replay::{Batch, Record, SortedUses, Use};
 //!
-//! let first = Use { exp: 101, key: [0x11; 32], place: [0x22; 16], at: 99 };
+//! let first = Use { exp: 101, key: [0x11; 32], place: [0x22; 16], at: 99, withdrawn: false };
 //! let second = Use { place: [0x33; 16], at: 100, ..first };
 //! let mut uses = Vec::new(alloc);
 //! uses.push(first)?;

@@ -7,7 +7,7 @@ ghost use Rattle.svid_replay.specs.Use.{IsRising};
 use crate::{Batch, MOST_USES, Use};
 use std::alloc::{AllocError, Global};
 
-// Uses that a record of this moment may hold, as batches: 4,096 in each but the last.
+// Uses that a record of this moment may hold, as batches: 65,536 in each but the last.
 pub(crate) fn cut(alloc: Global, moment: u64, uses: &[Use]) -> Result<Vec<Batch>, AllocError>
     requires rising { IsRising uses.now }
     requires held { AllByRecursion (IsHeldAt moment) uses.now }

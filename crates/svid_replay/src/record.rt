@@ -3,8 +3,8 @@ ghost use Rattle.svid_replay.specs.Buckets.{answer_to, raised_to, summary_of};
 ghost use Rattle.svid_replay.specs.Parts.{cut};
 ghost use Rattle.svid_replay.specs.Records.{HasNoNew, IsPartlyJoined, IsRecord, batch_state, join, state_of};
 ghost use Rattle.svid_replay.specs.Sets.{holds, rising};
-ghost use Rattle.svid_replay.specs.Twice.{IsTwice, twice_of};
-ghost use Rattle.svid_replay.specs.Uses.{count, has_use_of, next_above, no_uses};
+ghost use Rattle.svid_replay.specs.Twice.{IsTwice, twice_of, used};
+ghost use Rattle.svid_replay.specs.Uses.{count, has_use_of, has_withdrawal_of, next_above, no_uses};
 
 use crate::buckets::{digests_of, stale_uses};
 use crate::parts::cut;
@@ -70,6 +70,13 @@ impl<S: UseStore> Record<S> {
         ensures { result ≡ has_use_of self.now.uses key.now }
     {
         self.store.has(key)
+    }
+
+    /// Whether a withdrawal of the record has this key.
+    pub fn is_withdrawn(&self, key: &[u8; 32]) -> bool
+        ensures { result ≡ has_withdrawal_of self.now.uses key.now }
+    {
+        self.store.is_withdrawn(key)
     }
 
     /// The least use of the record, or the least that is greater than the one given.
@@ -151,7 +158,7 @@ impl<S: UseStore> Record<S> {
         Ok(())
     }
 
-    /// The uses, rising.
+    /// The uses, withdrawals among them, rising.
     pub fn uses(&self, alloc: Global) -> Result<Vec<Use>, AllocError>
         ensures { IfOk result (λ uses. uses.items ≡ rising self.now.uses) }
     {
@@ -164,19 +171,35 @@ impl<S: UseStore> Record<S> {
         Ok(uses)
     }
 
-    /// The keys that two or more of the record's uses have, rising, each with all its uses.
+    // the uses that are no withdrawals, rising
+    fn used(&self, alloc: Global) -> Result<Vec<Use>, AllocError>
+        ensures { IfOk result (λ uses. uses.items ≡ used (rising self.now.uses)) }
+    {
+        let mut uses = Vec::new(alloc);
+        let mut after = None;
+        while let Some(used) = self.next_after(after) {
+            if !used.withdrawn {
+                uses.push(used)?;
+            }
+            after = Some(used);
+        }
+        Ok(uses)
+    }
+
+    /// The keys that two or more of the record's uses have, rising, each with all its uses. A withdrawal
+    /// is none of them.
     ///
     /// Takes about n log n steps for n uses.
     pub fn report(&self, alloc: Global) -> Result<Vec<Twice>, AllocError>
-        ensures value { IfOk result (λ listed. listed.items ≡ twice_of (rising self.now.uses)) }
-        ensures relation { IfOk result (λ listed. IsTwice (rising self.now.uses) listed.items) }
+        ensures value { IfOk result (λ listed. listed.items ≡ twice_of (used (rising self.now.uses))) }
+        ensures relation { IfOk result (λ listed. IsTwice (used (rising self.now.uses)) listed.items) }
     {
-        let uses = self.uses(alloc)?;
+        let uses = self.used(alloc)?;
         twice_in(alloc, &uses)
     }
 
-    /// The record as batches of its moment, which hold its uses in rising order: 4,096 in each but the
-    /// last, which has 1 to 4,096. One batch with no use where the record has none.
+    /// The record as batches of its moment, which hold its uses in rising order: 65,536 in each but the
+    /// last, which has 1 to 65,536. One batch with no use where the record has none.
     pub fn parts(&self, alloc: Global) -> Result<Vec<Batch>, AllocError>
         ensures { IfOk result (λ parts. parts.items ≡ cut self.now.moment (rising self.now.uses)) }
     {
@@ -195,7 +218,7 @@ impl<S: UseStore> Record<S> {
     }
 
     /// Raises the record to the summary's moment, and answers the uses of all buckets whose digest then
-    /// differs from the summary's, as batches of the record's moment: 4,096 uses in rising order in each
+    /// differs from the summary's, as batches of the record's moment: 65,536 uses in rising order in each
     /// but the last. One batch with no use where there are no such uses.
     ///
     /// Where memory is refused only the raise stands. Looks at each use twice.

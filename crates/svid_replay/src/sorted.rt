@@ -2,17 +2,18 @@ ghost use Rattle.std.specs.Prelude.{◌≡◌, ◌≤◌, length, Some, drop, fi
 ghost use Rattle.std.specs.List.{list_any, prefix_len};
 ghost use Rattle.svid_replay.specs.Batches.{is_after};
 ghost use Rattle.svid_replay.specs.Sets.{holds, with};
-ghost use Rattle.svid_replay.specs.Twice.{has_key};
+ghost use Rattle.svid_replay.specs.Twice.{has_key, withdraws};
 ghost use Rattle.svid_replay.specs.Use.{IsRising};
 ghost use Rattle.svid_replay.specs.Uses.{no_uses, uses_in};
 
 use crate::Use;
 use crate::store::{Raised, UseStore};
-use crate::twice::has_key;
+use crate::twice::{has_key, withdraws};
 use std::alloc::{AllocError, Global};
 use std::marker::Model;
 
-/// A set of uses as a sorted vector: small, quick to walk, and `has` looks at each use.
+/// A set of uses as a sorted vector: small, quick to walk, and `has` and `is_withdrawn` look at each
+/// use.
 #[derive(Debug, Drop)]
 pub struct SortedUses {
     uses: Vec<Use>,
@@ -88,6 +89,12 @@ fn has_use_of(uses: &[Use], key: &[u8; 32]) -> bool
     uses.iter().any(|used| has_key(key, used))
 }
 
+fn has_withdrawal_of(uses: &[Use], key: &[u8; 32]) -> bool
+    ensures { result ≡ list_any (withdraws key.now) uses.now }
+{
+    uses.iter().any(|used| withdraws(key, used))
+}
+
 impl SortedUses {
     /// The empty set. Takes no memory.
     pub fn new(alloc: Global) -> SortedUses
@@ -114,6 +121,10 @@ impl UseStore for SortedUses {
 
     fn has(&self, key: &[u8; 32]) -> bool {
         has_use_of(&self.uses, key)
+    }
+
+    fn is_withdrawn(&self, key: &[u8; 32]) -> bool {
+        has_withdrawal_of(&self.uses, key)
     }
 
     fn len(&self) -> usize {

@@ -1,6 +1,6 @@
 ghost use Rattle.std.specs.Prelude.{◌≡◌, ◌↔◌, ◌+◌, IsTrue, IsOk, OnOk, OnErr};
 ghost use Rattle.svid_replay.specs.Sets.{holds, with};
-ghost use Rattle.svid_replay.specs.Uses.{Uses, count, has_use_of, live, next_above, no_uses};
+ghost use Rattle.svid_replay.specs.Uses.{Uses, count, has_use_of, has_withdrawal_of, live, next_above, no_uses};
 
 use crate::Use;
 use std::alloc::AllocError;
@@ -12,7 +12,7 @@ pub struct Raised {
     pub dropped: usize,
 }
 
-/// A set of uses, which a record keeps.
+/// A set of uses, which a record keeps. A withdrawal is one of them.
 pub trait UseStore {
     ghost content: { Self → Uses };
 
@@ -31,6 +31,10 @@ pub trait UseStore {
     /// Whether a use of the set has this key.
     fn has(&self, key: &[u8; 32]) -> bool
         ensures { result ≡ has_use_of (content self.now) key.now };
+
+    /// Whether a withdrawal of the set has this key.
+    fn is_withdrawn(&self, key: &[u8; 32]) -> bool
+        ensures { result ≡ has_withdrawal_of (content self.now) key.now };
 
     /// How many uses the set has.
     fn len(&self) -> usize

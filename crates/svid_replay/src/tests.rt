@@ -6,6 +6,8 @@ mod record;
 mod refusing;
 mod summary;
 mod sweep;
+mod token_use;
+mod withdrawn;
 
 use crate::{Batch, IndexedUses, Record, SortedUses, Use, UseStore};
 use std::alloc::{AllocError, Global};
@@ -17,6 +19,7 @@ const FIRST: Use = Use {
     key: [0x11; 32],
     place: [0x22; 16],
     at: 99,
+    withdrawn: false,
 };
 
 const SECOND: Use = Use {
@@ -24,15 +27,23 @@ const SECOND: Use = Use {
     key: [0x11; 32],
     place: [0x33; 16],
     at: 100,
+    withdrawn: false,
 };
 
-// The use of that key that expires at 5001 and was made at `at`.
+// The first of them, but a withdrawal.
+const GONE: Use = Use {
+    withdrawn: true,
+    ..FIRST
+};
+
+// The use of that key that expires at 70000 and was made at `at`.
 fn at(at: u64) -> Use {
     Use {
-        exp: 5001,
+        exp: 70_000,
         key: [0x11; 32],
         place: [0x22; 16],
         at,
+        withdrawn: false,
     }
 }
 

@@ -1,23 +1,26 @@
 ghost use Rattle.std.specs.Prelude.{◌≡◌, ◌+◌, ◌≤◌, ◌++◌, length, take, nat_lt};
 ghost use Rattle.svid_replay.specs.Use.{text_of, IsUse};
 
-use crate::layout::{AT_START, EXP_START, KEY_START, PLACE_START, USE_LEN};
+use crate::layout::{AT_START, EXP_START, KEY_START, KIND_START, PLACE_START, USE_LEN};
 
-/// One use of a token: a validator accepted it once. Uses are ordered as their texts are.
+/// One use of a token, which a validator accepted once; or that it was withdrawn. Uses are ordered as
+/// their texts are.
 #[derive(Clone, Copy, Debug, PartialEq, Eq, PartialOrd, Ord)]
 pub struct Use {
     /// When the token expires, in seconds.
     pub exp: u64,
     /// The key of the token: two uses of one token have the same.
     pub key: [u8; 32],
-    /// The place where it was used: each validator has one of its own.
+    /// The place where it was used or withdrawn: each validator has one of its own.
     pub place: [u8; 16],
-    /// When it was used, in seconds.
+    /// When it was used or withdrawn, in seconds.
     pub at: u64,
+    /// Whether the token was withdrawn there, and not used.
+    pub withdrawn: bool,
 }
 
 fn put_piece(text: &mut [u8; USE_LEN], at: usize, piece: &[u8])
-    requires { at + length piece.now ≤ 64 }
+    requires { at + length piece.now ≤ 65 }
     ensures { take (at + length piece.now) text.new ≡ take at text.old ++ piece.now }
 {
     text[at..at + piece.len()].copy_from_slice(piece);
@@ -32,8 +35,8 @@ impl Use {
         self.exp > moment
     }
 
-    /// The 64 bytes of this use: `exp`, `key`, `place` and `at`, each number with its greatest byte
-    /// first.
+    /// The 65 bytes of this use: `exp`, `key`, `place` and `at`, each number with its greatest byte
+    /// first, and then 1 for a withdrawal or else 0.
     pub fn text(&self) -> [u8; USE_LEN]
         ensures { result ≡ text_of self.now }
     {
@@ -42,12 +45,14 @@ impl Use {
             key,
             place,
             at,
+            withdrawn,
         } = *self;
         let mut text = [0; USE_LEN];
         put_piece(&mut text, EXP_START, &exp.to_be_bytes());
         put_piece(&mut text, KEY_START, &key);
         put_piece(&mut text, PLACE_START, &place);
         put_piece(&mut text, AT_START, &at.to_be_bytes());
+        put_piece(&mut text, KIND_START, &[u8::from(withdrawn)]);
         text
     }
 }

@@ -1,17 +1,17 @@
 ghost use Rattle.std.specs.Prelude.{◌≡◌, ℕ, List, IfOk, take, drop, length, nat_lt};
 ghost use Rattle.std.specs.List.{prefix_len};
 ghost use Rattle.svid_replay.specs.Use.{IsRising};
-ghost use Rattle.svid_replay.specs.Twice.{IsKeySorted, IsTwice, has_key, twice_of, uses_of};
+ghost use Rattle.svid_replay.specs.Twice.{IsKeySorted, IsTwice, has_key, twice_of, uses_of, withdraws};
 
 use crate::{Use, UseList};
 use std::alloc::{AllocError, Global};
 
-/// A key that two or more different uses have, with all its uses in rising order.
+/// A key that two or more different uses have that are no withdrawals, with all such in rising order.
 #[derive(Debug, Drop)]
 pub struct Twice {
     /// The key that the uses have.
     pub key: [u8; 32],
-    /// All uses of the key, rising.
+    /// All uses of the key that are no withdrawals, rising.
     pub uses: UseList,
 }
 
@@ -19,6 +19,12 @@ pub(crate) fn has_key(key: &[u8; 32], used: &Use) -> bool
     ensures { result ≡ has_key key.now used.now }
 {
     key.cmp(&used.key).is_eq()
+}
+
+pub(crate) fn withdraws(key: &[u8; 32], used: &Use) -> bool
+    ensures { result ≡ withdraws key.now used.now }
+{
+    has_key(key, used) && used.withdrawn
 }
 
 // Whether a key with these uses was used twice.

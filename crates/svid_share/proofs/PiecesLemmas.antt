@@ -1,7 +1,7 @@
 -- Piece after piece of an input.
 use Rattle.std.proofs.Common.{◌≡◌, ◌≢◌, ℕ, ◌+◌, ◌<◌, ◌≤◌, List, [], ◌∷◌, ◌++◌, length, take, drop, min, Option, Some, None, Result, Ok, Err, OnOk, IfErr, MatchResult, refl, sym, ap, subst, ◌∙◌, append_assoc, append-nil, length-append, arith, inl, inr}
 use Rattle.std.specs.List.{flat_map}
-use Rattle.std.proofs.lemmas.List.{take-append-drop, take-take, length-take, length-drop}
+use Rattle.std.proofs.lemmas.List.{take-append-drop, take-take, length-take, length-drop, length-map}
 use Rattle.std.proofs.lemmas.List.Concat.{flat_map-cons}
 use Rattle.std.specs.Io.KnownBytes.{Consumes, Keeps, IsAtEnd}
 use Rattle.std.proofs.KnownBytes.{Consumes-trans}
@@ -9,15 +9,14 @@ use Rattle.svid_replay.specs.Parts.{join_all}
 use Rattle.svid_replay.specs.Records.{State}
 use Rattle.svid_wire.specs.Faults.{raised}
 use Rattle.svid_wire.specs.Feed.{IsPushFault, Pushed, end_of}
-use Rattle.svid_wire.specs.Messages.{Appended, Splits, StopsIn, batches_of, message_text}
+use Rattle.svid_wire.specs.Messages.{Appended, Splits, StopsIn, Written, batches_of, read_as, written_text}
 use Rattle.svid_wire.specs.Streams.{Drawn, Gave, IsRead}
 use Rattle.svid_wire.specs.WireFault.{IsFieldRefusal, in_magic}
 use Rattle.svid_wire.specs.declared.message.Message.{Message}
-use Rattle.svid_wire.specs.declared.message.Message.TheVariants as message
 use Rattle.svid_wire.specs.declared.reason.Reason.{Reason}
 use Rattle.svid_wire.specs.declared.reason.Reason.TheVariants as wire
 use Rattle.svid_wire.specs.declared.wire_fault.WireFault.{WireFault}
-use Rattle.svid_wire.proofs.MessagesLemmas.{Appended-more, Appended-trans, batches_of-append}
+use Rattle.svid_wire.proofs.MessagesLemmas.{Appended-more, Appended-trans, batches_of-append, some_bytes}
 use Rattle.svid_share.specs.declared.reader.Reader.{Reader}
 use Rattle.svid_share.specs.declared.tool_fault.ToolFault.{ToolFault}
 use Rattle.svid_share.specs.Inputs.{HasBadField, IsInputFault, IsTooLong, IsWhole, StopsWithin, WantsMemory, most_bytes, wire_fault_at}
@@ -37,7 +36,7 @@ nothing_came left stops reader is full none = record {
   holds = is;
   given = Consumes-none left;
   unstopped = refl;
-  good = record { splits = record { good = tt; parts = refl }; unfinished = in_magic (omega arith) };
+  good = record { splits = record { written = []; good = tt; told = refl; parts = refl }; unfinished = in_magic (omega arith) };
   few = omega (arith, full);
   count = none;
 }
@@ -49,16 +48,13 @@ Appended-of : (bytes rest : List ℕ) (messages : List Message) → Splits bytes
 Appended-of bytes rest messages splits = record { came = messages; grown = refl; splits = splits }
 
 -- a message has a byte at least
-length-texts : (messages : List Message) → length messages ≤ length (flat_map message_text messages)
+length-texts : (written : List Written) → length written ≤ length (flat_map written_text written)
 length-texts [] = omega arith
-length-texts (m ∷ messages) = omega (arith, ap length (flat_map-cons message_text m messages), length-append (message_text m) (flat_map message_text messages), some m, length-texts messages)
-  where
-    some : (m : Message) → 0 < length (message_text m)
-    some (message.Batch b) = omega arith
-    some (message.Summary s) = omega arith
+length-texts (w ∷ written) = omega (arith, ap length (flat_map-cons written_text w written), length-append (written_text w) (flat_map written_text written), some_bytes w, length-texts written)
 
 few_messages : (bytes rest : List ℕ) (messages : List Message) → Splits bytes messages rest → length messages ≤ length bytes
-few_messages bytes rest messages splits = omega (arith, ap length splits.parts, length-append (flat_map message_text messages) rest, length-texts messages)
+few_messages bytes rest messages splits =
+    omega (arith, ap length splits.told, length-map splits.written read_as, ap length splits.parts, length-append (flat_map written_text splits.written) rest, length-texts splits.written)
 
 -- the messages of the bytes that came, and of the next piece
 splits_on : (bytes piece rest last : List ℕ) (messages came : List Message) → Splits bytes messages rest → Appended (rest ++ piece) [] came last → Splits (bytes ++ piece) (messages ++ came) last

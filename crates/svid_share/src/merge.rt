@@ -24,7 +24,7 @@ fn parts_of_inputs<S: Source>(alloc: Global, inputs: &mut [S]) -> Result<Vec<Bat
 }
 
 /// Joins the batches of all inputs, and writes the record that they come to as the texts of its parts:
-/// batches of its moment that hold its uses in rising order, 4,096 in each but the last; one with no use
+/// batches of its moment that hold its uses in rising order, 65,536 in each but the last; one with no use
 /// where the record has none.
 ///
 /// What is written depends on nothing but which batches there are. The inputs are read and judged in their

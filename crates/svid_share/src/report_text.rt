@@ -1,6 +1,6 @@
 ghost use Rattle.std.specs.Prelude.{◌≡◌, ◌++◌, IfOk, OnOk, string_bytes};
 ghost use Rattle.std.specs.List.{flat_map};
-ghost use Rattle.svid_share.specs.Report.{use_line, number_line, report_text, twice_line};
+ghost use Rattle.svid_share.specs.Report.{mark, use_line, number_line, report_text, twice_line};
 
 use std::alloc::{AllocError, Global};
 use std::fmt::Write;
@@ -12,6 +12,13 @@ fn push_number(text: &mut String, name: &str, number: usize) -> Result<(), Alloc
     writeln!(text, "{name} {number}")
 }
 
+// What stands at the end of the line of a withdrawal.
+fn mark(withdrawn: bool) -> &'static str
+    ensures { result.now ≡ mark withdrawn }
+{
+    if withdrawn { " withdrawn" } else { "" }
+}
+
 fn push_use(alloc: Global, text: &mut String, used: &Use) -> Result<(), AllocError>
     ensures { OnOk result (string_bytes text.new ≡ string_bytes text.old ++ use_line used.now) }
 {
@@ -20,10 +27,13 @@ fn push_use(alloc: Global, text: &mut String, used: &Use) -> Result<(), AllocErr
         key,
         place,
         at,
+        withdrawn,
     } = *used;
     let key = hex::encode(alloc, key.as_slice())?;
     let place = hex::encode(alloc, place.as_slice())?;
-    writeln!(text, "{exp} {key} {place} {at}")
+    write!(text, "{exp} {key} {place} {at}")?;
+    text.push_str(mark(withdrawn))?;
+    text.push('\n')
 }
 
 fn push_uses(alloc: Global, text: &mut String, uses: &[Use]) -> Result<(), AllocError>

@@ -67,6 +67,7 @@ fn reason_name(reason: Reason) -> &'static str {
         Reason::Magic => "Magic",
         Reason::Kind => "Kind",
         Reason::Count => "Count",
+        Reason::UseKind => "UseKind",
         Reason::UseExpired => "UseExpired",
         Reason::UseFuture => "UseFuture",
         Reason::UseOrder => "UseOrder",

@@ -75,6 +75,9 @@ pub enum Refusal {
     /// The signature is good for none of the candidate keys.
     #[error("the signature is bad")]
     BadSignature,
+    /// The token was withdrawn.
+    #[error("the token was withdrawn")]
+    Withdrawn,
     /// The token was used before.
     #[error("the token was used before")]
     Replayed,

@@ -3,8 +3,11 @@ use Rattle.std.proofs.Common.{◌≡◌, ℕ, ◌+◌, ◌*◌, ◌<◌, ◌≤�
 use Rattle.std.proofs.lemmas.List.{length-take}
 use Rattle.std.specs.List.{flat_map, AllByRecursion}
 use Rattle.svid_replay.specs.declared.token_use.Use.{Use}
-use Rattle.svid_replay.specs.Use.{IsBytes, IsUse, text_of}
+use Rattle.svid_replay.specs.Use.{IsBytes, IsUse}
 use Rattle.svid_wire.specs.BatchText.{numbers_text, head_text}
+use Rattle.svid_wire.specs.Versions.{use_len_of, use_text}
+use Rattle.svid_wire.specs.declared.version.Version.{Version}
+use Rattle.svid_wire.specs.declared.version.Version.TheVariants.{One, Two}
 use Rattle.svid_wire.specs.SummaryText.{moment_text, summary_head, digest_text}
 use Rattle.svid_wire.specs.Feed.{IsHeld, Pushed, PushesJoin, end_of}
 use Rattle.svid_wire.specs.Messages.{Appended, StopsAt, StopsIn}
@@ -16,22 +19,24 @@ use Rattle.svid_wire.specs.declared.partial.Partial.{Partial}
 use Rattle.svid_wire.specs.declared.stage.Stage.{Stage}
 use Rattle.svid_wire.specs.declared.stage.Stage.TheVariants.{Magic, Kind, Numbers, Uses, Moment, Digests}
 use Rattle.svid_wire.specs.declared.wire_fault.WireFault.{WireFault}
-use Rattle.svid_wire.proofs.FirstMessage.{length-text_of}
+use Rattle.svid_wire.proofs.FirstMessage.{length-use_text}
 use Rattle.svid_wire.proofs.MessagesLemmas.{Appended-more, Appended-trans}
 use Rattle.svid_wire.proofs.StageLemmas.{IsUnfinished-stage}
 use Rattle.svid_wire.proofs.WireFaultLemmas.{IsFieldRefusal-append}
 
-length-texts : (us : List Use) → AllByRecursion IsUse us → length (flat_map text_of us) ≡ 64 * length us
-length-texts [] all = refl
-length-texts (u ∷ us) all = omega (arith, length-append (text_of u) (flat_map text_of us), length-text_of u all.0, length-texts us all.1)
+length-texts : (v : Version) (us : List Use) → AllByRecursion IsUse us → length (flat_map (use_text v) us) ≡ use_len_of v * length us
+length-texts v [] all = omega arith
+length-texts One (u ∷ us) all = omega (arith, length-append (use_text One u) (flat_map (use_text One) us), length-use_text One u all.0, length-texts One us all.1)
+length-texts Two (u ∷ us) all = omega (arith, length-append (use_text Two u) (flat_map (use_text Two) us), length-use_text Two u all.0, length-texts Two us all.1)
 
-length-head : (m c : ℕ) → length (head_text m c) ≡ 17
+length-head : (v : Version) (m c : ℕ) → length (head_text v m c) ≡ 17
 unfolding numbers_text
-length-head m c = refl
+length-head One m c = refl
+length-head Two m c = refl
 
 -- how long the good fields of a batch are
-pub length-begun : (m c : ℕ) (us : List Use) → AllByRecursion IsUse us → length (head_text m c ++ flat_map text_of us) ≡ 17 + 64 * length us
-length-begun m c us all = omega (arith, length-append (head_text m c) (flat_map text_of us), length-head m c, length-texts us all)
+pub length-begun : (v : Version) (m c : ℕ) (us : List Use) → AllByRecursion IsUse us → length (head_text v m c ++ flat_map (use_text v) us) ≡ 17 + use_len_of v * length us
+length-begun v m c us all = length-append (head_text v m c) (flat_map (use_text v) us) ∙ ap (λ n. n + length (flat_map (use_text v) us)) (length-head v m c) ∙ ap (λ n. 17 + n) (length-texts v us all)
 
 length-digests : (ds : List (List ℕ)) → AllByRecursion (IsBytes 32) ds → length (flat_map digest_text ds) ≡ 32 * length ds
 length-digests [] all = refl
@@ -45,11 +50,14 @@ length-summary_head m = refl
 pub length-are_begun : (m : ℕ) (ds : List (List ℕ)) → AllByRecursion (IsBytes 32) ds → length (summary_head m ++ flat_map digest_text ds) ≡ 13 + 32 * length ds
 length-are_begun m ds all = omega (arith, length-append (summary_head m) (flat_map digest_text ds), length-summary_head m, length-digests ds all)
 
-length-stage : (s : Stage) → IsStage s → length (stage_text s) + field_len s ≤ 262161
+length-stage : (s : Stage) → IsStage s → length (stage_text s) + field_len s ≤ 4259857
 length-stage Magic good = omega arith
-length-stage Kind good = omega arith
-length-stage Numbers good = omega arith
-length-stage (Uses m c us) good = omega (arith, good.more, good.few, length-begun m c us.items good.fields)
+length-stage (Kind One) good = omega arith
+length-stage (Kind Two) good = omega arith
+length-stage (Numbers One) good = omega arith
+length-stage (Numbers Two) good = omega arith
+length-stage (Uses One m c us) good = omega (arith, good.more, good.few, length-begun One m c us.items good.fields)
+length-stage (Uses Two m c us) good = omega (arith, good.more, good.few, length-begun Two m c us.items good.fields)
 length-stage Moment good = omega arith
 length-stage (Digests m ds) good = omega (arith, good.more, length-are_begun m ds.items good.fields)
 

@@ -1,11 +1,16 @@
-use Rattle.std.proofs.Common.{◌≡◌, ℕ, zero, suc, ◌<◌, ◌≤◌, inl, inr, List, [], ◌∷◌, ◌++◌, length, drop, All, refl, sym, ap, ◌∙◌, subst, arith, append_assoc, append-nil, length-append}
+use Rattle.std.proofs.Common.{◌≡◌, ℕ, zero, suc, ◌<◌, ◌≤◌, inl, inr, List, [], ◌∷◌, ◌++◌, length, map, drop, All, refl, sym, ap, ◌∙◌, subst, arith, append_assoc, append-nil, length-append}
 use Rattle.std.specs.List.{AllByRecursion, flat_map}
 use Rattle.std.proofs.lemmas.Grind.{flat_map-append}
-use Rattle.std.proofs.lemmas.List.{drop_at}
+use Rattle.std.proofs.lemmas.List.{drop_at, map-append}
 use Rattle.std.proofs.lemmas.List.Elements.{All-drop, All-same}
+use Rattle.svid_replay.specs.declared.token_use.Use.{Use}
+use Rattle.svid_replay.specs.Batches.{BatchData, IsBatch}
 use Rattle.svid_replay.proofs.ListLemmas.{each_append}
 use Rattle.svid_wire.specs.WireFault.{IsFault}
-use Rattle.svid_wire.specs.Messages.{message_text, IsMessage, batches_of, summaries_of, BeginsMessage, Splits, Appended, Parses, HasFault, NoTextIsLonger, ParsesOneWay, EachParses, ParseEnds, CutAnywhere}
+use Rattle.svid_wire.specs.BatchText.{IsBatchIn}
+use Rattle.svid_wire.specs.Messages.{Written, batch_in, summary, written_text, read_as, IsWritten, message_text, IsMessage, batches_of, summaries_of, BeginsMessage, Splits, Appended, Parses, HasFault, NoTextIsLonger, OldBatchIsRead, ParsesOneWay, EachParses, ParseEnds, CutAnywhere, WrittenIsRead}
+use Rattle.svid_wire.specs.Versions.{CanTell}
+use Rattle.svid_wire.specs.declared.version.Version.TheVariants.{One, Two}
 use Rattle.svid_wire.specs.declared.message.Message.{Message}
 use Rattle.svid_wire.specs.declared.message.Message.TheVariants.{Batch, Summary}
 use Rattle.svid_wire.proofs.FirstMessage.{begins_one_message, text_has_no_fault}
@@ -24,13 +29,15 @@ summaries_of-append (Summary s ∷ ms) ns = ap (λ x. s ∷ x) (summaries_of-app
 -- messages behind messages
 Splits-append : (bytes : List ℕ) (ms ns : List Message) (mid rest : List ℕ) → Splits bytes ms mid → Splits mid ns rest → Splits bytes (ms ++ ns) rest
 Splits-append bytes ms ns mid rest p q = record {
-  good = each_append IsMessage ms ns p.good q.good;
-  parts = p.parts ∙ ap (λ x. flat_map message_text ms ++ x) q.parts ∙ sym (append_assoc (flat_map message_text ms) (flat_map message_text ns) rest) ∙ ap (λ x. x ++ rest) (sym (flat_map-append message_text ms ns));
+  written = p.written ++ q.written;
+  good = each_append IsWritten p.written q.written p.good q.good;
+  told = ap (λ x. x ++ ns) p.told ∙ ap (λ x. map read_as p.written ++ x) q.told ∙ sym (map-append read_as p.written q.written);
+  parts = p.parts ∙ ap (λ x. flat_map written_text p.written ++ x) q.parts ∙ sym (append_assoc (flat_map written_text p.written) (flat_map written_text q.written) rest) ∙ ap (λ x. x ++ rest) (sym (flat_map-append written_text p.written q.written));
 }
 
 -- more bytes behind the rest
 Splits-more : (bytes more : List ℕ) (ms : List Message) (rest : List ℕ) → Splits bytes ms rest → Splits (bytes ++ more) ms (rest ++ more)
-Splits-more bytes more ms rest p = record { good = p.good; parts = ap (λ x. x ++ more) p.parts ∙ append_assoc (flat_map message_text ms) rest more }
+Splits-more bytes more ms rest p = record { written = p.written; good = p.good; told = p.told; parts = ap (λ x. x ++ more) p.parts ∙ append_assoc (flat_map written_text p.written) rest more }
 
 pub cut_anywhere : CutAnywhere
 cut_anywhere first others ms ns rest last p q = record { splits = Splits-append (first ++ others) ms ns (rest ++ others) last (Splits-more first others ms rest p.splits) q.splits; ends = q.ends }
@@ -48,13 +55,14 @@ Appended-more bytes more rest a b p = record { came = p.came; grown = p.grown; s
 
 pub no_text_is_longer : NoTextIsLonger
 no_text_is_longer a b more good_a good_b same =
-    (begins_one_message a b more [] good_a good_b (same ∙ sym (append-nil (message_text b)))).1
+    (begins_one_message a b more [] good_a good_b (same ∙ sym (append-nil (written_text b)))).1
 
 no_bytes_begin : ¬ BeginsMessage []
 no_bytes_begin h = none h.message h.rest h.parts where
-  none : (m : Message) (rest : List ℕ) → [] ≡ message_text m ++ rest → ⊥
-  none (Batch b) rest e = cc
-  none (Summary s) rest e = cc
+  none : (m : Written) (rest : List ℕ) → [] ≡ written_text m ++ rest → ⊥
+  none (batch_in One b) rest e = cc
+  none (batch_in Two b) rest e = cc
+  none (summary s) rest e = cc
 
 -- what has a fault begins with no message
 fault_begins_none : (bytes : List ℕ) → HasFault bytes → ¬ BeginsMessage bytes
@@ -66,20 +74,63 @@ parse_ends bytes ms rest splits (inl none) = record { splits = splits; ends = su
 parse_ends bytes ms rest splits (inr faulty) = record { splits = splits; ends = fault_begins_none rest faulty }
 
 -- messages and a rest are one list of bytes in one way
-one_way : (ms ns : List Message) (x y : List ℕ) → AllByRecursion IsMessage ms → AllByRecursion IsMessage ns → ¬ BeginsMessage x → ¬ BeginsMessage y → flat_map message_text ms ++ x ≡ flat_map message_text ns ++ y → (ms ≡ ns) × (x ≡ y)
+one_way : (ms ns : List Written) (x y : List ℕ) → AllByRecursion IsWritten ms → AllByRecursion IsWritten ns → ¬ BeginsMessage x → ¬ BeginsMessage y → flat_map written_text ms ++ x ≡ flat_map written_text ns ++ y → (ms ≡ ns) × (x ≡ y)
 one_way [] [] x y good_m good_n end_x end_y same = (refl, same)
 one_way [] (n ∷ ns) x y good_m good_n end_x end_y same =
-    absurd (end_x (record { message = n; rest = flat_map message_text ns ++ y; good = good_n.0; parts = same ∙ append_assoc (message_text n) (flat_map message_text ns) y }))
+    absurd (end_x (record { message = n; rest = flat_map written_text ns ++ y; good = good_n.0; parts = same ∙ append_assoc (written_text n) (flat_map written_text ns) y }))
 one_way (m ∷ ms) [] x y good_m good_n end_x end_y same =
-    absurd (end_y (record { message = m; rest = flat_map message_text ms ++ x; good = good_m.0; parts = sym same ∙ append_assoc (message_text m) (flat_map message_text ms) x }))
+    absurd (end_y (record { message = m; rest = flat_map written_text ms ++ x; good = good_m.0; parts = sym same ∙ append_assoc (written_text m) (flat_map written_text ms) x }))
 one_way (m ∷ ms) (n ∷ ns) x y good_m good_n end_x end_y same =
-    let (first, behind) = begins_one_message m n (flat_map message_text ms ++ x) (flat_map message_text ns ++ y) good_m.0 good_n.0 (sym (append_assoc (message_text m) (flat_map message_text ms) x) ∙ same ∙ append_assoc (message_text n) (flat_map message_text ns) y) in
+    let (first, behind) = begins_one_message m n (flat_map written_text ms ++ x) (flat_map written_text ns ++ y) good_m.0 good_n.0 (sym (append_assoc (written_text m) (flat_map written_text ms) x) ∙ same ∙ append_assoc (written_text n) (flat_map written_text ns) y) in
     let (others, rest) = one_way ms ns x y good_m.1 good_n.1 end_x end_y behind in
     (ap (λ k. k ∷ ms) first ∙ ap (λ ks. n ∷ ks) others, rest)
 
 pub parses_one_way : ParsesOneWay
 parses_one_way bytes ms ns x y p q =
-    one_way ms ns x y p.splits.good q.splits.good p.ends q.ends (sym p.splits.parts ∙ q.splits.parts)
+    let (written, rest) = one_way p.splits.written q.splits.written x y p.splits.good q.splits.good p.ends q.ends (sym p.splits.parts ∙ q.splits.parts) in
+    (p.splits.told ∙ ap (map read_as) written ∙ sym q.splits.told, rest)
+
+-- ---- what is written is read
+-- version 2 has a text for each use
+two_tells : (us : List Use) → AllByRecursion (CanTell Two) us
+two_tells [] = tt
+two_tells (u ∷ us) = (tt, two_tells us)
+
+in_two : (b : BatchData) → IsBatch b → IsBatchIn Two b
+in_two b good = record { batch = good; few = good.few; tells = two_tells b.uses }
+
+-- one message is read from its text
+pub one_is_read : (w : Written) → IsWritten w → Splits (written_text w) (read_as w ∷ []) []
+one_is_read w good = record {
+  written = w ∷ [];
+  good = (good, tt);
+  told = refl;
+  parts = sym (append-nil (written_text w)) ∙ sym (append-nil (written_text w ++ []));
+}
+
+-- the text of a message, as it is written
+abbrev pub as_written : Message → Written
+as_written (Batch b) = batch_in Two b
+as_written (Summary s) = summary s
+
+pub written_is : (m : Message) → IsMessage m → IsWritten (as_written m)
+written_is (Batch b) good = in_two b good
+written_is (Summary s) good = good
+
+-- a message came whose text the bytes are
+pub came_whole : (bytes text held : List ℕ) (w : Written) (a b : List Message) → IsWritten w → written_text w ≡ text → text ≡ bytes → b ≡ a ++ read_as w ∷ [] → held ≡ [] → Appended bytes a b held
+came_whole bytes text held w a b good is whole grown none = record {
+  came = read_as w ∷ [];
+  grown = grown;
+  splits = subst (λ (x : List ℕ). Splits bytes (read_as w ∷ []) x) (sym none) (subst (λ (x : List ℕ). Splits x (read_as w ∷ []) []) (is ∙ whole) (one_is_read w good));
+}
+
+pub written_is_read : WrittenIsRead
+written_is_read (Batch b) good = one_is_read (batch_in Two b) (in_two b good)
+written_is_read (Summary s) good = one_is_read (summary s) good
+
+pub old_batches_are_read : OldBatchIsRead
+old_batches_are_read b good = (one_is_read (batch_in One b) good, one_is_read (batch_in Two b) (in_two b good.batch))
 
 -- bytes that do parse
 IsParsed : List ℕ → Type 0
@@ -89,12 +140,14 @@ IsParsed bytes = (messages : List Message) × (rest : List ℕ) × Parses bytes 
 parse_more : (bytes : List ℕ) (h : BeginsMessage bytes) → IsParsed h.rest → IsParsed bytes
 unfolding IsParsed
 parse_more bytes h (ms, rest, p) = (
-  h.message ∷ ms,
+  read_as h.message ∷ ms,
   rest,
   record {
     splits = record {
+      written = h.message ∷ p.splits.written;
       good = (h.good, p.splits.good);
-      parts = h.parts ∙ ap (λ x. message_text h.message ++ x) p.splits.parts ∙ sym (append_assoc (message_text h.message) (flat_map message_text ms) rest);
+      told = ap (λ x. read_as h.message ∷ x) p.splits.told;
+      parts = h.parts ∙ ap (λ x. written_text h.message ++ x) p.splits.parts ∙ sym (append_assoc (written_text h.message) (flat_map written_text p.splits.written) rest);
     };
     ends = p.ends;
   },
@@ -106,18 +159,19 @@ All-behind P bytes front rest parts h =
     All-same P rest (drop (length front) bytes) (sym (ap (drop (length front)) parts ∙ drop_at front rest (length front) refl)) (All-drop P (length front) bytes h)
 
 -- a message has bytes
-some_bytes : (m : Message) → 0 < length (message_text m)
-some_bytes (Batch b) = omega arith
-some_bytes (Summary s) = omega arith
+pub some_bytes : (m : Written) → 0 < length (written_text m)
+some_bytes (batch_in One b) = omega arith
+some_bytes (batch_in Two b) = omega arith
+some_bytes (summary s) = omega arith
 
 -- bytes of which there are at most so many parse
 parses_within : (n : ℕ) (bytes : List ℕ) → length bytes ≤ n → All (λ b. b < 256) bytes → IsParsed bytes
 unfolding IsParsed
-parses_within n [] few h = ([], [], record { splits = record { good = tt; parts = refl }; ends = no_bytes_begin })
+parses_within n [] few h = ([], [], record { splits = record { written = []; good = tt; told = refl; parts = refl }; ends = no_bytes_begin })
 parses_within zero (b ∷ x) few h = absurd (omega arith)
 parses_within (suc n) (b ∷ x) few h = elim (begins_or_faults (b ∷ x) h (omega arith)) [
-  | inl begins ↦ parse_more (b ∷ x) begins (parses_within n begins.rest (omega (arith, ap length begins.parts, length-append (message_text begins.message) begins.rest, some_bytes begins.message)) (All-behind (λ k. k < 256) (b ∷ x) (message_text begins.message) begins.rest begins.parts h))
-  | inr faulty ↦ ([], b ∷ x, record { splits = record { good = tt; parts = refl }; ends = fault_begins_none (b ∷ x) faulty })
+  | inl begins ↦ parse_more (b ∷ x) begins (parses_within n begins.rest (omega (arith, ap length begins.parts, length-append (written_text begins.message) begins.rest, some_bytes begins.message)) (All-behind (λ k. k < 256) (b ∷ x) (written_text begins.message) begins.rest begins.parts h))
+  | inr faulty ↦ ([], b ∷ x, record { splits = record { written = []; good = tt; told = refl; parts = refl }; ends = fault_begins_none (b ∷ x) faulty })
 ]
 
 pub each_parses : EachParses

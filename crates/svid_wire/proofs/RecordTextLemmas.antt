@@ -7,6 +7,7 @@ use Rattle.svid_wire.specs.BatchText.{batch_text}
 use Rattle.svid_wire.specs.RecordText.{record_text, TextTellsRecord}
 use Rattle.svid_wire.specs.declared.message.Message.TheVariants.{Batch}
 use Rattle.svid_wire.proofs.FirstMessage.{begins_one_message}
+use Rattle.svid_wire.proofs.MessagesLemmas.{as_written, written_is}
 
 -- texts of batches, one after the other, are those of one list of batches alone
 one_list : (bs cs : List BatchData) → AllByRecursion IsBatch bs → AllByRecursion IsBatch cs → flat_map batch_text bs ≡ flat_map batch_text cs → bs ≡ cs
@@ -14,7 +15,7 @@ one_list [] [] good_b good_c same = refl
 one_list [] (c ∷ cs) good_b good_c same = cc
 one_list (b ∷ bs) [] good_b good_c same = cc
 one_list (b ∷ bs) (c ∷ cs) good_b good_c same =
-    let (same_message, behind) = begins_one_message (Batch b) (Batch c) (flat_map batch_text bs) (flat_map batch_text cs) good_b.0 good_c.0 same in
+    let (same_message, behind) = begins_one_message (as_written (Batch b)) (as_written (Batch c)) (flat_map batch_text bs) (flat_map batch_text cs) (written_is (Batch b) good_b.0) (written_is (Batch c) good_c.0) same in
     let first : b ≡ c = cc in
     ap (λ x. x ∷ bs) first ∙ ap (λ xs. c ∷ xs) (one_list bs cs good_b.1 good_c.1 behind)
 

@@ -1,18 +1,21 @@
-use Rattle.std.proofs.Common.{◌≡◌, ℕ, ◌+◌, ◌-◌, ◌*◌, ◌^◌, ◌<◌, List, [], ◌∷◌, ◌++◌, length, refl, sym, subst, ap, ◌∙◌, arith, Option, None, Some, append_assoc, append-nil}
+use Rattle.std.proofs.Common.{◌≡◌, ◌≢◌, ℕ, ◌+◌, ◌-◌, ◌*◌, ◌^◌, ◌<◌, List, [], ◌∷◌, ◌++◌, length, refl, sym, subst, ap, ◌∙◌, arith, Option, None, Some, append_assoc, append-nil, length-append}
 use Rattle.std.specs.List.{flat_map, slice_get, AllByRecursion}
 use Rattle.std.proofs.lemmas.List.{nil_from_length, flat_map_more}
 use Rattle.svid_replay.specs.declared.token_use.Use.{Use}
 use Rattle.svid_replay.specs.declared.flaw.Flaw.{Flaw}
 use Rattle.svid_replay.specs.declared.flaw.Flaw.TheVariants.{Expired, Future, Order}
-use Rattle.svid_replay.specs.Use.{IsBytes, IsUse, text_of}
+use Rattle.svid_replay.specs.Use.{IsBytes, IsUse}
 use Rattle.svid_replay.specs.Batches.{flaw, last_of}
 use Rattle.svid_replay.proofs.BatchesLemmas.{AllByRecursion-push}
-use Rattle.svid_wire.specs.BatchText.{magic, batch_kind, numbers_text, head_text}
+use Rattle.svid_wire.specs.BatchText.{batch_kind, numbers_text, head_text}
+use Rattle.svid_wire.specs.Versions.{CanTell, magic_of, most_of, use_len_of, use_text}
+use Rattle.svid_wire.specs.declared.version.Version.{Version}
+use Rattle.svid_wire.specs.declared.version.Version.TheVariants.{Two}
 use Rattle.svid_wire.specs.SummaryText.{summary_head, digest_text}
 use Rattle.svid_wire.specs.Stage.{IsStage, stage_text, field_len}
 use Rattle.svid_wire.specs.declared.stage.Stage.{Stage}
 use Rattle.svid_wire.specs.declared.stage.Stage.TheVariants.{Magic, Kind, Numbers, Uses, Moment, Digests}
-use Rattle.svid_wire.specs.WireFault.{IsUnfinished, in_magic, in_kind, in_numbers, in_uses, in_moment, in_digests, IsBegun, IsFieldFault, IsUseFault, IsCountFault, flaw_reason}
+use Rattle.svid_wire.specs.WireFault.{IsUnfinished, in_magic, in_kind, in_numbers, in_uses, in_moment, in_digests, IsBegun, IsFieldFault, IsUseFault, IsUseKindFault, IsCountFault, flaw_reason}
 
 pub last_of-read : (before : Option Use) (u : Use) (us : List Use) → last_of before (u ∷ us) ≡ slice_get (u ∷ us) (length us)
 last_of-read before u [] = refl
@@ -26,17 +29,36 @@ last_of-None (u ∷ us) =
     ap (slice_get (u ∷ us)) last ∙ sym (last_of-read None u us)
 
 -- a use behind the good ones that something is wrong with
-pub IsUseFault-last : (m c : ℕ) (us : List Use) (bad : Use) (place : ℕ) (f : Flaw) → IsBegun m c us → IsUse bad → flaw m (last_of None us) bad ≡ Some f → place ≡ 17 + 64 * length us → IsUseFault (head_text m c ++ flat_map text_of us ++ text_of bad) place f
-IsUseFault-last m c us bad place f begun fits found at = record {
+pub IsUseFault-last : (v : Version) (m c : ℕ) (us : List Use) (bad : Use) (place : ℕ) (f : Flaw) → IsBegun v m c us → IsUse bad → CanTell v bad → flaw m (last_of None us) bad ≡ Some f → place ≡ 17 + use_len_of v * length us → IsUseFault (head_text v m c ++ flat_map (use_text v) us ++ use_text v bad) place f
+IsUseFault-last v m c us bad place f begun fits tells found at = record {
+  version = v;
   moment = m;
   count = c;
   uses = us;
   bad = bad;
   after = [];
-  parts = append_assoc (head_text m c) (flat_map text_of us) (text_of bad) ∙ ap (λ x. head_text m c ++ (flat_map text_of us ++ x)) (sym (append-nil (text_of bad)));
+  parts = append_assoc (head_text v m c) (flat_map (use_text v) us) (use_text v bad) ∙ ap (λ x. head_text v m c ++ (flat_map (use_text v) us ++ x)) (sym (append-nil (use_text v bad)));
   begun = begun;
   fields = fits;
+  tells = tells;
   flawed = found;
+  at = at;
+}
+
+-- a use behind the good ones whose last byte is that of no kind
+pub IsUseKindFault-last : (m c : ℕ) (us : List Use) (field front : List ℕ) (kind place : ℕ) → IsBegun Two m c us → length field ≡ 65 → field ≡ front ++ kind ∷ [] → kind ≢ 0 → kind ≢ 1 → place ≡ 17 + 65 * length us → IsUseKindFault (head_text Two m c ++ flat_map (use_text Two) us ++ field) place
+IsUseKindFault-last m c us field front kind place begun size parts no_use no_withdrawal at = record {
+  moment = m;
+  count = c;
+  uses = us;
+  front = front;
+  kind = kind;
+  after = [];
+  parts = append_assoc (head_text Two m c) (flat_map (use_text Two) us) field ∙ ap (λ x. head_text Two m c ++ (flat_map (use_text Two) us ++ x)) parts;
+  begun = begun;
+  size = omega (arith, size, ap length parts, length-append front (kind ∷ []));
+  no_use = no_use;
+  no_withdrawal = no_withdrawal;
   at = at;
 }
 
@@ -47,12 +69,13 @@ IsFieldFault-use bytes place Future h = (h, λ e. cc)
 IsFieldFault-use bytes place Order h = (h, λ e. cc)
 
 -- a count that is too great
-pub IsCountFault-last : (m c : ℕ) (field : List ℕ) → numbers_text m c ≡ field → m < 2 ^ 64 → c < 2 ^ 32 → 4096 < c → IsCountFault (magic ++ batch_kind ∷ [] ++ field)
-IsCountFault-last m c field e mf cf many = record {
+pub IsCountFault-last : (v : Version) (m c : ℕ) (field : List ℕ) → numbers_text m c ≡ field → m < 2 ^ 64 → c < 2 ^ 32 → most_of v < c → IsCountFault (magic_of v ++ batch_kind ∷ [] ++ field)
+IsCountFault-last v m c field e mf cf many = record {
+  version = v;
   moment = m;
   count = c;
   after = [];
-  parts = ap (λ x. magic ++ batch_kind ∷ [] ++ x) (sym e) ∙ sym (append-nil (head_text m c));
+  parts = ap (λ x. magic_of v ++ batch_kind ∷ [] ++ x) (sym e) ∙ sym (append-nil (head_text v m c));
   moment_fits = mf;
   count_fits = cf;
   many = many;
@@ -69,8 +92,8 @@ digests-more head ds now d field grown same =
 -- a stage whose next field is not whole
 pub IsUnfinished-stage : (stage : Stage) (rest bytes : List ℕ) → IsStage stage → bytes ≡ stage_text stage ++ rest → length rest < field_len stage → IsUnfinished bytes
 IsUnfinished-stage Magic rest bytes good parts short = in_magic (subst (λ (x : List ℕ). length x < 4) (sym parts) short)
-IsUnfinished-stage Kind rest bytes good parts short = in_kind (parts ∙ ap (λ x. magic ++ x) (nil_from_length rest (omega arith)) ∙ append-nil magic)
-IsUnfinished-stage Numbers rest bytes good parts short = in_numbers rest parts short
-IsUnfinished-stage (Uses m c us) rest bytes good parts short = in_uses m c us.items rest good (parts ∙ append_assoc (head_text m c) (flat_map text_of us.items) rest) short
+IsUnfinished-stage (Kind v) rest bytes good parts short = in_kind v (parts ∙ ap (λ x. magic_of v ++ x) (nil_from_length rest (omega arith)) ∙ append-nil (magic_of v))
+IsUnfinished-stage (Numbers v) rest bytes good parts short = in_numbers v rest (parts ∙ append_assoc (magic_of v) (batch_kind ∷ []) rest) short
+IsUnfinished-stage (Uses v m c us) rest bytes good parts short = in_uses v m c us.items rest good (parts ∙ append_assoc (head_text v m c) (flat_map (use_text v) us.items) rest) short
 IsUnfinished-stage Moment rest bytes good parts short = in_moment rest parts short
 IsUnfinished-stage (Digests m ds) rest bytes good parts short = in_digests m ds.items rest good (parts ∙ append_assoc (summary_head m) (flat_map digest_text ds.items) rest) short

@@ -13,7 +13,7 @@ failed = record { place = 0; reason = Failed }
 -- bytes that a feed may hold: each whole field is good, and another one is to come
 pub record IsHeld (bytes : List ℕ) : Type 0 where
   pub unfinished : IsUnfinished bytes
-  pub few : length bytes ≤ 262160
+  pub few : length bytes ≤ 4259856
 
 -- the bytes held before, followed by the piece, are the messages that came behind those that were there, and the bytes held after
 abbrev pub Pushed : Option (List ℕ) → Option (List ℕ) → List Message → List Message → List ℕ → Type 0

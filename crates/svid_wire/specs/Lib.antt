@@ -9,4 +9,6 @@ pub mod RecordText
 pub mod Stage
 pub mod Streams
 pub mod SummaryText
+pub mod Version1
+pub mod Versions
 pub mod WireFault

@@ -1,16 +1,18 @@
 -- The texts of messages, one after the other.
-use Rattle.std.specs.Prelude.{◌≡◌, ℕ, ◌<◌, ◌⊎◌, List, [], ◌∷◌, ◌++◌, length, All}
+use Rattle.std.specs.Prelude.{◌≡◌, ℕ, ◌<◌, ◌⊎◌, List, [], ◌∷◌, ◌++◌, length, map, All}
 use Rattle.std.specs.List.{AllByRecursion, flat_map}
 use Rattle.svid_replay.specs.Batches.{BatchData, IsBatch}
 use Rattle.svid_replay.specs.Summary.{SummaryData, IsSummary}
-use Rattle.svid_wire.specs.BatchText.{batch_text}
+use Rattle.svid_wire.specs.BatchText.{IsBatchIn, batch_text, batch_text_in}
 use Rattle.svid_wire.specs.SummaryText.{summary_text}
 use Rattle.svid_wire.specs.WireFault.{IsFault, IsFieldRefusal, IsRefusal}
 use Rattle.svid_wire.specs.declared.message.Message.{Message}
 use Rattle.svid_wire.specs.declared.message.Message.TheVariants.{Batch, Summary}
+use Rattle.svid_wire.specs.declared.version.Version.{Version}
+use Rattle.svid_wire.specs.declared.version.Version.TheVariants.{One, Two}
 use Rattle.svid_wire.specs.declared.wire_fault.WireFault.{WireFault}
 
--- the text of a message
+-- the text that is written of a message
 abbrev pub message_text : Message → List ℕ
 message_text (Batch b) = batch_text b
 message_text (Summary s) = summary_text s
@@ -19,6 +21,26 @@ message_text (Summary s) = summary_text s
 abbrev pub IsMessage : Message → Type 0
 IsMessage (Batch b) = IsBatch b
 IsMessage (Summary s) = IsSummary s
+
+-- A message as it stands in bytes: a batch in either version, or a summary.
+pub data Written : Type 0 where
+  batch_in : Version → BatchData → Written
+  summary : SummaryData → Written
+
+-- its text
+abbrev pub written_text : Written → List ℕ
+written_text (batch_in v b) = batch_text_in v b
+written_text (summary s) = summary_text s
+
+-- the message that it is read as
+abbrev pub read_as : Written → Message
+read_as (batch_in v b) = Batch b
+read_as (summary s) = Summary s
+
+-- the message breaks no rule, and its version has a text for it
+abbrev pub IsWritten : Written → Type 0
+IsWritten (batch_in v b) = IsBatchIn v b
+IsWritten (summary s) = IsSummary s
 
 -- the batches among messages
 abbrev pub batches_of : List Message → List BatchData
@@ -32,12 +54,14 @@ summaries_of [] = []
 summaries_of (Batch b ∷ ms) = summaries_of ms
 summaries_of (Summary s ∷ ms) = s ∷ summaries_of ms
 
--- the bytes are the texts of these messages, one after the other, and then a rest
+-- the bytes are texts of these messages, one after the other, and then a rest
 pub record Splits (bytes : List ℕ) (messages : List Message) (rest : List ℕ) : Type 0 where
-  pub good : AllByRecursion IsMessage messages
-  pub parts : bytes ≡ flat_map message_text messages ++ rest
+  pub written : List Written
+  pub good : AllByRecursion IsWritten written
+  pub told : messages ≡ map read_as written
+  pub parts : bytes ≡ flat_map written_text written ++ rest
 
--- messages of which the bytes are the texts, up to a rest, came behind those that were there
+-- messages of which the bytes are texts, up to a rest, came behind those that were there
 pub record Appended (bytes : List ℕ) (old new : List Message) (rest : List ℕ) : Type 0 where
   pub came : List Message
   pub grown : new ≡ old ++ came
@@ -59,12 +83,12 @@ pub record StopsIn (bytes : List ℕ) (old new : List Message) (fault : WireFaul
 
 -- the bytes begin with a message
 pub record BeginsMessage (bytes : List ℕ) : Type 0 where
-  pub message : Message
+  pub message : Written
   pub rest : List ℕ
-  pub good : IsMessage message
-  pub parts : bytes ≡ message_text message ++ rest
+  pub good : IsWritten message
+  pub parts : bytes ≡ written_text message ++ rest
 
--- the bytes are the texts of these messages, one after the other, and then a rest that begins with no message
+-- the bytes are texts of these messages, one after the other, and then a rest that begins with no message
 pub record Parses (bytes : List ℕ) (messages : List Message) (rest : List ℕ) : Type 0 where
   pub splits : Splits bytes messages rest
   pub ends : ¬ BeginsMessage rest
@@ -75,11 +99,19 @@ HasFault bytes = (fault : WireFault) × IsFault bytes fault
 
 -- bytes begin with at most one message
 abbrev pub BeginsOneMessage : Type 0
-BeginsOneMessage = (a b : Message) (x y : List ℕ) → IsMessage a → IsMessage b → message_text a ++ x ≡ message_text b ++ y → (a ≡ b) × (x ≡ y)
+BeginsOneMessage = (a b : Written) (x y : List ℕ) → IsWritten a → IsWritten b → written_text a ++ x ≡ written_text b ++ y → (a ≡ b) × (x ≡ y)
+
+-- the text that is written of a message is read as that message
+abbrev pub WrittenIsRead : Type 0
+WrittenIsRead = (m : Message) → IsMessage m → Splits (message_text m) (m ∷ []) []
+
+-- a batch of version 1 is read as the batch that its text of version 2 is read as
+abbrev pub OldBatchIsRead : Type 0
+OldBatchIsRead = (b : BatchData) → IsBatchIn One b → Splits (batch_text_in One b) (Batch b ∷ []) [] × Splits (batch_text b) (Batch b ∷ []) []
 
 -- bytes that begin with the text of a message have no fault
 abbrev pub TextHasNoFault : Type 0
-TextHasNoFault = (m : Message) (rest : List ℕ) (fault : WireFault) → IsMessage m → ¬ IsFault (message_text m ++ rest) fault
+TextHasNoFault = (m : Written) (rest : List ℕ) (fault : WireFault) → IsWritten m → ¬ IsFault (written_text m ++ rest) fault
 
 -- bytes begin with a message or have a fault, unless there are none
 abbrev pub BeginsOrFaults : Type 0
@@ -87,7 +119,7 @@ BeginsOrFaults = (bytes : List ℕ) → All (λ b. b < 256) bytes → 0 < length
 
 -- the text of a message with bytes behind it is no message's text
 abbrev pub NoTextIsLonger : Type 0
-NoTextIsLonger = (a b : Message) (more : List ℕ) → IsMessage a → IsMessage b → message_text a ++ more ≡ message_text b → more ≡ []
+NoTextIsLonger = (a b : Written) (more : List ℕ) → IsWritten a → IsWritten b → written_text a ++ more ≡ written_text b → more ≡ []
 
 -- bytes parse in at most one way
 abbrev pub ParsesOneWay : Type 0

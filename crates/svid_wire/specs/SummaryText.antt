@@ -3,9 +3,11 @@ use Rattle.std.specs.Prelude.{ℕ, List, [], ◌∷◌, ◌++◌}
 use Rattle.std.specs.Int.{to_be_bytes, w64}
 use Rattle.std.specs.List.{flat_map}
 use Rattle.svid_replay.specs.Summary.{SummaryData}
-use Rattle.svid_wire.specs.BatchText.{magic}
+use Rattle.svid_wire.specs.Versions.{magic_of}
+use Rattle.svid_wire.specs.declared.version.Version.TheVariants.{Two}
 
--- the next byte of a summary
+-- the byte of a summary that follows what version 2 begins with; a summary of version 1 tells digests of other texts,
+-- and is none
 abbrev pub summary_kind : ℕ
 summary_kind = 2
 
@@ -15,7 +17,7 @@ moment_text moment = to_be_bytes w64 moment
 
 -- what stands before the first digest
 abbrev pub summary_head : ℕ → List ℕ
-summary_head moment = magic ++ summary_kind ∷ [] ++ moment_text moment
+summary_head moment = magic_of Two ++ summary_kind ∷ [] ++ moment_text moment
 
 -- a digest stands as its bytes
 abbrev pub digest_text : List ℕ → List ℕ

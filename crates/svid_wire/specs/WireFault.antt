@@ -4,20 +4,24 @@ use Rattle.std.specs.List.{AllByRecursion, flat_map}
 use Rattle.svid_replay.specs.declared.token_use.Use.{Use}
 use Rattle.svid_replay.specs.declared.flaw.Flaw.{Flaw}
 use Rattle.svid_replay.specs.declared.flaw.Flaw.TheVariants.{Expired, Future, Order}
-use Rattle.svid_replay.specs.Use.{text_of, IsBytes, IsUse}
+use Rattle.svid_replay.specs.Use.{IsBytes, IsUse}
 use Rattle.svid_replay.specs.Batches.{AllGood, last_of, flaw}
-use Rattle.svid_wire.specs.BatchText.{magic, batch_kind, head_text}
+use Rattle.svid_wire.specs.BatchText.{batch_kind, head_text}
+use Rattle.svid_wire.specs.Versions.{CanTell, magic_of, most_of, use_len_of, use_text}
 use Rattle.svid_wire.specs.SummaryText.{summary_kind, summary_head, digest_text}
 use Rattle.svid_wire.specs.declared.reason.Reason.{Reason}
 use Rattle.svid_wire.specs.declared.reason.Reason.TheVariants as reason
+use Rattle.svid_wire.specs.declared.version.Version.{Version}
+use Rattle.svid_wire.specs.declared.version.Version.TheVariants.{One, Two}
 use Rattle.svid_wire.specs.declared.wire_fault.WireFault.{WireFault}
 
--- these are the first uses of a batch of this moment and count, all good, and at least one is to come
-pub record IsBegun (moment count : ℕ) (uses : List Use) : Type 0 where
+-- these are the first uses of a batch of this version, moment and count, all good, and at least one is to come
+pub record IsBegun (v : Version) (moment count : ℕ) (uses : List Use) : Type 0 where
   pub moment_fits : moment < 2 ^ 64
-  pub few : count ≤ 4096
+  pub few : count ≤ most_of v
   pub more : length uses < count
   pub fields : AllByRecursion IsUse uses
+  pub tells : AllByRecursion (CanTell v) uses
   pub good : AllGood moment None uses
 
 -- these are the first digests of a summary of this moment, and at least one is to come
@@ -28,51 +32,76 @@ pub record AreBegun (moment : ℕ) (digests : List (List ℕ)) : Type 0 where
 
 -- something is wrong with the use behind the good ones
 pub record IsUseFault (bytes : List ℕ) (place : ℕ) (found : Flaw) : Type 0 where
+  pub version : Version
   pub moment : ℕ
   pub count : ℕ
   pub uses : List Use
   pub bad : Use
   pub after : List ℕ
-  pub parts : bytes ≡ head_text moment count ++ (flat_map text_of uses ++ (text_of bad ++ after))
-  pub begun : IsBegun moment count uses
+  pub parts : bytes ≡ head_text version moment count ++ (flat_map (use_text version) uses ++ (use_text version bad ++ after))
+  pub begun : IsBegun version moment count uses
   pub fields : IsUse bad
+  pub tells : CanTell version bad
   pub flawed : flaw moment (last_of None uses) bad ≡ Some found
-  pub at : place ≡ 17 + 64 * length uses
+  pub at : place ≡ 17 + use_len_of version * length uses
 
--- the kind is neither that of a batch nor that of a summary
-pub record IsKindFault (bytes : List ℕ) : Type 0 where
+-- in version 2 the last byte of a use behind the good ones is neither 0 nor 1
+pub record IsUseKindFault (bytes : List ℕ) (place : ℕ) : Type 0 where
+  pub moment : ℕ
+  pub count : ℕ
+  pub uses : List Use
+  pub front : List ℕ
   pub kind : ℕ
   pub after : List ℕ
-  pub parts : bytes ≡ magic ++ kind ∷ after
+  pub parts : bytes ≡ head_text Two moment count ++ (flat_map (use_text Two) uses ++ (front ++ kind ∷ after))
+  pub begun : IsBegun Two moment count uses
+  pub size : length front ≡ 64
+  pub no_use : kind ≢ 0
+  pub no_withdrawal : kind ≢ 1
+  pub at : place ≡ 17 + 65 * length uses
+
+-- a summary can stand in this version
+abbrev pub HasSummaries : Version → Type 0
+HasSummaries One = ⊥
+HasSummaries Two = Unit {0}
+
+-- the kind is not that of a batch, nor, in version 2, that of a summary
+pub record IsKindFault (bytes : List ℕ) : Type 0 where
+  pub version : Version
+  pub kind : ℕ
+  pub after : List ℕ
+  pub parts : bytes ≡ magic_of version ++ kind ∷ after
   pub no_batch : kind ≢ batch_kind
-  pub no_summary : kind ≢ summary_kind
+  pub no_summary : HasSummaries version → kind ≢ summary_kind
 
 -- the batch tells of too many uses
 pub record IsCountFault (bytes : List ℕ) : Type 0 where
+  pub version : Version
   pub moment : ℕ
   pub count : ℕ
   pub after : List ℕ
-  pub parts : bytes ≡ head_text moment count ++ after
+  pub parts : bytes ≡ head_text version moment count ++ after
   pub moment_fits : moment < 2 ^ 64
   pub count_fits : count < 2 ^ 32
-  pub many : 4096 < count
+  pub many : most_of version < count
 
 -- Each field that lies whole in the bytes is good, and another one is to come.
 pub data IsUnfinished (bytes : List ℕ) : Type 0 where
   in_magic : length bytes < 4 → IsUnfinished bytes
-  in_kind : bytes ≡ magic → IsUnfinished bytes
-  in_numbers : (part : List ℕ) → bytes ≡ magic ++ batch_kind ∷ part → length part < 12 → IsUnfinished bytes
-  in_uses : (moment count : ℕ) (uses : List Use) (part : List ℕ) → IsBegun moment count uses → bytes ≡ head_text moment count ++ (flat_map text_of uses ++ part) → length part < 64 → IsUnfinished bytes
-  in_moment : (part : List ℕ) → bytes ≡ magic ++ summary_kind ∷ part → length part < 8 → IsUnfinished bytes
+  in_kind : (v : Version) → bytes ≡ magic_of v → IsUnfinished bytes
+  in_numbers : (v : Version) (part : List ℕ) → bytes ≡ magic_of v ++ batch_kind ∷ part → length part < 12 → IsUnfinished bytes
+  in_uses : (v : Version) (moment count : ℕ) (uses : List Use) (part : List ℕ) → IsBegun v moment count uses → bytes ≡ head_text v moment count ++ (flat_map (use_text v) uses ++ part) → length part < use_len_of v → IsUnfinished bytes
+  in_moment : (part : List ℕ) → bytes ≡ magic_of Two ++ summary_kind ∷ part → length part < 8 → IsUnfinished bytes
   in_digests : (moment : ℕ) (digests : List (List ℕ)) (part : List ℕ) → AreBegun moment digests → bytes ≡ summary_head moment ++ (flat_map digest_text digests ++ part) → length part < 32 → IsUnfinished bytes
 
 -- The first field that lies whole in the bytes and is bad begins at this place, and is bad for this reason; or no
 -- such field is bad, and the bytes, of which there are so many, end before a message does. Want of memory and an
 -- earlier refusal are no faults of bytes.
 abbrev pub IsFaultFor : Reason → List ℕ → ℕ → Type 0
-IsFaultFor reason.Magic bytes place = (place ≡ 0) × (4 ≤ length bytes) × (take 4 bytes ≢ magic)
+IsFaultFor reason.Magic bytes place = (place ≡ 0) × (4 ≤ length bytes) × ((v : Version) → take 4 bytes ≢ magic_of v)
 IsFaultFor reason.Kind bytes place = (place ≡ 4) × IsKindFault bytes
 IsFaultFor reason.Count bytes place = (place ≡ 13) × IsCountFault bytes
+IsFaultFor reason.UseKind bytes place = IsUseKindFault bytes place
 IsFaultFor reason.UseExpired bytes place = IsUseFault bytes place Expired
 IsFaultFor reason.UseFuture bytes place = IsUseFault bytes place Future
 IsFaultFor reason.UseOrder bytes place = IsUseFault bytes place Order

@@ -67,7 +67,7 @@ fn end_field(
     let (field, _) = part.split_at(filled + last.len());
     match judge(alloc, stage, field) {
         Ok(Progress::More(next)) => Ok(Partial::behind(next)),
-        Ok(Progress::Batch(batch)) => {
+        Ok(Progress::Batch(_, batch)) => {
             append_batch(batch, out)?;
             Ok(Partial::start())
         }

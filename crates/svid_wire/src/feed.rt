@@ -84,11 +84,11 @@ impl Feed {
         }
     }
 
-    /// How many bytes are held of the message that is not whole: at most 262,160, and none after a
+    /// How many bytes are held of the message that is not whole: at most 4,259,856, and none after a
     /// refusal. Takes no memory.
     pub fn held(&self) -> usize
         ensures value { result ≡ held_len self.now }
-        ensures most { result ≤ 262160 }
+        ensures most { result ≤ 4259856 }
     {
         match &self.state {
             None => 0,

@@ -1,7 +1,9 @@
-ghost use Rattle.std.specs.Prelude.{◌≡◌, length};
-ghost use Rattle.std.specs.Int.{to_be_bytes, w32, w64};
-ghost use Rattle.svid_replay.specs.Use.{IsBytes, text_of};
+ghost use Rattle.std.specs.Prelude.{◌≡◌, ◌≢◌, MatchOption, length};
+ghost use Rattle.std.specs.Int.{from_bool, to_be_bytes, w32, w64};
+ghost use Rattle.svid_replay.specs.Use.{IsBytes, front_text, text_of};
 ghost use Rattle.svid_wire.specs.BatchText.{numbers_text};
+ghost use Rattle.svid_wire.specs.Stage.{IsNoUse};
+ghost use Rattle.svid_wire.specs.declared.version.Version.{Version};
 ghost use Rattle.svid_wire.specs.SummaryText.{moment_text};
 
 use crate::layout::DIGEST_LEN;
@@ -32,13 +34,14 @@ fn array_of<const N: usize>(bytes: &[u8]) -> [u8; N]
     array
 }
 
-/// The use with this text.
-#[tactic(auto, using(std::proofs::lemmas::Grind::common_steps), unfolding(svid_replay::specs::Use::text_of))]
-pub(crate) fn use_of(field: &[u8]) -> Use
-    requires { length field.now ≡ 64 }
-    ensures { text_of result ≡ field.now }
+/// The use of this kind with these bytes before it.
+#[tactic(auto, using(std::proofs::lemmas::Grind::common_steps), unfolding(svid_replay::specs::Use::front_text))]
+pub(crate) fn use_of_kind(front: &[u8], withdrawn: bool) -> Use
+    requires { length front.now ≡ 64 }
+    ensures text { front_text result ≡ front.now }
+    ensures kind { result.withdrawn ≡ withdrawn }
 {
-    let (exp, rest) = field.split_at(8);
+    let (exp, rest) = front.split_at(8);
     let (key, rest) = rest.split_at(32);
     let (place, at) = rest.split_at(16);
     Use {
@@ -46,6 +49,30 @@ pub(crate) fn use_of(field: &[u8]) -> Use
         key: array_of(key),
         place: array_of(place),
         at: u64_of(at),
+        withdrawn,
+    }
+}
+
+// Whether a byte says that a use is a withdrawal.
+fn withdrawn_of(kind: u8) -> Option<bool>
+    ensures { MatchOption result ((kind ≢ 0) × (kind ≢ 1)) (λ withdrawn. from_bool withdrawn ≡ kind) }
+{
+    match kind {
+        0 => Some(false),
+        1 => Some(true),
+        _ => None,
+    }
+}
+
+/// The use with this text, or none where the last byte is that of no kind.
+pub(crate) fn use_of(field: &[u8]) -> Option<Use>
+    requires { length field.now ≡ 65 }
+    ensures { MatchOption result (IsNoUse Version.Two field.now) (λ used. text_of used ≡ field.now) }
+{
+    let (front, kind) = field.split_at(64);
+    match withdrawn_of(kind[0]) {
+        None => None,
+        Some(withdrawn) => Some(use_of_kind(front, withdrawn)),
     }
 }
 

@@ -1,21 +1,23 @@
 ghost use Rattle.std.specs.Prelude.{◌≡◌, ◌≤◌, ◌++◌, [], ◌∷◌, length, None};
 ghost use Rattle.std.specs.List.{AllByRecursion, flat_map};
-ghost use Rattle.svid_replay.specs.Use.{text_of, IsBytes, IsUse};
+ghost use Rattle.svid_replay.specs.Use.{IsBytes, IsUse};
 ghost use Rattle.svid_replay.specs.Batches.{AllGood, last_of};
-ghost use Rattle.svid_wire.specs.BatchText.{magic, batch_kind, head_text};
+ghost use Rattle.svid_wire.specs.BatchText.{batch_kind, head_text};
+ghost use Rattle.svid_wire.specs.Versions.{CanTell, magic_of, most_of, use_len_of, use_text};
+ghost use Rattle.svid_wire.specs.declared.version.Version.{Version};
 ghost use Rattle.svid_wire.specs.SummaryText.{summary_kind, summary_head, digest_text};
 ghost use Rattle.svid_wire.specs.WireFault.{AreBegun, IsBegun, flaw_reason};
 ghost use Rattle.svid_wire.specs.Stage.{IsStage, Judges, Reaches, field_len, stage_text};
 
-use crate::field::{digest_of, moment_of, numbers_of, use_of};
+use crate::field::{digest_of, moment_of, numbers_of};
 use crate::layout::{
-    BATCH_KIND, COUNT_PLACE, DIGEST_LEN, DIGESTS, HEAD_LEN, KIND_PLACE, MAGIC, SUMMARY_KIND,
-    USE_LEN,
+    BATCH_KIND, COUNT_PLACE, DIGEST_LEN, DIGESTS, HEAD_LEN, KIND_PLACE, SUMMARY_KIND,
 };
 use crate::stage::{Progress, Stage};
+use crate::version::Version;
 use crate::{Reason, WireFault};
 use std::alloc::Global;
-use svid_replay::{Batch, Flaw, MOST_USES, Use, flaw_of};
+use svid_replay::{Batch, Flaw, Use, flaw_of};
 
 fn reason_of(flaw: Flaw) -> Reason
     ensures { result ≡ flaw_reason flaw }
@@ -31,23 +33,22 @@ fn judge_magic(field: &[u8]) -> Result<Progress, WireFault>
     requires { length field.now ≡ 4 }
     ensures { Judges field.now result }
 {
-    if field == MAGIC.as_slice() {
-        Ok(Progress::More(Stage::Kind))
-    } else {
-        Err(WireFault {
+    match Version::of(field) {
+        Some(version) => Ok(Progress::More(Stage::Kind(version))),
+        None => Err(WireFault {
             place: 0,
             reason: Reason::Magic,
-        })
+        }),
     }
 }
 
-fn judge_kind(field: &[u8]) -> Result<Progress, WireFault>
+fn judge_kind(version: Version, field: &[u8]) -> Result<Progress, WireFault>
     requires { length field.now ≡ 1 }
-    ensures { Judges (magic ++ field.now) result }
+    ensures { Judges (magic_of version ++ field.now) result }
 {
-    match field[0] {
-        BATCH_KIND => Ok(Progress::More(Stage::Numbers)),
-        SUMMARY_KIND => Ok(Progress::More(Stage::Moment)),
+    match (version, field[0]) {
+        (_, BATCH_KIND) => Ok(Progress::More(Stage::Numbers(version))),
+        (Version::Two, SUMMARY_KIND) => Ok(Progress::More(Stage::Moment)),
         _ => Err(WireFault {
             place: KIND_PLACE,
             reason: Reason::Kind,
@@ -56,17 +57,19 @@ fn judge_kind(field: &[u8]) -> Result<Progress, WireFault>
 }
 
 // What good uses of a batch lead to: the batch, where there are as many as it tells of.
-fn next(moment: u64, count: u32, uses: Vec<Use>) -> Progress
-    requires few { count ≤ 4096 }
+fn next(version: Version, moment: u64, count: u32, uses: Vec<Use>) -> Progress
+    requires few { count ≤ most_of version }
     requires within { length uses.items ≤ count }
     requires fields { AllByRecursion IsUse uses.items }
+    requires tells { AllByRecursion (CanTell version) uses.items }
     requires good { AllGood moment None uses.items }
-    ensures { Reaches (head_text moment count ++ flat_map text_of uses.items) result }
+    ensures { Reaches (head_text version moment count ++ flat_map (use_text version) uses.items) result }
 {
     if uses.len() == count as usize {
-        Progress::Batch(Batch::from_good(moment, uses))
+        Progress::Batch(version, Batch::from_good(moment, uses))
     } else {
         Progress::More(Stage::Uses {
+            version,
             moment,
             count,
             uses,
@@ -74,18 +77,18 @@ fn next(moment: u64, count: u32, uses: Vec<Use>) -> Progress
     }
 }
 
-fn judge_numbers(alloc: Global, field: &[u8]) -> Result<Progress, WireFault>
+fn judge_numbers(alloc: Global, version: Version, field: &[u8]) -> Result<Progress, WireFault>
     requires { length field.now ≡ 12 }
-    ensures { Judges (magic ++ batch_kind ∷ [] ++ field.now) result }
+    ensures { Judges (magic_of version ++ batch_kind ∷ [] ++ field.now) result }
 {
     let (moment, count) = numbers_of(field);
-    if count as usize > MOST_USES {
+    if count as usize > version.most_uses() {
         return Err(WireFault {
             place: COUNT_PLACE,
             reason: Reason::Count,
         });
     }
-    Ok(next(moment, count, Vec::new(alloc)))
+    Ok(next(version, moment, count, Vec::new(alloc)))
 }
 
 fn last_use(uses: &[Use]) -> Option<Use>
@@ -95,29 +98,36 @@ fn last_use(uses: &[Use]) -> Option<Use>
 }
 
 fn judge_use(
+    version: Version,
     moment: u64,
     count: u32,
     mut uses: Vec<Use>,
     field: &[u8],
 ) -> Result<Progress, WireFault>
-    requires begun { IsBegun moment count uses.items }
-    requires whole { length field.now ≡ 64 }
-    ensures { Judges (head_text moment count ++ flat_map text_of uses.items ++ field.now) result }
+    requires begun { IsBegun version moment count uses.items }
+    requires whole { length field.now ≡ use_len_of version }
+    ensures { Judges (head_text version moment count ++ flat_map (use_text version) uses.items ++ field.now) result }
 {
-    let used = use_of(field);
+    let place = HEAD_LEN + version.use_len() * uses.len();
+    let Some(used) = version.use_of(field) else {
+        return Err(WireFault {
+            place,
+            reason: Reason::UseKind,
+        });
+    };
     if let Some(flaw) = flaw_of(moment, last_use(&uses), used) {
         return Err(WireFault {
-            place: HEAD_LEN + USE_LEN * uses.len(),
+            place,
             reason: reason_of(flaw),
         });
     }
     uses.push(used)?;
-    Ok(next(moment, count, uses))
+    Ok(next(version, moment, count, uses))
 }
 
 fn judge_moment(alloc: Global, field: &[u8]) -> Progress
     requires { length field.now ≡ 8 }
-    ensures { Reaches (magic ++ summary_kind ∷ [] ++ field.now) result }
+    ensures { Reaches (magic_of Version.Two ++ summary_kind ∷ [] ++ field.now) result }
 {
     Progress::More(Stage::Digests {
         moment: moment_of(field),
@@ -159,13 +169,14 @@ pub(crate) fn judge(alloc: Global, stage: Stage, field: &[u8]) -> Result<Progres
 {
     match stage {
         Stage::Magic => judge_magic(field),
-        Stage::Kind => judge_kind(field),
-        Stage::Numbers => judge_numbers(alloc, field),
+        Stage::Kind(version) => judge_kind(version, field),
+        Stage::Numbers(version) => judge_numbers(alloc, version, field),
         Stage::Uses {
+            version,
             moment,
             count,
             uses,
-        } => judge_use(moment, count, uses, field),
+        } => judge_use(version, moment, count, uses, field),
         Stage::Moment => Ok(judge_moment(alloc, field)),
         Stage::Digests { moment, digests } => judge_digest(moment, digests, field),
     }

@@ -3,13 +3,23 @@
 
 ghost use Rattle.svid_replay.specs.Parts.{PartsGiveRecord};
 ghost use Rattle.svid_wire.specs.Feed.{PushesJoin};
-ghost use Rattle.svid_wire.specs.Messages.{BeginsOneMessage, BeginsOrFaults, CutAnywhere, EachParses, NoTextIsLonger, ParseEnds, ParsesOneWay, TextHasNoFault};
+ghost use Rattle.svid_wire.specs.Messages.{BeginsOneMessage, BeginsOrFaults, CutAnywhere, EachParses, NoTextIsLonger, OldBatchIsRead, ParseEnds, ParsesOneWay, TextHasNoFault, WrittenIsRead};
 ghost use Rattle.svid_wire.specs.RecordText.{TextTellsRecord};
 ghost use Rattle.svid_wire.specs.WireFault.{FaultIsUnique, FieldFaultStays};
 
 /// Bytes begin with the text of at most one message.
 pub fn begins_one_message()
     ensures { BeginsOneMessage }
+{}
+
+/// The text that is written of a message is read as that message.
+pub fn written_is_read()
+    ensures { WrittenIsRead }
+{}
+
+/// A batch of version 1 is read as the batch that its text of version 2 is read as.
+pub fn old_batches_are_read()
+    ensures { OldBatchIsRead }
 {}
 
 /// Bytes that begin with a message's text have no fault, whatever follows.

@@ -1,7 +1,7 @@
 //! Where the fields of a message's text stand, and how long they are.
 
-/// What every message begins with: `JSR`, and 1 for the version.
-pub(crate) const MAGIC: [u8; 4] = [b'J', b'S', b'R', 1];
+/// What every message begins with: `JSR`, and 2 for the version.
+pub(crate) const MAGIC: [u8; 4] = [b'J', b'S', b'R', 2];
 
 /// The next byte of a batch.
 pub(crate) const BATCH_KIND: u8 = 1;
@@ -19,7 +19,7 @@ pub(crate) const KIND_LEN: usize = 1;
 pub(crate) const NUMBERS_LEN: usize = 12;
 
 /// How many bytes a use has.
-pub(crate) const USE_LEN: usize = 64;
+pub(crate) const USE_LEN: usize = 65;
 
 /// How many bytes stand before the first use.
 pub(crate) const HEAD_LEN: usize = 17;

@@ -10,10 +10,11 @@
 //! definition of its own, in `specs/BatchText.antt`, `specs/SummaryText.antt`, `specs/Messages.antt`
 //! and `specs/WireFault.antt`; [`laws`] says that it leaves no doubt: bytes are
 //! in exactly one way the texts of some messages and a rest that begins with none, and such a rest,
-//! unless it is empty, has one fault.
+//! unless it is empty, has one fault. Messages are written in version 2; batches of version 1, which knew
+//! no withdrawals, are read as well (`specs/Version1.antt`).
 //!
 //! ```rust
-//! let bytes = b"JSR\x01\x01\x00\x00\x00\x00\x00\x00\x00\x64\x00\x00\x00\x00";
+//! let bytes = b"JSR\x02\x01\x00\x00\x00\x00\x00\x00\x00\x64\x00\x00\x00\x00";
 //! let mut source = Counted::new(bytes.as_slice());
 //! let read = read_up_to(alloc, &mut source, 67108864)?;
 //! let mut messages = Vec::new(alloc);
@@ -49,6 +50,8 @@ mod stage;
 mod stopped;
 #[cfg(test)]
 mod tests;
+mod version;
+mod version_1;
 mod wire_fault;
 mod write_fault;
 mod writing;

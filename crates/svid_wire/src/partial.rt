@@ -15,7 +15,7 @@ pub(crate) struct Partial {
 
 /// Puts bytes behind the first `filled` of a field.
 pub(crate) fn put_behind(part: &mut [u8; USE_LEN], filled: usize, more: &[u8])
-    requires { filled + length more.now ≤ 64 }
+    requires { filled + length more.now ≤ 65 }
     ensures { take (filled + length more.now) part.new ≡ take filled part.old ++ more.now }
 {
     part[filled..filled + more.len()].copy_from_slice(more);
@@ -76,7 +76,7 @@ impl Partial {
     pub(crate) fn len(&self) -> usize
         requires { IsPartial self.now }
         ensures value { result ≡ length (held_of self.now) }
-        ensures most { result ≤ 262160 }
+        ensures most { result ≤ 4259856 }
     {
         self.stage.text_len() + self.filled
     }

@@ -1,12 +1,14 @@
 /// What is wrong with the bytes of a message.
 #[derive(Clone, Copy, Debug, PartialEq, Eq)]
 pub enum Reason {
-    /// The first four bytes are not those of version 1.
+    /// The first four bytes are those of no version.
     Magic,
-    /// The fifth byte is that of no kind of message.
+    /// The fifth byte is that of no kind of message; or it is that of a summary, in version 1.
     Kind,
-    /// A batch tells of more than 4,096 uses.
+    /// A batch tells of more than 65,536 uses, or, in version 1, of more than 4,096.
     Count,
+    /// The last byte of a use is neither 0 nor 1.
+    UseKind,
     /// A use expires at its batch's moment or before it.
     UseExpired,
     /// A use was made after its batch's moment.

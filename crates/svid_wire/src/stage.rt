@@ -1,17 +1,19 @@
 ghost use Rattle.std.specs.Prelude.{◌≡◌, ◌+◌, ◌<◌, ◌≤◌, length};
 
 use crate::layout::{
-    DIGEST_LEN, HEAD_LEN, KIND_LEN, MAGIC_LEN, MOMENT_LEN, NUMBERS_LEN, SUMMARY_HEAD_LEN, USE_LEN,
+    DIGEST_LEN, HEAD_LEN, KIND_LEN, MAGIC_LEN, MOMENT_LEN, NUMBERS_LEN, SUMMARY_HEAD_LEN,
 };
+use crate::version::Version;
 use svid_replay::{Batch, Use};
 
 /// The field of a message that comes next, with what the fields before it told.
 #[derive(Drop)]
 pub(crate) enum Stage {
     Magic,
-    Kind,
-    Numbers,
+    Kind(Version),
+    Numbers(Version),
     Uses {
+        version: Version,
         moment: u64,
         count: u32,
         uses: Vec<Use>,
@@ -33,9 +35,9 @@ impl Stage {
     {
         match self {
             Stage::Magic => MAGIC_LEN,
-            Stage::Kind => KIND_LEN,
-            Stage::Numbers => NUMBERS_LEN,
-            Stage::Uses { .. } => USE_LEN,
+            Stage::Kind(_) => KIND_LEN,
+            Stage::Numbers(_) => NUMBERS_LEN,
+            Stage::Uses { version, .. } => version.use_len(),
             Stage::Moment => MOMENT_LEN,
             Stage::Digests { .. } => DIGEST_LEN,
         }
@@ -45,13 +47,13 @@ impl Stage {
     pub(crate) fn text_len(&self) -> usize
         requires { IsStage self.now }
         ensures value { result ≡ length (stage_text self.now) }
-        ensures most { result + field_len self.now ≤ 262161 }
+        ensures most { result + field_len self.now ≤ 4259857 }
     {
         match self {
             Stage::Magic => 0,
-            Stage::Kind => MAGIC_LEN,
-            Stage::Numbers => MAGIC_LEN + KIND_LEN,
-            Stage::Uses { uses, .. } => HEAD_LEN + USE_LEN * uses.len(),
+            Stage::Kind(_) => MAGIC_LEN,
+            Stage::Numbers(_) => MAGIC_LEN + KIND_LEN,
+            Stage::Uses { version, uses, .. } => HEAD_LEN + version.use_len() * uses.len(),
             Stage::Moment => MAGIC_LEN + KIND_LEN,
             Stage::Digests { digests, .. } => SUMMARY_HEAD_LEN + DIGEST_LEN * digests.len(),
         }
@@ -63,7 +65,7 @@ impl Stage {
 #[derive(Drop)]
 pub(crate) enum Progress {
     More(Stage),
-    Batch(Batch),
+    Batch(Version, Batch),
     Summary {
         moment: u64,
         digests: Vec<[u8; DIGEST_LEN]>,

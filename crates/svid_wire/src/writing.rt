@@ -1,6 +1,7 @@
 ghost use Rattle.std.specs.Prelude.{◌≡◌, length, OnOk, IfErr};
 ghost use Rattle.svid_wire.specs.BatchText.{batch_text, head_text};
 ghost use Rattle.svid_wire.specs.Streams.{StoppedAfter, TookAll, taken};
+ghost use Rattle.svid_wire.specs.declared.version.Version.{Version};
 
 use crate::layout::{BATCH_KIND, COUNT_PLACE, HEAD_LEN, KIND_PLACE, MAGIC, MOMENT_PLACE, USE_LEN};
 use crate::{Sink, Stopped, WriteFault};
@@ -25,7 +26,7 @@ pub fn put_all<K: Sink>(sink: &mut K, piece: &[u8]) -> Result<(), WriteFault>
 
 // What stands before the first use.
 fn head_of(batch: &Batch) -> [u8; HEAD_LEN]
-    ensures { result ≡ head_text batch.now.moment (length batch.now.uses) }
+    ensures { result ≡ head_text Version.Two batch.now.moment (length batch.now.uses) }
 {
     let mut head = [0; HEAD_LEN];
     head[..KIND_PLACE].copy_from_slice(&MAGIC);

@@ -121,6 +121,7 @@ const USED_AGAIN: Use = Use {
     key: KEY,
     place: PLACE,
     at: 1001,
+    withdrawn: false,
 };
 
 // A token is known by its `jti` within its trust domain, whatever else it says, until the use that is
@@ -193,6 +194,7 @@ const HELD: Use = Use {
     key: KEY,
     place: [0xBB; 16],
     at: 400,
+    withdrawn: false,
 };
 
 #[test]

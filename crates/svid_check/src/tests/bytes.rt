@@ -4,7 +4,7 @@ ghost use Rattle.std.specs.Prelude.{◌<◌};
 
 use std::alloc::Global;
 use std::test::Fail;
-use svid_replay::{Batch, Summary};
+use svid_replay::{Batch, Summary, Use};
 use svid_wire::{Feed, MemSink, Message, write_batch, write_summary};
 
 // The text of each batch.
@@ -14,6 +14,29 @@ pub(super) fn texts_of(alloc: Global, batches: &[Batch]) -> Result<Vec<Vec<u8>>,
         let mut sink = MemSink::new(alloc, 100, None);
         write_batch(batch, &mut sink)?;
         texts.push(sink.bytes().to_vec(alloc)?)?;
+    }
+    Ok(texts)
+}
+
+// The text of a batch as a validator of version 1 writes it, if it has no withdrawal.
+fn old_text(alloc: Global, moment: u64, uses: &[Use]) -> Result<Vec<u8>, Fail> {
+    let mut text = b"JSR\x01\x01".to_vec(alloc)?;
+    text.extend_from_slice(&moment.to_be_bytes())?;
+    text.extend_from_slice(&u32::try_from(uses.len())?.to_be_bytes())?;
+    for used in uses {
+        text.extend_from_slice(used.text().split_at(64).0)?;
+    }
+    Ok(text)
+}
+
+// The texts of a record as a validator of version 1 sends it: 4,096 uses in each but the last.
+pub(super) fn old_texts_of(alloc: Global, moment: u64, uses: &[Use]) -> Result<Vec<Vec<u8>>, Fail> {
+    let mut texts = Vec::new(alloc);
+    for part in uses.chunks(4096) {
+        texts.push(old_text(alloc, moment, part)?)?;
+    }
+    if texts.is_empty() {
+        texts.push(old_text(alloc, moment, &[])?)?;
     }
     Ok(texts)
 }

@@ -2,11 +2,11 @@
 
 ghost use Rattle.std.specs.Prelude.{◌<◌};
 
-use super::bytes::{batch_of, summary_of, summary_text, texts_of};
+use super::bytes::{batch_of, old_texts_of, summary_of, summary_text, texts_of};
 use super::chance::Chance;
 use super::told::{Entry, Told};
 use super::{Sig, signed, with_record};
-use crate::{Reading, TakeFault, Validator};
+use crate::{Reading, TakeFault, Validator, WithdrawFault};
 use std::alloc::{AllocError, Global};
 use std::process::Abort;
 use std::test::Fail;
@@ -201,10 +201,10 @@ impl Common {
         Ok(self.pool.push(Posting { was, content })?)
     }
 
-    // The place of a token that expires soon.
-    fn token_near(&mut self, moment: u64) -> usize {
+    // The place of a token that expires soon: one of so many.
+    fn token_near(&mut self, moment: u64, choice: usize) -> usize {
         let first = moment.saturating_sub(BEGIN) / 8;
-        let number = self.chance.below(28).saturating_add(first as usize);
+        let number = self.chance.below(choice).saturating_add(first as usize);
         number.saturating_sub(4)
     }
 }
@@ -217,7 +217,7 @@ fn checks<S: UseStore>(
     member: &mut Member<S>,
 ) -> Result<&'static str, Fail> {
     member.goes_on(common.chance.below(4));
-    let number = common.token_near(member.told.greatest);
+    let number = common.token_near(member.told.greatest, 28);
     let token = common.tokens.get(number).ok_or("there is no such token")?;
     let due = member.told.refusal(&token.key, token.exp);
     match member.validator.check(member.clock, token.text.as_bytes()) {
@@ -227,6 +227,7 @@ fn checks<S: UseStore>(
                 key: token.key,
                 place: member.place,
                 at: member.told.greatest,
+                withdrawn: false,
             };
             assert_eq!(rt; (accepted.used, None), (used, due), "step {}", common.step);
             member.told.tell_use(used)?;
@@ -236,10 +237,38 @@ fn checks<S: UseStore>(
             assert_eq!(rt; Some(refusal), due, "step {}", common.step);
             Ok(match refusal {
                 Refusal::Expired => "expired",
+                Refusal::Withdrawn => "refused as withdrawn",
                 _ => "replayed",
             })
         }
     }
+}
+
+fn withdraws<S: UseStore>(
+    rt: &impl Abort,
+    common: &mut Common,
+    member: &mut Member<S>,
+) -> Result<&'static str, Fail> {
+    member.goes_on(common.chance.below(4));
+    let number = common.token_near(member.told.greatest, 9);
+    let token = common.tokens.get(number).ok_or("there is no such token")?;
+    let found = member
+        .validator
+        .withdraw(member.clock, token.key, token.exp);
+    if token.exp <= member.told.greatest {
+        assert_eq!(rt; found, Err(WithdrawFault::Expired), "step {}", common.step);
+        return Ok("not withdrawn");
+    }
+    let used = Use {
+        exp: token.exp,
+        key: token.key,
+        place: member.place,
+        at: member.told.greatest,
+        withdrawn: true,
+    };
+    assert_eq!(rt; found, Ok(used), "step {}", common.step);
+    member.told.tell_use(used)?;
+    Ok("withdrawn")
 }
 
 fn ticks<S: UseStore>(common: &mut Common, member: &mut Member<S>) -> &'static str {
@@ -256,6 +285,22 @@ fn sends<S: UseStore>(
     let parts = member.parts(alloc)?;
     common.post(alloc, member, Content::Sent(parts))?;
     Ok("sent")
+}
+
+// Sends the record as a validator of version 1 does, which knows of no withdrawal.
+fn sends_old<S: UseStore>(
+    alloc: Global,
+    common: &mut Common,
+    member: &Member<S>,
+) -> Result<&'static str, Fail> {
+    let record = member.validator.replay();
+    let uses = record.uses(alloc)?;
+    if uses.iter().any(|used| used.withdrawn) {
+        return Ok("not sent in version 1");
+    }
+    let parts = old_texts_of(alloc, record.moment(), &uses)?;
+    common.post(alloc, member, Content::Sent(parts))?;
+    Ok("sent in version 1")
 }
 
 fn sums<S: UseStore>(
@@ -408,8 +453,10 @@ fn happens<S: UseStore + Drop>(
     member: &mut Member<S>,
     record: Record<S>,
 ) -> Result<&'static str, Fail> {
-    match common.chance.below(20) {
+    match common.chance.below(23) {
         0..=5 => checks(rt, common, member),
+        20 => withdraws(rt, common, member),
+        21..=22 => sends_old(alloc, common, member),
         6 => Ok(ticks(common, member)),
         7..=8 => sends(alloc, common, member),
         9..=10 => sums(alloc, common, member),
@@ -445,6 +492,17 @@ fn keys_used_twice(alloc: Global, uses: &[Use]) -> Result<Vec<[u8; 32]>, AllocEr
     Ok(keys)
 }
 
+// Those that are no withdrawals.
+fn used_of(alloc: Global, uses: &[Use]) -> Result<Vec<Use>, AllocError> {
+    let mut found = Vec::new(alloc);
+    for used in uses {
+        if !used.withdrawn {
+            found.push(*used)?;
+        }
+    }
+    Ok(found)
+}
+
 // A report lists the keys that two or more of the live uses have, with all of them.
 fn assert_report(
     rt: &impl Abort,
@@ -478,7 +536,8 @@ fn assert_as_told<S: UseStore>(
         record.uses(alloc)?.as_slice() == live.as_slice(),
         "step {step}"
     );
-    assert_report(rt, alloc, step, &record.report(alloc)?, &live)
+    let used = used_of(alloc, &live)?;
+    assert_report(rt, alloc, step, &record.report(alloc)?, &used)
 }
 
 fn step<S: UseStore + Drop>(
@@ -511,25 +570,30 @@ fn step_of(rt: &impl Abort, alloc: Global, group: &mut Group) -> Result<&'static
     }
 }
 
+fn assert_at_least(rt: &impl Abort, words: &[&'static str], least: usize, word: &str) {
+    let found = words.iter().filter(|happened| **happened == word).count();
+    assert!(rt; found >= least, "{word}: {found}");
+}
+
 // Nothing is left out by chance.
 fn assert_happened(rt: &impl Abort, words: &[&'static str]) {
-    for (word, least) in [
-        ("accepted", 150),
-        ("replayed", 300),
-        ("expired", 100),
-        ("ticked", 100),
-        ("sent", 200),
-        ("summed", 200),
-        ("answered", 100),
-        ("not answered", 20),
-        ("taken", 200),
-        ("left", 40),
-        ("saved", 100),
-        ("restarted", 25),
-    ] {
-        let found = words.iter().filter(|happened| **happened == word).count();
-        assert!(rt; found >= least, "{word}: {found}");
-    }
+    assert_at_least(rt, words, 150, "accepted");
+    assert_at_least(rt, words, 300, "replayed");
+    assert_at_least(rt, words, 100, "expired");
+    assert_at_least(rt, words, 50, "withdrawn");
+    assert_at_least(rt, words, 10, "not withdrawn");
+    assert_at_least(rt, words, 25, "refused as withdrawn");
+    assert_at_least(rt, words, 25, "sent in version 1");
+    assert_at_least(rt, words, 25, "not sent in version 1");
+    assert_at_least(rt, words, 100, "ticked");
+    assert_at_least(rt, words, 200, "sent");
+    assert_at_least(rt, words, 200, "summed");
+    assert_at_least(rt, words, 100, "answered");
+    assert_at_least(rt, words, 20, "not answered");
+    assert_at_least(rt, words, 200, "taken");
+    assert_at_least(rt, words, 40, "left");
+    assert_at_least(rt, words, 100, "saved");
+    assert_at_least(rt, words, 25, "restarted");
 }
 
 #[test]

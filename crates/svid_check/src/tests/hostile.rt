@@ -22,6 +22,7 @@ fn made(number: u8) -> Use {
         key: [number; 32],
         place: [0xBB; 16],
         at: 900,
+        withdrawn: false,
     }
 }
 

@@ -26,6 +26,16 @@ const LATER_USED: Use = Use {
     key: LATER_KEY,
     place: [0xBB; 16],
     at: 1000,
+    withdrawn: false,
+};
+
+// A use that is behind all others of many.
+const LAST_USED: Use = Use {
+    exp: 5000,
+    key: [0x07; 32],
+    place: [0xBB; 16],
+    at: 1000,
+    withdrawn: false,
 };
 
 // A validator that accepted a token at a moment.
@@ -134,19 +144,21 @@ fn another_order_gives_the_same_record(rt: HostRuntime) -> Result<(), Fail> {
     assert_equal(&rt, alloc, &v, &w)
 }
 
-// Uses for two parts of a record, rising: 241 keys, each used at 17 places.
+// Uses for two parts of a record, rising: 256 keys, each used at 256 places, and one that expires later.
 fn many_uses(alloc: Global) -> Result<Vec<Use>, AllocError> {
     let mut uses = Vec::new(alloc);
-    for key in 0..241u8 {
-        for place in 0..17u8 {
+    for key in 0..=255u8 {
+        for place in 0..=255u8 {
             uses.push(Use {
                 exp: 2000,
                 key: [key; 32],
                 place: [place; 16],
                 at: 1000,
+                withdrawn: false,
             })?;
         }
     }
+    uses.push(LAST_USED)?;
     Ok(uses)
 }
 
@@ -154,27 +166,34 @@ fn many_uses(alloc: Global) -> Result<Vec<Use>, AllocError> {
 fn with_many_uses(alloc: Global) -> Result<Validator<Sig, IndexedUses>, Fail> {
     let mut v = sharing(alloc, [0xAA; 16], 10)?;
     let uses = many_uses(alloc)?;
-    for uses in uses.chunks(4096) {
+    for uses in uses.chunks(65536) {
         v.take(1000, &Batch::make(1000, uses.to_vec(alloc)?)?)?;
     }
     Ok(v)
 }
 
-// A validator that was told nothing takes both parts, in either order, and has the sender's record.
+// A validator that was told nothing takes all parts in their order, and has the sender's record.
+fn assert_sent_whole(
+    rt: &impl Abort,
+    alloc: Global,
+    sender: &Validator<Sig, IndexedUses>,
+    parts: &[Vec<u8>],
+) -> Result<(), Fail> {
+    let mut v = sharing(alloc, [0xBB; 16], 10)?;
+    take_all(alloc, &mut v, parts)?;
+    assert_equal(rt, alloc, &v, sender)
+}
+
 #[test]
 fn a_record_is_sent_whole(rt: HostRuntime) -> Result<(), Fail> {
     let alloc = rt.alloc();
     let sender = with_many_uses(alloc)?;
+    assert_uses(&rt, alloc, &sender, 1000, &many_uses(alloc)?)?;
     let mut parts = parts_of(alloc, &sender)?;
     assert_eq!(rt; parts.len(), 2);
-    let mut v = sharing(alloc, [0xBB; 16], 10)?;
-    take_all(alloc, &mut v, &parts)?;
-    assert_equal(&rt, alloc, &v, &sender)?;
+    assert_sent_whole(&rt, alloc, &sender, &parts)?;
     parts.reverse();
-    let mut w = sharing(alloc, [0xCC; 16], 10)?;
-    take_all(alloc, &mut w, &parts)?;
-    assert_uses(&rt, alloc, &w, 1000, &many_uses(alloc)?)?;
-    Ok(())
+    assert_sent_whole(&rt, alloc, &sender, &parts)
 }
 
 // The first accepts, sends to the second, and this one to the third.
@@ -191,6 +210,32 @@ fn an_acceptance_goes_along_a_chain(rt: HostRuntime) -> Result<(), Fail> {
     assert_refused(&rt, &mut second, 1000, token.as_str(), Refusal::Replayed, 1);
     assert_refused(&rt, &mut third, 1000, token.as_str(), Refusal::Replayed, 1);
     assert_uses(&rt, alloc, &third, 1000, &[USED])?;
+    Ok(())
+}
+
+// The first withdraws a token that the second accepted, and the third hears of both by the second alone.
+#[test]
+fn a_withdrawal_goes_along_a_chain(rt: HostRuntime) -> Result<(), Fail> {
+    let alloc = rt.alloc();
+    let token = signed(alloc, PAYLOAD)?;
+    let mut first = sharing(alloc, [0xAA; 16], 10)?;
+    let mut second = accepting(alloc, 0xBB, 999, PAYLOAD)?;
+    let mut third = sharing(alloc, [0xCC; 16], 10)?;
+    first.withdraw(1000, KEY, 1001)?;
+    send(alloc, &first, &mut second)?;
+    send(alloc, &second, &mut third)?;
+    assert_refused(&rt, &mut first, 1000, token.as_str(), Refusal::Withdrawn, 1);
+    assert_refused(
+        &rt,
+        &mut second,
+        1000,
+        token.as_str(),
+        Refusal::Withdrawn,
+        2,
+    );
+    assert_refused(&rt, &mut third, 1000, token.as_str(), Refusal::Withdrawn, 2);
+    let report = third.replay().report(alloc)?;
+    assert!(rt; report.is_empty());
     Ok(())
 }
 
@@ -318,7 +363,7 @@ fn exchange(
     asked: &mut Validator<Sig, IndexedUses>,
 ) -> Result<(), Fail> {
     let texts = answer_to(alloc, asked, asking)?;
-    assert_one_of(rt, alloc, &texts, 35)?;
+    assert_one_of(rt, alloc, &texts, 513)?;
     take_all(alloc, asking, &texts)?;
     send(alloc, asking, asked)
 }
@@ -332,7 +377,7 @@ fn an_answer_tells_all(rt: HostRuntime) -> Result<(), Fail> {
     accept(alloc, &mut asking, LATER)?;
     accept(alloc, &mut asked, PAYLOAD)?;
     exchange(&rt, alloc, &mut asking, &mut asked)?;
-    assert_record(&rt, &asking, 1000, 4099);
+    assert_record(&rt, &asking, 1000, 65539);
     assert_equal(&rt, alloc, &asking, &asked)
 }
 
@@ -413,7 +458,7 @@ fn a_restart_between_two_parts_loses_the_first(rt: HostRuntime) -> Result<(), Fa
     let mut v = sharing(alloc, [0xBB; 16], 10)?;
     let save = parts_of(alloc, &v)?;
     take_part(alloc, &mut v, &parts, 0)?;
-    assert_record(&rt, &v, 1000, 4096);
+    assert_record(&rt, &v, 1000, 65536);
     let mut v = restarted(alloc, 0xBB, &save)?;
     take_part(alloc, &mut v, &parts, 1)?;
     assert_record(&rt, &v, 1000, 1);

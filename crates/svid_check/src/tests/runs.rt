@@ -1,4 +1,4 @@
-use super::{PAYLOAD, PLACE, Sig, assert_record, assert_uses, sharing, signed};
+use super::{KEY, PAYLOAD, PLACE, Sig, assert_record, assert_uses, sharing, signed};
 use crate::{Answer, Event, TakeFault, Validator};
 use std::alloc::{AllocError, Global};
 use std::process::Abort;
@@ -17,6 +17,8 @@ fn word_of(answer: &Answer) -> &'static str {
         Answer::Taken(Ok(())) => "taken",
         Answer::Taken(Err(TakeFault::TooFarAhead)) => "left",
         Answer::Taken(Err(TakeFault::OutOfMemory)) => "taken in part",
+        Answer::Withdrawn(Ok(_)) => "withdrawn",
+        Answer::Withdrawn(Err(_)) => "not withdrawn",
     }
 }
 
@@ -59,6 +61,44 @@ fn a_run_answers_each_event(rt: HostRuntime) -> Result<(), Fail> {
         &mut answers,
         &["accepted", "ticked", "expired"],
     )?;
+    assert_record(&rt, &v, 1001, 0);
+    Ok(())
+}
+
+// A token is accepted, withdrawn and refused; once it has expired there is nothing to withdraw.
+#[test]
+fn a_run_withdraws(rt: HostRuntime) -> Result<(), Fail> {
+    let alloc = rt.alloc();
+    let token = signed(alloc, PAYLOAD)?;
+    let mut v = sharing(alloc, PLACE, 10)?;
+    let check = Event::Check {
+        now: 1000,
+        token: token.as_bytes(),
+    };
+    let withdraw = Event::Withdraw {
+        now: 1000,
+        key: KEY,
+        exp: 1001,
+    };
+    let events = [
+        check,
+        withdraw,
+        withdraw,
+        check,
+        Event::Tick { now: 1001 },
+        withdraw,
+        check,
+    ];
+    let due = [
+        "accepted",
+        "withdrawn",
+        "withdrawn",
+        "refused",
+        "ticked",
+        "not withdrawn",
+        "expired",
+    ];
+    assert_run(&rt, &mut v, &events, &mut Vec::new(alloc), &due)?;
     assert_record(&rt, &v, 1001, 0);
     Ok(())
 }
@@ -135,6 +175,7 @@ fn answer_to(v: &mut Validator<Sig, IndexedUses>, event: Event<'_>) -> Answer {
             Answer::Ticked
         }
         Event::Take { now, batch } => Answer::Taken(v.take(now, batch)),
+        Event::Withdraw { now, key, exp } => Answer::Withdrawn(v.withdraw(now, key, exp)),
     }
 }
 
@@ -176,6 +217,7 @@ fn near_batch(alloc: Global) -> Result<Batch, Fail> {
         key: [0x11; 32],
         place: [0xBB; 16],
         at: 5,
+        withdrawn: false,
     };
     Ok(Batch::make(5, vec![in alloc; used]?)?)
 }

@@ -137,6 +137,7 @@ fn batch_of(alloc: Global, count: u8, exp: u64) -> Result<Batch, Fail> {
             key: [number; 32],
             place: [0xBB; 16],
             at: 5000,
+            withdrawn: false,
         })?;
     }
     Ok(Batch::make(5000, uses)?)

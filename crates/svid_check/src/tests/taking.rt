@@ -16,6 +16,7 @@ pub(super) const FIRST: Use = Use {
     key: [0x11; 32],
     place: [0x22; 16],
     at: 99,
+    withdrawn: false,
 };
 
 pub(super) const SECOND: Use = Use {
@@ -23,6 +24,7 @@ pub(super) const SECOND: Use = Use {
     key: [0x11; 32],
     place: [0x33; 16],
     at: 100,
+    withdrawn: false,
 };
 
 pub(super) fn batch_with(alloc: Global, moment: u64, uses: &[Use]) -> Result<Batch, Fail> {
@@ -38,6 +40,7 @@ fn batch_of(alloc: Global, moment: u64) -> Result<Batch, Fail> {
             key: [0x11; 32],
             place: [0x22; 16],
             at: moment,
+            withdrawn: false,
         })?;
     }
     Ok(Batch::make(moment, uses)?)

@@ -78,12 +78,16 @@ impl Told {
         if exp <= self.greatest {
             return Some(Refusal::Expired);
         }
+        let mut refusal = None;
         for used in &self.uses {
             if self.greatest < used.exp && used.key == *key {
-                return Some(Refusal::Replayed);
+                if used.withdrawn {
+                    return Some(Refusal::Withdrawn);
+                }
+                refusal = Some(Refusal::Replayed);
             }
         }
-        None
+        refusal
     }
 
     pub(super) fn made(&self, posting: usize) -> bool {

@@ -2,7 +2,7 @@
 ghost use Rattle.std.specs.Prelude.{◌<◌};
 
 use super::refusing::{refuse, was_refused};
-use super::{ONE_KEY, TOKEN, TWO_USES};
+use super::{OLD_TWO_USES, ONE_KEY, TOKEN, TWO_USES};
 use crate::{CheckSetting, run_check};
 use std::alloc::{AllocError, Global};
 use std::process::Abort;
@@ -17,21 +17,23 @@ pub(super) const TABLE: &[u8] =
 
 // The record after the token was accepted at 1000: its key is the SHA-256 digest of 01, the length of
 // the trust domain name in four bytes, the name and the token's ID (Python's hashlib).
-const KEPT: &[u8; 81] = b"JSR\x01\x01\
+const KEPT: &[u8; 82] = b"JSR\x02\x01\
 \x00\x00\x00\x00\x00\x00\x03\xe8\x00\x00\x00\x01\
 \x00\x00\x00\x00\x00\x00\x03\xe9\
 \xaa\x24\x8c\xe5\x28\xcb\x9c\xae\x51\x8c\x0a\xe0\x5c\xda\xf8\x5e\
 \xda\x54\x82\x42\x9a\xb9\xcc\x3d\x6d\x56\x81\xf4\x7a\x1f\x45\x96\
 \xaa\xaa\xaa\xaa\xaa\xaa\xaa\xaa\xaa\xaa\xaa\xaa\xaa\xaa\xaa\xaa\
-\x00\x00\x00\x00\x00\x00\x03\xe8";
+\x00\x00\x00\x00\x00\x00\x03\xe8\x00";
 
 // The record of moment 0 with no use.
-const NOTHING_KEPT: &[u8; 17] = b"JSR\x01\x01\x00\x00\x00\x00\x00\x00\x00\x00\x00\x00\x00\x00";
+const NOTHING_KEPT: &[u8; 17] = b"JSR\x02\x01\x00\x00\x00\x00\x00\x00\x00\x00\x00\x00\x00\x00";
 
 // The record of moment 1000 with no use.
-const RAISED: &[u8; 17] = b"JSR\x01\x01\x00\x00\x00\x00\x00\x00\x03\xe8\x00\x00\x00\x00";
+const RAISED: &[u8; 17] = b"JSR\x02\x01\x00\x00\x00\x00\x00\x00\x03\xe8\x00\x00\x00\x00";
 
 const ACCEPTED_ONCE: &[u8] = b"accepted spiffe://a/b 1001\nrefused Replayed\n";
+
+const BOTH_WITHDRAWN: &[u8] = b"refused Withdrawn\nrefused Withdrawn\n";
 
 const BOTH_REPLAYED: &[u8] = b"refused Replayed\nrefused Replayed\n";
 
@@ -199,6 +201,33 @@ fn goes_on_with_an_earlier_record(rt: HostRuntime) -> Result<(), Fail> {
     assert_run(&rt, alloc, &given, false, BOTH_REPLAYED, KEPT)
 }
 
+// The record that a run keeps, with its use made a withdrawal.
+#[test]
+fn refuses_what_was_withdrawn(rt: HostRuntime) -> Result<(), Fail> {
+    let alloc = rt.alloc();
+    let tokens = twice(alloc)?;
+    let mut withdrawn = KEPT.to_vec(alloc)?;
+    withdrawn.truncate(KEPT.len() - 1);
+    withdrawn.push(1)?;
+    let mut given = Given::of(&tokens);
+    given.earlier = Some(&withdrawn);
+    assert_run(&rt, alloc, &given, false, BOTH_WITHDRAWN, &withdrawn)
+}
+
+// The record is kept in version 2, whichever it was.
+#[test]
+fn goes_on_with_an_earlier_record_of_version_1(rt: HostRuntime) -> Result<(), Fail> {
+    let alloc = rt.alloc();
+    let tokens = twice(alloc)?;
+    let mut earlier = Vec::with_capacity(alloc, 81)?;
+    earlier.extend_from_slice(b"JSR\x01")?;
+    let kept = KEPT.as_slice();
+    earlier.extend_from_slice(&kept[4..81])?;
+    let mut given = Given::of(&tokens);
+    given.earlier = Some(&earlier);
+    assert_run(&rt, alloc, &given, false, BOTH_REPLAYED, KEPT)
+}
+
 #[test]
 fn does_not_raise_the_record_without_a_token(rt: HostRuntime) -> Result<(), Fail> {
     let alloc = rt.alloc();
@@ -249,16 +278,18 @@ fn tells_the_first_refused_input(rt: HostRuntime) -> Result<(), Fail> {
 fn tells_a_cut_record(rt: HostRuntime) -> Result<(), Fail> {
     let alloc = rt.alloc();
     let tokens = twice(alloc)?;
-    for length in 1..TWO_USES.len() {
-        let mut given = Given::of(&tokens);
-        given.earlier = Some(&TWO_USES[..length]);
-        let fault = ToolFault::Wire {
-            input: 4,
-            message: 1,
-            place: length,
-            reason: Reason::Truncated,
-        };
-        assert_refused(&rt, alloc, &given, fault)?;
+    for earlier in [OLD_TWO_USES.as_slice(), TWO_USES.as_slice()] {
+        for length in 1..earlier.len() {
+            let mut given = Given::of(&tokens);
+            given.earlier = Some(&earlier[..length]);
+            let fault = ToolFault::Wire {
+                input: 4,
+                message: 1,
+                place: length,
+                reason: Reason::Truncated,
+            };
+            assert_refused(&rt, alloc, &given, fault)?;
+        }
     }
     Ok(())
 }

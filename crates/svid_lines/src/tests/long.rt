@@ -88,7 +88,7 @@ fn takes_inputs_of_64_mebibytes_and_no_byte_more(rt: HostRuntime) -> Result<(), 
 
 // The texts of summaries, one after the other, and of the last one a part: 8,179 are whole.
 fn summaries(alloc: Global, length: usize) -> Result<Vec<u8>, AllocError> {
-    let one = filled(alloc, b"JSR\x01\x02", 0, 8205)?;
+    let one = filled(alloc, b"JSR\x02\x02", 0, 8205)?;
     let mut bytes = Vec::new(alloc);
     for _ in 0..8180 {
         bytes.extend_from_slice(&one)?;

@@ -1,31 +1,6 @@
-use super::{FIRST, SECOND, at, uses_to};
+use super::{FIRST, GONE, SECOND, at, uses_to};
 use crate::{Batch, BatchFault, Use};
 use std::test::Fail;
-
-#[test]
-fn writes_a_use_as_its_fields_with_the_greatest_byte_first(rt: HostRuntime) {
-    for (used, text) in [
-        (
-            FIRST,
-            b"\x00\x00\x00\x00\x00\x00\x00\x65\
-\x11\x11\x11\x11\x11\x11\x11\x11\x11\x11\x11\x11\x11\x11\x11\x11\
-\x11\x11\x11\x11\x11\x11\x11\x11\x11\x11\x11\x11\x11\x11\x11\x11\
-\x22\x22\x22\x22\x22\x22\x22\x22\x22\x22\x22\x22\x22\x22\x22\x22\
-\x00\x00\x00\x00\x00\x00\x00\x63",
-        ),
-        (
-            Use {
-                exp: 0x0102_0304_0506_0708,
-                key: *b"abcdefghijklmnopqrstuvwxyzABCDEF",
-                place: *b"0123456789ghijkl",
-                at: u64::MAX,
-            },
-            b"\x01\x02\x03\x04\x05\x06\x07\x08abcdefghijklmnopqrstuvwxyzABCDEF0123456789ghijkl\xff\xff\xff\xff\xff\xff\xff\xff",
-        ),
-    ] {
-        assert_eq!(rt; used.text().as_slice(), text.as_slice());
-    }
-}
 
 #[test]
 fn makes_batches(rt: HostRuntime) -> Result<(), Fail> {
@@ -33,8 +8,10 @@ fn makes_batches(rt: HostRuntime) -> Result<(), Fail> {
     let batch = Batch::make(100, [FIRST, SECOND].to_vec(alloc)?)?;
     assert_eq!(rt; batch.moment(), 100);
     assert_eq!(rt; batch.uses(), [FIRST, SECOND].as_slice());
-    let batch = Batch::make(5000, uses_to(alloc, 4096)?)?;
-    assert_eq!(rt; batch.uses().len(), 4096);
+    let batch = Batch::make(100, [FIRST, GONE, SECOND].to_vec(alloc)?)?;
+    assert_eq!(rt; batch.uses(), [FIRST, GONE, SECOND].as_slice());
+    let batch = Batch::make(69_999, uses_to(alloc, 65_536)?)?;
+    assert_eq!(rt; batch.uses().len(), 65_536);
     let batch = Batch::make(u64::MAX, Vec::new(alloc))?;
     assert!(rt; batch.uses().is_empty());
     Ok(())
@@ -43,7 +20,7 @@ fn makes_batches(rt: HostRuntime) -> Result<(), Fail> {
 #[test]
 fn refuses_a_batch_with_its_first_fault(rt: HostRuntime) -> Result<(), Fail> {
     let alloc = rt.alloc();
-    let many = Batch::make(5000, uses_to(alloc, 4097)?);
+    let many = Batch::make(69_999, uses_to(alloc, 65_537)?);
     assert_eq!(rt; many.err(), Some(BatchFault::TooMany));
     let old = Use { exp: 100, ..SECOND };
     let both = Use { at: 101, ..old };
@@ -57,6 +34,10 @@ fn refuses_a_batch_with_its_first_fault(rt: HostRuntime) -> Result<(), Fail> {
         ([both, FIRST], BatchFault::Expired(0)),
         ([SECOND, Use { at: 101, ..FIRST }], BatchFault::Future(1)),
         ([at(101), at(101)], BatchFault::Future(0)),
+        ([GONE, FIRST], BatchFault::Order(1)),
+        ([GONE, GONE], BatchFault::Order(1)),
+        ([FIRST, Use { exp: 100, ..GONE }], BatchFault::Expired(1)),
+        ([FIRST, Use { at: 101, ..GONE }], BatchFault::Future(1)),
     ] {
         let refused = Batch::make(100, uses.to_vec(alloc)?);
         assert_eq!(rt; refused.err(), Some(fault));

@@ -9,16 +9,20 @@ use std::alloc::{AllocError, Global};
 use std::process::Abort;
 use std::test::Fail;
 
-// Gives a record 4,100 uses of one key, and two uses each of 20 others.
-fn fill<S: UseStore>(rt: &impl Abort, alloc: Global, record: &mut Record<S>) -> Result<(), Fail> {
-    let uses = uses_to(alloc, 4100)?;
-    assert!(rt; 4096 <= uses.len());
-    let (first, rest) = uses.split_at(4096);
-    absorb(record, alloc, 5000, first)?;
-    absorb(record, alloc, 5000, rest)?;
+// Gives a record so many uses of one key, and two uses each of 20 others.
+fn fill<S: UseStore>(
+    rt: &impl Abort,
+    alloc: Global,
+    record: &mut Record<S>,
+    many: u64,
+) -> Result<(), Fail> {
+    let uses = uses_to(alloc, many)?;
+    let (first, rest) = uses.split_at(uses.len() / 2);
+    absorb(record, alloc, 69_999, first)?;
+    absorb(record, alloc, 69_999, rest)?;
     for number in 0..40u8 {
         let used = Use {
-            exp: 6000,
+            exp: 80_000,
             key: [number / 2; 32],
             ..at(u64::from(number))
         };
@@ -77,7 +81,7 @@ fn answer_while_refused<S: UseStore>(
 ) -> (Result<Vec<Batch>, AllocError>, bool)
     requires { nth < 4294967296 }
 {
-    let summary = Summary::make(5000, [[0; 32]; 256]);
+    let summary = Summary::make(69_999, [[0; 32]; 256]);
     refuse(alloc, nth);
     let list = record.answer(alloc, &summary);
     let refused = was_refused(alloc);
@@ -85,20 +89,21 @@ fn answer_while_refused<S: UseStore>(
     (list, refused)
 }
 
-// Batches of moment 5000 that have these uses, 4,096 in the first.
+// Batches of moment 69999 that have so many uses each, and these uses in all.
 fn assert_batches(
     rt: &impl Abort,
     alloc: Global,
     batches: &[Batch],
+    lens: &[usize],
     uses: &[Use],
 ) -> Result<(), AllocError> {
     let mut all = Vec::new(alloc);
-    for batch in batches {
-        assert_eq!(rt; batch.moment(), 5000);
+    assert_eq!(rt; batches.len(), lens.len());
+    for (batch, len) in batches.iter().zip(lens) {
+        assert_eq!(rt; batch.moment(), 69_999);
+        assert_eq!(rt; batch.uses().len(), *len);
         all.extend_from_slice(batch.uses())?;
     }
-    assert_eq!(rt; batches.len(), 2);
-    assert_eq!(rt; batches[0].uses().len(), 4096);
     assert_eq!(rt; all.as_slice(), uses);
     Ok(())
 }
@@ -129,23 +134,16 @@ fn lists_while_refused<S: UseStore>(
     rt: &impl Abort,
     alloc: Global,
     nth: usize,
-    record: &mut Record<S>,
+    record: &Record<S>,
     uses: &[Use],
 ) -> Result<bool, Fail>
     requires { nth < 4294967296 }
 {
     let (told, one) = uses_while_refused(alloc, nth, record);
     let (listed, two) = report_while_refused(alloc, nth, record);
-    let (parts, three) = parts_while_refused(alloc, nth, record);
-    let (answer, four) = answer_while_refused(alloc, nth, record);
     assert_eq!(rt;
         (told.is_err(), listed.is_err()),
         (one, two),
-        "growth {nth}"
-    );
-    assert_eq!(rt;
-        (parts.is_err(), answer.is_err()),
-        (three, four),
         "growth {nth}"
     );
     if let Ok(told) = &told {
@@ -154,31 +152,54 @@ fn lists_while_refused<S: UseStore>(
     if let Ok(listed) = &listed {
         assert_report(rt, alloc, listed, uses)?;
     }
-    if let Ok(parts) = &parts {
-        assert_batches(rt, alloc, parts, uses)?;
-    }
-    if let Ok(answer) = &answer {
-        assert_batches(rt, alloc, answer, uses)?;
-    }
-    Ok(one || two || three || four)
+    Ok(one || two)
 }
 
-// The same, and then with memory.
+// The same for lists of batches.
+fn batches_while_refused<S: UseStore>(
+    rt: &impl Abort,
+    alloc: Global,
+    nth: usize,
+    record: &mut Record<S>,
+    lens: &[usize],
+    uses: &[Use],
+) -> Result<bool, Fail>
+    requires { nth < 4294967296 }
+{
+    let (parts, one) = parts_while_refused(alloc, nth, record);
+    let (answer, two) = answer_while_refused(alloc, nth, record);
+    assert_eq!(rt;
+        (parts.is_err(), answer.is_err()),
+        (one, two),
+        "growth {nth}"
+    );
+    if let Ok(parts) = &parts {
+        assert_batches(rt, alloc, parts, lens, uses)?;
+    }
+    if let Ok(answer) = &answer {
+        assert_batches(rt, alloc, answer, lens, uses)?;
+    }
+    Ok(one || two)
+}
+
+// Both, and then with memory.
 fn lists_and_stays<S: UseStore>(
     rt: &impl Abort,
     alloc: Global,
     record: &mut Record<S>,
 ) -> Result<(), Fail> {
-    fill(rt, alloc, record)?;
+    fill(rt, alloc, record, 4100)?;
     let uses = record.uses(alloc)?;
     assert_eq!(rt; uses.len(), 4140);
     let mut refused = true;
     for nth in 1..10000usize {
-        refused = lists_while_refused(rt, alloc, nth, record, &uses)?;
-        assert_eq!(rt; record.moment(), 5000);
+        let one = lists_while_refused(rt, alloc, nth, record, &uses)?;
+        let two = batches_while_refused(rt, alloc, nth, record, &[4140], &uses)?;
+        refused = one || two;
+        assert_eq!(rt; record.moment(), 69_999);
         assert_eq!(rt; record.uses(alloc)?.as_slice(), uses.as_slice());
         assert_report(rt, alloc, &record.report(alloc)?, &uses)?;
-        assert_batches(rt, alloc, &record.parts(alloc)?, &uses)?;
+        assert_batches(rt, alloc, &record.parts(alloc)?, &[4140], &uses)?;
         if !refused {
             break;
         }
@@ -192,4 +213,33 @@ fn lists_of_many_uses_tell_want_of_memory(rt: HostRuntime) -> Result<(), Fail> {
     let alloc = rt.alloc();
     lists_and_stays(&rt, alloc, &mut sorted(alloc))?;
     lists_and_stays(&rt, alloc, &mut indexed(alloc))
+}
+
+// Lists of two batches.
+fn cuts_and_stays<S: UseStore>(
+    rt: &impl Abort,
+    alloc: Global,
+    record: &mut Record<S>,
+) -> Result<(), Fail> {
+    fill(rt, alloc, record, 65_600)?;
+    let uses = record.uses(alloc)?;
+    assert_eq!(rt; uses.len(), 65_640);
+    let mut refused = true;
+    for nth in 1..10000usize {
+        refused = batches_while_refused(rt, alloc, nth, record, &[65_536, 104], &uses)?;
+        assert_eq!(rt; record.moment(), 69_999);
+        assert_eq!(rt; record.uses(alloc)?.as_slice(), uses.as_slice());
+        if !refused {
+            break;
+        }
+    }
+    assert!(rt; !refused);
+    Ok(())
+}
+
+#[test]
+fn lists_of_two_batches_tell_want_of_memory(rt: HostRuntime) -> Result<(), Fail> {
+    let alloc = rt.alloc();
+    cuts_and_stays(&rt, alloc, &mut sorted(alloc))?;
+    cuts_and_stays(&rt, alloc, &mut indexed(alloc))
 }

@@ -2,7 +2,7 @@
 // loaded. What they answered is looked at afterwards.
 use super::joins::{Part, uses_of};
 use super::refusing::{refuse, was_refused};
-use super::{FIRST, SECOND, absorb, add, indexed, sorted, uses_to};
+use super::{FIRST, GONE, SECOND, absorb, add, indexed, sorted, uses_to};
 use crate::{
     Batch, BatchFault, Flaw, IndexedUses, Raised, Record, SortedUses, Summary, Use, UseList,
     UseStore, flaw_of,
@@ -18,14 +18,14 @@ fn a_batch_is_made_or_refused_without_memory(rt: HostRuntime) -> Result<(), Fail
     let turned = [SECOND, FIRST].to_vec(alloc)?;
     let old = [FIRST, SECOND].to_vec(alloc)?;
     let early = [FIRST, SECOND].to_vec(alloc)?;
-    let many = uses_to(alloc, 4097)?;
+    let many = uses_to(alloc, 65_537)?;
     refuse(alloc, 1);
     let made = Batch::make(100, good);
     let faults = [
         Batch::make(100, turned).err(),
         Batch::make(101, old).err(),
         Batch::make(99, early).err(),
-        Batch::make(5000, many).err(),
+        Batch::make(69_999, many).err(),
     ];
     let refused = was_refused(alloc);
     refuse(alloc, 0);
@@ -54,12 +54,18 @@ fn a_batch_is_made_or_refused_without_memory(rt: HostRuntime) -> Result<(), Fail
 #[test]
 fn a_batch_of_the_last_moment_has_no_uses(rt: HostRuntime) -> Result<(), Fail> {
     let alloc = rt.alloc();
-    for (key, place, made) in [(0u8, 0u8, 0u64), (0xff, 0xff, 0), (1, 2, u64::MAX)] {
+    for (key, place, made, withdrawn) in [
+        (0u8, 0u8, 0u64, false),
+        (0xff, 0xff, 0, true),
+        (1, 2, u64::MAX, false),
+        (1, 2, u64::MAX, true),
+    ] {
         let last = Use {
             exp: u64::MAX,
             key: [key; 32],
             place: [place; 16],
             at: made,
+            withdrawn,
         };
         let found = Batch::make(u64::MAX, [last].to_vec(alloc)?).err();
         assert_eq!(rt; found, Some(BatchFault::Expired(0)));
@@ -73,7 +79,7 @@ fn values_are_made_and_told_without_memory(rt: HostRuntime) -> Result<(), Fail> 
     let both = [FIRST, SECOND].to_vec(alloc)?;
     refuse(alloc, 1);
     let text = FIRST.text();
-    let order = FIRST < SECOND;
+    let order = FIRST < GONE && GONE < SECOND;
     let flaw = flaw_of(100, Some(SECOND), FIRST);
     let summary = Summary::make(7, [[9; 32]; 256]);
     let told = (summary.moment(), *summary.digest(255));
@@ -86,7 +92,7 @@ fn values_are_made_and_told_without_memory(rt: HostRuntime) -> Result<(), Fail> 
     let refused = was_refused(alloc);
     refuse(alloc, 0);
     assert!(rt; !refused);
-    assert_eq!(rt; text.len(), 64);
+    assert_eq!(rt; text.len(), 65);
     assert!(rt; order);
     assert_eq!(rt; flaw, Some(Flaw::Order));
     assert_eq!(rt; told, (7, [9; 32]));
@@ -94,6 +100,10 @@ fn values_are_made_and_told_without_memory(rt: HostRuntime) -> Result<(), Fail> 
     assert_eq!(rt; uses.as_slice(), [FIRST, SECOND].as_slice());
     assert_eq!(rt; records, (0, 0, 0, 0));
     Ok(())
+}
+
+fn is_withdrawn_in(uses: &[Use], key: &[u8; 32]) -> bool {
+    uses.iter().any(|used| used.key == *key && used.withdrawn)
 }
 
 // A store with uses is looked at, is given one that it has, and drops what expired.
@@ -111,6 +121,7 @@ fn stores_without_memory<S: UseStore>(
     refuse(alloc, 1);
     let again = store.insert(greatest);
     let looks = (store.len(), store.is_empty(), store.has(&least.key));
+    let gone = store.is_withdrawn(&FIRST.key);
     let ends = (store.next_after(None), store.next_after(Some(greatest)));
     let dropped = store.drop_expired(5003).dropped;
     let left = (store.len(), store.next_after(Some(least)));
@@ -120,6 +131,7 @@ fn stores_without_memory<S: UseStore>(
     assert!(rt; !refused);
     assert!(rt; again.is_ok());
     assert_eq!(rt; looks, (150, false, true));
+    assert_eq!(rt; gone, is_withdrawn_in(&uses, &FIRST.key));
     assert_eq!(rt; ends, (Some(least), None));
     let live = uses_of(alloc, Part::Told, 5003)?;
     assert_eq!(rt; left, (live.len(), live.first().copied()));
@@ -147,6 +159,7 @@ fn tells_without_memory<S: UseStore>(
     let looks = (record.moment(), record.len(), record.is_empty());
     let first = record.next_after(None);
     let has = record.has(&FIRST.key);
+    let gone = record.is_withdrawn(&FIRST.key);
     let summary = record.summary();
     let refused = was_refused(alloc);
     refuse(alloc, 0);
@@ -154,6 +167,7 @@ fn tells_without_memory<S: UseStore>(
     assert_eq!(rt; looks, (5000, uses.len(), false));
     assert_eq!(rt; first, uses.first().copied());
     assert_eq!(rt; has, uses.iter().any(|used| used.key == FIRST.key));
+    assert_eq!(rt; gone, is_withdrawn_in(uses, &FIRST.key));
     assert_eq!(rt; summary.moment(), due.moment());
     assert!(rt; summary.digests() == due.digests());
 }

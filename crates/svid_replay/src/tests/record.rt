@@ -186,29 +186,29 @@ fn lists_keys_in_order_with_all_their_uses<S: UseStore>(
     Ok(())
 }
 
-// The record of moment 5000 with 4,097 uses of one key, in parts of 4,096 and 1.
-fn assert_has_4097<S: UseStore>(
+// The record of moment 69999 with 65,537 uses of one key, in parts of 65,536 and 1.
+fn assert_has_65537<S: UseStore>(
     rt: &impl Abort,
     alloc: Global,
     record: &Record<S>,
 ) -> Result<(), Fail> {
-    let uses = uses_to(alloc, 4097)?;
-    assert_eq!(rt; record.len(), 4097);
-    assert_eq!(rt; record.next_after(Some(at(4094))), Some(at(4095)));
+    let uses = uses_to(alloc, 65_537)?;
+    assert_eq!(rt; record.len(), 65_537);
+    assert_eq!(rt; record.next_after(Some(at(65_534))), Some(at(65_535)));
     assert_eq!(rt; record.uses(alloc)?.as_slice(), uses.as_slice());
     let parts = record.parts(alloc)?;
     assert_eq!(rt; parts.len(), 2);
-    assert_eq!(rt; parts[0].moment(), 5000);
-    assert_eq!(rt; parts[0].uses(), uses_to(alloc, 4096)?.as_slice());
-    assert_eq!(rt; parts[1].moment(), 5000);
-    assert_eq!(rt; parts[1].uses(), [at(4096)].as_slice());
+    assert_eq!(rt; parts[0].moment(), 69_999);
+    assert_eq!(rt; parts[0].uses(), uses_to(alloc, 65_536)?.as_slice());
+    assert_eq!(rt; parts[1].moment(), 69_999);
+    assert_eq!(rt; parts[1].uses(), [at(65_536)].as_slice());
     let listed = record.report(alloc)?;
     assert_eq!(rt; listed.len(), 1);
     assert_eq!(rt; listed[0].uses.as_slice(), uses.as_slice());
     Ok(())
 }
 
-fn has_parts_of_4096_uses<S: UseStore, T: UseStore>(
+fn has_parts_of_65536_uses<S: UseStore, T: UseStore>(
     rt: &impl Abort,
     alloc: Global,
     one: &mut Record<S>,
@@ -216,13 +216,16 @@ fn has_parts_of_4096_uses<S: UseStore, T: UseStore>(
 ) -> Result<(), Fail> {
     assert_eq!(rt; one.raise(5), Raised { dropped: 0 });
     assert_only_part(rt, alloc, one, 5, &[])?;
-    let uses = uses_to(alloc, 4096)?;
-    absorb(one, alloc, 5000, &uses)?;
-    assert_only_part(rt, alloc, one, 5000, &uses)?;
-    assert!(rt; add(one, at(4096))?);
-    assert_has_4097(rt, alloc, one)?;
+    let uses = uses_to(alloc, 4097)?;
+    absorb(one, alloc, 69_999, &uses)?;
+    assert_only_part(rt, alloc, one, 69_999, &uses)?;
+    let uses = uses_to(alloc, 65_536)?;
+    absorb(one, alloc, 69_999, &uses)?;
+    assert_only_part(rt, alloc, one, 69_999, &uses)?;
+    assert!(rt; add(one, at(65_536))?);
+    assert_has_65537(rt, alloc, one)?;
     other.merge(one)?;
-    assert_has_4097(rt, alloc, other)
+    assert_has_65537(rt, alloc, other)
 }
 
 #[test]
@@ -251,8 +254,8 @@ fn records_join_the_greater_moment(rt: HostRuntime) -> Result<(), Fail> {
 #[test]
 fn records_have_parts(rt: HostRuntime) -> Result<(), Fail> {
     let alloc = rt.alloc();
-    has_parts_of_4096_uses(&rt, alloc, &mut sorted(alloc), &mut indexed(alloc))?;
-    has_parts_of_4096_uses(&rt, alloc, &mut indexed(alloc), &mut sorted(alloc))
+    has_parts_of_65536_uses(&rt, alloc, &mut sorted(alloc), &mut indexed(alloc))?;
+    has_parts_of_65536_uses(&rt, alloc, &mut indexed(alloc), &mut sorted(alloc))
 }
 
 #[test]

@@ -1,5 +1,5 @@
 // The digests are those that hashlib of Python gives for the texts.
-use super::{FIRST, SECOND, absorb, indexed, sorted, uses_to};
+use super::{FIRST, GONE, SECOND, absorb, indexed, sorted, uses_to};
 use crate::{Batch, IndexedUses, Record, SortedUses, Summary, Use, UseStore};
 use std::alloc::{AllocError, Global};
 use std::process::Abort;
@@ -13,8 +13,14 @@ const NONE: [u8; 32] = [
 
 // The digest of the texts of FIRST and SECOND.
 const BOTH: [u8; 32] = [
-    0x69, 0x16, 0xa6, 0x82, 0xa6, 0x60, 0x34, 0x2e, 0x05, 0x93, 0x87, 0x27, 0x75, 0x73, 0xa7, 0xaa,
-    0x0f, 0x44, 0xb3, 0xc0, 0x36, 0x19, 0x5f, 0xdb, 0xb4, 0xe7, 0xeb, 0x4c, 0x52, 0x0d, 0x9e, 0x35,
+    0x52, 0x7a, 0xd7, 0x06, 0x4a, 0xf8, 0x26, 0x0b, 0x07, 0x79, 0x1d, 0x0a, 0xe9, 0xf9, 0xd7, 0xb8,
+    0x89, 0xaa, 0x68, 0xe9, 0xe2, 0x19, 0x04, 0x75, 0x05, 0x32, 0x6b, 0x25, 0x6d, 0xfb, 0x81, 0xdb,
+];
+
+// The digest of the texts of FIRST, GONE and SECOND.
+const ALL: [u8; 32] = [
+    0x70, 0x2d, 0x7a, 0xce, 0x6e, 0x7b, 0xe7, 0xad, 0xd2, 0x70, 0xd1, 0x8c, 0xe4, 0x21, 0x63, 0xb4,
+    0xd1, 0x93, 0x8e, 0x81, 0xd5, 0xf8, 0x88, 0x8a, 0x6d, 0x1f, 0x33, 0xd2, 0xac, 0x9a, 0x5c, 0x0a,
 ];
 
 // The use like FIRST that expires later.
@@ -31,10 +37,10 @@ fn assert_one_batch(rt: &impl Abort, answer: &[Batch], moment: u64, uses: &[Use]
     assert_eq!(rt; answer[0].uses(), uses);
 }
 
-// Each bucket has the digest of no bytes, but for that of the key of FIRST and SECOND.
-fn assert_digests(rt: &impl Abort, summary: &Summary, of_both: &[u8; 32]) {
+// Each bucket has the digest of no bytes, but for that of the key of FIRST, GONE and SECOND.
+fn assert_digests(rt: &impl Abort, summary: &Summary, of_key: &[u8; 32]) {
     for bucket in 0..=255u8 {
-        let digest = if bucket == 0x11 { of_both } else { &NONE };
+        let digest = if bucket == 0x11 { of_key } else { &NONE };
         assert_eq!(rt; summary.digest(bucket), digest);
     }
 }
@@ -49,6 +55,8 @@ fn tells_its_buckets<S: UseStore>(
     absorb(record, alloc, 100, &[FIRST, SECOND])?;
     assert_eq!(rt; record.summary().moment(), 100);
     assert_digests(rt, &record.summary(), &BOTH);
+    absorb(record, alloc, 100, &[GONE])?;
+    assert_digests(rt, &record.summary(), &ALL);
     Ok(())
 }
 
@@ -160,16 +168,38 @@ fn answers_in_full_batches<S: UseStore>(
     alloc: Global,
     record: &mut Record<S>,
 ) -> Result<(), Fail> {
-    let uses = uses_to(alloc, 5000)?;
-    let (full, rest) = uses.split_at_checked(4096).ok_or(AllocError)?;
-    absorb(record, alloc, 5000, full)?;
-    absorb(record, alloc, 5000, rest)?;
+    let uses = uses_to(alloc, 66_000)?;
+    let (full, rest) = uses.split_at_checked(65_536).ok_or(AllocError)?;
+    absorb(record, alloc, 69_999, full)?;
+    absorb(record, alloc, 69_999, rest)?;
     let answer = record.answer(alloc, &summary_of_nothing(0))?;
     assert_eq!(rt; answer.len(), 2);
-    assert_eq!(rt; answer[0].moment(), 5000);
+    assert_eq!(rt; answer[0].moment(), 69_999);
     assert_eq!(rt; answer[0].uses(), full);
-    assert_eq!(rt; answer[1].moment(), 5000);
+    assert_eq!(rt; answer[1].moment(), 69_999);
     assert_eq!(rt; answer[1].uses(), rest);
+    Ok(())
+}
+
+// Records that differ in the kind of one use differ in its bucket, and answer all that they have of it.
+fn answers_with_both_kinds<S: UseStore, T: UseStore>(
+    rt: &impl Abort,
+    alloc: Global,
+    record: &mut Record<S>,
+    other: &mut Record<T>,
+) -> Result<(), Fail> {
+    absorb(record, alloc, 100, &[FIRST, SECOND])?;
+    absorb(other, alloc, 100, &[GONE, SECOND])?;
+    let answer = record.answer(alloc, &other.summary())?;
+    assert_one_batch(rt, &answer, 100, &[FIRST, SECOND]);
+    let answer = other.answer(alloc, &record.summary())?;
+    assert_one_batch(rt, &answer, 100, &[GONE, SECOND]);
+    for part in &answer {
+        record.absorb(part)?;
+    }
+    assert_digests(rt, &record.summary(), &ALL);
+    let answer = record.answer(alloc, &other.summary())?;
+    assert_one_batch(rt, &answer, 100, &[FIRST, GONE, SECOND]);
     Ok(())
 }
 
@@ -209,6 +239,13 @@ fn an_answer_has_what_differs_after_the_raise(rt: HostRuntime) -> Result<(), Fai
     raises_before_it_compares(&rt, alloc, &mut sorted(alloc), &mut indexed(alloc))?;
     raises_before_it_compares(&rt, alloc, &mut indexed(alloc), &mut sorted(alloc))?;
     does_not_bring_back(&rt, alloc, &mut sorted(alloc), &mut indexed(alloc))
+}
+
+#[test]
+fn an_answer_has_uses_of_both_kinds(rt: HostRuntime) -> Result<(), Fail> {
+    let alloc = rt.alloc();
+    answers_with_both_kinds(&rt, alloc, &mut sorted(alloc), &mut indexed(alloc))?;
+    answers_with_both_kinds(&rt, alloc, &mut indexed(alloc), &mut sorted(alloc))
 }
 
 #[test]

@@ -16,7 +16,7 @@ fn assert_prefix<S: UseStore>(
     uses: &[Use],
 ) -> Result<(), Fail> {
     let kept = record.uses(alloc)?;
-    assert_eq!(rt; record.moment(), 5000);
+    assert_eq!(rt; record.moment(), 69_999);
     assert_eq!(rt; record.len(), kept.len());
     assert!(rt; kept.len() < uses.len() && uses.starts_with(&kept));
     Ok(())
@@ -48,7 +48,7 @@ fn absorbs_as_far_as_memory_goes<S: UseStore>(
 #[test]
 fn a_batch_is_absorbed_as_far_as_memory_goes(rt: HostRuntime) -> Result<(), Fail> {
     let alloc = rt.alloc();
-    let large = Batch::make(5000, uses_to(alloc, 4096)?)?;
+    let large = Batch::make(69_999, uses_to(alloc, 65_536)?)?;
     let mut refused = true;
     for nth in 1..10000usize {
         refused = absorbs_as_far_as_memory_goes(&rt, alloc, nth, &mut sorted(alloc), &large)?;
@@ -57,7 +57,7 @@ fn a_batch_is_absorbed_as_far_as_memory_goes(rt: HostRuntime) -> Result<(), Fail
         }
     }
     assert!(rt; !refused);
-    let small = Batch::make(5000, uses_to(alloc, 200)?)?;
+    let small = Batch::make(69_999, uses_to(alloc, 200)?)?;
     refused = true;
     for nth in 1..10000usize {
         refused = absorbs_as_far_as_memory_goes(&rt, alloc, nth, &mut indexed(alloc), &small)?;
@@ -97,7 +97,7 @@ fn merges_as_far_as_memory_goes<S: UseStore, T: UseStore>(
 fn a_record_is_merged_as_far_as_memory_goes(rt: HostRuntime) -> Result<(), Fail> {
     let alloc = rt.alloc();
     let mut other = sorted(alloc);
-    absorb(&mut other, alloc, 5000, uses_to(alloc, 100)?.as_slice())?;
+    absorb(&mut other, alloc, 69_999, uses_to(alloc, 100)?.as_slice())?;
     let mut refused = true;
     for nth in 1..10000usize {
         let one = merges_as_far_as_memory_goes(&rt, alloc, nth, &mut sorted(alloc), &other)?;
@@ -111,13 +111,15 @@ fn a_record_is_merged_as_far_as_memory_goes(rt: HostRuntime) -> Result<(), Fail>
     Ok(())
 }
 
-// A use of a key that no other of the numbers below 101 has; the keys don't rise with the numbers.
+// A use of a key that no other of the numbers below 101 has, each fourth a withdrawal; the keys don't rise
+// with the numbers.
 pub(super) fn keyed(number: u64) -> Use {
     Use {
         exp: 5001 + number % 7,
         key: [(number % 101 * 37 % 101) as u8; 32],
         place: [0x22; 16],
         at: number,
+        withdrawn: number % 4 == 0,
     }
 }
 
@@ -156,11 +158,13 @@ fn puts_a_use_in_or_stays<S: UseStore>(
             }
             assert_eq!(rt; store.len(), before.len());
             assert!(rt; !store.has(&new.key));
+            assert!(rt; !store.is_withdrawn(&new.key));
             assert_eq!(rt; walk(rt, alloc, store)?.as_slice(), before.as_slice());
         }
         assert!(rt; !refused);
         assert_eq!(rt; store.len().checked_sub(1), Some(before.len()));
         assert!(rt; store.has(&new.key));
+        assert_eq!(rt; store.is_withdrawn(&new.key), new.withdrawn);
         // a use that is there already takes no memory
         refuse(alloc, 1);
         let again = store.insert(new);
@@ -202,6 +206,7 @@ fn adds_a_use_or_stays<S: UseStore>(
         }
         assert!(rt; !refused);
         assert!(rt; record.has(&new.key));
+        assert_eq!(rt; record.is_withdrawn(&new.key), new.withdrawn);
     }
     Ok(())
 }
@@ -224,7 +229,7 @@ fn an_indexed_store_of_100000_uses_loses_none(rt: HostRuntime) -> Result<(), Fai
     assert!(rt; store.has(&at(0).key));
     let uses = uses_to(alloc, 100_000)?;
     assert_eq!(rt; walk(&rt, alloc, &store)?.as_slice(), uses.as_slice());
-    assert_eq!(rt; store.drop_expired(5001).dropped, 100_000);
+    assert_eq!(rt; store.drop_expired(70_000).dropped, 100_000);
     assert!(rt; !store.has(&at(0).key));
     Ok(())
 }

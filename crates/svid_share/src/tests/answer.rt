@@ -1,5 +1,5 @@
 use super::made::{chosen, front, source, summary_text, summary_with, with_one_use};
-use super::{NOTHING_DIGEST, TWO_USES};
+use super::{NOTHING_DIGEST, OLD_TWO_USES, TWO_USES};
 use crate::{ToolFault, run_answer, run_merge, run_summary};
 use std::alloc::{AllocError, Global};
 use std::process::Abort;
@@ -50,7 +50,7 @@ fn merged(
 
 // The batch of this moment with no uses.
 fn nothing_at(alloc: Global, moment: u64) -> Result<Vec<u8>, AllocError> {
-    let mut bytes = b"JSR\x01\x01".to_vec(alloc)?;
+    let mut bytes = b"JSR\x02\x01".to_vec(alloc)?;
     bytes.extend_from_slice(&moment.to_be_bytes())?;
     bytes.extend_from_slice(&[0; 4])?;
     Ok(bytes)
@@ -66,6 +66,11 @@ fn answers_with_all_buckets_that_differ(rt: HostRuntime) -> Result<(), Fail> {
         (
             summary_text(alloc, 0)?,
             TWO_USES.to_vec(alloc)?,
+            TWO_USES.to_vec(alloc)?,
+        ),
+        (
+            summary_text(alloc, 0)?,
+            OLD_TWO_USES.to_vec(alloc)?,
             TWO_USES.to_vec(alloc)?,
         ),
         (
@@ -120,6 +125,8 @@ fn refuses_what_is_not_one_summary(rt: HostRuntime) -> Result<(), Fail> {
     batch_and_a_byte.push(0x4A)?;
     let mut and_a_byte = one.clone()?;
     and_a_byte.push(0x4A)?;
+    let mut of_version_1 = b"JSR\x01\x02".to_vec(alloc)?;
+    of_version_1.extend_from_slice(&[0; 8200])?;
     let mut and_four_bytes = one.clone()?;
     and_four_bytes.extend_from_slice(&[0; 4])?;
     let wire = |message, place, reason| ToolFault::Wire {
@@ -131,6 +138,8 @@ fn refuses_what_is_not_one_summary(rt: HostRuntime) -> Result<(), Fail> {
     for (bytes, fault) in [
         (Vec::new(alloc), ToolFault::NotSummary),
         (TWO_USES.to_vec(alloc)?, ToolFault::NotSummary),
+        (OLD_TWO_USES.to_vec(alloc)?, ToolFault::NotSummary),
+        (of_version_1, wire(1, 4, Reason::Kind)),
         (two, ToolFault::NotSummary),
         (with_batch, ToolFault::NotSummary),
         (batch_first, ToolFault::NotSummary),

@@ -55,13 +55,44 @@ fn tells_each_failed_read(rt: HostRuntime) -> Result<(), Fail> {
     Ok(())
 }
 
-// The first inputs in pieces of one byte; but that of an answer is a summary, whose calls would be too many.
+// The first inputs in pieces of one byte, but for that of an answer, which is a summary: so many calls, each in turn,
+// would be too long a test.
 #[test]
 fn tells_each_failed_read_of_a_byte(rt: HostRuntime) -> Result<(), Fail> {
     let alloc = rt.alloc();
     for engine in [Engine::Report, Engine::Merge, Engine::Summary] {
         let mut given = Given::of(engine, b"", TWO_USES);
         assert_failed_reads(&rt, alloc, &mut given, 0, 1)?;
+    }
+    Ok(())
+}
+
+// One call of the first input of an answer, in pieces of one byte, fails.
+fn assert_failed_byte_of_a_summary(
+    rt: &impl Abort,
+    alloc: Global,
+    given: &mut Given<'_>,
+    call: u64,
+) -> Result<(), Fail> {
+    given.fails[0] = Some(call);
+    let mut out = MemSink::new(alloc, 100, None);
+    let (answer, _) = run(alloc, given, 1, 0, &mut out)?;
+    assert_eq!(rt; answer, Err(ToolFault::Read { input: 1 }));
+    assert!(rt; out.bytes().is_empty());
+    Ok(())
+}
+
+// A summary is 8,205 calls of one byte each: the first and the last of them fail in turn, and that behind them.
+#[test]
+fn tells_failed_reads_of_a_byte_of_a_summary(rt: HostRuntime) -> Result<(), Fail> {
+    let alloc = rt.alloc();
+    let summary = summary_text(alloc, 0)?;
+    let mut given = Given::of(Engine::Answer, &summary, TWO_USES);
+    for call in 1..100u64 {
+        assert_failed_byte_of_a_summary(&rt, alloc, &mut given, call)?;
+    }
+    for call in 8150..8207u64 {
+        assert_failed_byte_of_a_summary(&rt, alloc, &mut given, call)?;
     }
     Ok(())
 }

@@ -31,13 +31,18 @@ fn prints_each_fault_and_its_status(rt: HostRuntime) -> Result<(), Fail> {
             1,
         ),
         (
+            wire(82, Reason::UseKind),
+            "svid: input 2 message 3 place 82: UseKind",
+            1,
+        ),
+        (
             wire(17, Reason::UseExpired),
             "svid: input 2 message 3 place 17: UseExpired",
             1,
         ),
         (
-            wire(81, Reason::UseFuture),
-            "svid: input 2 message 3 place 81: UseFuture",
+            wire(82, Reason::UseFuture),
+            "svid: input 2 message 3 place 82: UseFuture",
             1,
         ),
         (

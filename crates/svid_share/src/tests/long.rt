@@ -10,7 +10,7 @@ use std::test::Fail;
 use svid_wire::{MemSink, Reason, Source, Stopped};
 
 // The batch of moment 0 with no uses.
-const EMPTY: &[u8; 17] = b"JSR\x01\x01\x00\x00\x00\x00\x00\x00\x00\x00\x00\x00\x00\x00";
+const EMPTY: &[u8; 17] = b"JSR\x02\x01\x00\x00\x00\x00\x00\x00\x00\x00\x00\x00\x00\x00";
 
 // A source of texts of it, one after the other, of which so many bytes are left. It holds some of them,
 // whole ones, and gives those again and again.

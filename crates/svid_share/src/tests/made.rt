@@ -28,11 +28,11 @@ pub(super) fn with_byte(alloc: Global, place: usize, byte: u8) -> Result<Vec<u8>
 
 // The batch of moment 100 with one of the two uses alone, which begins at this place.
 pub(super) fn with_one_use(alloc: Global, place: usize) -> Result<Vec<u8>, AllocError>
-    requires { place + 64 ≤ 145 }
+    requires { place + 65 ≤ 147 }
 {
     let mut bytes = TWO_USES.split_at(13).0.to_vec(alloc)?;
     bytes.extend_from_slice(&[0, 0, 0, 1])?;
-    bytes.extend_from_slice(TWO_USES.split_at(place).1.split_at(64).0)?;
+    bytes.extend_from_slice(TWO_USES.split_at(place).1.split_at(65).0)?;
     Ok(bytes)
 }
 
@@ -43,14 +43,15 @@ fn push_use(bytes: &mut Vec<u8>, n: u32) -> Result<(), AllocError> {
     bytes.extend_from_slice(&[0; 28])?;
     bytes.extend_from_slice(&(n / 2).to_be_bytes())?;
     bytes.extend_from_slice(&[0; 16])?;
-    Ok(bytes.extend_from_slice(&7u64.to_be_bytes())?)
+    bytes.extend_from_slice(&7u64.to_be_bytes())?;
+    Ok(bytes.push(0)?)
 }
 
 // A batch of moment 100 with `count` of these uses from use `first` on.
 pub(super) fn many(alloc: Global, first: u32, count: u32) -> Result<Vec<u8>, AllocError>
-    requires { first + count ≤ 10000 }
+    requires { first + count ≤ 100000 }
 {
-    let mut bytes = b"JSR\x01\x01".to_vec(alloc)?;
+    let mut bytes = b"JSR\x02\x01".to_vec(alloc)?;
     bytes.extend_from_slice(&100u64.to_be_bytes())?;
     bytes.extend_from_slice(&count.to_be_bytes())?;
     for n in first..first + count {
@@ -61,14 +62,14 @@ pub(super) fn many(alloc: Global, first: u32, count: u32) -> Result<Vec<u8>, All
 
 // An input of it.
 pub(super) fn part(alloc: Global, first: u32, count: u32) -> Result<MemSource, AllocError>
-    requires { first + count ≤ 10000 }
+    requires { first + count ≤ 100000 }
 {
     Ok(MemSource::new(many(alloc, first, count)?, 100_000, None))
 }
 
 // The text of a summary of which each digest is that of no bytes.
 pub(super) fn summary_text(alloc: Global, moment: u64) -> Result<Vec<u8>, AllocError> {
-    let mut bytes = b"JSR\x01\x02".to_vec(alloc)?;
+    let mut bytes = b"JSR\x02\x02".to_vec(alloc)?;
     bytes.extend_from_slice(&moment.to_be_bytes())?;
     for _ in 0..256 {
         bytes.extend_from_slice(NOTHING_DIGEST)?;
@@ -106,7 +107,8 @@ fn push_chosen(bytes: &mut Vec<u8>, n: u64) -> Result<(), AllocError> {
     bytes.extend_from_slice(&[0; 16])?;
     bytes.extend_from_slice(&mixed(2, n).to_le_bytes())?;
     bytes.extend_from_slice(&[0; 16])?;
-    Ok(bytes.extend_from_slice(&7u64.to_be_bytes())?)
+    bytes.extend_from_slice(&7u64.to_be_bytes())?;
+    Ok(bytes.push(0)?)
 }
 
 // A batch of this moment with some of 300 uses: which ones, the seed says. None has expired by 1,000.
@@ -119,7 +121,7 @@ pub(super) fn chosen(alloc: Global, seed: u64, moment: u64) -> Result<Vec<u8>, A
             count = count.wrapping_add(1);
         }
     }
-    let mut bytes = b"JSR\x01\x01".to_vec(alloc)?;
+    let mut bytes = b"JSR\x02\x01".to_vec(alloc)?;
     bytes.extend_from_slice(&moment.to_be_bytes())?;
     bytes.extend_from_slice(&count.to_be_bytes())?;
     bytes.extend_from_slice(&uses)?;

@@ -26,7 +26,7 @@ fn putting_takes_no_memory(rt: HostRuntime) -> Result<(), Fail> {
     let alloc = rt.alloc();
     let batches = batches(alloc)?;
     let mut text = Vec::with_capacity(alloc, 10)?;
-    let mut messages = Vec::with_capacity(alloc, 290)?;
+    let mut messages = Vec::with_capacity(alloc, 294)?;
     let mut stopped = MemSink::new(alloc, 100, Some(1));
     let mut stopped_too = MemSink::new(alloc, 100, Some(1));
     refuse(alloc, 1);
@@ -41,7 +41,7 @@ fn putting_takes_no_memory(rt: HostRuntime) -> Result<(), Fail> {
     assert_eq!(rt; (put, put_too), (Ok(()), Ok(())));
     assert_eq!(rt; text.as_slice(), b"twice 0\n".as_slice());
     assert!(rt; messages.starts_with(TWO_USES) && messages.ends_with(TWO_USES));
-    assert_eq!(rt; messages.len(), 290);
+    assert_eq!(rt; messages.len(), 294);
     assert_eq!(rt;
         (failed, failed_too),
         (Err(ToolFault::Write), Err(ToolFault::Write))

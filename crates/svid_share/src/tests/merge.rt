@@ -1,14 +1,14 @@
-use super::TWO_USES;
 use super::made::{many, part, source, with_byte, with_one_use};
+use super::{OLD_TWO_USES, TWO_USES};
 use crate::{ToolFault, run_merge};
 use std::test::Fail;
 use svid_wire::{MemSink, MemSource, Reason};
 
 // The batch of moment 0 with no uses.
-const NOTHING: &[u8] = b"JSR\x01\x01\x00\x00\x00\x00\x00\x00\x00\x00\x00\x00\x00\x00";
+const NOTHING: &[u8] = b"JSR\x02\x01\x00\x00\x00\x00\x00\x00\x00\x00\x00\x00\x00\x00";
 
 // The batch of moment 101 with no uses.
-const LATER: &[u8] = b"JSR\x01\x01\x00\x00\x00\x00\x00\x00\x00\x65\x00\x00\x00\x00";
+const LATER: &[u8] = b"JSR\x02\x01\x00\x00\x00\x00\x00\x00\x00\x65\x00\x00\x00\x00";
 
 #[test]
 fn merges_nothing_to_an_empty_record(rt: HostRuntime) -> Result<(), Fail> {
@@ -30,7 +30,7 @@ fn merges_nothing_to_an_empty_record(rt: HostRuntime) -> Result<(), Fail> {
 fn merges_in_any_order(rt: HostRuntime) -> Result<(), Fail> {
     let alloc = rt.alloc();
     let first = with_one_use(alloc, 17)?;
-    let second = with_one_use(alloc, 81)?;
+    let second = with_one_use(alloc, 82)?;
     let mut first_twice = first.clone()?;
     first_twice.extend_from_slice(&first)?;
     let mut both = second.clone()?;
@@ -67,15 +67,32 @@ fn merges_to_the_greatest_moment(rt: HostRuntime) -> Result<(), Fail> {
     Ok(())
 }
 
-// A batch has 4,096 uses at the most: 5,000 uses are two batches, in whichever they came.
+// Texts of either version, of one batch, come to one text.
+#[test]
+fn merges_both_versions(rt: HostRuntime) -> Result<(), Fail> {
+    let alloc = rt.alloc();
+    for (first, second) in [
+        (OLD_TWO_USES.as_slice(), TWO_USES.as_slice()),
+        (TWO_USES.as_slice(), OLD_TWO_USES.as_slice()),
+        (OLD_TWO_USES.as_slice(), b"".as_slice()),
+    ] {
+        let mut inputs = [source(alloc, first, 7)?, source(alloc, second, 100)?];
+        let mut out = MemSink::new(alloc, 10, None);
+        assert_eq!(rt; run_merge(alloc, &mut inputs, &mut out), Ok(()));
+        assert_eq!(rt; out.bytes(), TWO_USES.as_slice());
+    }
+    Ok(())
+}
+
+// A batch has 65,536 uses at the most: 70,000 uses are two batches, in whichever they came.
 #[test]
 fn cuts_what_it_merges_into_full_batches(rt: HostRuntime) -> Result<(), Fail> {
     let alloc = rt.alloc();
-    let mut whole = many(alloc, 0, 4096)?;
-    whole.extend_from_slice(&many(alloc, 4096, 904)?)?;
+    let mut whole = many(alloc, 0, 65536)?;
+    whole.extend_from_slice(&many(alloc, 65536, 4464)?)?;
     for mut inputs in [
-        [part(alloc, 2501, 2499)?, part(alloc, 0, 2501)?],
-        [part(alloc, 1000, 4000)?, part(alloc, 0, 4000)?],
+        [part(alloc, 35001, 34999)?, part(alloc, 0, 35001)?],
+        [part(alloc, 10000, 60000)?, part(alloc, 0, 60000)?],
     ] {
         let mut out = MemSink::new(alloc, 1_000_000, None);
         assert_eq!(rt; run_merge(alloc, &mut inputs, &mut out), Ok(()));
@@ -114,7 +131,7 @@ fn judges_what_came_before_a_failed_read(rt: HostRuntime) -> Result<(), Fail> {
         (bad.as_slice(), 3, ToolFault::Read { input: 1 }),
         (TWO_USES.as_slice(), 17, ToolFault::Read { input: 1 }),
         (TWO_USES.as_slice(), 100, ToolFault::Read { input: 1 }),
-        (TWO_USES.as_slice(), 145, ToolFault::Read { input: 1 }),
+        (TWO_USES.as_slice(), 147, ToolFault::Read { input: 1 }),
         (TWO_USES.as_slice(), 1000, ToolFault::Read { input: 1 }),
     ] {
         let mut inputs = [MemSource::new(bytes.to_vec(alloc)?, step, Some(2))];
@@ -128,7 +145,7 @@ fn judges_what_came_before_a_failed_read(rt: HostRuntime) -> Result<(), Fail> {
 #[test]
 fn refuses_each_part_of_an_input(rt: HostRuntime) -> Result<(), Fail> {
     let alloc = rt.alloc();
-    for length in 1..145 {
+    for length in 1..147 {
         let part = TWO_USES.split_at(length).0;
         let mut inputs = [source(alloc, TWO_USES, 1000)?, source(alloc, part, 7)?];
         let mut out = MemSink::new(alloc, 1000, None);

@@ -6,8 +6,8 @@ use svid_wire::{MemSink, MemSource, Reason};
 
 // SHA-256 of the texts of the two uses, one after the other: both keys begin with the byte 11.
 const TWO_USES_DIGEST: [u8; 32] = *b"\
-\x69\x16\xa6\x82\xa6\x60\x34\x2e\x05\x93\x87\x27\x75\x73\xa7\xaa\
-\x0f\x44\xb3\xc0\x36\x19\x5f\xdb\xb4\xe7\xeb\x4c\x52\x0d\x9e\x35";
+\x52\x7a\xd7\x06\x4a\xf8\x26\x0b\x07\x79\x1d\x0a\xe9\xf9\xd7\xb8\
+\x89\xaa\x68\xe9\xe2\x19\x04\x75\x05\x32\x6b\x25\x6d\xfb\x81\xdb";
 
 #[test]
 fn writes_the_summary_of_what_comes(rt: HostRuntime) -> Result<(), Fail> {
@@ -15,7 +15,7 @@ fn writes_the_summary_of_what_comes(rt: HostRuntime) -> Result<(), Fail> {
     let nothing = summary_text(alloc, 0)?;
     let both = summary_with(alloc, 100, 0x11, &TWO_USES_DIGEST)?;
     let first = with_one_use(alloc, 17)?;
-    let second = with_one_use(alloc, 81)?;
+    let second = with_one_use(alloc, 82)?;
     assert_eq!(rt; nothing.len(), 8205);
     for (mut inputs, due) in [
         (
@@ -93,7 +93,7 @@ fn refuses_a_summary_that_ends_too_soon(rt: HostRuntime) -> Result<(), Fail> {
     let summary = summary_text(alloc, 100)?;
     let batch = with_byte(alloc, 4, 2)?;
     for (bytes, length) in [
-        (batch.as_slice(), 145),
+        (batch.as_slice(), 147),
         (summary.as_slice(), 1),
         (summary.as_slice(), 5),
         (summary.as_slice(), 12),

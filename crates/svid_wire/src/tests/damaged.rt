@@ -3,7 +3,8 @@ ghost use Rattle.std.specs.Prelude.{◌<◌};
 
 use super::feeding::push_in_pieces;
 use super::summaries::text_of_numbered;
-use super::{TWO_USES, write_each};
+use super::version_1::old_text;
+use super::{OLD_TWO_USES, TWO_USES, joined, write_each, write_one};
 use crate::{Feed, MemSink, Message, Reason, WireFault, read_all};
 use std::alloc::{AllocError, Global};
 use std::process::Abort;
@@ -14,6 +15,21 @@ pub(super) fn texts_of(alloc: Global, messages: &[Message]) -> Result<Vec<u8>, F
     let mut sink = MemSink::new(alloc, 10000, None);
     write_each(messages, &mut sink)?;
     Ok(sink.bytes().to_vec(alloc)?)
+}
+
+// The texts of these messages that were read of some bytes, each in the version in which they tell it.
+fn texts_as_told(alloc: Global, bytes: &[u8], messages: &[Message]) -> Result<Vec<u8>, Fail> {
+    let mut texts = Vec::new(alloc);
+    for message in messages {
+        let mut sink = MemSink::new(alloc, 10000, None);
+        write_one(message, &mut sink)?;
+        if bytes.get(texts.len().saturating_add(3)) == Some(&1) {
+            texts.extend_from_slice(&old_text(alloc, sink.bytes())?)?;
+        } else {
+            texts.extend_from_slice(sink.bytes())?;
+        }
+    }
+    Ok(texts)
 }
 
 // Reads the bytes in pieces of a length.
@@ -49,9 +65,9 @@ fn is_read(rt: &impl Abort, alloc: Global, bytes: &[u8], length: usize) -> Resul
     let in_pieces = read_in_pieces(alloc, bytes, length, &mut cut);
     assert_eq!(rt; answer, in_pieces);
     assert!(rt; is_of_bytes(&answer));
-    let texts = texts_of(alloc, &whole)?;
+    let texts = texts_as_told(alloc, bytes, &whole)?;
     assert!(rt; bytes.starts_with(&texts));
-    assert!(rt; texts == texts_of(alloc, &cut)?);
+    assert!(rt; texts == texts_as_told(alloc, bytes, &cut)?);
     assert!(rt; answer.is_err() || texts.len() == bytes.len());
     Ok(answer.is_ok())
 }
@@ -105,16 +121,20 @@ fn all_changes(alloc: Global) -> Result<Vec<u8>, AllocError> {
 // Counted by hand: what is read is a lesser key (17 values of 32 bytes) or place (51, and 255 of the other
 // 15) of the first use, or another moment of its making up to 100 (100); of the second use a later expiry
 // (154, and 255 of the upper 7), a greater key (238 of 32) or place (221, and 255 of the other 15), or an
-// earlier moment of its making (100).
+// earlier moment of its making (100). In version 2 it is also each of the two uses as a withdrawal.
 #[test]
 fn a_changed_batch_is_another_or_refused(rt: HostRuntime) -> Result<(), Fail> {
     let alloc = rt.alloc();
+    let changes = all_changes(alloc)?;
     let mut text = TWO_USES.to_vec(alloc)?;
-    let read = count_read(&rt, alloc, &mut text, &all_changes(alloc)?)?;
+    let read = count_read(&rt, alloc, &mut text, &changes)?;
+    let mut old = OLD_TWO_USES.to_vec(alloc)?;
+    let old_read = count_read(&rt, alloc, &mut old, &changes)?;
     assert_eq!(rt;
-        read,
+        old_read,
         544 + 51 + 3825 + 100 + 154 + 1785 + 7616 + 221 + 3825 + 100
     );
+    assert_eq!(rt; read, old_read + 2);
     Ok(())
 }
 
@@ -134,12 +154,21 @@ fn mixed(seed: u64, n: u64) -> u64 {
     (x ^ (x >> 29)).wrapping_mul(0x94D0_49BB_1331_11EB) >> 7
 }
 
+// Two batches, each in one of the versions.
+fn two_batches(alloc: Global, seed: u64) -> Result<Vec<u8>, AllocError> {
+    match seed % 4 {
+        0 => joined(alloc, &[TWO_USES, TWO_USES]),
+        1 => joined(alloc, &[TWO_USES, OLD_TWO_USES]),
+        2 => joined(alloc, &[OLD_TWO_USES, TWO_USES]),
+        _ => joined(alloc, &[OLD_TWO_USES, OLD_TWO_USES]),
+    }
+}
+
 // Up to 400 bytes at random, behind the first bytes of two messages: of the head of a batch, all of it, or
 // all of it and some of its uses.
 fn random_text(alloc: Global, seed: u64) -> Result<Vec<u8>, AllocError> {
-    let front = (seed % 210) as usize;
-    let mut bytes = TWO_USES.to_vec(alloc)?;
-    bytes.extend_from_slice(TWO_USES)?;
+    let front = (seed % 213) as usize;
+    let mut bytes = two_batches(alloc, seed)?;
     bytes.truncate(front);
     for n in 0..mixed(seed, 0) % 50 {
         bytes.extend_from_slice(&mixed(seed, n + 1).to_le_bytes())?;

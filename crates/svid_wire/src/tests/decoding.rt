@@ -17,6 +17,7 @@ fn reads_the_fields_of_a_batch(rt: HostRuntime) -> Result<(), Fail> {
         key: [0x11; 32],
         place: [0x22; 16],
         at: 99,
+        withdrawn: false,
     };
     let second = Use {
         place: [0x33; 16],
@@ -34,7 +35,7 @@ fn reads_the_fields_of_a_batch(rt: HostRuntime) -> Result<(), Fail> {
 
 #[test]
 fn refuses_each_proper_prefix_at_its_end(rt: HostRuntime) {
-    for n in 1..145usize {
+    for n in 1..147usize {
         let found = fault_of(rt.alloc(), TWO_USES.split_at(n).0);
         assert_eq!(rt; found, fault(n, Reason::Truncated), "{n} bytes");
     }
@@ -42,7 +43,7 @@ fn refuses_each_proper_prefix_at_its_end(rt: HostRuntime) {
 
 #[test]
 fn waits_for_the_uses_of_a_count_that_memory_may_not_hold(rt: HostRuntime) {
-    let head = b"JSR\x01\x01\x00\x00\x00\x00\x00\x00\x00\x00\x00\x00\x10\x00";
+    let head = b"JSR\x02\x01\x00\x00\x00\x00\x00\x00\x00\x00\x00\x01\x00\x00";
     assert_eq!(rt; fault_of(rt.alloc(), head), fault(17, Reason::Truncated));
 }
 
@@ -51,19 +52,24 @@ fn refuses_the_first_bad_field_at_its_place(rt: HostRuntime) {
     // the byte that is changed, what it becomes, and the fault
     for (at, byte, place, reason) in [
         (0, 0x00, 0, Reason::Magic),
-        (3, 0x02, 0, Reason::Magic),
+        (3, 0x03, 0, Reason::Magic),
+        (3, 0x00, 0, Reason::Magic),
+        (3, 0x01, 81, Reason::UseExpired),
         (4, 0x03, 4, Reason::Kind),
         (4, 0x00, 4, Reason::Kind),
-        (4, 0x02, 145, Reason::Truncated),
-        (15, 0x10, 13, Reason::Count),
+        (4, 0x02, 147, Reason::Truncated),
+        (14, 0x01, 13, Reason::Count),
         (24, 100, 17, Reason::UseExpired),
         (80, 101, 17, Reason::UseFuture),
-        (88, 100, 81, Reason::UseExpired),
-        (144, 101, 81, Reason::UseFuture),
-        (121, 0x21, 81, Reason::UseOrder),
+        (81, 0x02, 17, Reason::UseKind),
+        (89, 100, 82, Reason::UseExpired),
+        (145, 101, 82, Reason::UseFuture),
+        (122, 0x21, 82, Reason::UseOrder),
+        (146, 0x02, 82, Reason::UseKind),
+        (146, 0xff, 82, Reason::UseKind),
     ] {
         let mut bytes = *TWO_USES;
-        assert!(rt; at < 145);
+        assert!(rt; at < 147);
         bytes[at] = byte;
         let found = fault_of(rt.alloc(), &bytes);
         assert_eq!(rt; found, fault(place, reason), "byte {at}");
@@ -73,8 +79,8 @@ fn refuses_the_first_bad_field_at_its_place(rt: HostRuntime) {
 #[test]
 fn refuses_a_use_equal_to_the_one_before_it(rt: HostRuntime) {
     let mut bytes = *TWO_USES;
-    bytes[81..].copy_from_slice(TWO_USES.split_at(81).0.split_at(17).1);
-    assert_eq!(rt; fault_of(rt.alloc(), &bytes), fault(81, Reason::UseOrder));
+    bytes[82..].copy_from_slice(TWO_USES.split_at(82).0.split_at(17).1);
+    assert_eq!(rt; fault_of(rt.alloc(), &bytes), fault(82, Reason::UseOrder));
 }
 
 #[test]
@@ -86,12 +92,15 @@ fn judges_a_use_as_expired_before_it_is_from_the_future(rt: HostRuntime) {
 }
 
 #[test]
-fn takes_4096_uses_and_no_more(rt: HostRuntime) -> Result<(), Fail> {
-    let full = many_uses(rt.alloc(), 4096)?;
-    assert_eq!(rt; full.len(), 262161);
+fn takes_65536_uses_and_no_more(rt: HostRuntime) -> Result<(), Fail> {
+    let full = many_uses(rt.alloc(), 65536)?;
+    assert_eq!(rt; full.len(), 4259857);
     assert_eq!(rt; fault_of(rt.alloc(), &full), None);
-    let more = many_uses(rt.alloc(), 4097)?;
-    assert_eq!(rt; more.len(), 262225);
+    let some = many_uses(rt.alloc(), 4097)?;
+    assert_eq!(rt; some.len(), 266322);
+    assert_eq!(rt; fault_of(rt.alloc(), &some), None);
+    let more = many_uses(rt.alloc(), 65537)?;
+    assert_eq!(rt; more.len(), 4259922);
     assert_eq!(rt; fault_of(rt.alloc(), &more), fault(13, Reason::Count));
     Ok(())
 }

@@ -4,7 +4,7 @@ ghost use Rattle.std.specs.Prelude.{◌<◌};
 
 use super::refusing::{refuse, was_refused};
 use super::summaries::text_of_numbered;
-use super::{NO_USES, TWO_USES, joined, told_of, write_each};
+use super::{NO_USES, OLD_NO_USES, OLD_TWO_USES, TWO_USES, joined, told_of, write_each};
 use crate::{
     Counted, Feed, MemSink, MemSource, Message, ReadFault, Reason, Sink, Source, Stopped,
     WireFault, WriteFault, put_all, read_all, read_up_to,
@@ -56,19 +56,28 @@ fn judged_without_memory(rt: &impl Abort, alloc: Global, bytes: &[u8]) -> Option
     answer.err()
 }
 
-// The head of a batch tells of up to 4,096 uses, and takes no room for them.
+// The head of a batch tells of up to 65,536 uses, and takes no room for them.
 #[test]
 fn no_memory_is_taken_before_a_use_came(rt: HostRuntime) {
     let alloc = rt.alloc();
-    let full = b"JSR\x01\x01\x00\x00\x00\x00\x00\x00\x00\x00\x00\x00\x10\x00";
-    let over = b"JSR\x01\x01\x00\x00\x00\x00\x00\x00\x00\x00\x00\x00\x10\x01";
+    let full = b"JSR\x02\x01\x00\x00\x00\x00\x00\x00\x00\x00\x00\x01\x00\x00";
+    let over = b"JSR\x02\x01\x00\x00\x00\x00\x00\x00\x00\x00\x00\x01\x00\x01";
+    let old_full = b"JSR\x01\x01\x00\x00\x00\x00\x00\x00\x00\x00\x00\x00\x10\x00";
+    let old_over = b"JSR\x01\x01\x00\x00\x00\x00\x00\x00\x00\x00\x00\x00\x10\x01";
+    let mut no_kind = *TWO_USES;
+    no_kind[81] = 2;
     for (bytes, place, reason) in [
         (full.as_slice(), 17, Reason::Truncated),
         (over.as_slice(), 13, Reason::Count),
+        (old_full.as_slice(), 17, Reason::Truncated),
+        (old_over.as_slice(), 13, Reason::Count),
         (b"JSR\x00".as_slice(), 0, Reason::Magic),
-        (b"JSR\x01\x03".as_slice(), 4, Reason::Kind),
-        (b"JSR\x01\x02".as_slice(), 5, Reason::Truncated),
-        (TWO_USES.split_at(80).0, 80, Reason::Truncated),
+        (b"JSR\x02\x03".as_slice(), 4, Reason::Kind),
+        (b"JSR\x02\x02".as_slice(), 5, Reason::Truncated),
+        (b"JSR\x01\x02".as_slice(), 4, Reason::Kind),
+        (no_kind.as_slice(), 17, Reason::UseKind),
+        (TWO_USES.split_at(81).0, 81, Reason::Truncated),
+        (OLD_TWO_USES.split_at(80).0, 80, Reason::Truncated),
     ] {
         let found = judged_without_memory(&rt, alloc, bytes);
         assert_eq!(rt; found, Some(WireFault { place, reason }));
@@ -142,7 +151,7 @@ fn writing_tells_how_much_a_sink_had_memory_for(rt: HostRuntime) -> Result<(), F
 fn kept_behind(rt: &impl Abort, alloc: Global, nth: usize, bytes: &[u8]) -> Result<bool, Fail>
     requires { nth < 4294967296 }
 {
-    let due = [(5, 0), (5, 0), (100, 2), (5, 0)];
+    let due = [(5, 0), (5, 0), (100, 2), (5, 0), (100, 2)];
     let mut out = Vec::new(alloc);
     read_all(alloc, NO_USES, &mut out)?;
     refuse(alloc, nth);
@@ -163,7 +172,7 @@ fn kept_behind(rt: &impl Abort, alloc: Global, nth: usize, bytes: &[u8]) -> Resu
 #[test]
 fn the_messages_that_were_there_stay_without_memory(rt: HostRuntime) -> Result<(), Fail> {
     let alloc = rt.alloc();
-    let bytes = joined(alloc, &[NO_USES, TWO_USES, NO_USES])?;
+    let bytes = joined(alloc, &[NO_USES, TWO_USES, OLD_NO_USES, OLD_TWO_USES])?;
     let mut refused = true;
     for nth in 1..1000usize {
         refused = kept_behind(&rt, alloc, nth, &bytes)?;

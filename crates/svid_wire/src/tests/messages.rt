@@ -26,7 +26,7 @@ fn reads_each_message_in_its_order(rt: HostRuntime) -> Result<(), Fail> {
 #[test]
 fn reads_full_batches_one_after_the_other(rt: HostRuntime) -> Result<(), Fail> {
     let alloc = rt.alloc();
-    let full = many_uses(alloc, 4096)?;
+    let full = many_uses(alloc, 65536)?;
     let mut out = Vec::new(alloc);
     assert_eq!(rt;
         read_all(alloc, &joined(alloc, &[&full, &full])?, &mut out),
@@ -34,7 +34,7 @@ fn reads_full_batches_one_after_the_other(rt: HostRuntime) -> Result<(), Fail> {
     );
     assert_eq!(rt;
         told_of(alloc, &out)?.as_slice(),
-        [(5000, 4096), (5000, 4096)].as_slice()
+        [(69999, 65536), (69999, 65536)].as_slice()
     );
     Ok(())
 }
@@ -59,7 +59,7 @@ fn appends_behind_the_messages_that_were_there(rt: HostRuntime) -> Result<(), Fa
 #[test]
 fn a_cut_message_is_truncated_at_its_own_length(rt: HostRuntime) -> Result<(), Fail> {
     let alloc = rt.alloc();
-    for n in 1..145usize {
+    for n in 1..147usize {
         let cut = TWO_USES.split_at(n).0;
         for (texts, kept) in [
             ([cut].as_slice(), [].as_slice()),
@@ -91,13 +91,14 @@ fn a_fault_is_placed_in_its_message_and_keeps_those_before_it(rt: HostRuntime) -
     for (at, byte, place, reason) in [
         (0usize, 0u8, 0, Reason::Magic),
         (4, 3, 4, Reason::Kind),
-        (15, 0x10, 13, Reason::Count),
+        (14, 1, 13, Reason::Count),
         (24, 100, 17, Reason::UseExpired),
         (80, 101, 17, Reason::UseFuture),
-        (121, 0x21, 81, Reason::UseOrder),
+        (122, 0x21, 82, Reason::UseOrder),
+        (146, 2, 82, Reason::UseKind),
     ] {
         let mut bad = *TWO_USES;
-        assert!(rt; at < 145);
+        assert!(rt; at < 147);
         bad[at] = byte;
         for (texts, kept) in [
             ([bad.as_slice()].as_slice(), [].as_slice()),
@@ -127,7 +128,7 @@ fn a_fault_is_placed_in_its_message_and_keeps_those_before_it(rt: HostRuntime) -
 #[test]
 fn writes_what_it_read(rt: HostRuntime) -> Result<(), Fail> {
     let alloc = rt.alloc();
-    let bytes = b"JSR\x01\x01\x00\x00\x00\x00\x00\x00\x00\x64\x00\x00\x00\x00";
+    let bytes = b"JSR\x02\x01\x00\x00\x00\x00\x00\x00\x00\x64\x00\x00\x00\x00";
     let mut source = Counted::new(bytes.as_slice());
     let read = read_up_to(alloc, &mut source, 67108864)?;
     let mut messages = Vec::new(alloc);

@@ -29,14 +29,14 @@ impl Write for Broken {
 #[test]
 fn reads_to_the_end_within_the_limit(rt: HostRuntime) -> Result<(), Fail> {
     for (step, limit, fail_at, want) in [
-        (7, 145, None, Ok(())),
-        (1, 145, None, Ok(())),
-        (145, 145, None, Ok(())),
+        (7, 147, None, Ok(())),
+        (1, 147, None, Ok(())),
+        (147, 147, None, Ok(())),
         (1000, 1000, Some(3), Ok(())),
-        (7, 144, None, Err(ReadFault::TooMuch)),
+        (7, 146, None, Err(ReadFault::TooMuch)),
         (1000, 0, None, Err(ReadFault::TooMuch)),
-        (7, 145, Some(2), Err(ReadFault::Stopped)),
-        (7, 145, Some(22), Err(ReadFault::Stopped)),
+        (7, 147, Some(2), Err(ReadFault::Stopped)),
+        (7, 147, Some(22), Err(ReadFault::Stopped)),
     ] {
         let bytes = TWO_USES.to_vec(rt.alloc())?;
         let mut source = MemSource::new(bytes, step, fail_at);
@@ -96,8 +96,8 @@ fn a_sink_fails_at_its_call_and_then_goes_on(rt: HostRuntime) {
 #[test]
 fn puts_a_whole_piece_or_tells_how_much_of_it(rt: HostRuntime) {
     for (step, fail_at, want, taken) in [
-        (10, None, Ok(()), 145),
-        (1000, Some(2), Ok(()), 145),
+        (10, None, Ok(()), 147),
+        (1000, Some(2), Ok(()), 147),
         (10, Some(1), Err(WriteFault { written: 0 }), 0),
         (10, Some(3), Err(WriteFault { written: 20 }), 20),
         (100, Some(2), Err(WriteFault { written: 100 }), 100),
@@ -112,7 +112,7 @@ fn puts_a_whole_piece_or_tells_how_much_of_it(rt: HostRuntime) {
 #[test]
 fn counts_the_faults_of_readers_and_writers(rt: HostRuntime) -> Result<(), Fail> {
     let mut source = Counted::new(TWO_USES.as_slice());
-    let bytes = read_up_to(rt.alloc(), &mut source, 145)?;
+    let bytes = read_up_to(rt.alloc(), &mut source, 147)?;
     assert_eq!(rt; bytes.as_slice(), TWO_USES.as_slice());
     assert_eq!(rt; Source::faults(&source), 0);
 

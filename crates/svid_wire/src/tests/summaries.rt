@@ -12,7 +12,7 @@ const OF_NO_BYTES: &[u8; 32] = b"\xe3\xb0\xc4\x42\x98\xfc\x1c\x14\x9a\xfb\xf4\xc
 
 // The text of the summary of a new record.
 fn text_of_no_uses(alloc: Global) -> Result<Vec<u8>, AllocError> {
-    let mut bytes = b"JSR\x01\x02\x00\x00\x00\x00\x00\x00\x00\x00".to_vec(alloc)?;
+    let mut bytes = b"JSR\x02\x02\x00\x00\x00\x00\x00\x00\x00\x00".to_vec(alloc)?;
     for _ in 0..256usize {
         bytes.extend_from_slice(OF_NO_BYTES)?;
     }
@@ -30,7 +30,7 @@ fn numbered() -> Summary {
 
 // The text of that summary.
 pub(super) fn text_of_numbered(alloc: Global) -> Result<Vec<u8>, AllocError> {
-    let mut bytes = b"JSR\x01\x02\x00\x00\x00\x00\x00\x00\x01\x02".to_vec(alloc)?;
+    let mut bytes = b"JSR\x02\x02\x00\x00\x00\x00\x00\x00\x01\x02".to_vec(alloc)?;
     for bucket in 0..256usize {
         bytes.push(bucket as u8)?;
         bytes.extend_from_slice(&[0x77; 31])?;
@@ -182,8 +182,9 @@ fn the_messages_before_a_bad_one_come(rt: HostRuntime) -> Result<(), Fail> {
     // what stands behind a summary, and its fault
     for (behind, place, reason) in [
         ([0, 0, 0, 0].as_slice(), 0, Reason::Magic),
-        (b"JSR\x01\x03".as_slice(), 4, Reason::Kind),
-        (b"JSR\x01\x00".as_slice(), 4, Reason::Kind),
+        (b"JSR\x02\x03".as_slice(), 4, Reason::Kind),
+        (b"JSR\x02\x00".as_slice(), 4, Reason::Kind),
+        (b"JSR\x01\x02".as_slice(), 4, Reason::Kind),
         (good.split_at(8204).0, 8204, Reason::Truncated),
         (NO_USES.split_at(16).0, 16, Reason::Truncated),
     ] {

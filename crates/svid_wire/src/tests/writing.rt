@@ -11,6 +11,7 @@ fn two_uses(alloc: Global) -> Result<Batch, Fail> {
         key: [0x11; 32],
         place: [0x22; 16],
         at: 99,
+        withdrawn: false,
     };
     let second = Use {
         place: [0x33; 16],
@@ -33,16 +34,16 @@ fn writes_the_text_of_a_batch(rt: HostRuntime) -> Result<(), Fail> {
 }
 
 #[test]
-fn writes_batches_of_no_uses_and_of_4096(rt: HostRuntime) -> Result<(), Fail> {
+fn writes_batches_of_no_uses_and_of_65536(rt: HostRuntime) -> Result<(), Fail> {
     let mut sink = MemSink::new(rt.alloc(), 1000, None);
     let none = Batch::make(5, Vec::new(rt.alloc()))?;
     assert_eq!(rt; write_batch(&none, &mut sink), Ok(()));
     assert_eq!(rt;
         sink.bytes(),
-        b"JSR\x01\x01\x00\x00\x00\x00\x00\x00\x00\x05\x00\x00\x00\x00".as_slice()
+        b"JSR\x02\x01\x00\x00\x00\x00\x00\x00\x00\x05\x00\x00\x00\x00".as_slice()
     );
 
-    let full = many_uses(rt.alloc(), 4096)?;
+    let full = many_uses(rt.alloc(), 65536)?;
     let mut messages = Vec::new(rt.alloc());
     read_all(rt.alloc(), &full, &mut messages)?;
     let mut sink = MemSink::new(rt.alloc(), 1000, None);
@@ -51,22 +52,22 @@ fn writes_batches_of_no_uses_and_of_4096(rt: HostRuntime) -> Result<(), Fail> {
     Ok(())
 }
 
-// The call that fails shows the pieces: 17 bytes, then 64 a use, and the rest of a piece after a short put.
+// The call that fails shows the pieces: 17 bytes, then 65 a use, and the rest of a piece after a short put.
 #[test]
 fn tells_how_much_of_the_text_went_out(rt: HostRuntime) -> Result<(), Fail> {
     let batch = two_uses(rt.alloc())?;
     for (step, fail_at, written) in [
         (100usize, 1u64, 0usize),
         (100, 2, 17),
-        (100, 3, 81),
+        (100, 3, 82),
         (7, 3, 14),
         (7, 4, 17),
         (7, 5, 24),
         (7, 13, 80),
-        (7, 14, 81),
-        (7, 23, 144),
+        (7, 14, 82),
+        (7, 23, 145),
         (1, 18, 17),
-        (1, 145, 144),
+        (1, 147, 146),
     ] {
         assert!(rt; step > 0);
         let mut sink = MemSink::new(rt.alloc(), step, Some(fail_at));
@@ -75,11 +76,11 @@ fn tells_how_much_of_the_text_went_out(rt: HostRuntime) -> Result<(), Fail> {
             Err(WriteFault { written }),
             "step {step}, call {fail_at}"
         );
-        assert!(rt; written <= 145);
+        assert!(rt; written <= 147);
         assert_eq!(rt; sink.bytes(), TWO_USES.split_at(written).0);
         assert_eq!(rt; sink.faults(), 1);
     }
-    for (step, calls) in [(100usize, 3u64), (7, 23), (1, 145)] {
+    for (step, calls) in [(100usize, 3u64), (7, 23), (1, 147)] {
         let mut sink = MemSink::new(rt.alloc(), step, Some(calls + 1));
         assert_eq!(rt; write_batch(&batch, &mut sink), Ok(()), "step {step}");
         assert_eq!(rt; sink.bytes(), TWO_USES.as_slice());

@@ -58,32 +58,63 @@ fn assert_reported(
     Ok(())
 }
 
-// A validator with an empty record, whose save that is: it is put back by a new record that absorbs the
-// parts of the save, with which a validator of the same place begins.
-#[test]
-fn a_token_is_accepted_again_after_a_restart_from_an_earlier_save(
-    rt: HostRuntime,
+fn assert_accepts(
+    rt: &impl Abort,
+    v: &mut Validator<Sig, IndexedUses>,
+    now: u64,
+    token: &str,
+    used: Use,
 ) -> Result<(), Fail> {
-    let alloc = rt.alloc();
-    let token = signed(alloc, PAYLOAD)?;
-    let mut v = sharing(alloc, PLACE, 10)?;
-    let save = v.replay().parts(alloc)?;
-    assert_eq!(rt; v.check(999, token.as_bytes())?.used, EARLIER);
-    let sent = sent(alloc, &v)?;
-    let mut v = put_back(alloc, &save)?;
-    assert_has(&rt, alloc, &v, 0, &[])?;
-    assert_eq!(rt; v.check(1000, token.as_bytes())?.used, USED);
-    take_texts(&rt, alloc, &mut v, &sent)?;
-    assert_has(&rt, alloc, &v, 1000, &[EARLIER, USED])?;
-    assert_reported(&rt, alloc, &v)?;
+    assert_eq!(rt; v.check(now, token.as_bytes())?.used, used);
     Ok(())
 }
 
-// A validator that begins with the record of a save.
+// The save of an empty record, and what its validator sends that accepted a token since.
+fn saved_and_sent(
+    rt: &impl Abort,
+    alloc: Global,
+    token: &str,
+) -> Result<(Vec<Batch>, Vec<u8>), Fail> {
+    let mut v = sharing(alloc, PLACE, 10)?;
+    let save = v.replay().parts(alloc)?;
+    assert_accepts(rt, &mut v, 999, token, EARLIER)?;
+    let sent = sent(alloc, &v)?;
+    Ok((save, sent))
+}
+
+// A validator that begins with the record of a save: a new record that absorbs its parts.
 fn put_back(alloc: Global, save: &[Batch]) -> Result<Validator<Sig, IndexedUses>, Fail> {
     let mut record = Record::new(IndexedUses::new(alloc));
     for part in save {
         record.absorb(part)?;
     }
     with_record(alloc, PLACE, 10, record)
+}
+
+// It accepts the token once more, and learns by what was sent that this was the second time.
+fn assert_accepts_again(
+    rt: &impl Abort,
+    alloc: Global,
+    v: &mut Validator<Sig, IndexedUses>,
+    token: &str,
+    sent: &[u8],
+) -> Result<(), Fail> {
+    assert_has(rt, alloc, v, 0, &[])?;
+    assert_accepts(rt, v, 1000, token, USED)?;
+    take_texts(rt, alloc, v, sent)?;
+    assert_has(rt, alloc, v, 1000, &[EARLIER, USED])?;
+    assert_reported(rt, alloc, v)?;
+    Ok(())
+}
+
+// A validator of the same place is put back to the save of an empty record.
+#[test]
+fn a_token_is_accepted_again_after_a_restart_from_an_earlier_save(
+    rt: HostRuntime,
+) -> Result<(), Fail> {
+    let alloc = rt.alloc();
+    let token = signed(alloc, PAYLOAD)?;
+    let (save, sent) = saved_and_sent(&rt, alloc, token.as_str())?;
+    let mut v = put_back(alloc, &save)?;
+    assert_accepts_again(&rt, alloc, &mut v, token.as_str(), &sent)
 }

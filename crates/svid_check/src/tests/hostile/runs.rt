@@ -59,6 +59,7 @@ fn word_of(answer: &Answer) -> &'static str {
         Answer::Taken(Ok(())) => "taken",
         Answer::Taken(Err(TakeFault::TooFarAhead)) => "left",
         Answer::Taken(Err(TakeFault::OutOfMemory)) => "refused memory",
+        Answer::Withdrawn(_) => "of no event here",
     }
 }
 

@@ -1,9 +1,9 @@
 use Rattle.std.proofs.Common.{ap, refl, subst, sym, ◌∷◌, []}
-use Rattle.svid_check.specs.declared.answer.Answer.TheVariants.{Checked, Ticked, Taken}
+use Rattle.svid_check.specs.declared.answer.Answer.TheVariants.{Checked, Ticked, Taken, Withdrawn}
 use Rattle.svid_check.specs.declared.event.Event.{Event}
-use Rattle.svid_check.specs.declared.event.Event.TheVariants.{Check, Tick, Take}
+use Rattle.svid_check.specs.declared.event.Event.TheVariants.{Check, Tick, Take, Withdraw}
 use Rattle.svid_check.specs.Runs.{RunsFrom, terms_of}
-use Rattle.svid_check.proofs.RunsLemmas.{checks, takes, ticks}
+use Rattle.svid_check.proofs.RunsLemmas.{checks, takes, ticks, withdraws}
 use Rattle.svid_check.proofs.validator.Validator.step.Goals as goal
 
 pub returns-in-Check-clause-step : goal.returns-in-Check-clause-step
@@ -23,3 +23,9 @@ returns-in-Take-clause-step g c =
     let t = terms_of g.V.Verifier.says c.args.self.now in
     subst (λ (e : Event). RunsFrom t c.args.self.now.state (e ∷ []) (Taken c.take.result ∷ []) c.take.new.self.state) (sym c.in-Take.is)
     (takes t c.args.self.now.state c.take.new.self.state c.in-Take.now (Take c.in-Take.now c.in-Take.batch) c.in-Take.batch.now c.take.result c.take.ensures.taken (λ x y told. told))
+
+pub returns-in-Withdraw-clause-step : goal.returns-in-Withdraw-clause-step
+returns-in-Withdraw-clause-step g c =
+    let t = terms_of g.V.Verifier.says c.args.self.now in
+    subst (λ (e : Event). RunsFrom t c.args.self.now.state (e ∷ []) (Withdrawn c.withdraw.result ∷ []) c.withdraw.new.self.state) (sym c.in-Withdraw.is)
+    (withdraws t c.args.self.now.state c.withdraw.new.self.state c.in-Withdraw.now (Withdraw c.in-Withdraw.now c.in-Withdraw.key c.in-Withdraw.exp) c.in-Withdraw.key c.in-Withdraw.exp c.withdraw.result c.withdraw.ensures.answer (ap (λ h. h.state) c.withdraw.ensures.state) (λ x due. (due, refl)))

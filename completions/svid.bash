@@ -1,0 +1,47 @@
+# Completions of `svid` for bash.
+
+_svid() {
+  local current=${COMP_WORDS[COMP_CWORD]} before=${COMP_WORDS[COMP_CWORD - 1]}
+  local commands='check id report merge summary answer candidates help'
+  local options='' files='' word n
+  COMPREPLY=()
+  # (bash takes the `=` behind an option for a word of its own)
+  if [ "$current" = = ]; then
+    current=''
+  elif [ "$before" = = ]; then
+    before=${COMP_WORDS[COMP_CWORD - 2]}
+  fi
+  case $COMP_CWORD,${COMP_WORDS[1]} in
+    1,-*) options='-h --help' ;;
+    1,* | 2,help) COMPREPLY=($(compgen -W "$commands" -- "$current")) ;;
+    *,check) options='--bundles --table --now --place --record --out --longest -h --help' ;;
+    *,id) options='-h --help' ;;
+    *,report) options='--now -h --help' files=yes ;;
+    *,merge) options='-h --help' files=yes ;;
+    *,summary) options='-h --help' files=yes ;;
+    *,answer) options='--summary -h --help' files=yes ;;
+    *,candidates) options='--bundles -h --help' ;;
+  esac
+  # Behind `--` there are no options, and each option stands once.
+  for ((n = 2; n < COMP_CWORD; n++)); do
+    if [ "${COMP_WORDS[n]}" = -- ]; then
+      options='' before=''
+      break
+    fi
+    options=" $options "
+    options=${options/" ${COMP_WORDS[n]} "/ }
+  done
+  case $before in
+    --bundles | --table | --record | --out | --summary) options='' files=yes ;;
+    --now | --place | --longest) options='' files='' ;;
+  esac
+  # What may be a file is one, unless it begins as an option does.
+  if [ -n "$files" ] && ! [[ $options == *-* && $current == -* ]]; then
+    compopt -o filenames 2>/dev/null
+    while IFS= read -r word; do COMPREPLY+=("$word"); done < <(compgen -f -- "$current")
+  elif [[ $options == *-* ]]; then
+    COMPREPLY=($(compgen -W "$options" -- "$current"))
+  fi
+}
+
+complete -F _svid svid

@@ -1,0 +1,44 @@
+ghost use Rattle.std.specs.Prelude.{◌≡◌, ◌≢◌, Err, IsTrue};
+ghost use Rattle.svid_replay.specs.Sets.{holds};
+ghost use Rattle.svid_check.specs.Changes.{IsWithdrawal, gains, raised, withdrawal, withdrawn_in};
+ghost use Rattle.svid_check.specs.Setting.{with_state};
+ghost use Rattle.svid_check.specs.declared.withdraw_fault.WithdrawFault.TheVariants.{OutOfMemory};
+
+use crate::validator::Validator;
+use crate::withdraw_fault::WithdrawFault;
+use svid_keys::Verifier;
+use svid_replay::{Use, UseStore};
+
+impl<V: Verifier, S: UseStore> Validator<V, S> {
+    /// Withdraws the tokens with this key until `exp`, when they expire, at a moment; both in seconds. Until
+    /// then a token with the key of which no earlier refusal holds is refused as `Withdrawn`, here and
+    /// wherever the record is told.
+    ///
+    /// The record is raised to `now` first, whatever the answer is. The withdrawal is made at the record's
+    /// moment, which may be greater, and is added and answered, or `Expired` where `exp` is not greater than
+    /// that moment. Where memory is refused, only the raise stands. A withdrawal that the record has
+    /// already always succeeds.
+    pub fn withdraw(&mut self, now: u64, key: [u8; 32], exp: u64) -> Result<Use, WithdrawFault>
+        ensures answer { IsWithdrawal self.old.place (raised self.old.state now).moment key exp result }
+        ensures state { self.new ≡ with_state self.old (gains (raised self.old.state now) (withdrawn_in result)) }
+        ensures held { let x = raised self.old.state now in
+            IsTrue (holds x.uses (withdrawal self.old.place x.moment key exp)) → result ≢ Err OutOfMemory }
+    {
+        self.tick(now);
+        let moment = self.replay.moment();
+        if exp <= moment {
+            return Err(WithdrawFault::Expired);
+        }
+        let used = Use {
+            exp,
+            key,
+            place: self.given.place,
+            at: moment,
+            withdrawn: true,
+        };
+        match self.replay.add(used) {
+            Ok(()) => Ok(used),
+            Err(_) => Err(WithdrawFault::OutOfMemory),
+        }
+    }
+}

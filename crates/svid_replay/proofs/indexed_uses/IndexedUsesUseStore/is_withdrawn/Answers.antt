@@ -1,0 +1,9 @@
+use Rattle.std.proofs.Common.{◌∙◌, ap, sym}
+use Rattle.std.specs.List.{list_any}
+use Rattle.svid_replay.specs.Twice.{withdraws}
+use Rattle.svid_replay.proofs.UsesLemmas.{stored}
+use Rattle.svid_replay.proofs.indexed_uses.IndexedUsesUseStore.is_withdrawn.Goals as goal
+
+pub returns : goal.returns
+returns c =
+    c.has_from.ensures c.self.inside.by_use.keys c.self.invariant ∙ ap (list_any (withdraws c.args.key.now)) (sym (stored _ _ c.self.invariant.rising c.self.view_is))
