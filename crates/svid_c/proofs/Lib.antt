@@ -1,0 +1,2 @@
+pub mod InputsLemmas
+pub mod JoinedLemmas

@@ -1,0 +1,4 @@
+pub mod Inputs
+pub mod Joined
+pub mod Status
+pub mod Written
