@@ -1,2 +1,0 @@
-pub mod InputsLemmas
-pub mod JoinedLemmas

@@ -1,4 +1,0 @@
-pub mod Inputs
-pub mod Joined
-pub mod Status
-pub mod Written
