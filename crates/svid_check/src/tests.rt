@@ -3,19 +3,13 @@
 
 mod acceptances;
 mod answering;
-mod bytes;
-mod chance;
-mod group;
-mod hostile;
 mod keys;
-mod laws;
 mod longest;
 mod refusals;
 mod refusing;
 mod runs;
 mod sweep;
 mod taking;
-mod told;
 mod withdrawing;
 
 use crate::Validator;

@@ -6,10 +6,10 @@ use super::bytes::{batch_of, old_texts_of, summary_of, summary_text, texts_of};
 use super::chance::Chance;
 use super::told::{Entry, Told};
 use super::{Sig, signed, with_record};
-use crate::{Reading, TakeFault, Validator, WithdrawFault};
 use std::alloc::{AllocError, Global};
 use std::process::Abort;
 use std::test::Fail;
+use svid_check::{Reading, TakeFault, Validator, WithdrawFault};
 use svid_replay::{Batch, IndexedUses, Record, SortedUses, Summary, Twice, Use, UseStore};
 use svid_token::Refusal;
 

@@ -5,10 +5,10 @@ use super::{
     KEY, PAYLOAD, Sig, USED, assert_record, assert_refused, assert_uses, sharing, signed,
     with_record,
 };
-use crate::Validator;
 use std::alloc::{AllocError, Global};
 use std::process::Abort;
 use std::test::Fail;
+use svid_check::Validator;
 use svid_replay::{Batch, IndexedUses, Record, Use};
 use svid_token::Refusal;
 

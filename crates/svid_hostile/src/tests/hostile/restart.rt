@@ -1,10 +1,10 @@
 // A validator that is put back to an earlier save accepts again what it accepted since.
 use super::assert_has;
-use crate::Validator;
 use crate::tests::{PAYLOAD, PLACE, Sig, USED, sharing, signed, with_record};
 use std::alloc::{AllocError, Global};
 use std::process::Abort;
 use std::test::Fail;
+use svid_check::Validator;
 use svid_replay::{Batch, IndexedUses, Record, Use};
 use svid_wire::{Feed, MemSink, Message, write_batch};
 

@@ -8,10 +8,10 @@ mod runs;
 mod sweep;
 
 use super::{ONE_KEY, PLACE, Sig, with_record};
-use crate::Validator;
 use std::alloc::{AllocError, Global};
 use std::process::Abort;
 use std::test::Fail;
+use svid_check::Validator;
 use svid_keys::Verifier;
 use svid_replay::{Batch, IndexedUses, Record, SortedUses, Use, UseStore};
 

@@ -6,10 +6,10 @@ use super::{Part, assert_has, both, indexed, made, sorted, uses_of};
 use crate::tests::answering::{assert_one_batch, summary_of};
 use crate::tests::refusing::{refuse, was_refused};
 use crate::tests::{KEY, PAYLOAD, Sig, USED, signed};
-use crate::{TakeFault, Validator};
 use std::alloc::{AllocError, Global};
 use std::process::Abort;
 use std::test::Fail;
+use svid_check::{TakeFault, Validator};
 use svid_replay::{Batch, Summary, Use, UseStore};
 use svid_token::Refusal;
 

@@ -5,10 +5,10 @@ ghost use Rattle.std.specs.Prelude.{◌<◌};
 use super::{assert_has, made};
 use crate::tests::refusing::{refuse, was_refused};
 use crate::tests::{PAYLOAD, PLACE, Sig, USED, sharing, signed};
-use crate::{Answer, Event, TakeFault, Validator};
 use std::alloc::{AllocError, Global};
 use std::process::Abort;
 use std::test::Fail;
+use svid_check::{Answer, Event, TakeFault, Validator};
 use svid_replay::{Batch, IndexedUses, Use};
 use svid_token::Refusal;
 

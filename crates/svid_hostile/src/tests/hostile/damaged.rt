@@ -3,12 +3,12 @@
 ghost use Rattle.std.specs.Prelude.{◌<◌};
 
 use super::assert_has;
-use crate::Validator;
 use crate::tests::{HEADER, ONE_KEY, PAYLOAD, SIG, USED, assert_record, signed, validator_of};
 use base64::engine::general_purpose::URL_SAFE_NO_PAD;
 use std::alloc::{AllocError, Global};
 use std::process::Abort;
 use std::test::Fail;
+use svid_check::Validator;
 use svid_keys::TableVerifier;
 use svid_replay::IndexedUses;
 use svid_token::Refusal;
