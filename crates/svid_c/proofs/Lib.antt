@@ -1,3 +1,0 @@
-pub mod CheckedLemmas
-pub mod InputsLemmas
-pub mod JoinedLemmas
