@@ -49,8 +49,9 @@ fn candidate_lines(
     Ok(text)
 }
 
-// The lines of the candidates for a token, or why there are none.
-fn token_lines(alloc: Global, bundles: &Bundles, token: &[u8]) -> Result<String, Refusal>
+/// A line for each candidate key of a token, as [`run_candidates`] writes it; or why there is none: the first
+/// that holds of the refusals of a token by itself, and then `UnknownDomain` and `NoKey`; or `OutOfMemory`.
+pub fn token_lines(alloc: Global, bundles: &Bundles, token: &[u8]) -> Result<String, Refusal>
     ensures { Answers string_bytes result (lines_due bundles.now token.now) }
 {
     let reading = Reading::of(alloc, token)?;

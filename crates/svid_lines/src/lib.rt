@@ -23,6 +23,6 @@ mod refused;
 #[cfg(test)]
 mod tests;
 
-pub use candidates::run_candidates;
+pub use candidates::{run_candidates, token_lines};
 pub use check::{CheckSetting, run_check};
 pub use id::run_id;

@@ -41,6 +41,6 @@ pub use inputs::{MOST_BYTES, join_input, join_inputs, read_input};
 pub use merge::run_merge;
 pub use one_summary::read_summary;
 pub use output::put_text;
-pub use report::run_report;
+pub use report::{report_of_record, run_report};
 pub use summary::run_summary;
 pub use tool_fault::ToolFault;

@@ -13,7 +13,12 @@ use std::alloc::{AllocError, Global};
 use svid_replay::{IndexedUses, Record, UseStore};
 use svid_wire::{Sink, Source};
 
-fn text_of_record<T: UseStore>(alloc: Global, state: &Record<T>) -> Result<String, AllocError>
+/// The report of a record: its moment, its uses, and the keys that are used more than once; as [`run_report`]
+/// writes it.
+pub fn report_of_record<T: UseStore>(
+    alloc: Global,
+    state: &Record<T>,
+) -> Result<String, AllocError>
     ensures { IfOk result (λ text. string_bytes text ≡ report_of state.now) }
 {
     let uses = state.uses(alloc)?;
@@ -42,7 +47,7 @@ fn text_of_inputs<S: Source>(
     let mut record = Record::new(IndexedUses::new(alloc));
     join_inputs(alloc, inputs, &mut record)?;
     raise_to(&mut record, now);
-    Ok(text_of_record(alloc, &record)?)
+    Ok(report_of_record(alloc, &record)?)
 }
 
 /// Joins the batches of all inputs, raises what they come to to the moment `now` (in seconds) where one is

@@ -1,0 +1,105 @@
+use Rattle.std.proofs.Common.{◌≡◌, ℕ, ◌+◌, ◌<◌, List, [], ◌∷◌, ◌++◌, length, Some, refl, sym, ◌∙◌, ap, subst, arith, append-nil, length-append}
+use Rattle.std.proofs.lemmas.List.{append_assoc}
+use Rattle.svid_replay.specs.Records.{State}
+use Rattle.svid_replay.specs.Summary.{SummaryData}
+use Rattle.svid_wire.specs.Faults.{raised}
+use Rattle.svid_wire.specs.Messages.{Splits}
+use Rattle.svid_wire.specs.Streams.{Drawn}
+use Rattle.svid_wire.specs.declared.message.Message.{Message}
+use Rattle.svid_wire.specs.declared.message.Message.TheVariants as message
+use Rattle.svid_wire.specs.declared.reason.Reason.{Reason}
+use Rattle.svid_wire.specs.declared.reason.Reason.TheVariants as wire
+use Rattle.svid_wire.proofs.WireFaultLemmas.{IsFieldFault-append}
+use Rattle.svid_share.specs.declared.tool_fault.ToolFault.{ToolFault}
+use Rattle.svid_share.specs.declared.tool_fault.ToolFault.TheVariants as tool
+use Rattle.svid_share.specs.Answer.{IsOneSummary, IsSummaryFault}
+use Rattle.svid_share.specs.Inputs.{EndsWithin, HasBadField, IsBroken, IsInputFault, IsTooLong, IsWhole, StopsWithin, most_bytes}
+use Rattle.svid_share.specs.Joined.{Joins}
+use Rattle.svid_c.specs.Inputs.{AreMessages, IsBadMessage, IsRefused, Tells}
+use Rattle.svid_c.specs.Joined.{IsSummaryRefused}
+
+-- what was done to a source of bytes that a caller lent
+abbrev lent : List ℕ → List ℕ → Drawn
+lent old new = record { left_before = Some old; left_after = Some new; stops_before = 0; stops_after = 0 }
+
+all_given : (old new bytes : List ℕ) → old ≡ bytes ++ new → new ≡ [] → old ≡ bytes
+all_given old new bytes given ended = given ∙ ap (λ n. bytes ++ n) ended ∙ append-nil bytes
+
+whole : (old new : List ℕ) (told : List Message) → IsWhole (lent old new) told → AreMessages old told
+whole old new told w = subst (λ b. AreMessages b told) (sym (all_given old new w.bytes w.read.given w.read.ended)) w.splits
+
+Splits-more : (bytes more rest : List ℕ) (messages : List Message) → Splits bytes messages rest → Splits (bytes ++ more) messages (rest ++ more)
+Splits-more bytes more rest messages s =
+    record { written = s.written; good = s.good; told = s.told; parts = ap (λ b. b ++ more) s.parts ∙ append_assoc _ rest more }
+
+-- the bytes of an input whose joining succeeded tell of what was joined
+pub tells : (old new : List ℕ) (a b : State) → Joins (lent old new) a b → Tells old a b
+tells old new a b j = record { told = j.told; are = whole old new j.told j.whole; joins = j.joins }
+
+field : (old new : List ℕ) (message place : ℕ) (reason : Reason) → HasBadField (lent old new) message place reason → IsBadMessage old message place reason
+field old new message place reason h =
+    let more = h.others ++ new in
+    let all : old ≡ h.bytes ++ more = h.given ∙ append_assoc h.bytes h.others new in
+    record {
+      messages = h.messages;
+      rest = h.rest ++ more;
+      splits = subst (λ b. Splits b h.messages (h.rest ++ more)) (sym all) (Splits-more h.bytes more h.rest h.messages h.splits);
+      number = h.number;
+      why = (IsFieldFault-append h.rest more (record { place = place; reason = reason }) h.why).0;
+    }
+
+cut : (old new : List ℕ) (message place : ℕ) → EndsWithin (lent old new) message place → IsBadMessage old message place wire.Truncated
+cut old new message place e =
+    record {
+      messages = e.messages;
+      rest = e.rest;
+      splits = subst (λ b. Splits b e.messages e.rest) (sym (all_given old new e.bytes e.read.given e.read.ended)) e.good.splits;
+      number = e.number;
+      why = (e.at, e.some, e.good.unfinished);
+    }
+
+bad : (old new : List ℕ) (message place : ℕ) (reason : Reason) → IsBroken (lent old new) message place reason → IsBadMessage old message place reason
+bad old new message place wire.Truncated b = cut old new message place b
+bad old new message place wire.Magic b = field old new message place _ b
+bad old new message place wire.Kind b = field old new message place _ b
+bad old new message place wire.Count b = field old new message place _ b
+bad old new message place wire.UseKind b = field old new message place _ b
+bad old new message place wire.UseExpired b = field old new message place _ b
+bad old new message place wire.UseFuture b = field old new message place _ b
+bad old new message place wire.UseOrder b = field old new message place _ b
+bad old new message place wire.OutOfMemory b = field old new message place _ b
+bad old new message place wire.Failed b = field old new message place _ b
+
+too_long : (old new : List ℕ) → IsTooLong (lent old new) → most_bytes < length old
+too_long old new l =
+    let long : length old ≡ length ((l.bytes ++ l.others) ++ new) = ap length l.given in
+    omega (arith, long, length-append (l.bytes ++ l.others) new, length-append l.bytes l.others, l.full, l.some)
+
+never_stops : (old new : List ℕ) → StopsWithin (lent old new) → ⊥
+never_stops old new s = let no : 0 ≡ raised 0 = s.stopped in cc
+
+-- why such an input is refused
+pub refused : (number : ℕ) (old new : List ℕ) (fault : ToolFault) → IsInputFault number (lent old new) fault → IsRefused number old fault
+refused number old new (tool.Wire input message place reason) f = (f.0, bad old new message place reason f.1)
+refused number old new (tool.TooMuch input) f = (f.0, too_long old new f.1)
+refused number old new (tool.Read input) f = never_stops old new f.1
+refused number old new tool.OutOfMemory f = tt
+refused number old new tool.NotSummary f = f
+refused number old new (tool.Bundles fault) f = f
+refused number old new (tool.Table line) f = f
+refused number old new tool.Write f = f
+
+-- the bytes of an input that is one summary are that summary
+pub is_one : (old new : List ℕ) (asked : SummaryData) → IsOneSummary (lent old new) asked → AreMessages old (message.Summary asked ∷ [])
+is_one old new asked w = whole old new (message.Summary asked ∷ []) w
+
+-- why the bytes of an input are no summary
+pub not_one : (old new : List ℕ) (fault : ToolFault) → IsSummaryFault 1 (lent old new) fault → IsSummaryRefused old fault
+not_one old new tool.NotSummary n = record { told = n.told; are = whole old new n.told n.whole; other = n.other }
+not_one old new (tool.Wire input message place reason) f = refused 1 old new (tool.Wire input message place reason) f
+not_one old new (tool.TooMuch input) f = refused 1 old new (tool.TooMuch input) f
+not_one old new (tool.Read input) f = refused 1 old new (tool.Read input) f
+not_one old new tool.OutOfMemory f = refused 1 old new tool.OutOfMemory f
+not_one old new (tool.Bundles fault) f = refused 1 old new (tool.Bundles fault) f
+not_one old new (tool.Table line) f = refused 1 old new (tool.Table line) f
+not_one old new tool.Write f = refused 1 old new tool.Write f

@@ -1,0 +1,64 @@
+ghost use Rattle.std.specs.Prelude.{◌≡◌, [], ◌∷◌, IfOk, IfErr};
+ghost use Rattle.svid_c.specs.Inputs.{AreRefused};
+ghost use Rattle.svid_c.specs.Joined.{IsAnswer, IsAnswerRefused, IsTextOf, answer_text};
+ghost use Rattle.svid_c.specs.Written.{Answers};
+
+use crate::inputs::{record_of, summary_in};
+use crate::told::SvidTold;
+use crate::writing::{put, refuse};
+use std::alloc::Global;
+use svid_replay::Summary;
+use svid_share::{ToolFault, put_batches};
+use svid_wire::MemSink;
+
+// The answer to a summary, of what an input tells at a moment.
+#[tactic(auto, using(crate::proofs::JoinedLemmas::text_is, crate::proofs::JoinedLemmas::refused_second))]
+fn answer_to(
+    alloc: Global,
+    asked: &Summary,
+    messages: &[u8],
+    now: u64,
+) -> Result<MemSink, ToolFault>
+    ensures ok { IfOk result (λ sink. IsTextOf (answer_text asked.now) messages.now now sink.bytes) }
+    ensures fault { IfErr result (AreRefused 2 (messages.now ∷ [])) }
+{
+    let mut record = record_of(alloc, messages, 2, now)?;
+    let batches = record.answer(alloc, asked)?;
+    let mut sink = MemSink::new(alloc, 65_536, None);
+    match put_batches(&mut sink, &batches) {
+        Ok(()) => Ok(sink),
+        Err(_) => Err(ToolFault::OutOfMemory),
+    }
+}
+
+// The same, of the summary that the first input is.
+#[tactic(auto, using(crate::proofs::JoinedLemmas::answers, crate::proofs::JoinedLemmas::refused_summary, crate::proofs::JoinedLemmas::refused_behind))]
+fn answer(alloc: Global, summary: &[u8], messages: &[u8], now: u64) -> Result<MemSink, ToolFault>
+    ensures ok { IfOk result (λ sink. IsAnswer summary.now messages.now now sink.bytes) }
+    ensures fault { IfErr result (IsAnswerRefused summary.now messages.now) }
+{
+    let asked = summary_in(alloc, summary)?;
+    answer_to(alloc, &asked, messages, now)
+}
+
+/// Puts the answer to the one summary that the first input is, of what the messages of the second one tell at
+/// the moment `now`, in seconds, first into `out`, as batches: the uses of all buckets whose digests differ.
+///
+/// What it answers is as of [`svid_join`](crate::join::svid_join), and 4 where the first input is messages, but
+/// not one summary.
+#[unsafe(no_mangle)]
+pub extern "C" fn svid_answer(
+    alloc: Global,
+    summary: &[u8],
+    messages: &[u8],
+    now: u64,
+    out: &mut [u8],
+    told: &mut SvidTold,
+) -> u32
+    ensures { Answers (IsAnswer summary.now messages.now now) (IsAnswerRefused summary.now messages.now) result told.new out.old out.new }
+{
+    match answer(alloc, summary, messages, now) {
+        Ok(sink) => put(sink.bytes(), out, told),
+        Err(fault) => refuse(fault, told),
+    }
+}

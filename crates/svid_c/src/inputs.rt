@@ -1,0 +1,52 @@
+ghost use Rattle.std.specs.Prelude.{◌≡◌, [], ◌∷◌, OnOk, IfOk, IfErr};
+ghost use Rattle.svid_wire.specs.declared.message.Message.TheVariants.{Summary as SummaryTold};
+ghost use Rattle.svid_c.specs.Inputs.{AreMessages, AreRefused, IsRefused, Tells};
+ghost use Rattle.svid_c.specs.Joined.{IsRecordOf, IsSummaryRefused};
+
+use crate::lent::Lent;
+use std::alloc::Global;
+use svid_replay::{IndexedUses, Record, Summary, UseStore};
+use svid_share::{ToolFault, join_input, read_summary};
+
+// Joins the batches of the messages that the input with this number is.
+#[tactic(auto, using(crate::proofs::InputsLemmas::tells, crate::proofs::InputsLemmas::refused))]
+pub(crate) fn join_lent<T: UseStore>(
+    alloc: Global,
+    bytes: &[u8],
+    number: usize,
+    target: &mut Record<T>,
+) -> Result<(), ToolFault>
+    ensures ok { OnOk result (Tells bytes.now target.old target.new) }
+    ensures fault { IfErr result (IsRefused number bytes.now) }
+{
+    let mut source = Lent::new(bytes);
+    let mut messages = Vec::new(alloc);
+    join_input(alloc, &mut source, number, &mut messages, target)
+}
+
+// The record that the batches of the input with this number come to, raised to a moment.
+#[tactic(auto, using(crate::proofs::JoinedLemmas::one))]
+pub(crate) fn record_of(
+    alloc: Global,
+    bytes: &[u8],
+    number: usize,
+    now: u64,
+) -> Result<Record<IndexedUses>, ToolFault>
+    ensures ok { IfOk result (IsRecordOf bytes.now now) }
+    ensures fault { IfErr result (IsRefused number bytes.now) }
+{
+    let mut record = Record::new(IndexedUses::new(alloc));
+    join_lent(alloc, bytes, number, &mut record)?;
+    record.raise(now);
+    Ok(record)
+}
+
+// The one summary that the first input is.
+#[tactic(auto, using(crate::proofs::InputsLemmas::is_one, crate::proofs::InputsLemmas::not_one))]
+pub(crate) fn summary_in(alloc: Global, bytes: &[u8]) -> Result<Summary, ToolFault>
+    ensures ok { IfOk result (λ asked. AreMessages bytes.now (SummaryTold asked ∷ [])) }
+    ensures fault { IfErr result (IsSummaryRefused bytes.now) }
+{
+    let mut source = Lent::new(bytes);
+    read_summary(alloc, &mut source, 1)
+}

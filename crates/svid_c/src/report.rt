@@ -1,0 +1,41 @@
+ghost use Rattle.std.specs.Prelude.{◌≡◌, [], ◌∷◌, IfOk, IfErr, string_bytes};
+ghost use Rattle.svid_share.specs.Report.{report_of};
+ghost use Rattle.svid_c.specs.Inputs.{AreRefused};
+ghost use Rattle.svid_c.specs.Joined.{IsTextOf};
+ghost use Rattle.svid_c.specs.Written.{Answers};
+
+use crate::inputs::record_of;
+use crate::told::SvidTold;
+use crate::writing::{put, refuse};
+use std::alloc::Global;
+use svid_share::{ToolFault, report_of_record};
+
+// The report of what an input tells at a moment.
+#[tactic(auto, using(crate::proofs::JoinedLemmas::text_is, crate::proofs::JoinedLemmas::refused_first))]
+fn report(alloc: Global, messages: &[u8], now: u64) -> Result<String, ToolFault>
+    ensures ok { IfOk result (λ text. IsTextOf report_of messages.now now (string_bytes text)) }
+    ensures fault { IfErr result (AreRefused 1 (messages.now ∷ [])) }
+{
+    let record = record_of(alloc, messages, 1, now)?;
+    Ok(report_of_record(alloc, &record)?)
+}
+
+/// Puts the report of what the messages tell at the moment `now`, in seconds, first into `out`, as the
+/// program's command `report` prints it.
+///
+/// What it answers is as of [`svid_join`](crate::join::svid_join).
+#[unsafe(no_mangle)]
+pub extern "C" fn svid_report(
+    alloc: Global,
+    messages: &[u8],
+    now: u64,
+    out: &mut [u8],
+    told: &mut SvidTold,
+) -> u32
+    ensures { Answers (IsTextOf report_of messages.now now) (AreRefused 1 (messages.now ∷ [])) result told.new out.old out.new }
+{
+    match report(alloc, messages, now) {
+        Ok(text) => put(text.as_bytes(), out, told),
+        Err(fault) => refuse(fault, told),
+    }
+}

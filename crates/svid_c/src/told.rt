@@ -1,0 +1,107 @@
+ghost use Rattle.std.specs.Prelude.{◌≡◌};
+ghost use Rattle.svid_c.specs.Status.{bundles_number, bundles_place, fault_number, reason_number, told_fault, told_length};
+
+use svid_keys::BundleFault;
+use svid_share::ToolFault;
+use svid_wire::Reason;
+
+/// What a call tells beside its status; 0 where there is nothing to tell.
+#[repr(C)]
+#[derive(Drop)]
+pub struct SvidTold {
+    /// How many bytes the text has that was written, or that has no room.
+    pub len: usize,
+    /// The number of the input that is refused, counted from 1 in the order of the call's inputs.
+    pub input: usize,
+    /// The number of its message that is refused, counted from 1.
+    pub message: usize,
+    /// The place in that message, in bytes from its first; of bundles, the place of the refused name among the
+    /// names in their order; of a table, the number of the line, counted from 1.
+    pub place: usize,
+}
+
+pub(crate) fn told_length(len: usize) -> SvidTold
+    ensures { result ≡ told_length len }
+{
+    SvidTold {
+        len,
+        input: 0,
+        message: 0,
+        place: 0,
+    }
+}
+
+pub(crate) fn told_fault(fault: ToolFault) -> SvidTold
+    ensures { result ≡ told_fault fault }
+{
+    let (input, message, place) = match fault {
+        ToolFault::Wire {
+            input,
+            message,
+            place,
+            ..
+        } => (input, message, place),
+        ToolFault::Bundles(fault) => (0, 0, bundles_place(fault)),
+        ToolFault::Table(line) => (0, 0, line),
+        ToolFault::TooMuch { input } => (input, 0, 0),
+        ToolFault::NotSummary
+        | ToolFault::Read { .. }
+        | ToolFault::Write
+        | ToolFault::OutOfMemory => (0, 0, 0),
+    };
+    SvidTold {
+        len: 0,
+        input,
+        message,
+        place,
+    }
+}
+
+fn bundles_place(fault: BundleFault) -> usize
+    ensures { result ≡ bundles_place fault }
+{
+    match fault {
+        BundleFault::Domain(place) | BundleFault::Keys(place) => place,
+        BundleFault::NotObject | BundleFault::OutOfMemory => 0,
+    }
+}
+
+fn reason_number(reason: Reason) -> u32
+    ensures { result ≡ reason_number reason }
+{
+    match reason {
+        Reason::OutOfMemory | Reason::Failed => 2,
+        Reason::Magic => 11,
+        Reason::Kind => 12,
+        Reason::Count => 13,
+        Reason::UseKind => 14,
+        Reason::UseExpired => 15,
+        Reason::UseFuture => 16,
+        Reason::UseOrder => 17,
+        Reason::Truncated => 18,
+    }
+}
+
+fn bundles_number(fault: BundleFault) -> u32
+    ensures { result ≡ bundles_number fault }
+{
+    match fault {
+        BundleFault::OutOfMemory => 2,
+        BundleFault::NotObject => 31,
+        BundleFault::Domain(_) => 32,
+        BundleFault::Keys(_) => 33,
+    }
+}
+
+pub(crate) fn fault_number(fault: ToolFault) -> u32
+    ensures { result ≡ fault_number fault }
+{
+    match fault {
+        ToolFault::Wire { reason, .. } => reason_number(reason),
+        ToolFault::NotSummary => 4,
+        ToolFault::Bundles(fault) => bundles_number(fault),
+        ToolFault::Table(_) => 34,
+        ToolFault::TooMuch { .. } => 3,
+        ToolFault::Read { .. } | ToolFault::Write | ToolFault::OutOfMemory => 2,
+    }
+}

@@ -1,0 +1,89 @@
+"""libsvid for Python, by ctypes. Run as a program, it takes the arguments of use.c."""
+import ctypes as c
+import os
+import sys
+
+OK, TOO_SHORT = 0, 1
+
+
+class Id(c.Structure):
+    _fields_ = [("place", c.c_size_t), ("domain_len", c.c_size_t), ("path_len", c.c_size_t)]
+
+
+class Told(c.Structure):
+    _fields_ = [("len", c.c_size_t), ("input", c.c_size_t), ("message", c.c_size_t), ("place", c.c_size_t)]
+
+
+class Setting(c.Structure):
+    _fields_ = [("moment", c.c_uint64), ("longest", c.c_uint64), ("place", c.c_uint8 * 16)]
+
+
+class Use(c.Structure):
+    _fields_ = [("exp", c.c_uint64), ("at", c.c_uint64), ("key", c.c_uint8 * 32), ("place", c.c_uint8 * 16)]
+
+
+class Refused(Exception):
+    """Why a call gave up: its status, and what it told."""
+
+
+lib = c.CDLL(os.environ.get("LIBSVID", "libsvid.so"))
+
+
+def parse(text):
+    """The trust domain name and the path of a SPIFFE ID."""
+    out = Id()
+    status = lib.svid_id_parse(text, c.c_size_t(len(text)), c.byref(out))
+    if status != OK:
+        raise Refused(f"{status} at {out.place}")
+    return text[9 : 9 + out.domain_len], text[9 + out.domain_len :]
+
+
+def lent(inputs):
+    """The arguments that inputs are: where each stands, and how long it is."""
+    return [it for text in inputs for it in (text, c.c_size_t(len(text)))]
+
+
+def told_text(told):
+    return f"input {told.input} message {told.message} place {told.place}"
+
+
+def call(name, inputs, now=None):
+    """What svid_NAME writes of the inputs, at a moment where it takes one."""
+    args = lent(inputs) + ([] if now is None else [c.c_uint64(now)])
+    told, room = Told(), 0
+    while True:
+        out = c.create_string_buffer(room + 1)
+        status = getattr(lib, "svid_" + name)(*args, out, c.c_size_t(room), c.byref(told))
+        if status == OK:
+            return out.raw[: told.len]
+        if status != TOO_SHORT:
+            raise Refused(f"{status} {told_text(told)}")
+        room = told.len
+
+
+def check(setting, own, bundles, questions, messages, token):
+    """The ID and the use of a token that is accepted."""
+    out, used, told = c.create_string_buffer(2048), Use(), Told()
+    args = lent([own, bundles, questions, messages, token])
+    status = lib.svid_check(c.byref(setting), *args, out, c.c_size_t(2048), c.byref(used), c.byref(told))
+    if status != OK:
+        raise Refused(f"{status} {told_text(told)}")
+    return out.raw[: told.len], used
+
+
+def main(what, rest):
+    if what == "id":
+        domain, path = parse(rest[0].encode())
+        return b"domain " + domain + b"\npath " + path + b"\n"
+    if what == "check":
+        setting = Setting(int(rest[0]), 2**64 - 1, (c.c_uint8 * 16)(*[0xAA] * 16))
+        id, used = check(setting, os.fsencode(rest[1]), *[open(it, "rb").read() for it in rest[2:]])
+        return b"accepted %s %d\n%s at %d\n" % (id, used.exp, bytes(used.key).hex().encode(), used.at)
+    return call(what, [open(it, "rb").read() for it in rest[1:]], None if what == "questions" else int(rest[0]))
+
+
+if __name__ == "__main__":
+    try:
+        sys.stdout.buffer.write(main(sys.argv[1], sys.argv[2:]))
+    except Refused as why:
+        sys.exit(f"refused: {why}")
