@@ -15,10 +15,7 @@ use svid_wire::{Sink, Source};
 
 /// The report of a record: its moment, its uses, and the keys that are used more than once; as [`run_report`]
 /// writes it.
-pub fn report_of_record<T: UseStore>(
-    alloc: Global,
-    state: &Record<T>,
-) -> Result<String, AllocError>
+pub fn report_of_record<T: UseStore>(alloc: Global, state: &Record<T>) -> Result<String, AllocError>
     ensures { IfOk result (λ text. string_bytes text ≡ report_of state.now) }
 {
     let uses = state.uses(alloc)?;

@@ -8,7 +8,7 @@ use super::{ONE_KEY, ONE_QUESTION, TOKEN};
 use crate::bundles::read_bundles;
 use crate::checks::check_lines;
 use crate::refused::refusal_line;
-use crate::{run_candidates, run_id};
+use crate::{run_candidates, run_id, token_lines};
 use std::alloc::{AllocError, Global};
 use std::process::Abort;
 use std::test::Fail;
@@ -230,12 +230,33 @@ fn names_or_tells(rt: &impl Abort, alloc: Global, nth: usize) -> Result<bool, Fa
     Ok(refused)
 }
 
+// Makes a token's lines while the nth allocation is refused, and says whether one was.
+fn asks_or_tells(rt: &impl Abort, alloc: Global, nth: usize) -> Result<bool, Fail>
+    requires { nth < 4294967296 }
+{
+    let bundles = Bundles::read(alloc, ONE_KEY)?;
+    refuse(alloc, nth);
+    let answer = token_lines(alloc, &bundles, TOKEN);
+    let refused = was_refused(alloc);
+    refuse(alloc, 0);
+    match answer {
+        Ok(lines) => assert!(rt; !refused && lines.as_str().as_bytes() == ONE_QUESTION),
+        Err(refusal) => assert!(rt; refused && refusal == Refusal::OutOfMemory),
+    }
+    match token_lines(alloc, &bundles, TOKEN) {
+        Ok(lines) => assert_eq!(rt; lines.as_str().as_bytes(), ONE_QUESTION),
+        Err(_) => assert!(rt; false),
+    }
+    Ok(refused)
+}
+
 // The calls that engines are made of.
 #[derive(Clone, Copy, Debug)]
 enum Call {
     ReadBundles,
     CheckLines,
     RefusalLine,
+    TokenLines,
 }
 
 fn answers_or_tells(rt: &impl Abort, alloc: Global, call: Call, nth: usize) -> Result<bool, Fail>
@@ -245,12 +266,18 @@ fn answers_or_tells(rt: &impl Abort, alloc: Global, call: Call, nth: usize) -> R
         Call::ReadBundles => reads_or_tells(rt, alloc, nth),
         Call::CheckLines => checks_or_tells(rt, alloc, nth),
         Call::RefusalLine => names_or_tells(rt, alloc, nth),
+        Call::TokenLines => asks_or_tells(rt, alloc, nth),
     }
 }
 
 #[test]
 fn calls_tell_want_of_memory(rt: HostRuntime) -> Result<(), Fail> {
-    for call in [Call::ReadBundles, Call::CheckLines, Call::RefusalLine] {
+    for call in [
+        Call::ReadBundles,
+        Call::CheckLines,
+        Call::RefusalLine,
+        Call::TokenLines,
+    ] {
         let mut refused = true;
         for nth in 1..10000usize {
             refused = answers_or_tells(&rt, rt.alloc(), call, nth)?;

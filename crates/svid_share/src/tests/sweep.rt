@@ -7,7 +7,7 @@ use super::made::{many, part, source, summary_text, summary_with};
 use super::refusing::{refuse, was_refused};
 use super::{NOTHING_DIGEST, TWO_USES, TWO_USES_REPORT};
 use crate::report_text::report_text;
-use crate::{ToolFault, join_input, join_inputs, read_input, read_summary};
+use crate::{ToolFault, join_input, join_inputs, read_input, read_summary, report_of_record};
 use std::alloc::{AllocError, Global};
 use std::process::Abort;
 use std::test::Fail;
@@ -252,6 +252,22 @@ fn reports_or_tells(rt: &impl Abort, alloc: Global, nth: usize) -> Result<bool, 
     Ok(refused)
 }
 
+// Makes the report of a record while the nth allocation is refused, and says whether one was.
+fn reports_a_record_or_tells(rt: &impl Abort, alloc: Global, nth: usize) -> Result<bool, Fail>
+    requires { nth < 4294967296 }
+{
+    let mut record = Record::new(IndexedUses::new(alloc));
+    join_inputs(alloc, &mut [source(alloc, TWO_USES, 1000)?], &mut record)?;
+    refuse(alloc, nth);
+    let answer = report_of_record(alloc, &record);
+    let refused = was_refused(alloc);
+    refuse(alloc, 0);
+    assert_eq!(rt; answer.is_err(), refused);
+    let again = report_of_record(alloc, &record)?;
+    assert_eq!(rt; again.as_str().as_bytes(), TWO_USES_REPORT);
+    Ok(refused)
+}
+
 // The calls that engines are made of.
 #[derive(Clone, Copy, Debug)]
 enum Call {
@@ -260,6 +276,7 @@ enum Call {
     JoinInput,
     JoinInputs,
     ReportText,
+    ReportOfRecord,
 }
 
 fn answers_or_tells(rt: &impl Abort, alloc: Global, call: Call, nth: usize) -> Result<bool, Fail>
@@ -271,6 +288,7 @@ fn answers_or_tells(rt: &impl Abort, alloc: Global, call: Call, nth: usize) -> R
         Call::JoinInput => joins_or_tells(rt, alloc, false, nth),
         Call::JoinInputs => joins_or_tells(rt, alloc, true, nth),
         Call::ReportText => reports_or_tells(rt, alloc, nth),
+        Call::ReportOfRecord => reports_a_record_or_tells(rt, alloc, nth),
     }
 }
 
@@ -283,6 +301,7 @@ fn calls_tell_want_of_memory(rt: HostRuntime) -> Result<(), Fail> {
         Call::JoinInput,
         Call::JoinInputs,
         Call::ReportText,
+        Call::ReportOfRecord,
     ] {
         let mut refused = true;
         for nth in 1..10000usize {
