@@ -1,0 +1,265 @@
+/* Calls each function of svid.h with each of its allocations refused in turn, and with rooms of many lengths, over
+ * the files of the folder examples/, where it runs.
+ *
+ * What goes in and out is lent where the page behind it can't be touched, and is compared afterwards. Linked with
+ * --wrap for malloc, realloc and free, through which the library takes all of its memory. */
+#define _DEFAULT_SOURCE
+#include "svid.h"
+#include <stdio.h>
+#include <stdlib.h>
+#include <string.h>
+#include <sys/mman.h>
+#include <unistd.h>
+
+/* Where the fields of the structures stand, on a machine of 64 bits. */
+#define PLACE(type, field, place) _Static_assert(offsetof(type, field) == place, #type "." #field)
+PLACE(svid_id, place, 0); PLACE(svid_id, domain_len, 8); PLACE(svid_id, path_len, 16);
+PLACE(svid_told, len, 0); PLACE(svid_told, input, 8); PLACE(svid_told, message, 16); PLACE(svid_told, place, 24);
+PLACE(svid_setting, moment, 0); PLACE(svid_setting, longest, 8); PLACE(svid_setting, place, 16);
+PLACE(svid_use, exp, 0); PLACE(svid_use, at, 8); PLACE(svid_use, key, 16); PLACE(svid_use, place, 48);
+_Static_assert(sizeof(svid_id) == 24 && sizeof(svid_told) == 32 && sizeof(svid_setting) == 32 && sizeof(svid_use) == 64, "sizes");
+
+/* The allocations: how many were asked for, how many stand, and which are refused. */
+static long asked, standing, refused_from, refused_to, refused_in_all;
+
+static int is_refused(void) {
+    asked++;
+    int is = refused_from && asked >= refused_from && asked <= refused_to;
+    refused_in_all += is;
+    return is;
+}
+
+void *__real_malloc(size_t size);
+void *__real_realloc(void *old, size_t size);
+void __real_free(void *old);
+
+void *__wrap_malloc(size_t size) {
+    void *new = is_refused() ? NULL : __real_malloc(size);
+    standing += new != NULL;
+    return new;
+}
+
+void *__wrap_realloc(void *old, size_t size) {
+    void *new = is_refused() ? NULL : __real_realloc(old, size);
+    standing += new != NULL && old == NULL;
+    return new;
+}
+
+void __wrap_free(void *old) {
+    standing -= old != NULL;
+    __real_free(old);
+}
+
+static const char *at = "";
+static uint32_t answered;
+
+static void fail(const char *why) {
+    printf("%s: %s (answered %u, allocation %ld)\n", at, why, answered, refused_from);
+    exit(1);
+}
+
+static void holds(int truth, const char *why) {
+    if (!truth) fail(why);
+}
+
+typedef struct { uint8_t *bytes; size_t len; } text;
+
+/* Room of so many bytes, with a page behind it that can't be touched. */
+static text room(size_t len) {
+    size_t page = (size_t)sysconf(_SC_PAGESIZE), pages = (len + page - 1) / page + 1;
+    uint8_t *all = mmap(NULL, pages * page, PROT_READ | PROT_WRITE, MAP_PRIVATE | MAP_ANONYMOUS, -1, 0);
+    holds(all != MAP_FAILED && !mprotect(all + (pages - 1) * page, page, PROT_NONE), "no memory for the test");
+    return (text){ all + (pages - 1) * page - len, len };
+}
+
+static void give_back(text t) {
+    size_t page = (size_t)sysconf(_SC_PAGESIZE), pages = (t.len + page - 1) / page + 1;
+    holds(!munmap(t.bytes + t.len - (pages - 1) * page, pages * page), "munmap");
+}
+
+static text lent(const void *bytes, size_t len) {
+    text t = room(len);
+    if (len) memcpy(t.bytes, bytes, len);
+    return t;
+}
+
+static text said(const char *words) { return lent(words, strlen(words)); }
+
+static text file(const char *name) {
+    static uint8_t bytes[1 << 20];
+    FILE *from = fopen(name, "rb");
+    if (!from) { perror(name); exit(1); }
+    size_t len = fread(bytes, 1, sizeof bytes, from);
+    fclose(from);
+    while (strstr(name, "token") && len && bytes[len - 1] == '\n') len--;
+    return lent(bytes, len);
+}
+
+static text first(text t, size_t len) { return lent(t.bytes, len); }
+
+/* A call: its name, the inputs, and what it is to answer. */
+enum kind { ID, JOIN, REPORT, SUMMARY, ANSWER, QUESTIONS, CHECK };
+typedef struct {
+    const char *name;
+    enum kind kind;
+    text in[5];
+    uint64_t now, longest;
+    uint32_t status;
+    size_t input, message, place;
+} row;
+
+typedef struct { svid_id id; svid_told told; svid_use used; } answer;
+
+static const uint8_t PLACE_OF_THIS[16] = { 1, 2, 3, 4, 5, 6, 7, 8, 9, 10, 11, 12, 13, 14, 15, 16 };
+
+static uint32_t call(const row *r, text out, answer *a) {
+    const text *in = r->in;
+    svid_setting setting = { r->now, r->longest, { 0 } };
+    memcpy(setting.place, PLACE_OF_THIS, sizeof setting.place);
+    switch (r->kind) {
+    case ID: return svid_id_parse(in[0].bytes, in[0].len, &a->id);
+    case JOIN: return svid_join(in[0].bytes, in[0].len, in[1].bytes, in[1].len, r->now, out.bytes, out.len, &a->told);
+    case REPORT: return svid_report(in[0].bytes, in[0].len, r->now, out.bytes, out.len, &a->told);
+    case SUMMARY: return svid_summary(in[0].bytes, in[0].len, r->now, out.bytes, out.len, &a->told);
+    case ANSWER: return svid_answer(in[0].bytes, in[0].len, in[1].bytes, in[1].len, r->now, out.bytes, out.len, &a->told);
+    case QUESTIONS: return svid_questions(in[0].bytes, in[0].len, in[1].bytes, in[1].len, out.bytes, out.len, &a->told);
+    default: return svid_check(&setting, in[0].bytes, in[0].len, in[1].bytes, in[1].len, in[2].bytes, in[2].len,
+                               in[3].bytes, in[3].len, in[4].bytes, in[4].len, out.bytes, out.len, &a->used, &a->told);
+    }
+}
+
+/* Calls with room for `len` bytes, while some allocations are refused: nothing stands afterwards, and no input has
+ * changed. What is behind the text, or all of the room where there is none, is as it was. */
+static text called(const row *r, size_t len, long from, long to, answer *a) {
+    text out = room(len), copies[5];
+    memset(out.bytes, 0x5A, len);
+    memset(a, 0xA5, sizeof *a);
+    for (int i = 0; i < 5; i++) copies[i] = lent(r->in[i].bytes, r->in[i].len);
+    asked = 0, refused_from = from, refused_to = to;
+    answered = call(r, out, a);
+    refused_from = 0;
+    holds(standing == 0, "memory was not given back");
+    size_t text_len = answered == SVID_OK && r->kind != ID ? a->told.len : 0;
+    holds(text_len <= len, "the text is longer than the room");
+    for (size_t i = text_len; i < len; i++) holds(out.bytes[i] == 0x5A, "the room was changed behind the text");
+    for (int i = 0; i < 5; i++) {
+        holds(!r->in[i].len || !memcmp(copies[i].bytes, r->in[i].bytes, r->in[i].len), "an input was changed");
+        give_back(copies[i]);
+    }
+    for (size_t i = 0; answered != SVID_OK && i < sizeof a->used; i++) holds(((uint8_t *)&a->used)[i] == 0xA5, "the use was changed");
+    return out;
+}
+
+static int is_told(const answer *a, size_t len, size_t input, size_t message, size_t place) {
+    return a->told.len == len && a->told.input == input && a->told.message == message && a->told.place == place;
+}
+
+/* An ID has no room, and a fault no text: this is the answer of the row, with any room. */
+static int is_answer(const row *r, const answer *a, size_t len) {
+    if (r->kind == ID) return answered == r->status && a->id.domain_len == r->input && a->id.path_len == r->message && a->id.place == r->place;
+    return answered == r->status && is_told(a, len, r->input, r->message, r->place);
+}
+
+/* All calls of a row. */
+static void try_row(const row *r) {
+    answer a;
+    at = r->name;
+    text none = called(r, 0, 0, 0, &a);
+    size_t len = 0;
+    if (answered == SVID_TOO_SHORT) len = a.told.len;
+    text whole = called(r, len, 0, 0, &a);
+    long takes = asked;
+    holds(is_answer(r, &a, len), "not what is due");
+    if (r->kind == CHECK && r->status == SVID_OK)
+        holds(a.used.at == r->now && a.used.exp == 4102444800 && !memcmp(a.used.place, PLACE_OF_THIS, 16), "the use");
+    /* too short by all, by half and by one, as long as the text, and longer */
+    size_t lens[] = { 0, len / 2, len ? len - 1 : 0, len, len + 1, len + 4096 };
+    for (int i = 0; i < 6; i++) {
+        text out = called(r, lens[i], 0, 0, &a);
+        if (lens[i] < len) holds(answered == SVID_TOO_SHORT && is_told(&a, len, 0, 0, 0), "not too short");
+        else holds(is_answer(r, &a, len) && !memcmp(out.bytes, whole.bytes, len), "another answer in another room");
+        give_back(out);
+    }
+    /* each allocation alone, and each with all that follow it */
+    for (long nth = 1; nth <= takes; nth++) {
+        for (int all = 0; all < 2; all++) {
+            text out = called(r, len, nth, all ? 1L << 40 : nth, &a);
+            holds(answered == SVID_NO_MEMORY, "want of memory is not told");
+            if (r->kind == ID) holds(a.id.place == 0 && a.id.domain_len == 0 && a.id.path_len == 0, "something is told of an ID");
+            else holds(is_told(&a, 0, 0, 0, 0), "something is told beside want of memory");
+            give_back(out);
+        }
+    }
+    text again = called(r, len, 0, 0, &a);
+    holds(is_answer(r, &a, len) && !memcmp(again.bytes, whole.bytes, len), "another answer afterwards");
+    give_back(none), give_back(whole), give_back(again);
+}
+
+static void put_number(uint8_t *to, uint64_t number) {
+    for (int i = 7; i >= 0; i--, number >>= 8) to[i] = (uint8_t)number;
+}
+
+/* The batch that tells of a use (docs/FORMATS.md). */
+static text batch_of(const svid_use *used) {
+    text t = room(17 + 65);
+    memcpy(t.bytes, "JSR\2\1", 5);
+    put_number(t.bytes + 5, used->at);
+    memcpy(t.bytes + 13, "\0\0\0\1", 4);
+    put_number(t.bytes + 17, used->exp);
+    memcpy(t.bytes + 25, used->key, 32);
+    memcpy(t.bytes + 57, used->place, 16);
+    put_number(t.bytes + 73, used->at);
+    t.bytes[81] = 0;
+    return t;
+}
+
+int main(void) {
+    const uint64_t now = 1767225600;
+    text o = said(""), two = file("two-uses.batch"), summary = room(8205), kept;
+    text bundles = file("bundles.json"), table = file("table.txt"), token = file("token.txt"), ledger = said("\nledger\n");
+    /* a record with the token's use, and its summary */
+    answer a;
+    row accepting = { "a check", CHECK, { ledger, bundles, table, o, token }, now, UINT64_MAX, SVID_OK, 0, 0, 0 };
+    give_back(called(&accepting, 2048, 0, 0, &a));
+    holds(answered == SVID_OK, "the token is not accepted");
+    kept = batch_of(&a.used);
+    row summing = { "a summary", SUMMARY, { kept, o, o, o, o }, now, 0, SVID_OK, 0, 0, 0 };
+    text made = called(&summing, 8205, 0, 0, &a);
+    holds(answered == SVID_OK && a.told.len == 8205, "the summary is not made");
+    memcpy(summary.bytes, made.bytes, 8205);
+    row rows[] = {
+        { "an ID", ID, { said("spiffe://example.org/web"), o, o, o, o }, 0, 0, SVID_OK, 11, 4, 0 },
+        { "an ID with dots", ID, { said("spiffe://a/.."), o, o, o, o }, 0, 0, SVID_ID_SEGMENT_DOTS, 0, 0, 11 },
+        { "no ID", ID, { o, o, o, o, o }, 0, 0, SVID_ID_SCHEME, 0, 0, 0 },
+        { "a join", JOIN, { two, kept, o, o, o }, 0, 0, SVID_OK, 0, 0, 0 },
+        { "a join of nothing", JOIN, { o, o, o, o, o }, 0, 0, SVID_OK, 0, 0, 0 },
+        { "a join with a cut batch", JOIN, { two, first(two, 40), o, o, o }, 0, 0, SVID_TRUNCATED, 2, 1, 40 },
+        { "a join with other bytes", JOIN, { said("{}..."), two, o, o, o }, 0, 0, SVID_MAGIC, 1, 1, 0 },
+        { "a report", REPORT, { two, o, o, o, o }, 0, 0, SVID_OK, 0, 0, 0 },
+        { "a report when all has expired", REPORT, { kept, o, o, o, o }, UINT64_MAX, 0, SVID_OK, 0, 0, 0 },
+        { "a summary", SUMMARY, { kept, o, o, o, o }, now, 0, SVID_OK, 0, 0, 0 },
+        { "an answer", ANSWER, { summary, two, o, o, o }, 0, 0, SVID_OK, 0, 0, 0 },
+        { "an answer to a batch", ANSWER, { two, two, o, o, o }, 0, 0, SVID_NOT_SUMMARY, 0, 0, 0 },
+        { "an answer of a cut batch", ANSWER, { summary, first(two, 40), o, o, o }, 0, 0, SVID_TRUNCATED, 2, 1, 40 },
+        { "questions", QUESTIONS, { bundles, token, o, o, o }, 0, 0, SVID_OK, 0, 0, 0 },
+        { "questions over no object", QUESTIONS, { said("[]"), token, o, o, o }, 0, 0, SVID_BUNDLES_NOT_OBJECT, 0, 0, 0 },
+        { "questions of no token", QUESTIONS, { bundles, o, o, o, o }, 0, 0, SVID_NOT_THREE_PARTS, 0, 0, 0 },
+        { "a check", CHECK, { ledger, bundles, table, two, token }, now, UINT64_MAX, SVID_OK, 0, 0, 0 },
+        { "a check of a used token", CHECK, { ledger, bundles, table, kept, token }, now, UINT64_MAX, SVID_REPLAYED, 0, 0, 0 },
+        { "a check by no name", CHECK, { o, bundles, table, o, token }, now, UINT64_MAX, SVID_NOT_AUDIENCE, 0, 0, 0 },
+        { "a check by a name of other bytes", CHECK, { lent("\xFF", 1), bundles, table, o, token }, now, UINT64_MAX, SVID_OWN_NOT_UTF8, 0, 0, 0 },
+        { "a check too late", CHECK, { ledger, bundles, table, o, token }, 4102444800, UINT64_MAX, SVID_EXPIRED, 0, 0, 0 },
+        { "a check of a long life", CHECK, { ledger, bundles, table, o, token }, now, 60, SVID_TOO_LONG_LIVED, 0, 0, 0 },
+        { "a check with no keys", CHECK, { ledger, said("{}"), table, o, token }, now, UINT64_MAX, SVID_UNKNOWN_DOMAIN, 0, 0, 0 },
+        { "a check with a bad name of keys", CHECK, { ledger, said("{\"A\": {\"keys\": []}}"), table, o, token }, now, UINT64_MAX, SVID_BUNDLES_DOMAIN, 0, 0, 0 },
+        { "a check with no answer", CHECK, { ledger, bundles, o, o, token }, now, UINT64_MAX, SVID_BAD_SIGNATURE, 0, 0, 0 },
+        { "a check with a bad table", CHECK, { ledger, bundles, said("\nx\n"), o, token }, now, UINT64_MAX, SVID_TABLE_LINE, 0, 0, 2 },
+        { "a check over cut messages", CHECK, { ledger, bundles, table, first(two, 40), token }, now, UINT64_MAX, SVID_TRUNCATED, 4, 1, 40 },
+        { "a check of no token", CHECK, { ledger, bundles, table, o, o }, now, UINT64_MAX, SVID_NOT_THREE_PARTS, 0, 0, 0 },
+    };
+    size_t count = sizeof rows / sizeof *rows;
+    for (size_t i = 0; i < count; i++) try_row(&rows[i]);
+    if (refused_in_all < 100) { printf("only %ld allocations were refused\n", refused_in_all); return 1; }
+    printf("%zu calls of the C library, %ld allocations refused\n", count, refused_in_all);
+    return 0;
+}
