@@ -57,16 +57,11 @@ impl Verifier for Sig {
     }
 }
 
-// The token of a header, a payload and a signature, the last as it stands in the token.
-fn token(alloc: Global, header: &str, payload: &str, signature: &str) -> Result<String, Fail> {
-    let header = URL_SAFE_NO_PAD.encode(alloc, header.as_bytes())?;
-    let payload = URL_SAFE_NO_PAD.encode(alloc, payload.as_bytes())?;
-    Ok(format!(in alloc; "{header}.{payload}.{signature}")?)
-}
-
 // A token of one key's header, with the signature `sig`.
 fn signed(alloc: Global, payload: &str) -> Result<String, Fail> {
-    token(alloc, HEADER, payload, SIG)
+    let header = URL_SAFE_NO_PAD.encode(alloc, HEADER.as_bytes())?;
+    let payload = URL_SAFE_NO_PAD.encode(alloc, payload.as_bytes())?;
+    Ok(format!(in alloc; "{header}.{payload}.{SIG}")?)
 }
 
 // A validator with the audience `s` and one key, which begins with a record.

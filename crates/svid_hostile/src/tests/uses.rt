@@ -1,11 +1,4 @@
-// Hostile use: want of memory beside uses that were there before, calls that take no memory, a restart from
-// an earlier save, and tokens that are damaged.
-
-mod damaged;
-mod memoryless;
-mod restart;
-mod runs;
-mod sweep;
+// Validators that had uses before, the uses that they are told, and what they then have.
 
 use super::{ONE_KEY, PLACE, Sig, with_record};
 use std::alloc::{AllocError, Global};
@@ -16,7 +9,7 @@ use svid_keys::Verifier;
 use svid_replay::{Batch, IndexedUses, Record, SortedUses, Use, UseStore};
 
 // The use of a number, as another validator made it. It has expired by 2000.
-fn made(number: u8) -> Use {
+pub(super) fn made(number: u8) -> Use {
     Use {
         exp: 2000,
         key: [number; 32],
@@ -28,7 +21,7 @@ fn made(number: u8) -> Use {
 
 // The uses that a validator had, those that it is told, and which of these are new to it.
 #[derive(Clone, Copy)]
-enum Part {
+pub(super) enum Part {
     Had,
     Told,
     New,
@@ -43,7 +36,7 @@ fn is_in(part: Part, number: u8) -> bool {
 }
 
 // The uses of a part, rising.
-fn uses_of(alloc: Global, part: Part) -> Result<Vec<Use>, AllocError> {
+pub(super) fn uses_of(alloc: Global, part: Part) -> Result<Vec<Use>, AllocError> {
     let mut uses = Vec::new(alloc);
     for number in 0..150u8 {
         if is_in(part, number) {
@@ -54,7 +47,7 @@ fn uses_of(alloc: Global, part: Part) -> Result<Vec<Use>, AllocError> {
 }
 
 // The uses of both lists, rising.
-fn both(alloc: Global, one: &[Use], other: &[Use]) -> Result<Vec<Use>, AllocError> {
+pub(super) fn both(alloc: Global, one: &[Use], other: &[Use]) -> Result<Vec<Use>, AllocError> {
     let mut uses = one.to_vec(alloc)?;
     uses.extend_from_slice(other)?;
     uses.sort()?;
@@ -76,18 +69,18 @@ fn earlier<S: UseStore + Drop>(alloc: Global, mut record: Record<S>) -> Result<R
 }
 
 // Validators that begin with that record, over either store.
-fn sorted(alloc: Global) -> Result<Validator<Sig, SortedUses>, Fail> {
+pub(super) fn sorted(alloc: Global) -> Result<Validator<Sig, SortedUses>, Fail> {
     let record = earlier(alloc, Record::new(SortedUses::new(alloc)))?;
     with_record(alloc, PLACE, 10, record)
 }
 
-fn indexed(alloc: Global) -> Result<Validator<Sig, IndexedUses>, Fail> {
+pub(super) fn indexed(alloc: Global) -> Result<Validator<Sig, IndexedUses>, Fail> {
     let record = earlier(alloc, Record::new(IndexedUses::new(alloc)))?;
     with_record(alloc, PLACE, 10, record)
 }
 
 // A validator's record is of this moment and has these uses.
-fn assert_has<V: Verifier, S: UseStore>(
+pub(super) fn assert_has<V: Verifier, S: UseStore>(
     rt: &impl Abort,
     alloc: Global,
     v: &Validator<V, S>,

@@ -2,9 +2,9 @@
 // refused inside an event, that event alone wants memory, and the others are as they then must be.
 ghost use Rattle.std.specs.Prelude.{◌<◌};
 
-use super::{assert_has, made};
-use crate::tests::refusing::{refuse, was_refused};
-use crate::tests::{PAYLOAD, PLACE, Sig, USED, sharing, signed};
+use super::refusing::{refuse, was_refused};
+use super::uses::{assert_has, made};
+use super::{PAYLOAD, PLACE, Sig, USED, sharing, signed};
 use std::alloc::{AllocError, Global};
 use std::process::Abort;
 use std::test::Fail;

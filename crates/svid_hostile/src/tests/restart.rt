@@ -1,6 +1,6 @@
 // A validator that is put back to an earlier save accepts again what it accepted since.
-use super::assert_has;
-use crate::tests::{PAYLOAD, PLACE, Sig, USED, sharing, signed, with_record};
+use super::uses::assert_has;
+use super::{PAYLOAD, PLACE, Sig, USED, sharing, signed, with_record};
 use std::alloc::{AllocError, Global};
 use std::process::Abort;
 use std::test::Fail;

@@ -2,8 +2,8 @@
 // question of one token alone, so that no other is accepted.
 ghost use Rattle.std.specs.Prelude.{◌<◌};
 
-use super::assert_has;
-use crate::tests::{HEADER, ONE_KEY, PAYLOAD, SIG, USED, assert_record, signed, validator_of};
+use super::uses::assert_has;
+use super::{HEADER, ONE_KEY, PAYLOAD, SIG, USED, assert_record, signed, validator_of};
 use base64::engine::general_purpose::URL_SAFE_NO_PAD;
 use std::alloc::{AllocError, Global};
 use std::process::Abort;

@@ -2,10 +2,10 @@
 // once, with memory. The validator has uses before: those that expire by the call go, and all others stay.
 ghost use Rattle.std.specs.Prelude.{◌<◌};
 
-use super::{Part, assert_has, both, indexed, made, sorted, uses_of};
-use crate::tests::answering::{assert_one_batch, summary_of};
-use crate::tests::refusing::{refuse, was_refused};
-use crate::tests::{KEY, PAYLOAD, Sig, USED, signed};
+use super::answering::{assert_one_batch, summary_of};
+use super::refusing::{refuse, was_refused};
+use super::uses::{Part, assert_has, both, indexed, made, sorted, uses_of};
+use super::{KEY, PAYLOAD, Sig, USED, signed};
 use std::alloc::{AllocError, Global};
 use std::process::Abort;
 use std::test::Fail;

@@ -1,9 +1,9 @@
 // Calls that take no memory, made where the first allocation would be refused, if tools/failmalloc.c is
 // loaded. What they answered is looked at afterwards.
-use super::{Part, assert_has, indexed, sorted, uses_of};
-use crate::tests::answering::summary_of;
-use crate::tests::refusing::{refuse, was_refused};
-use crate::tests::{KEY, ONE_KEY, PAYLOAD, PLACE, Sig, signed};
+use super::answering::summary_of;
+use super::refusing::{refuse, was_refused};
+use super::uses::{Part, assert_has, indexed, sorted, uses_of};
+use super::{KEY, ONE_KEY, PAYLOAD, PLACE, Sig, signed};
 use std::alloc::Global;
 use std::process::Abort;
 use std::test::Fail;
