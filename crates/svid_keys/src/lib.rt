@@ -23,6 +23,7 @@ mod bundle_fault;
 mod bundles;
 mod candidates;
 mod float;
+mod hasher;
 mod jwt_key;
 pub mod laws;
 mod lines;
