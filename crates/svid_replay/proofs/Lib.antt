@@ -4,6 +4,7 @@ pub mod IndexedLemmas
 pub mod ListLemmas
 pub mod PartsLemmas
 pub mod RecordsLemmas
+pub mod RunsLemmas
 pub mod SetsLemmas
 pub mod TestsLemmas
 pub mod TwiceLemmas

@@ -88,7 +88,7 @@ left_out true true any h = elim any as (λ b. b ≡ true) [ true ↦ refl | fals
 left_out true false any h = refl
 left_out false test any h = refl
 
-to_front : (a b c : Bool) → (a || (b || c)) ≡ (b || (a || c))
+pub to_front : (a b c : Bool) → (a || (b || c)) ≡ (b || (a || c))
 to_front true true c = refl
 to_front true false c = refl
 to_front false b c = refl
@@ -187,7 +187,7 @@ not_not : (b : Bool) → not (not b) ≡ b
 not_not true = refl
 not_not false = refl
 
-drop-expired : (moment : ℕ) (us : List Use) → IsRising us → drop (prefix_len (λ u. not (nat_lt moment u.exp)) us) us ≡ filter (λ u. nat_lt moment u.exp) us
+pub drop-expired : (moment : ℕ) (us : List Use) → IsRising us → drop (prefix_len (λ u. not (nat_lt moment u.exp)) us) us ≡ filter (λ u. nat_lt moment u.exp) us
 drop-expired moment us up = drop-parted (λ u. not (nat_lt moment u.exp)) us (expired_parted moment us up) ∙ filter_agree _ _ (λ u. not_not (nat_lt moment u.exp)) us
 
 -- ---- the list in a sorted vector, and the set that it stands for

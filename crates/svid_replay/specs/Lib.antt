@@ -4,6 +4,7 @@ pub mod Hashers
 pub mod Indexed
 pub mod Parts
 pub mod Records
+pub mod Runs
 pub mod Sets
 pub mod Summary
 pub mod Twice
