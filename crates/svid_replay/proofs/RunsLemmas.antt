@@ -20,13 +20,18 @@ use Rattle.std.proofs.lemmas.List.{length-map}
 use Rattle.std.proofs.lemmas.List.Kept.{IsStrictlySortedBy-filter}
 use Rattle.std.proofs.lemmas.Bool.{false≢true, false_from_ne_true}
 use Rattle.svid_replay.specs.Batches.{is_after}
+use Rattle.svid_replay.specs.declared.until.Mark.{Mark}
+use Rattle.svid_replay.specs.declared.until.Until.{Until}
 use Rattle.svid_replay.specs.Indexed.{is_sought}
+use Rattle.svid_replay.specs.Keys.{AreKeys, TellUses, gone_by, is_held, is_left, left_of, mark_cmp, until_cmp, until_of}
+use Rattle.svid_replay.proofs.KeysLemmas.{left_is_all, live_left, tell_live, tell_mark, tell_merged, until_exact, until_total}
+use Rattle.svid_replay.proofs.MergeLemmas.{first_alike, merge, merge_has, merge_length, merge_rises, below_all, by_rank}
 use Rattle.std.proofs.lemmas.Cmp.{tied_itself}
 use Rattle.std.specs.Ordering.{is_lt}
 use Rattle.svid_replay.specs.Runs.{least_from, least_of, HasBits, IsRun, IsRuns, mask_of, place_of}
 use Rattle.svid_replay.specs.Sets.{rising, with, keep, with_all}
 use Rattle.svid_replay.specs.Uses.{Uses, count, live, next_above}
-use Rattle.svid_replay.proofs.ListLemmas.{any_none, each_append, each_drop, each_weaker, prefix_from_point}
+use Rattle.svid_replay.proofs.ListLemmas.{any_none, each_true, each_append, each_drop, each_weaker, prefix_from_point}
 use Rattle.svid_replay.proofs.SetsLemmas.{rising_rises, holds-rising, holds-with, same_rising}
 use Rattle.svid_replay.proofs.UsesLemmas.{drop-expired, left_rises, left_is, left_count, not_after_parted, rising-uses_in, uses_in-rising, uses_in-filter, same_uses, holds-uses_in, with-held, rising-keep, to_front, IsPruned}
 use Rattle.std.specs.List.{AllByRecursion, list_any}
@@ -41,83 +46,6 @@ use Rattle.svid_replay.proofs.TestsLemmas.{equal, one_test, or-false, or-true}
 use Rattle.svid_replay.proofs.IndexedLemmas.{any_use, same_key, sought_key}
 use Rattle.svid_replay.proofs.UseLemmas.{use_total, use_exact}
 
-abbrev merge : List Use → List Use → List Use
-merge = sorted_merge use_cmp true
-
-by_rank : (P : List Use → Type 0) (r : Ordering) (xs ys zs : List Use) → (r ≡ Less → P xs) → (r ≡ Equal → P ys) → (r ≡ Greater → P zs) → P (match_ordering r xs ys zs)
-by_rank P Less xs ys zs a b c = a refl
-by_rank P Equal xs ys zs a b c = b refl
-by_rank P Greater xs ys zs a b c = c refl
-
-abbrev Below : Use → List Use → Type 0
-Below x ys = AllByRecursion (λ y. use_cmp x y ≡ Less) ys
-
-all_at : (P : Use → Type 0) (x : Use) (xs : List Use) (on : List Use → List Use) → P x → AllByRecursion P xs → ((ys : List Use) → AllByRecursion P ys → AllByRecursion P (on ys)) → (ys : List Use) → AllByRecursion P ys → AllByRecursion P (merge_step use_cmp true x xs on ys)
-all_at P x xs on p a h [] b = (p, a)
-all_at P x xs on p a h (y ∷ ys) b = by_rank (AllByRecursion P) (use_cmp x y) _ _ _ (λ _. (p, h (y ∷ ys) b)) (λ _. (p, h ys b.1)) (λ _. (b.0, all_at P x xs on p a h ys b.1))
-
-all_merged : (P : Use → Type 0) (xs ys : List Use) → AllByRecursion P xs → AllByRecursion P ys → AllByRecursion P (merge xs ys)
-all_merged P [] ys a b = b
-all_merged P (x ∷ xs) ys a b = all_at P x xs (merge xs) a.0 a.1 (λ zs. all_merged P xs zs a.1) ys b
-
-below_all : (x y : Use) (ys : List Use) → use_cmp x y ≡ Less → Below y ys → Below x (y ∷ ys)
-below_all x y ys h a = (h, each_weaker (λ z. use_cmp y z ≡ Less) _ (λ z l. use_total.trans x y z h l) ys a)
-
-rises_at : (x : Use) (xs : List Use) → IsRising (x ∷ xs) → ((ys : List Use) → IsRising ys → IsRising (merge xs ys)) → (ys : List Use) → IsRising ys → IsRising (merge (x ∷ xs) ys)
-unfolding IsStrictlySortedBy
-rises_at x xs s h [] t = s
-rises_at x xs s h (y ∷ ys) t = by_rank IsRising (use_cmp x y) _ _ _
-    (λ k. (all_merged (λ z. use_cmp x z ≡ Less) xs (y ∷ ys) s.0 (below_all x y ys k t.0), h (y ∷ ys) t))
-    (λ k. (all_merged (λ z. use_cmp x z ≡ Less) xs ys s.0 (subst (λ w. Below w ys) (sym (use_exact x y k)) t.0), h ys t.1))
-    (λ k. (all_merged (λ z. use_cmp y z ≡ Less) (x ∷ xs) ys (below_all y x xs (use_total.antisymm y x ∙ ap ordering_reverse k) s.0) t.0, rises_at x xs s h ys t.1))
-
-pub merge_rises : (xs ys : List Use) → IsRising xs → IsRising ys → IsRising (merge xs ys)
-unfolding IsStrictlySortedBy
-merge_rises [] ys s t = t
-merge_rises (x ∷ xs) ys s t = rises_at x xs s (λ zs. merge_rises xs zs s.1) ys t
-
-first_alike : (t a b : Bool) → (t || (a || b)) ≡ ((t || a) || b)
-first_alike true a b = refl
-first_alike false a b = refl
-
-once : (t a b : Bool) → (t || (a || b)) ≡ ((t || a) || (t || b))
-once true a b = refl
-once false a b = refl
-
-has_at : (q x : Use) (xs : List Use) → ((ys : List Use) → list_any (eq_by_cmp use_cmp q) (merge xs ys) ≡ (list_any (eq_by_cmp use_cmp q) xs || list_any (eq_by_cmp use_cmp q) ys)) → (ys : List Use) → list_any (eq_by_cmp use_cmp q) (merge (x ∷ xs) ys) ≡ (list_any (eq_by_cmp use_cmp q) (x ∷ xs) || list_any (eq_by_cmp use_cmp q) ys)
-has_at q x xs h [] = sym (or-false (list_any (eq_by_cmp use_cmp q) (x ∷ xs)))
-has_at q x xs h (y ∷ ys) =
-    let tie = eq_by_cmp use_cmp q in
-    let any = list_any tie in
-    by_rank (λ l. any l ≡ (any (x ∷ xs) || any (y ∷ ys))) (use_cmp x y) _ _ _
-    (λ k. ap (λ b. tie x || b) (h (y ∷ ys)) ∙ first_alike (tie x) (any xs) (any (y ∷ ys)))
-    (λ k. ap (λ b. tie x || b) (h ys) ∙ once (tie x) (any xs) (any ys) ∙ ap (λ z. any (x ∷ xs) || (tie z || any ys)) (use_exact x y k))
-    (λ k. ap (λ b. tie y || b) (has_at q x xs h ys) ∙ to_front (tie y) (any (x ∷ xs)) (any ys))
-
-pub merge_has : (q : Use) (xs ys : List Use) → list_any (eq_by_cmp use_cmp q) (merge xs ys) ≡ (list_any (eq_by_cmp use_cmp q) xs || list_any (eq_by_cmp use_cmp q) ys)
-merge_has q [] ys = refl
-merge_has q (x ∷ xs) ys = has_at q x xs (merge_has q xs) ys
-
-long_at : (x : Use) (xs : List Use) → ((ys : List Use) → length (merge xs ys) ≤ length xs + length ys) → (ys : List Use) → length (merge (x ∷ xs) ys) ≤ suc (length xs) + length ys
-long_at x xs h [] = omega arith
-long_at x xs h (y ∷ ys) = by_rank (λ l. length l ≤ suc (length xs) + suc (length ys)) (use_cmp x y) _ _ _
-    (λ _. omega (arith, h (y ∷ ys))) (λ _. omega (arith, h ys)) (λ _. omega (arith, long_at x xs h ys))
-
-pub merge_length : (xs ys : List Use) → length (merge xs ys) ≤ length xs + length ys
-merge_length [] ys = omega arith
-merge_length (x ∷ xs) ys = long_at x xs (merge_length xs) ys
-
-alone : (xs : List Use) → merge xs [] ≡ xs
-alone [] = refl
-alone (x ∷ xs) = refl
-
--- where one list is at its end
-pub merge_first_done : (a b : List Use) (i j : ℕ) → length a ≤ i → merge (drop i a) (drop j b) ≡ drop i a ++ drop j b
-merge_first_done a b i j done = let none = drop_all i a done in ap (λ xs. merge xs (drop j b)) none ∙ sym (ap (λ xs. xs ++ drop j b) none)
-
-pub merge_second_done : (a b : List Use) (i j : ℕ) → length b ≤ j → merge (drop i a) (drop j b) ≡ drop i a ++ drop j b
-merge_second_done a b i j done = let none = drop_all j b done in ap (merge (drop i a)) none ∙ alone (drop i a) ∙ sym (ap (λ ys. drop i a ++ ys) none ∙ append-nil (drop i a))
-
 drop_none : {X : Type 0} (n : ℕ) → drop {A = X} n [] ≡ []
 drop_none zero = refl
 drop_none (suc n) = refl
@@ -128,34 +56,44 @@ drop_more (suc s) d [] = drop_none (suc s + d) ∙ sym (drop_none d)
 drop_more (suc s) d (x ∷ xs) = let e : suc s + d ≡ suc (s + d) = omega arith in ap (λ n. drop n (x ∷ xs)) e ∙ drop_more s d xs
 
 -- a run whose start has moved behind what is expired
-pub record IsRunCut (items : List Use) (start dropped moment : ℕ) (words : List ℕ) (told : List Use) : Type 0 where
-  pub is : IsRun items (start + dropped) words
+pub record IsRunCut (items : List Use) (start dropped moment : ℕ) (keys : List Until) (gone : Option ℕ) (words : List ℕ) (told : List Use) : Type 0 where
+  pub is : IsRun items (start + dropped) keys (gone_by gone moment) words
   pub left : drop (start + dropped) items ≡ filter (λ u. nat_lt moment u.exp) told
   pub counted : dropped + length (drop (start + dropped) items) ≡ length told
 
-pub run_cut : (items told : List Use) (start dropped moment : ℕ) (words : List ℕ) → IsRun items start words → drop start items ≡ told → dropped ≡ prefix_len (λ u. not (nat_lt moment u.exp)) told → IsRunCut items start dropped moment words told
-run_cut items told start dropped moment words is view front =
+pub run_cut : (items told : List Use) (start dropped moment : ℕ) (keys : List Until) (gone : Option ℕ) (words : List ℕ) → IsRun items start keys gone words → drop start items ≡ told → dropped ≡ prefix_len (λ u. not (nat_lt moment u.exp)) told → IsRunCut items start dropped moment keys gone words told
+run_cut items told start dropped moment keys gone words is view front =
     let up : IsRising told = subst IsRising view is.rising in
     let rest : drop (start + dropped) items ≡ drop dropped told = drop_more start dropped items ∙ ap (drop dropped) view in
     let few : prefix_len (λ u. not (nat_lt moment u.exp)) told ≤ length told = prefix_len-le-length (λ u. not (nat_lt moment u.exp)) told in
     let long : length told ≡ length items - start = ap length (sym view) ∙ length-drop start items in
     let less : length (drop dropped told) ≡ length told - dropped = length-drop dropped told in
+    let live : drop (start + dropped) items ≡ filter (λ u. nat_lt moment u.exp) told = rest ∙ ap (λ n. drop n told) front ∙ drop-expired moment told up in
     record {
       is = record {
         bound = omega (arith, few, long, front, is.bound);
         rising = left_rises told moment dropped _ up (record { front = front; rest = rest });
+        sorted = is.sorted;
+        told = subst (TellUses (left_of (gone_by gone moment) keys)) (sym live) (tell_live gone moment keys told (subst (AllByRecursion (λ u. is_left gone u.exp ≡ true)) view is.live) (subst (TellUses (left_of gone keys)) view is.told));
+        live = subst (AllByRecursion (λ u. is_left (gone_by gone moment) u.exp ≡ true)) (sym live) (live_left gone moment told (subst (AllByRecursion (λ u. is_left gone u.exp ≡ true)) view is.live));
         some = is.some;
         known = subst (AllByRecursion (λ u. HasBits words u.key)) (sym (drop_more start dropped items)) (each_drop _ dropped (drop start items) is.known);
       };
-      left = rest ∙ ap (λ n. drop n told) front ∙ drop-expired moment told up;
+      left = live;
       counted = omega (arith, ap length rest, less, few, front);
     }
 
--- the same with the front taken off
-pub run_moved : (items now : List Use) (start : ℕ) (words : List ℕ) → IsRun items start words → now ≡ drop start items → IsRun now 0 words
-run_moved items now start words is e = record {
+pub run_gone : (items : List Use) (start : ℕ) (keys : List Until) (gone later : Option ℕ) (words : List ℕ) → later ≡ gone → IsRun items start keys gone words → IsRun items start keys later words
+run_gone items start keys gone later words e is = subst (λ g. IsRun items start keys g words) (sym e) is
+
+-- the same with the front taken off, and the keys that are gone
+pub run_moved : (items now : List Use) (start : ℕ) (keys swept : List Until) (gone : Option ℕ) (words : List ℕ) → IsRun items start keys gone words → now ≡ drop start items → swept ≡ left_of gone keys → IsRun now 0 swept None words
+run_moved items now start keys swept gone words is e clean = record {
   bound = omega arith;
   rising = subst IsRising (sym e) is.rising;
+  sorted = subst AreKeys (sym clean) (IsStrictlySortedBy-filter until_cmp (λ k. is_left gone k.exp) keys is.sorted);
+  told = subst (TellUses (left_of None swept)) (sym e) (subst (λ ks. TellUses ks (drop start items)) (sym (left_is_all swept ∙ clean)) is.told);
+  live = each_true _ (λ u. refl) now;
   some = is.some;
   known = subst (AllByRecursion (λ u. HasBits words u.key)) (sym e) is.known;
 }
@@ -173,23 +111,23 @@ last_two rs k older newer long at_older at_newer =
     ap all_of (sym (take-append-drop k rs) ∙ ap (λ ss. take k rs ++ ss) (one ∙ ap (λ ss. older ∷ ss) two))
     ∙ all_append (take k rs) (older ∷ newer ∷ []) ∙ ap (λ us. all_of (take k rs) ++ (older ++ us)) (append-nil newer)
 
-pub same_with_merged : (us older newer : List Use) → HasSame (us ++ (older ++ newer)) (us ++ merge older newer)
+pub same_with_merged : (us older newer : List Use) → HasSame (us ++ (older ++ newer)) (us ++ merge use_cmp older newer)
 same_with_merged us older newer q =
     let tie = eq_by_cmp use_cmp q in
-    list_any-append tie us (merge older newer) ∙ ap (λ b. list_any tie us || b) (merge_has q older newer ∙ sym (list_any-append tie older newer)) ∙ sym (list_any-append tie us (older ++ newer))
+    list_any-append tie us (merge use_cmp older newer) ∙ ap (λ b. list_any tie us || b) (merge_has use_total use_exact (eq_by_cmp use_cmp q) older newer ∙ sym (list_any-append tie older newer)) ∙ sym (list_any-append tie us (older ++ newer))
 
 -- the runs where the last two are merged
 pub record IsMergedLast (rs ss : List (List Use)) : Type 0 where
   pub same : HasSame (all_of rs) (all_of ss)
   pub less : length (all_of ss) ≤ length (all_of rs)
 
-pub merged_last : (rs ss : List (List Use)) (k : ℕ) (older newer : List Use) → length rs ≡ suc (suc k) → older ≡ get_or rs k older → newer ≡ get_or rs (suc k) newer → ss ≡ take k rs ++ merge older newer ∷ [] → IsMergedLast rs ss
+pub merged_last : (rs ss : List (List Use)) (k : ℕ) (older newer : List Use) → length rs ≡ suc (suc k) → older ≡ get_or rs k older → newer ≡ get_or rs (suc k) newer → ss ≡ take k rs ++ merge use_cmp older newer ∷ [] → IsMergedLast rs ss
 merged_last rs ss k older newer long at_older at_newer is =
     let before = last_two rs k older newer long at_older at_newer in
-    let after : all_of ss ≡ all_of (take k rs) ++ merge older newer = ap all_of is ∙ all_append (take k rs) (merge older newer ∷ []) ∙ ap (λ us. all_of (take k rs) ++ us) (append-nil (merge older newer)) in
+    let after : all_of ss ≡ all_of (take k rs) ++ merge use_cmp older newer = ap all_of is ∙ all_append (take k rs) (merge use_cmp older newer ∷ []) ∙ ap (λ us. all_of (take k rs) ++ us) (append-nil (merge use_cmp older newer)) in
     record {
       same = λ q. ap (list_any (eq_by_cmp use_cmp q)) after ∙ same_with_merged (all_of (take k rs)) older newer q ∙ sym (ap (list_any (eq_by_cmp use_cmp q)) before);
-      less = omega (arith, ap length before, ap length after, length-append (all_of (take k rs)) (merge older newer), length-append (all_of (take k rs)) (older ++ newer), length-append older newer, merge_length older newer);
+      less = omega (arith, ap length before, ap length after, length-append (all_of (take k rs)) (merge use_cmp older newer), length-append (all_of (take k rs)) (older ++ newer), length-append older newer, merge_length use_cmp older newer);
     }
 
 -- a search that has passed over the runs in front
@@ -197,7 +135,7 @@ pub has_none_yet : (tie : Use → Bool) (rs : List (List Use)) (i : ℕ) (r : Li
 has_none_yet tie rs i r at within = ap (λ ss. list_any tie (all_of ss)) (drop-cons rs i r within ∙ ap (λ s. s ∷ drop (suc i) rs) (sym at)) ∙ list_any-append tie r (all_of (drop (suc i) rs))
 
 -- as the code does it: the merged run in the place of the last but one, and the last taken off
-pub merged_two : (rs ss : List (List Use)) (count : ℕ) (older newer merged : List Use) → 2 ≤ count → count ≡ length rs → older ≡ get_or rs (count - 2) older → newer ≡ get_or rs (count - 1) newer → merged ≡ merge older newer → ss ≡ take (count - 1) (set rs (count - 2) merged) → IsMergedLast rs ss
+pub merged_two : (rs ss : List (List Use)) (count : ℕ) (older newer merged : List Use) → 2 ≤ count → count ≡ length rs → older ≡ get_or rs (count - 2) older → newer ≡ get_or rs (count - 1) newer → merged ≡ merge use_cmp older newer → ss ≡ take (count - 1) (set rs (count - 2) merged) → IsMergedLast rs ss
 merged_two rs ss count older newer merged two long at_older at_newer is after =
     let k = count - 2 in
     let next : suc k ≡ count - 1 = omega arith in
@@ -446,39 +384,39 @@ least_none : (o : Option Use) → least_of o None ≡ o
 least_none None = refl
 least_none (Some u) = refl
 
-least_first : (p : Use → Bool) (x : Use) (ys : List Use) → Below x ys → Some x ≡ least_of (Some x) (find p ys)
+least_first : (p : Use → Bool) (x : Use) (ys : List Use) → AllByRecursion (λ z. use_cmp x z ≡ Less) ys → Some x ≡ least_of (Some x) (find p ys)
 least_first p x [] below = refl
 least_first p x (y ∷ ys) below = elim (p y) as (λ b. Some x ≡ least_of (Some x) (cond b (Some y) (find p ys))) [
   | true ↦ ap (λ o. cond (is_lt o) (Some y) (Some x)) (sym (use_total.antisymm y x ∙ ap ordering_reverse below.0))
   | false ↦ least_first p x ys below.1
 ]
 
-least_second : (p : Use → Bool) (y : Use) (xs : List Use) → Below y xs → Some y ≡ least_of (find p xs) (Some y)
+least_second : (p : Use → Bool) (y : Use) (xs : List Use) → AllByRecursion (λ z. use_cmp y z ≡ Less) xs → Some y ≡ least_of (find p xs) (Some y)
 least_second p y [] below = refl
 least_second p y (x ∷ xs) below = elim (p x) as (λ b. Some y ≡ least_of (cond b (Some x) (find p xs)) (Some y)) [
   | true ↦ ap (λ o. cond (is_lt o) (Some y) (Some x)) (sym below.0)
   | false ↦ least_second p y xs below.1
 ]
 
-least_at : (p : Use → Bool) (x : Use) (xs : List Use) → IsRising (x ∷ xs) → ((ys : List Use) → IsRising ys → find p (merge xs ys) ≡ least_of (find p xs) (find p ys)) → (ys : List Use) → IsRising ys → find p (merge (x ∷ xs) ys) ≡ least_of (find p (x ∷ xs)) (find p ys)
+least_at : (p : Use → Bool) (x : Use) (xs : List Use) → IsRising (x ∷ xs) → ((ys : List Use) → IsRising ys → find p (merge use_cmp xs ys) ≡ least_of (find p xs) (find p ys)) → (ys : List Use) → IsRising ys → find p (merge use_cmp (x ∷ xs) ys) ≡ least_of (find p (x ∷ xs)) (find p ys)
 unfolding IsStrictlySortedBy
 least_at p x xs s h [] t = sym (least_none (find p (x ∷ xs)))
 least_at p x xs s h (y ∷ ys) t = by_rank (λ l. find p l ≡ least_of (find p (x ∷ xs)) (find p (y ∷ ys))) (use_cmp x y) _ _ _
-    (λ k. elim (p x) as (λ b. cond b (Some x) (find p (merge xs (y ∷ ys))) ≡ least_of (cond b (Some x) (find p xs)) (find p (y ∷ ys))) [
-      | true ↦ least_first p x (y ∷ ys) (below_all x y ys k t.0)
+    (λ k. elim (p x) as (λ b. cond b (Some x) (find p (merge use_cmp xs (y ∷ ys))) ≡ least_of (cond b (Some x) (find p xs)) (find p (y ∷ ys))) [
+      | true ↦ least_first p x (y ∷ ys) (below_all use_total use_exact x y ys k t.0)
       | false ↦ h (y ∷ ys) t
     ])
-    (λ k. let same = use_exact x y k in subst (λ z. find p (x ∷ merge xs ys) ≡ least_of (find p (x ∷ xs)) (find p (z ∷ ys))) same
-    (elim (p x) as (λ b. cond b (Some x) (find p (merge xs ys)) ≡ least_of (cond b (Some x) (find p xs)) (cond b (Some x) (find p ys))) [
+    (λ k. let same = use_exact x y k in subst (λ z. find p (x ∷ merge use_cmp xs ys) ≡ least_of (find p (x ∷ xs)) (find p (z ∷ ys))) same
+    (elim (p x) as (λ b. cond b (Some x) (find p (merge use_cmp xs ys)) ≡ least_of (cond b (Some x) (find p xs)) (cond b (Some x) (find p ys))) [
       | true ↦ ap (λ o. cond (is_lt o) (Some x) (Some x)) (sym (tied_itself use_total x))
       | false ↦ h ys t.1
     ]))
-    (λ k. elim (p y) as (λ b. cond b (Some y) (find p (merge (x ∷ xs) ys)) ≡ least_of (find p (x ∷ xs)) (cond b (Some y) (find p ys))) [
-      | true ↦ least_second p y (x ∷ xs) (below_all y x xs (use_total.antisymm y x ∙ ap ordering_reverse k) s.0)
+    (λ k. elim (p y) as (λ b. cond b (Some y) (find p (merge use_cmp (x ∷ xs) ys)) ≡ least_of (find p (x ∷ xs)) (cond b (Some y) (find p ys))) [
+      | true ↦ least_second p y (x ∷ xs) (below_all use_total use_exact y x xs (use_total.antisymm y x ∙ ap ordering_reverse k) s.0)
       | false ↦ least_at p x xs s h ys t.1
     ])
 
-find_merged : (p : Use → Bool) (xs ys : List Use) → IsRising xs → IsRising ys → find p (merge xs ys) ≡ least_of (find p xs) (find p ys)
+find_merged : (p : Use → Bool) (xs ys : List Use) → IsRising xs → IsRising ys → find p (merge use_cmp xs ys) ≡ least_of (find p xs) (find p ys)
 unfolding IsStrictlySortedBy
 find_merged p [] ys s t = refl
 find_merged p (x ∷ xs) ys s t = least_at p x xs s (λ zs. find_merged p xs zs s.1) ys t
@@ -489,9 +427,9 @@ next_both us vs after =
     let ys = rising (uses_in vs) in
     let up = rising_rises use_cmp (uses_in us) in
     let up' = rising_rises use_cmp (uses_in vs) in
-    let whole : rising (uses_in (us ++ vs)) ≡ merge xs ys = same_rising use_total use_exact _ _ (rising_rises use_cmp (uses_in (us ++ vs))) (merge_rises xs ys up up') (λ q.
+    let whole : rising (uses_in (us ++ vs)) ≡ merge use_cmp xs ys = same_rising use_total use_exact _ _ (rising_rises use_cmp (uses_in (us ++ vs))) (merge_rises use_total use_exact xs ys up up') (λ q.
     let tie = eq_by_cmp use_cmp q in
-    any_rising tie (us ++ vs) ∙ list_any-append tie us vs ∙ sym (merge_has q xs ys ∙ (λ i. any_rising tie us i || any_rising tie vs i))) in
+    any_rising tie (us ++ vs) ∙ list_any-append tie us vs ∙ sym (merge_has use_total use_exact (eq_by_cmp use_cmp q) xs ys ∙ (λ i. any_rising tie us i || any_rising tie vs i))) in
     sym (ap (find (is_after after)) whole ∙ find_merged (is_after after) xs ys up up')
 
 pub next_in_all : (after : Option Use) (us : List Use) (runs : List (List Use)) → least_from after runs (next_above (uses_in us) after) ≡ next_above (uses_in (us ++ all_of runs)) after
@@ -554,13 +492,37 @@ unknown_absent words us u known unknown = any_none (eq_by_cmp use_cmp u) us (eac
   | false ↦ λ e. refl
 ] refl) us known)
 
-pub run_unknown : (items told : List Use) (start : ℕ) (words : List ℕ) (u : Use) → IsRun items start words → drop start items ≡ told → (HasBits words u.key → ⊥) → false ≡ list_any (eq_by_cmp use_cmp u) told
-run_unknown items told start words u is view unknown = sym (sym (ap (list_any (eq_by_cmp use_cmp u)) view) ∙ unknown_absent words (drop start items) u is.known unknown)
+pub run_unknown : (items told : List Use) (start : ℕ) (keys : List Until) (gone : Option ℕ) (words : List ℕ) (u : Use) → IsRun items start keys gone words → drop start items ≡ told → (HasBits words u.key → ⊥) → false ≡ list_any (eq_by_cmp use_cmp u) told
+run_unknown items told start keys gone words u is view unknown = sym (sym (ap (list_any (eq_by_cmp use_cmp u)) view) ∙ unknown_absent words (drop start items) u is.known unknown)
 
-pub run_made : (items us : List Use) (words : List ℕ) → IsRising items → us ≡ items → 0 < length words → AllByRecursion (λ u. HasBits words u.key) us → IsRun items 0 words
-run_made items us words up same some known = record { bound = omega arith; rising = up; some = some; known = subst (AllByRecursion (λ u. HasBits words u.key)) same known }
+-- a run of which nothing is gone
+pub run_made : (items us : List Use) (keys : List Until) (words : List ℕ) → IsRising items → us ≡ items → AreKeys keys → TellUses keys us → 0 < length words → AllByRecursion (λ u. HasBits words u.key) us → IsRun items 0 keys None words
+run_made items us keys words up same sorted told some known = record {
+  bound = omega arith;
+  rising = up;
+  sorted = sorted;
+  told = subst (TellUses (left_of None keys)) same (subst (λ ks. TellUses ks us) (sym (left_is_all keys)) told);
+  live = each_true _ (λ u. refl) items;
+  some = some;
+  known = subst (AllByRecursion (λ u. HasBits words u.key)) same known;
+}
+
+-- what the keys of a run tell by a mark
+pub run_tells : (items told : List Use) (start : ℕ) (keys : List Until) (gone : Option ℕ) (words : List ℕ) (mark : Mark) → IsRun items start keys gone words → drop start items ≡ told → list_any (is_held mark gone) keys ≡ list_any (λ u. is_eq (mark_cmp mark (until_of u).mark)) told
+run_tells items told start keys gone words mark is view = tell_mark mark gone keys told (subst (TellUses (left_of gone keys)) view is.told)
 
 -- no use has a key that a filter of the uses does not know
-pub run_lacks : (items told : List Use) (start : ℕ) (words : List ℕ) (withdrawn : Bool) (key : List ℕ) → IsRun items start words → drop start items ≡ told → (HasBits words key → ⊥) → false ≡ list_any (is_sought withdrawn key) told
-run_lacks items told start words withdrawn key is view unknown = sym (sym (ap (list_any (is_sought withdrawn key)) view) ∙ any_none (is_sought withdrawn key) (drop start items) (each_weaker (λ v. HasBits words v.key) _ (λ v h. false_from_ne_true _ (λ sought.
+pub run_lacks : (items told : List Use) (start : ℕ) (keys : List Until) (gone : Option ℕ) (words : List ℕ) (withdrawn : Bool) (key : List ℕ) → IsRun items start keys gone words → drop start items ≡ told → (HasBits words key → ⊥) → false ≡ list_any (is_sought withdrawn key) told
+run_lacks items told start keys gone words withdrawn key is view unknown = sym (sym (ap (list_any (is_sought withdrawn key)) view) ∙ any_none (is_sought withdrawn key) (drop start items) (each_weaker (λ v. HasBits words v.key) _ (λ v h. false_from_ne_true _ (λ sought.
     unknown (subst (HasBits words) (same_key key v.key (sought_key withdrawn key v sought)) h))) (drop start items) is.known))
+
+-- the keys of two runs in one
+pub record AreMergedKeys (keys : List Until) (us : List Use) : Type 0 where
+  pub sorted : AreKeys keys
+  pub told : TellUses keys us
+
+pub keys_merged : (items told others told' : List Use) (start start' : ℕ) (keys keys' : List Until) (gone gone' : Option ℕ) (words words' : List ℕ) (merged : List Until) (uses : List Use) → IsRun items start keys gone words → IsRun others start' keys' gone' words' → drop start items ≡ told → drop start' others ≡ told' → merged ≡ merge until_cmp (left_of gone keys) (left_of gone' keys') → uses ≡ merge use_cmp told told' → AreMergedKeys merged uses
+keys_merged items told others told' start start' keys keys' gone gone' words words' merged uses is is' view view' e f = record {
+  sorted = subst AreKeys (sym e) (merge_rises until_total until_exact _ _ (IsStrictlySortedBy-filter until_cmp (λ k. is_left gone k.exp) keys is.sorted) (IsStrictlySortedBy-filter until_cmp (λ k. is_left gone' k.exp) keys' is'.sorted));
+  told = subst (TellUses merged) (sym f) (subst (λ ks. TellUses ks (merge use_cmp told told')) (sym e) (tell_merged (left_of gone keys) (left_of gone' keys') told told' (subst (TellUses (left_of gone keys)) view is.told) (subst (TellUses (left_of gone' keys')) view' is'.told)));
+}

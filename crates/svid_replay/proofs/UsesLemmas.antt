@@ -20,7 +20,7 @@ use Rattle.svid_replay.specs.Batches.{is_after}
 use Rattle.svid_replay.specs.Sets.{holds, rising, with, keep, union}
 use Rattle.svid_replay.specs.Use.{use_cmp, IsRising}
 use Rattle.svid_replay.specs.Uses.{Uses, no_uses, uses_in, live, count, NoUsesHoldNone, WithHoldsOneMore, UnionHoldsEither, LiveHoldsUnexpired, RisingHasHeld, SameHeldSameSet}
-use Rattle.svid_replay.proofs.ListLemmas.{any_in, found, all_same, each_true, drop-parted, each_append, each_take, each_drop, each_before, each_behind, each_weaker, any_none}
+use Rattle.svid_replay.proofs.ListLemmas.{any_in, found, all_same, each_true, drop-parted, each_append, each_take, each_drop, each_before, each_behind, each_weaker, any_none, parted_by}
 use Rattle.svid_replay.proofs.SetsLemmas.{same_set, same_rising, rising_rises, holds-rising, holds-with, holds-keep, holds-set_of, holds-empty}
 use Rattle.svid_replay.proofs.SetsLemmas.{holds-union as of_union}
 use Rattle.svid_replay.proofs.TestsLemmas.{equal, is_less, same_some, or-comm, and-comm}
@@ -172,16 +172,11 @@ not_before last u v less e Less r = absurd (false≢true (ap (λ o. not (is_lt o
 not_before last u v less e Equal r = refl
 not_before last u v less e Greater r = refl
 
--- a test that holds of a use where it holds of a greater one
-parted_by : (p : Use → Bool) → ((u v : Use) → use_cmp u v ≡ Less → p v ≡ true → p u ≡ true) → (us : List Use) → IsRising us → IsPartitionedBy p us
-parted_by p falls us up = λ i j d le h passes.
-    ⊎_elim (λ lt. falls (get_or us i d) (get_or us j d) (Less-from_sorted use_cmp us i j d up lt h) passes) (λ ge. let same : i ≡ j = omega arith in subst (λ n. p (get_or us n d) ≡ true) (sym same) passes) (cases_lt i j)
-
 pub expired_parted : (moment : ℕ) (us : List Use) → IsRising us → IsPartitionedBy (λ u. not (nat_lt moment u.exp)) us
-expired_parted moment us up = parted_by (λ u. not (nat_lt moment u.exp)) (λ u v less e. let le = less_exp u v less in grind (arith, nat_tests)) us up
+expired_parted moment us up = parted_by use_cmp (λ u. not (nat_lt moment u.exp)) (λ u v less e. let le = less_exp u v less in grind (arith, nat_tests)) us up
 
 pub not_after_parted : (last : Use) (us : List Use) → IsRising us → IsPartitionedBy (λ u. not (is_after (Some last) u)) us
-not_after_parted last us up = parted_by (λ u. not (is_after (Some last) u)) (λ u v less e. not_before last u v less e (use_cmp last u) refl) us up
+not_after_parted last us up = parted_by use_cmp (λ u. not (is_after (Some last) u)) (λ u v less e. not_before last u v less e (use_cmp last u) refl) us up
 
 not_not : (b : Bool) → not (not b) ≡ b
 not_not true = refl

@@ -2,6 +2,7 @@ pub mod Batches
 pub mod Buckets
 pub mod Hashers
 pub mod Indexed
+pub mod Keys
 pub mod Parts
 pub mod Records
 pub mod Runs

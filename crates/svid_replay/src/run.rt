@@ -1,29 +1,33 @@
 //! Uses that rise, as a run of a larger set.
 ghost use Rattle.std.specs.Prelude.{◌≡◌, ◌+◌, ◌-◌, ◌<◌, ◌≤◌, false, length, slice_index_or, Some, drop, filter, find, not, nat_lt, true, IsTrue, IfOk};
 ghost use Rattle.std.specs.List.{list_any, prefix_len};
-ghost use Rattle.std.specs.Ordering.{eq_by_cmp};
+ghost use Rattle.std.specs.Ordering.{eq_by_cmp, is_eq};
 ghost use Rattle.std.specs.Set.{sorted_merge};
 ghost use Rattle.svid_replay.specs.Batches.{is_after};
 ghost use Rattle.svid_replay.specs.Indexed.{is_sought};
+ghost use Rattle.svid_replay.specs.Keys.{mark_cmp, mark_of, until_of};
 ghost use Rattle.svid_replay.specs.Use.{IsRising, use_cmp};
 ghost use Rattle.svid_replay.specs.Uses.{next_above, uses_in};
 ghost use Rattle.svid_replay.specs.declared.token_use.Use.{Use};
 
 use crate::Use;
 use crate::filter::{filter_of, may_have};
-use crate::sorted::{
-    count_expired, count_up_to, drop_front, first_after, has_use_of, has_withdrawal_of,
-};
+use crate::keys::{gone_by, has_left, keys_of, merge_keys, sweep};
+use crate::sorted::{count_expired, count_up_to, drop_front, first_after};
+use crate::until::{Mark, Until};
 use std::alloc::{AllocError, Global};
 use std::cell::Cell;
 use std::cmp::Ordering;
 use std::marker::Model;
 
-// Uses that rise; those in front of `start` are gone. `finger` is where the last search ended.
+// Uses that rise, and their keys. The uses in front of `start` are gone: they expired by the moment `gone`. Their keys
+// may still be there. `words` is a filter of the keys, and `finger` is where the last search ended.
 #[derive(Drop)]
 pub(crate) struct Run {
     by_use: Vec<Use>,
     start: usize,
+    by_key: Vec<Until>,
+    gone: Option<u64>,
     words: Vec<u64>,
     finger: Cell<usize>,
 }
@@ -39,7 +43,7 @@ impl Model for Run {
 
     ghost view = { λ r. drop r.start r.by_use.items };
 
-    ghost invariant = { λ r. IsRun r.by_use.items r.start r.words.items };
+    ghost invariant = { λ r. IsRun r.by_use.items r.start r.by_key.items r.gone r.words.items };
 }
 
 // Both lists in one, rising; a use that both have comes once.
@@ -148,10 +152,13 @@ impl Run {
         ensures { IfOk result (λ run. run ≡ uses.now) }
     {
         let by_use = Vec::from_slice(alloc, uses)?;
+        let by_key = keys_of(alloc, uses)?;
         let words = filter_of(alloc, uses)?;
         Ok(Run {
             by_use,
             start: 0,
+            by_key,
+            gone: None,
             words,
             finger: Cell::new(0),
         })
@@ -161,10 +168,13 @@ impl Run {
         ensures { IfOk result (λ run. run ≡ sorted_merge use_cmp true a.now b.now) }
     {
         let by_use = merge_uses(alloc, a.uses(), b.uses())?;
+        let by_key = merge_keys(alloc, &a.by_key, a.gone, &b.by_key, b.gone)?;
         let words = filter_of(alloc, &by_use)?;
         Ok(Run {
             by_use,
             start: 0,
+            by_key,
+            gone: None,
             words,
             finger: Cell::new(0),
         })
@@ -188,6 +198,16 @@ impl Run {
         holds_use(self.uses(), &used)
     }
 
+    fn has_mark(&self, key: &[u8; 32], withdrawn: bool) -> bool
+        ensures { result ≡ list_any (λ u. is_eq (mark_cmp (mark_of key.now withdrawn) (until_of u).mark)) self.now }
+    {
+        let mark = Mark {
+            key: *key,
+            withdrawn,
+        };
+        has_left(&self.by_key, &mark, self.gone)
+    }
+
     // Whether there is a use of this key, or a withdrawal of it.
     pub(crate) fn has(&self, key: &[u8; 32], withdrawn: bool) -> bool
         ensures { result ≡ list_any (is_sought withdrawn key.now) self.now }
@@ -196,10 +216,9 @@ impl Run {
             return false;
         }
         if withdrawn {
-            has_withdrawal_of(self.uses(), key)
-        } else {
-            has_use_of(self.uses(), key)
+            return self.has_mark(key, true);
         }
+        self.has_mark(key, false) || self.has_mark(key, true)
     }
 
     pub(crate) fn next_after(&self, after: Option<Use>) -> Option<Use>
@@ -220,11 +239,15 @@ impl Run {
         let dropped = count_expired(self.uses(), moment);
         let total = self.by_use.len();
         let start = self.start + dropped;
+        let gone = gone_by(self.gone, moment);
         if start > total - start {
             drop_front(&mut self.by_use, start);
+            sweep(&mut self.by_key, gone);
             self.start = 0;
+            self.gone = None;
         } else {
             self.start = start;
+            self.gone = gone;
         }
         dropped
     }

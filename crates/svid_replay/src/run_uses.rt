@@ -24,7 +24,9 @@ const FRONT: usize = 256;
 // A run is merged with the one behind it while it is not longer than so many times that.
 const FACTOR: usize = 2;
 
-/// A set of uses as a short sorted vector, and runs: sorted vectors, each longer than the next.
+/// A set of uses as a short sorted vector, and runs: sorted vectors, each with its keys. Most inserts are
+/// short, but one that fills the short vector makes it a run and may merge runs, at worst all of them. Where
+/// that is refused memory it is left undone, and the use is in the set all the same.
 #[derive(Drop)]
 pub struct RunUses {
     alloc: Global,
