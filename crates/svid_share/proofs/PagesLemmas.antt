@@ -26,7 +26,7 @@ pub part_went : {K : Type 0} (told : K → Option (List ℕ)) (stops : K → ℕ
 part_went told stops a b c front piece rest text parts first second = record {
   count = length front + second.count;
   part = subst (λ x. StoppedAfter (taken told stops a c) x (length front + second.count)) (ap (λ r. front ++ (piece ++ r)) (append-nil rest) ∙ sym parts)
-    (StoppedAfter-item (λ x. x) (told a) (told b) (told c) (stops a) (stops b) (stops c) front piece (piece ∷ rest ∷ []) (piece ∷ rest ∷ []) 0 [] (length front) second.count refl (omega arith) refl (ap length (append-nil front)) (subst (Appends (told a) (told b)) (sym (append-nil front)) first.gained) first.unstopped second.part);
+      (StoppedAfter-item (λ x. x) (told a) (told b) (told c) (stops a) (stops b) (stops c) front piece (piece ∷ rest ∷ []) (piece ∷ rest ∷ []) 0 [] (length front) second.count refl (omega arith) refl (ap length (append-nil front)) (subst (Appends (told a) (told b)) (sym (append-nil front)) first.gained) first.unstopped second.part);
 }
 
 -- ---- through a room
@@ -59,8 +59,8 @@ passed_both told stops a b c before text mid next after first second = record {
 pub passed_part : {K : Type 0} (told : K → Option (List ℕ)) (stops : K → ℕ) (a b c : K) (before text mid next rest whole : List ℕ) → whole ≡ text ++ (next ++ rest) → Passes (taken told stops a b) before text mid → TookPart (taken told stops b c) (mid ++ next) → TookPart (taken told stops a c) (before ++ whole)
 passed_part told stops a b c before text mid next rest whole parts first second =
     part_went told stops a b c first.went (mid ++ next) rest (before ++ whole)
-      (ap (λ x. before ++ x) parts ∙ sym (append_assoc before text (next ++ rest)) ∙ ap (λ x. x ++ (next ++ rest)) (sym first.is) ∙ append_assoc first.went mid (next ++ rest) ∙ ap (λ x. first.went ++ x) (sym (append_assoc mid next rest)))
-      first.all second
+    (ap (λ x. before ++ x) parts ∙ sym (append_assoc before text (next ++ rest)) ∙ ap (λ x. x ++ (next ++ rest)) (sym first.is) ∙ append_assoc first.went mid (next ++ rest) ∙ ap (λ x. first.went ++ x) (sym (append_assoc mid next rest)))
+    first.all second
 
 -- the same into a room that was empty
 pub stopped_in : {K : Type 0} (told : K → Option (List ℕ)) (stops : K → ℕ) (a b c : K) (before text mid next rest whole : List ℕ) → before ≡ [] → whole ≡ text ++ (next ++ rest) → Passes (taken told stops a b) before text mid → TookPart (taken told stops b c) (mid ++ next) → TookPart (taken told stops a c) whole
@@ -82,14 +82,14 @@ passed_in_part told stops a b c before text mid whole first second none same =
 pub item_passes : {X : Type 0} (line : X → List ℕ) (xs : List X) (i : ℕ) (d : X) {K : Type 0} (told : K → Option (List ℕ)) (stops : K → ℕ) (a b c : K) (before mid piece now : List ℕ) → i < length xs → piece ≡ line (get_or xs i d) → Passes (taken told stops a b) before (flat_map line (take i xs)) mid → Passes (taken told stops b c) mid piece now → Passes (taken told stops a c) before (flat_map line (take (i + 1) xs)) now
 item_passes line xs i d told stops a b c before mid piece now within is so_far next =
     subst (λ x. Passes (taken told stops a c) before x now)
-      (ap (λ x. flat_map line (take i xs) ++ x) (is ∙ sym (append-nil (line (get_or xs i d)))) ∙ sym (flat_map-append line (take i xs) (get_or xs i d ∷ [])) ∙ ap (flat_map line) (sym (rw (add-one, take-suc xs i d within))))
-      (passed_both told stops a b c before (flat_map line (take i xs)) mid piece now so_far next)
+    (ap (λ x. flat_map line (take i xs) ++ x) (is ∙ sym (append-nil (line (get_or xs i d)))) ∙ sym (flat_map-append line (take i xs) (get_or xs i d ∷ [])) ∙ ap (flat_map line) (sym (rw (add-one, take-suc xs i d within))))
+    (passed_both told stops a b c before (flat_map line (take i xs)) mid piece now so_far next)
 
 pub item_stops : {X : Type 0} (line : X → List ℕ) (xs : List X) (i : ℕ) (d : X) {K : Type 0} (told : K → Option (List ℕ)) (stops : K → ℕ) (a b c : K) (before mid piece : List ℕ) → i < length xs → piece ≡ line (get_or xs i d) → Passes (taken told stops a b) before (flat_map line (take i xs)) mid → TookPart (taken told stops b c) (mid ++ piece) → TookPart (taken told stops a c) (before ++ flat_map line xs)
 item_stops line xs i d told stops a b c before mid piece within is so_far part =
     passed_part told stops a b c before (flat_map line (take i xs)) mid piece (flat_map line (drop (i + 1) xs)) (flat_map line xs)
-      (ap (flat_map line) (sym (take-append-drop i xs) ∙ ap (λ ys. take i xs ++ ys) (rw (add-one, drop-cons xs i d within))) ∙ flat_map-append line (take i xs) (get_or xs i d ∷ drop (i + 1) xs) ∙ ap (λ x. flat_map line (take i xs) ++ (x ++ flat_map line (drop (i + 1) xs))) (sym is))
-      so_far part
+    (ap (flat_map line) (sym (take-append-drop i xs) ∙ ap (λ ys. take i xs ++ ys) (rw (add-one, drop-cons xs i d within))) ∙ flat_map-append line (take i xs) (get_or xs i d ∷ drop (i + 1) xs) ∙ ap (λ x. flat_map line (take i xs) ++ (x ++ flat_map line (drop (i + 1) xs))) (sym is))
+    so_far part
 
 -- ---- a walk over uses, of each of which a text passes
 
@@ -111,8 +111,8 @@ walk_goes_on line us after u told stops a b c before mid piece now is up so_far 
 pub walk_stops : (line : Use → List ℕ) (us : List Use) (after : Option Use) (u : Use) {K : Type 0} (told : K → Option (List ℕ)) (stops : K → ℕ) (a b c : K) (before mid piece : List ℕ) → piece ≡ line u → IsRising us → HasPassed line us after (taken told stops a b) before mid → find (is_after after) us ≡ Some u → TookPart (taken told stops b c) (mid ++ piece) → TookPart (taken told stops a c) (before ++ flat_map line us)
 walk_stops line us after u told stops a b c before mid piece is up so_far found part =
     passed_part told stops a b c before (flat_map line so_far.front) mid piece (flat_map line (filter (is_after (Some u)) us)) (flat_map line us)
-      (ap (flat_map line) (walk_parts us after so_far.front u up so_far.walked found) ∙ flat_map-append line so_far.front (u ∷ filter (is_after (Some u)) us) ∙ ap (λ x. flat_map line so_far.front ++ (x ++ flat_map line (filter (is_after (Some u)) us))) (sym is))
-      so_far.passes part
+    (ap (flat_map line) (walk_parts us after so_far.front u up so_far.walked found) ∙ flat_map-append line so_far.front (u ∷ filter (is_after (Some u)) us) ∙ ap (λ x. flat_map line so_far.front ++ (x ++ flat_map line (filter (is_after (Some u)) us))) (sym is))
+    so_far.passes part
 
 pub walk_ends : (line : Use → List ℕ) (us : List Use) (after : Option Use) (sink : Taken) (before now : List ℕ) → HasPassed line us after sink before now → find (is_after after) us ≡ None → Passes sink before (flat_map line us) now
 walk_ends line us after sink before now so_far none = subst (λ x. Passes sink before (flat_map line x) now) (walk_end us after so_far.front so_far.walked none) so_far.passes

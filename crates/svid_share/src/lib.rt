@@ -7,7 +7,7 @@
 //! its parts. [`run_summary`] writes the summary of a record, and [`run_answer`] answers one with the uses
 //! of all buckets whose digests differ from the summary's: whole buckets, so also uses that both records
 //! have. [`join_input`] and [`join_inputs`] serve the engines of the crates above, as [`read_summary`],
-//! [`read_input`], [`put_text`] and [`put_batches`] do.
+//! [`read_input`], [`put_text`], [`put_batches`] and [`put_report`] do.
 //!
 //! ```rust
 //! use svid_share::run_report;
