@@ -245,7 +245,7 @@ first_of_found P p (v ∷ vs) u all e =
       | false ↦ λ later. first_of_found P p vs u all.1 later
     ] e
 
-next_is : (after : Option Use) (us : List Use) (u : Use) → IsRising us → find (is_after after) us ≡ Some u → filter (is_after after) us ≡ u ∷ filter (is_after (Some u)) us
+pub next_is : (after : Option Use) (us : List Use) (u : Use) → IsRising us → find (is_after after) us ≡ Some u → filter (is_after after) us ≡ u ∷ filter (is_after (Some u)) us
 unfolding IsStrictlySortedBy
 next_is after [] u up e = let none : None ≡ Some u = e in cc
 next_is after (v ∷ vs) u up e =
@@ -267,7 +267,7 @@ walk_falls us after u up e = omega (arith, ap length (next_is after us u up e))
 pub walk_parts : (us : List Use) (after : Option Use) (front : List Use) (u : Use) → IsRising us → IsWalked us after front → find (is_after after) us ≡ Some u → us ≡ front ++ u ∷ filter (is_after (Some u)) us
 walk_parts us after front u up walked e = walked.parts ∙ ap (λ ws. front ++ ws) (next_is after us u up e)
 
-none_left : (p : Use → Bool) (us : List Use) → find p us ≡ None → filter p us ≡ []
+pub none_left : (p : Use → Bool) (us : List Use) → find p us ≡ None → filter p us ≡ []
 none_left p [] e = refl
 none_left p (v ∷ vs) e =
     elim (p v) as (λ b. cond b (Some v) (find p vs) ≡ None → cond b (v ∷ filter p vs) (filter p vs) ≡ []) [ true ↦ λ some. cc | false ↦ λ later. none_left p vs later ] e

@@ -1,16 +1,21 @@
-use Rattle.std.proofs.Common.{◌≡◌, ℕ, ◌+◌, ◌<◌, ◌++◌, [], ◌∷◌, List, length, take, drop, get_or, Option, Some, None, refl, sym, ap, ◌∙◌, subst, arith, append_assoc, append-nil, add-one, drop-cons, take-append-drop}
-use Rattle.std.proofs.Math.Seq.{take-suc}
+use Rattle.std.proofs.Common.{◌≡◌, ℕ, suc, ◌+◌, ◌-◌, ◌<◌, ◌≤◌, ◌++◌, [], ◌∷◌, List, length, take, drop, get_or, Option, Some, None, refl, sym, ap, ◌∙◌, subst, arith, append_assoc, append-nil, add-one, drop-cons, length-drop, take-append-drop}
+use Rattle.std.proofs.Math.Seq.{take-add, take-suc}
+use Rattle.std.proofs.lemmas.List.{length-take-le, take_all}
 use Rattle.std.proofs.lemmas.Grind.{flat_map-append}
 use Rattle.std.specs.List.{filter, find, flat_map}
 use Rattle.std.specs.Io.KnownBytes.{Appends}
 use Rattle.std.proofs.KnownBytes.{Appends-nil, Appends-trans}
 use Rattle.svid_replay.specs.Batches.{is_after}
-use Rattle.svid_replay.specs.Use.{IsRising}
+use Rattle.svid_replay.specs.Parts.{cut}
+use Rattle.svid_replay.specs.Use.{IsRising, text_of}
 use Rattle.svid_replay.specs.declared.token_use.Use.{Use}
-use Rattle.svid_replay.proofs.UsesLemmas.{IsWalked, walk_none, walk_more, walk_parts, walk_end}
+use Rattle.svid_replay.proofs.UsesLemmas.{IsWalked, walk_none, walk_more, walk_parts, walk_end, next_is, none_left}
+use Rattle.svid_replay.proofs.PartsLemmas.{cut_few, cut_many}
+use Rattle.svid_wire.specs.BatchText.{batch_text, head_text}
+use Rattle.svid_wire.specs.declared.version.Version.TheVariants.{Two}
 use Rattle.svid_wire.specs.Streams.{StoppedAfter, Taken, TookAll, TookPart, taken}
 use Rattle.svid_wire.proofs.BatchTextLemmas.{StoppedAfter-item}
-use Rattle.svid_share.specs.Pages.{Passes}
+use Rattle.svid_share.specs.Pages.{Passes, PassesBatch, behind, next_batch, next_texts}
 
 -- ---- one text after another
 
@@ -116,3 +121,94 @@ walk_stops line us after u told stops a b c before mid piece is up so_far found 
 
 pub walk_ends : (line : Use → List ℕ) (us : List Use) (after : Option Use) (sink : Taken) (before now : List ℕ) → HasPassed line us after sink before now → find (is_after after) us ≡ None → Passes sink before (flat_map line us) now
 walk_ends line us after sink before now so_far none = subst (λ x. Passes sink before (flat_map line x) now) (walk_end us after so_far.front so_far.walked none) so_far.passes
+
+-- ---- the next uses, so many
+
+-- from a place on, a list is what stands there, and then the rest
+at_place : (us : List Use) (i : ℕ) (d : Use) → i < length us → drop i us ≡ get_or us i d ∷ drop (i + 1) us
+at_place us i d within = rw (add-one, drop-cons us i d within)
+
+-- what comes next is the use at the place
+pub next_there : (us : List Use) (after last : Option Use) (u : Use) (i : ℕ) → IsRising us → behind last us ≡ drop i (behind after us) → find (is_after last) us ≡ Some u → (take (i + 1) (behind after us) ≡ take i (behind after us) ++ u ∷ []) × (behind (Some u) us ≡ drop (i + 1) (behind after us)) × (drop i (behind after us) ≡ u ∷ behind (Some u) us)
+next_there us after last u i up left found =
+    let rest = behind after us in
+    let here : drop i rest ≡ u ∷ behind (Some u) us = sym left ∙ next_is last us u up found in
+    let within : i < length rest = omega (arith, ap length here, length-drop i rest) in
+    let both : get_or rest i u ∷ drop (i + 1) rest ≡ u ∷ behind (Some u) us = sym (at_place rest i u within) ∙ here in (
+      (rw (add-one, take-suc rest i u within)) ∙ ap (λ (v : Use). take i rest ++ v ∷ []) (ap (λ vs. get_or vs 0 u) both),
+      sym (ap (drop 1) both),
+      here,
+    )
+
+pub next_passes : (us : List Use) (after last : Option Use) (u : Use) (i : ℕ) {K : Type 0} (told : K → Option (List ℕ)) (stops : K → ℕ) (a b c : K) (before mid piece now : List ℕ) → piece ≡ text_of u → IsRising us → behind last us ≡ drop i (behind after us) → find (is_after last) us ≡ Some u → Passes (taken told stops a b) before (next_texts us after i) mid → Passes (taken told stops b c) mid piece now → Passes (taken told stops a c) before (next_texts us after (i + 1)) now
+next_passes us after last u i told stops a b c before mid piece now is up left found so_far next =
+    let (more, _, _) = next_there us after last u i up left found in
+    subst (λ x. Passes (taken told stops a c) before x now)
+    (ap (λ x. next_texts us after i ++ x) (is ∙ sym (append-nil (text_of u))) ∙ sym (flat_map-append text_of (take i (behind after us)) (u ∷ [])) ∙ ap (flat_map text_of) (sym more))
+    (passed_both told stops a b c before (next_texts us after i) mid piece now so_far next)
+
+pub next_stops : (us : List Use) (after last : Option Use) (u : Use) (i count : ℕ) {K : Type 0} (told : K → Option (List ℕ)) (stops : K → ℕ) (a b c : K) (before mid piece : List ℕ) → i < count → piece ≡ text_of u → IsRising us → behind last us ≡ drop i (behind after us) → find (is_after last) us ≡ Some u → Passes (taken told stops a b) before (next_texts us after i) mid → TookPart (taken told stops b c) (mid ++ piece) → TookPart (taken told stops a c) (before ++ next_texts us after count)
+next_stops us after last u i count told stops a b c before mid piece within is up left found so_far part =
+    let (_, _, here) = next_there us after last u i up left found in
+    let some : count ≡ i + suc (count - i - 1) = omega (arith, within) in
+    passed_part told stops a b c before (next_texts us after i) mid piece (flat_map text_of (take (count - i - 1) (behind (Some u) us))) (next_texts us after count)
+    (ap (λ n. flat_map text_of (take n (behind after us))) some ∙ ap (flat_map text_of) (take-add i (suc (count - i - 1)) (behind after us) ∙ ap (λ vs. take i (behind after us) ++ take (suc (count - i - 1)) vs) here) ∙ flat_map-append text_of (take i (behind after us)) (u ∷ take (count - i - 1) (behind (Some u) us)) ∙ ap (λ x. next_texts us after i ++ (x ++ flat_map text_of (take (count - i - 1) (behind (Some u) us)))) (sym is))
+    so_far part
+
+-- there is a next use while there are so many
+pub next_is_there : (us : List Use) (after last : Option Use) (i count : ℕ) → i < count → count ≤ length (behind after us) → behind last us ≡ drop i (behind after us) → find (is_after last) us ≡ None → ⊥
+next_is_there us after last i count within there left none =
+    omega (arith, within, there, length-drop i (behind after us), ap length left, ap length (none_left (is_after last) us none))
+
+-- the text of the batch of the next uses
+pub next_batch_text : (moment : ℕ) (us : List Use) (after : Option Use) (count : ℕ) (head : List ℕ) → count ≤ length (behind after us) → head ≡ head_text Two moment count → batch_text (next_batch moment us after count) ≡ head ++ next_texts us after count
+next_batch_text moment us after count head there is =
+    ap (λ n. head_text Two moment n ++ next_texts us after count) (length-take-le count (behind after us) there) ∙ ap (λ x. x ++ next_texts us after count) (sym is)
+
+-- ---- the parts of a record
+
+-- so many of the parts passed, and those that are left are the parts of the uses behind one of them
+pub record HasCut (sink : Taken) (before now : List ℕ) (moment : ℕ) (us : List Use) (after : Option Use) : Type 0 where
+  pub text : List ℕ
+  pub passes : Passes sink before text now
+  pub parts : text ++ flat_map batch_text (cut moment (behind after us)) ≡ flat_map batch_text (cut moment us)
+
+pub cut_begins : (moment : ℕ) (us : List Use) {K : Type 0} (told : K → Option (List ℕ)) (stops : K → ℕ) (a : K) (before : List ℕ) → HasCut (taken told stops a a) before before moment us None
+cut_begins moment us told stops a before = record {
+  text = [];
+  passes = passed_none told stops a before;
+  parts = ap (λ vs. flat_map batch_text (cut moment vs)) (sym (walk_none us).parts);
+}
+
+pub cut_goes_on : (moment : ℕ) (us : List Use) (after last : Option Use) {K : Type 0} (told : K → Option (List ℕ)) (stops : K → ℕ) (a b c : K) (before mid now : List ℕ) → 65536 < length (behind after us) → HasCut (taken told stops a b) before mid moment us after → PassesBatch (taken told stops b c) mid now moment us after 65536 last → HasCut (taken told stops a c) before now moment us last
+cut_goes_on moment us after last told stops a b c before mid now many so_far next = record {
+  text = so_far.text ++ batch_text (next_batch moment us after 65536);
+  passes = passed_both told stops a b c before so_far.text mid (batch_text (next_batch moment us after 65536)) now so_far.passes next.passes;
+  parts =
+      append_assoc so_far.text (batch_text (next_batch moment us after 65536)) (flat_map batch_text (cut moment (behind last us)))
+      ∙ ap (λ vs. so_far.text ++ (batch_text (next_batch moment us after 65536) ++ flat_map batch_text (cut moment vs))) next.left
+      ∙ ap (λ bs. so_far.text ++ flat_map batch_text bs) (sym (cut_many moment (behind after us) many))
+      ∙ so_far.parts;
+}
+
+pub cut_stops : (moment : ℕ) (us : List Use) (after : Option Use) {K : Type 0} (told : K → Option (List ℕ)) (stops : K → ℕ) (a b c : K) (before mid : List ℕ) → 65536 < length (behind after us) → HasCut (taken told stops a b) before mid moment us after → TookPart (taken told stops b c) (mid ++ batch_text (next_batch moment us after 65536)) → TookPart (taken told stops a c) (before ++ flat_map batch_text (cut moment us))
+cut_stops moment us after told stops a b c before mid many so_far part =
+    passed_part told stops a b c before so_far.text mid (batch_text (next_batch moment us after 65536)) (flat_map batch_text (cut moment (drop 65536 (behind after us)))) (flat_map batch_text (cut moment us))
+    (sym so_far.parts ∙ ap (λ bs. so_far.text ++ flat_map batch_text bs) (cut_many moment (behind after us) many)) so_far.passes part
+
+-- the last part
+last_part : (moment : ℕ) (us : List Use) (after : Option Use) (count : ℕ) (text : List ℕ) → count ≡ length (behind after us) → count ≤ 65536 → text ++ flat_map batch_text (cut moment (behind after us)) ≡ flat_map batch_text (cut moment us) → flat_map batch_text (cut moment us) ≡ text ++ batch_text (next_batch moment us after count)
+last_part moment us after count text all few parts =
+    sym parts ∙ ap (λ bs. text ++ flat_map batch_text bs) (cut_few moment (behind after us) (omega (arith, all, few)))
+    ∙ ap (λ x. text ++ x) (append-nil (batch_text (record { moment = moment; uses = behind after us })))
+    ∙ ap (λ vs. text ++ batch_text (record { moment = moment; uses = vs })) (sym (take_all count (behind after us) (omega (arith, all))))
+
+pub cut_ends : (moment : ℕ) (us : List Use) (after last : Option Use) (count : ℕ) {K : Type 0} (told : K → Option (List ℕ)) (stops : K → ℕ) (a b c : K) (before mid now : List ℕ) → count ≡ length (behind after us) → count ≤ 65536 → HasCut (taken told stops a b) before mid moment us after → PassesBatch (taken told stops b c) mid now moment us after count last → Passes (taken told stops a c) before (flat_map batch_text (cut moment us)) now
+cut_ends moment us after last count told stops a b c before mid now all few so_far next =
+    subst (λ x. Passes (taken told stops a c) before x now) (sym (last_part moment us after count so_far.text all few so_far.parts))
+    (passed_both told stops a b c before so_far.text mid (batch_text (next_batch moment us after count)) now so_far.passes next.passes)
+
+pub cut_stops_last : (moment : ℕ) (us : List Use) (after : Option Use) (count : ℕ) {K : Type 0} (told : K → Option (List ℕ)) (stops : K → ℕ) (a b c : K) (before mid : List ℕ) → count ≡ length (behind after us) → count ≤ 65536 → HasCut (taken told stops a b) before mid moment us after → TookPart (taken told stops b c) (mid ++ batch_text (next_batch moment us after count)) → TookPart (taken told stops a c) (before ++ flat_map batch_text (cut moment us))
+cut_stops_last moment us after count told stops a b c before mid all few so_far part =
+    passed_part told stops a b c before so_far.text mid (batch_text (next_batch moment us after count)) [] (flat_map batch_text (cut moment us))
+    (last_part moment us after count so_far.text all few so_far.parts ∙ ap (λ x. so_far.text ++ x) (sym (append-nil (batch_text (next_batch moment us after count))))) so_far.passes part
