@@ -2,10 +2,8 @@ pub mod Batches
 pub mod Buckets
 pub mod Hashers
 pub mod Indexed
-pub mod Keys
 pub mod Parts
 pub mod Records
-pub mod Runs
 pub mod Sets
 pub mod Summary
 pub mod Twice

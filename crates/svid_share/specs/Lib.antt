@@ -3,7 +3,6 @@ pub mod Faults
 pub mod Inputs
 pub mod Joined
 pub mod Merge
-pub mod Pages
 pub mod Reader
 pub mod Report
 pub mod Summary
