@@ -1,4 +1,4 @@
-ghost use Rattle.std.specs.Prelude.{◌≡◌, [], ◌∷◌, IfOk, IfErr, string_bytes};
+ghost use Rattle.std.specs.Prelude.{◌≡◌, [], ◌∷◌, IfOk, IfErr};
 ghost use Rattle.svid_share.specs.Report.{report_of};
 ghost use Rattle.svid_c.specs.Inputs.{AreRefused};
 ghost use Rattle.svid_c.specs.Joined.{IsTextOf};
@@ -8,16 +8,21 @@ use crate::inputs::record_of;
 use crate::told::SvidTold;
 use crate::writing::{put, refuse};
 use std::alloc::Global;
-use svid_share::{ToolFault, report_of_record};
+use svid_share::{ToolFault, put_report};
+use svid_wire::MemSink;
 
 // The report of what an input tells at a moment.
 #[tactic(auto, using(crate::proofs::JoinedLemmas::text_is, crate::proofs::JoinedLemmas::refused_first))]
-fn report(alloc: Global, messages: &[u8], now: u64) -> Result<String, ToolFault>
-    ensures ok { IfOk result (λ text. IsTextOf report_of messages.now now (string_bytes text)) }
+fn report(alloc: Global, messages: &[u8], now: u64) -> Result<MemSink, ToolFault>
+    ensures ok { IfOk result (λ sink. IsTextOf report_of messages.now now sink.bytes) }
     ensures fault { IfErr result (AreRefused 1 (messages.now ∷ [])) }
 {
     let record = record_of(alloc, messages, 1, now)?;
-    Ok(report_of_record(alloc, &record)?)
+    let mut sink = MemSink::new(alloc, 65_536, None);
+    match put_report(alloc, &record, &mut sink) {
+        Ok(()) => Ok(sink),
+        Err(_) => Err(ToolFault::OutOfMemory),
+    }
 }
 
 /// Puts the report of what the messages tell at the moment `now`, in seconds, first into `out`, as the
@@ -35,7 +40,7 @@ pub extern "C" fn svid_report(
     ensures { Answers (IsTextOf report_of messages.now now) (AreRefused 1 (messages.now ∷ [])) result told.new out.old out.new }
 {
     match report(alloc, messages, now) {
-        Ok(text) => put(text.as_bytes(), out, told),
+        Ok(sink) => put(sink.bytes(), out, told),
         Err(fault) => refuse(fault, told),
     }
 }

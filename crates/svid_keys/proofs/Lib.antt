@@ -1,5 +1,6 @@
 pub mod BundlesLemmas
 pub mod CandidatesLemmas
+pub mod DigitsLemmas
 pub mod FirstLemmas
 pub mod KeyLemmas
 pub mod LinesLemmas

@@ -1,11 +1,15 @@
-ghost use Rattle.std.specs.Prelude.{◌≡◌, ◌≤◌, IfOk, length, option_map};
+ghost use Rattle.std.specs.Prelude.{◌≡◌, ◌≤◌, ◌++◌, IfOk, length, option_map};
+ghost use Rattle.sha2.specs.Hashers.{Holds256};
 ghost use Rattle.serde_json.specs.View.{view};
 ghost use Rattle.svid_id.specs.Domain.{IsDomain};
 ghost use Rattle.svid_token.specs.Json.{text_at};
 ghost use Rattle.svid_keys.specs.Key.{is_for_svids, kept_key, kty_in, most_key_bytes};
+ghost use Rattle.svid_keys.specs.Question.{field};
 
 use crate::float::has_float;
+use crate::hasher::holding;
 use serde_json::Value;
+use sha2::Sha256;
 use std::alloc::{AllocError, Global};
 use std::marker::Model;
 use svid_token::Kty;
@@ -22,19 +26,23 @@ pub struct JwtKey {
     kid: String,
     kty: Kty,
     text: String,
+    // Holds the two fields of the key, with which each question about it begins.
+    hasher: Sha256,
 }
 
 impl Model for JwtKey {
-    ghost use Rattle.std.specs.Prelude.{◌≤◌, length};
+    ghost use Rattle.std.specs.Prelude.{◌≤◌, ◌++◌, length};
     ghost use Rattle.std.specs.String.{string_bytes};
+    ghost use Rattle.sha2.specs.Hashers.{Holds256};
     ghost use Rattle.svid_id.specs.Domain.{IsDomain};
     ghost use Rattle.svid_keys.specs.Key.{KeyData, most_key_bytes};
+    ghost use Rattle.svid_keys.specs.Question.{field};
 
     ghost Value = { KeyData };
 
     ghost view = { λ key. record { domain = string_bytes key.domain; kid = string_bytes key.kid; kty = key.kty; text = string_bytes key.text } };
 
-    ghost invariant = { λ key. IsDomain (string_bytes key.domain) × (length (string_bytes key.text) ≤ most_key_bytes) };
+    ghost invariant = { λ key. IsDomain (string_bytes key.domain) × (length (string_bytes key.text) ≤ most_key_bytes) × Holds256 key.hasher (field (string_bytes key.domain) ++ field (string_bytes key.text)) };
 }
 
 impl JwtKey {
@@ -60,6 +68,7 @@ impl JwtKey {
         if text.len() > MAX_KEY_LEN {
             return Ok(None);
         }
+        let hasher = holding(domain, text.as_str());
         let domain = String::from_str(alloc, domain)?;
         let kid = String::from_str(alloc, kid)?;
         Ok(Some(JwtKey {
@@ -67,6 +76,7 @@ impl JwtKey {
             kid,
             kty,
             text,
+            hasher,
         }))
     }
 
@@ -98,6 +108,13 @@ impl JwtKey {
         ensures len { length result.now ≤ most_key_bytes }
     {
         self.text.as_str()
+    }
+
+    // A hasher that holds the trust domain and the text as fields.
+    pub(crate) fn hasher(&self) -> Sha256
+        ensures { Holds256 result (field self.now.domain ++ field self.now.text) }
+    {
+        self.hasher.clone().unwrap()
     }
 }
 

@@ -22,7 +22,9 @@
 mod bundle_fault;
 mod bundles;
 mod candidates;
+mod digits;
 mod float;
+mod hasher;
 mod jwt_key;
 pub mod laws;
 mod lines;

@@ -1,12 +1,12 @@
 ghost use Rattle.std.specs.Prelude.{◌≡◌, ◌||◌, ◌∷◌, ◌+◌, ℕ, List, IfOk, IfErr, IsOkUnless, None, OnOk, bytes_eq, option_to_list};
 ghost use Rattle.svid_keys.specs.Table.{IsTableRefusal, is_among, lines_fault, question_in, questions_in, table_fault, table_says};
 
+use crate::digits::question_in;
 use crate::jwt_key::JwtKey;
 use crate::lines::Lines;
 use crate::questions::question;
 use crate::table_fault::TableFault;
 use crate::verifier::Verifier;
-use hex::FromHex;
 use std::alloc::{AllocError, Global};
 use std::collections::BTreeSet;
 use std::marker::Model;
@@ -99,11 +99,4 @@ fn add_question(questions: &mut BTreeSet<[u8; 32]>, question: [u8; 32]) -> Resul
 {
     questions.insert(question)?;
     Ok(())
-}
-
-// The question that a line is, if it is one.
-fn question_in(line: &[u8]) -> Option<[u8; 32]>
-    ensures { result ≡ question_in line.now }
-{
-    <[u8; 32]>::from_hex(line).ok()
 }

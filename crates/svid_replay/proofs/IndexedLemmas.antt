@@ -23,7 +23,7 @@ use Rattle.svid_replay.specs.Use.{bytes_cmp, use_cmp, IsRising}
 use Rattle.svid_replay.specs.Uses.{uses_in, live, count}
 use Rattle.svid_replay.proofs.ListLemmas.{all_same}
 use Rattle.svid_replay.proofs.SetsLemmas.{holds-with}
-use Rattle.svid_replay.proofs.TestsLemmas.{equal}
+use Rattle.svid_replay.proofs.TestsLemmas.{equal, one_test}
 use Rattle.svid_replay.proofs.UseLemmas.{use_total, use_exact, exact_kinds}
 use Rattle.svid_replay.proofs.UsesLemmas.{holds-uses_in, same_uses, less_exp, rising-uses_in, uses_in-filter}
 
@@ -43,11 +43,6 @@ key_first_exact u v h =
     ap use_of (exact_pairs (slice_cmp nat_cmp) _ exact_bytes (exact_pairs bool_cmp _ exact_kinds (exact_pairs nat_cmp _ exact_unsigned (exact_pairs (slice_cmp nat_cmp) nat_cmp exact_bytes exact_unsigned))) (row (key_first u)) (row (key_first v)) h)
 
 -- ---- the two orders tell the same uses apart
-one_test : (a b : Bool) → (a ≡ true → b ≡ true) → (b ≡ true → a ≡ true) → a ≡ b
-one_test true b p q = sym (p refl)
-one_test false true p q = q refl
-one_test false false p q = refl
-
 key_first_same : (u q : Use) → eq_by_cmp key_first_cmp (key_first u) (key_first q) ≡ eq_by_cmp use_cmp u q
 key_first_same u q = one_test _ _
     (λ e. let is : u ≡ q = key_first_exact u q (equal _ e) in subst (λ v. eq_by_cmp use_cmp u v ≡ true) is (ap is_eq (tied_itself use_total u)))
@@ -224,7 +219,7 @@ least_of withdrawn key = record { key = key; withdrawn = withdrawn; exp = 0; pla
 abbrev Fits : Bool → Bool → Type 0
 Fits sought withdrawn = sought ≡ true → withdrawn ≡ true
 
-sought_key : (s : Bool) (key : List ℕ) (u : Use) → is_sought s key u ≡ true → has_key key u ≡ true
+pub sought_key : (s : Bool) (key : List ℕ) (u : Use) → is_sought s key u ≡ true → has_key key u ≡ true
 sought_key false key u e = e
 sought_key true key u e = and_first (has_key key u) u.withdrawn e
   where
@@ -301,13 +296,13 @@ between_key : (s : Bool) (key : List ℕ) (k h : KeyFirst) → h.key ≡ key →
 between_key s key k h is low high =
     sym (squeezed key k.key (not_gt_then (slice_cmp nat_cmp key k.key) _ low) (subst (λ b. is_gt (slice_cmp nat_cmp k.key b) ≡ false) is (not_gt_then (slice_cmp nat_cmp k.key h.key) _ high)))
 
-same_key : (key other : List ℕ) → is_eq (bytes_cmp key other) ≡ true → other ≡ key
+pub same_key : (key other : List ℕ) → is_eq (bytes_cmp key other) ≡ true → other ≡ key
 same_key key other e = sym (exact_bytes key other (equal _ e))
 
 own_key : (key other : List ℕ) → other ≡ key → is_eq (bytes_cmp key other) ≡ true
 own_key key other e = ap (λ k. is_eq (bytes_cmp key k)) e ∙ ap is_eq (tied_itself nat_list_cmp_total key)
 
-any_use : (p : Use → Bool) (us : List Use) (u : Use) → has_use us u ≡ true → p u ≡ true → list_any p us ≡ true
+pub any_use : (p : Use → Bool) (us : List Use) (u : Use) → has_use us u ≡ true → p u ≡ true → list_any p us ≡ true
 any_use p [] u held is = absurd (true≢false (sym held))
 any_use p (v ∷ us) u held is = elim (or_cases (eq_by_cmp use_cmp u v) (has_use us u) held) [
   | inl same ↦ ap (λ b. b || list_any p us) (ap p (sym (use_exact u v (equal _ same))) ∙ is)

@@ -1,9 +1,12 @@
 pub mod BatchesLemmas
 pub mod BucketsLemmas
 pub mod IndexedLemmas
+pub mod KeysLemmas
 pub mod ListLemmas
+pub mod MergeLemmas
 pub mod PartsLemmas
 pub mod RecordsLemmas
+pub mod RunsLemmas
 pub mod SetsLemmas
 pub mod TestsLemmas
 pub mod TwiceLemmas

@@ -1,9 +1,10 @@
 use Rattle.std.proofs.Common.{◌≡◌, ◌≢◌, ◌⊎◌, ℕ, ◌<◌, ◌≤◌, ◌+◌, zero, suc, Bool, true, false, not, cond, ◌||◌, List, [], ◌∷◌, ◌++◌, map, length, take, drop, get_or, refl, sym, ◌∙◌, ap, subst, T, inl, inr, ⊎_elim, arith, nat_lt, Contains}
-use Rattle.std.proofs.lemmas.Bool.{false≢true}
+use Rattle.std.proofs.lemmas.Bool.{cases_lt, false≢true}
 use Rattle.std.proofs.lemmas.Bool.Decides.{nat_tests}
 use Rattle.std.proofs.lemmas.List.Elements.{recursion_from_All, All-contains, All-contains_itself, filter_passes, filter-append, All-filter}
 use Rattle.std.proofs.lemmas.List.{append-nil, length-take, length-drop, get_or-take, get_or-drop}
 use Rattle.std.proofs.lemmas.List.Sums.{prefix_len_is}
+use Rattle.std.proofs.lemmas.Map.Keys.{Less-from_sorted}
 use Rattle.std.specs.List.{AllByRecursion, AllWithin, list_any, filter, prefix_len}
 use Rattle.std.specs.List.Sorted.{IsStrictlySortedBy, IsPartitionedBy, IsPartitionPoint}
 use Rattle.std.specs.declared.cmp.Ordering.{Ordering}
@@ -144,3 +145,8 @@ drop-parted p (x ∷ xs) parted =
       | true ↦ λ e. ap (λ n. drop n (x ∷ xs)) one_more ∙ drop-parted p xs (parted_tail p x xs parted)
       | false ↦ λ e. ap (λ ys. x ∷ ys) (sym (all_same (λ y. not (p y)) xs (recursion_from_All (λ y. not (p y) ≡ true) xs (λ k d h. elim (p (get_or xs k d)) as (λ b. p (get_or xs k d) ≡ b → not b ≡ true) [ true ↦ λ t. absurd (false≢true (sym e ∙ parted 0 (suc k) d (omega arith) (omega arith) t)) | false ↦ λ _. refl ] refl))))
     ] refl
+
+-- a test that holds of a thing where it holds of a greater one
+pub parted_by : {K : Type 0} (R : K → K → Ordering) (p : K → Bool) → ((u v : K) → R u v ≡ Less → p v ≡ true → p u ≡ true) → (us : List K) → IsStrictlySortedBy R us → IsPartitionedBy p us
+parted_by R p falls us up = λ i j d le h passes.
+    ⊎_elim (λ lt. falls (get_or us i d) (get_or us j d) (Less-from_sorted R us i j d up lt h) passes) (λ ge. let same : i ≡ j = omega arith in subst (λ n. p (get_or us n d) ≡ true) (sym same) passes) (cases_lt i j)

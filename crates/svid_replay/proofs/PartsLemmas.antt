@@ -56,7 +56,7 @@ pub cut_few : (m : ℕ) (us : List Use) → length us ≤ 65536 → cut m us ≡
 unfolding cut full_batches
 cut_few m us few = let none : (length us - 1) / 65536 ≡ 0 = omega arith in ap (λ n. full_batches 65536 n m us) none
 
-cut_many : (m : ℕ) (us : List Use) → 65536 < length us → cut m us ≡ record { moment = m; uses = take 65536 us } ∷ cut m (drop 65536 us)
+pub cut_many : (m : ℕ) (us : List Use) → 65536 < length us → cut m us ≡ record { moment = m; uses = take 65536 us } ∷ cut m (drop 65536 us)
 unfolding cut full_batches
 cut_many m us many =
     let one_less : (length us - 1) / 65536 ≡ suc ((length (drop 65536 us) - 1) / 65536) = omega (arith, length-drop 65536 us) in

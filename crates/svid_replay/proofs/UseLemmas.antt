@@ -108,7 +108,7 @@ pub use_total : IsTotalOrder use_cmp
 use_total =
     then_total (on_total (λ (u : Use). u.exp) nat_cmp_total) (then_total (on_total (λ (u : Use). u.key) nat_list_cmp_total) (then_total (on_total (λ (u : Use). u.place) nat_list_cmp_total) (then_total (on_total (λ (u : Use). u.at) nat_cmp_total) (on_total (λ (u : Use). u.withdrawn) bool_cmp_total))))
 
-both_equal : (a b : Ordering) → ordering_then a b ≡ Equal → (a ≡ Equal) × (b ≡ Equal)
+pub both_equal : (a b : Ordering) → ordering_then a b ≡ Equal → (a ≡ Equal) × (b ≡ Equal)
 both_equal Less b e = cc
 both_equal Equal b e = (refl, e)
 both_equal Greater b e = cc

@@ -20,7 +20,7 @@ use Rattle.svid_replay.specs.Batches.{is_after}
 use Rattle.svid_replay.specs.Sets.{holds, rising, with, keep, union}
 use Rattle.svid_replay.specs.Use.{use_cmp, IsRising}
 use Rattle.svid_replay.specs.Uses.{Uses, no_uses, uses_in, live, count, NoUsesHoldNone, WithHoldsOneMore, UnionHoldsEither, LiveHoldsUnexpired, RisingHasHeld, SameHeldSameSet}
-use Rattle.svid_replay.proofs.ListLemmas.{any_in, found, all_same, each_true, drop-parted, each_append, each_take, each_drop, each_before, each_behind, each_weaker, any_none}
+use Rattle.svid_replay.proofs.ListLemmas.{any_in, found, all_same, each_true, drop-parted, each_append, each_take, each_drop, each_before, each_behind, each_weaker, any_none, parted_by}
 use Rattle.svid_replay.proofs.SetsLemmas.{same_set, same_rising, rising_rises, holds-rising, holds-with, holds-keep, holds-set_of, holds-empty}
 use Rattle.svid_replay.proofs.SetsLemmas.{holds-union as of_union}
 use Rattle.svid_replay.proofs.TestsLemmas.{equal, is_less, same_some, or-comm, and-comm}
@@ -88,7 +88,7 @@ left_out true true any h = elim any as (λ b. b ≡ true) [ true ↦ refl | fals
 left_out true false any h = refl
 left_out false test any h = refl
 
-to_front : (a b c : Bool) → (a || (b || c)) ≡ (b || (a || c))
+pub to_front : (a b c : Bool) → (a || (b || c)) ≡ (b || (a || c))
 to_front true true c = refl
 to_front true false c = refl
 to_front false b c = refl
@@ -172,22 +172,17 @@ not_before last u v less e Less r = absurd (false≢true (ap (λ o. not (is_lt o
 not_before last u v less e Equal r = refl
 not_before last u v less e Greater r = refl
 
--- a test that holds of a use where it holds of a greater one
-parted_by : (p : Use → Bool) → ((u v : Use) → use_cmp u v ≡ Less → p v ≡ true → p u ≡ true) → (us : List Use) → IsRising us → IsPartitionedBy p us
-parted_by p falls us up = λ i j d le h passes.
-    ⊎_elim (λ lt. falls (get_or us i d) (get_or us j d) (Less-from_sorted use_cmp us i j d up lt h) passes) (λ ge. let same : i ≡ j = omega arith in subst (λ n. p (get_or us n d) ≡ true) (sym same) passes) (cases_lt i j)
-
 pub expired_parted : (moment : ℕ) (us : List Use) → IsRising us → IsPartitionedBy (λ u. not (nat_lt moment u.exp)) us
-expired_parted moment us up = parted_by (λ u. not (nat_lt moment u.exp)) (λ u v less e. let le = less_exp u v less in grind (arith, nat_tests)) us up
+expired_parted moment us up = parted_by use_cmp (λ u. not (nat_lt moment u.exp)) (λ u v less e. let le = less_exp u v less in grind (arith, nat_tests)) us up
 
 pub not_after_parted : (last : Use) (us : List Use) → IsRising us → IsPartitionedBy (λ u. not (is_after (Some last) u)) us
-not_after_parted last us up = parted_by (λ u. not (is_after (Some last) u)) (λ u v less e. not_before last u v less e (use_cmp last u) refl) us up
+not_after_parted last us up = parted_by use_cmp (λ u. not (is_after (Some last) u)) (λ u v less e. not_before last u v less e (use_cmp last u) refl) us up
 
 not_not : (b : Bool) → not (not b) ≡ b
 not_not true = refl
 not_not false = refl
 
-drop-expired : (moment : ℕ) (us : List Use) → IsRising us → drop (prefix_len (λ u. not (nat_lt moment u.exp)) us) us ≡ filter (λ u. nat_lt moment u.exp) us
+pub drop-expired : (moment : ℕ) (us : List Use) → IsRising us → drop (prefix_len (λ u. not (nat_lt moment u.exp)) us) us ≡ filter (λ u. nat_lt moment u.exp) us
 drop-expired moment us up = drop-parted (λ u. not (nat_lt moment u.exp)) us (expired_parted moment us up) ∙ filter_agree _ _ (λ u. not_not (nat_lt moment u.exp)) us
 
 -- ---- the list in a sorted vector, and the set that it stands for
@@ -250,7 +245,7 @@ first_of_found P p (v ∷ vs) u all e =
       | false ↦ λ later. first_of_found P p vs u all.1 later
     ] e
 
-next_is : (after : Option Use) (us : List Use) (u : Use) → IsRising us → find (is_after after) us ≡ Some u → filter (is_after after) us ≡ u ∷ filter (is_after (Some u)) us
+pub next_is : (after : Option Use) (us : List Use) (u : Use) → IsRising us → find (is_after after) us ≡ Some u → filter (is_after after) us ≡ u ∷ filter (is_after (Some u)) us
 unfolding IsStrictlySortedBy
 next_is after [] u up e = let none : None ≡ Some u = e in cc
 next_is after (v ∷ vs) u up e =
@@ -272,7 +267,7 @@ walk_falls us after u up e = omega (arith, ap length (next_is after us u up e))
 pub walk_parts : (us : List Use) (after : Option Use) (front : List Use) (u : Use) → IsRising us → IsWalked us after front → find (is_after after) us ≡ Some u → us ≡ front ++ u ∷ filter (is_after (Some u)) us
 walk_parts us after front u up walked e = walked.parts ∙ ap (λ ws. front ++ ws) (next_is after us u up e)
 
-none_left : (p : Use → Bool) (us : List Use) → find p us ≡ None → filter p us ≡ []
+pub none_left : (p : Use → Bool) (us : List Use) → find p us ≡ None → filter p us ≡ []
 none_left p [] e = refl
 none_left p (v ∷ vs) e =
     elim (p v) as (λ b. cond b (Some v) (find p vs) ≡ None → cond b (v ∷ filter p vs) (filter p vs) ≡ []) [ true ↦ λ some. cc | false ↦ λ later. none_left p vs later ] e

@@ -2,8 +2,10 @@ pub mod Batches
 pub mod Buckets
 pub mod Hashers
 pub mod Indexed
+pub mod Keys
 pub mod Parts
 pub mod Records
+pub mod Runs
 pub mod Sets
 pub mod Summary
 pub mod Twice

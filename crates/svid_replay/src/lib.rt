@@ -6,8 +6,9 @@
 //! kept in a [`UseStore`]. Whatever happens to it is a join: the greater moment, and of the uses of
 //! both sides those that expire after it. So records may be merged in any order, any number of times,
 //! and come out the same ([`laws`]). Where memory is refused on the way, the record is the join with
-//! a part that the contract names. Of the two stores [`SortedUses`] is for few uses, or uses that come
-//! in their order, and [`IndexedUses`] for many and for look-ups by key.
+//! a part that the contract names. Of the stores [`SortedUses`] is for few uses, or uses that come in
+//! their order, [`IndexedUses`] for many and for look-ups by key, and [`RunUses`] for very many: it takes
+//! them in sooner, but a few of its inserts move most of them.
 //!
 //! Two records that mostly agree need not tell each other all: a [`Summary`] has a digest for each of
 //! 256 buckets, one for each first byte of a key, and a record answers one with all uses of the buckets
@@ -42,13 +43,17 @@
 mod batch;
 mod batch_fault;
 mod buckets;
+mod filter;
 mod flaw;
 mod indexed_uses;
 mod key_first;
+mod keys;
 pub mod laws;
 mod layout;
 mod parts;
 mod record;
+mod run;
+mod run_uses;
 mod sorted;
 mod store;
 mod summary;
@@ -56,6 +61,7 @@ mod summary;
 mod tests;
 mod token_use;
 mod twice;
+mod until;
 mod use_list;
 
 pub use batch::Batch;
@@ -64,6 +70,7 @@ pub use flaw::{Flaw, flaw_of};
 pub use indexed_uses::IndexedUses;
 pub use layout::{MOST_USES, USE_LEN};
 pub use record::Record;
+pub use run_uses::RunUses;
 pub use sorted::SortedUses;
 pub use store::{Raised, UseStore};
 pub use summary::Summary;

@@ -32,7 +32,7 @@ impl Model for SortedUses {
     ghost invariant = { λ s. IsRising s.uses.items };
 }
 
-fn insert_use(uses: &mut Vec<Use>, new: Use) -> Result<(), AllocError>
+pub(crate) fn insert_use(uses: &mut Vec<Use>, new: Use) -> Result<(), AllocError>
     requires { IsRising uses.old.items }
     ensures rising { IsRising uses.new.items }
     ensures ok { OnOk result (uses_in uses.new.items ≡ with (uses_in uses.old.items) new) }
@@ -48,14 +48,14 @@ fn insert_use(uses: &mut Vec<Use>, new: Use) -> Result<(), AllocError>
     }
 }
 
-fn count_expired(uses: &[Use], moment: u64) -> usize
+pub(crate) fn count_expired(uses: &[Use], moment: u64) -> usize
     requires { IsRising uses.now }
     ensures { result ≡ prefix_len (λ u. not (nat_lt moment u.exp)) uses.now }
 {
     uses.partition_point(|used| !used.is_live(moment))
 }
 
-fn drop_front(uses: &mut Vec<Use>, count: usize)
+pub(crate) fn drop_front(uses: &mut Vec<Use>, count: usize)
     requires { count ≤ length uses.old.items }
     ensures { uses.new.items ≡ drop count uses.old.items }
 {
@@ -64,7 +64,7 @@ fn drop_front(uses: &mut Vec<Use>, count: usize)
     uses.truncate(left);
 }
 
-fn count_up_to(uses: &[Use], last: &Use) -> usize
+pub(crate) fn count_up_to(uses: &[Use], last: &Use) -> usize
     requires { IsRising uses.now }
     ensures value { result ≡ prefix_len (λ u. not (is_after (Some last.now) u)) uses.now }
     ensures bound { result ≤ length uses.now }
@@ -72,7 +72,7 @@ fn count_up_to(uses: &[Use], last: &Use) -> usize
     uses.partition_point(|used| !last.cmp(used).is_lt())
 }
 
-fn first_after(uses: &[Use], after: Option<Use>) -> Option<Use>
+pub(crate) fn first_after(uses: &[Use], after: Option<Use>) -> Option<Use>
     requires { IsRising uses.now }
     ensures { result ≡ find (is_after after) uses.now }
 {
@@ -83,13 +83,13 @@ fn first_after(uses: &[Use], after: Option<Use>) -> Option<Use>
     rest.first().copied()
 }
 
-fn has_use_of(uses: &[Use], key: &[u8; 32]) -> bool
+pub(crate) fn has_use_of(uses: &[Use], key: &[u8; 32]) -> bool
     ensures { result ≡ list_any (has_key key.now) uses.now }
 {
     uses.iter().any(|used| has_key(key, used))
 }
 
-fn has_withdrawal_of(uses: &[Use], key: &[u8; 32]) -> bool
+pub(crate) fn has_withdrawal_of(uses: &[Use], key: &[u8; 32]) -> bool
     ensures { result ≡ list_any (withdraws key.now) uses.now }
 {
     uses.iter().any(|used| withdraws(key, used))

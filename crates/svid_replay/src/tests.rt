@@ -4,12 +4,13 @@ mod lists;
 mod memoryless;
 mod record;
 mod refusing;
+mod runs;
 mod summary;
 mod sweep;
 mod token_use;
 mod withdrawn;
 
-use crate::{Batch, IndexedUses, Record, SortedUses, Use, UseStore};
+use crate::{Batch, IndexedUses, Record, RunUses, SortedUses, Use, UseStore};
 use std::alloc::{AllocError, Global};
 use std::test::Fail;
 
@@ -62,6 +63,10 @@ fn sorted(alloc: Global) -> Record<SortedUses> {
 
 fn indexed(alloc: Global) -> Record<IndexedUses> {
     Record::new(IndexedUses::new(alloc))
+}
+
+fn in_runs(alloc: Global) -> Record<RunUses> {
+    Record::new(RunUses::new(alloc))
 }
 
 // Absorbs the batch of this moment and these uses.

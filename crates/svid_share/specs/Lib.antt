@@ -3,6 +3,7 @@ pub mod Faults
 pub mod Inputs
 pub mod Joined
 pub mod Merge
+pub mod Pages
 pub mod Reader
 pub mod Report
 pub mod Summary

@@ -7,7 +7,8 @@
 //! its parts. [`run_summary`] writes the summary of a record, and [`run_answer`] answers one with the uses
 //! of all buckets whose digests differ from the summary's: whole buckets, so also uses that both records
 //! have. [`join_input`] and [`join_inputs`] serve the engines of the crates above, as [`read_summary`],
-//! [`read_input`], [`put_text`] and [`put_batches`] do.
+//! [`read_input`], [`put_text`], [`put_batches`], [`put_record`] and
+//! [`put_report`] do.
 //!
 //! ```rust
 //! use svid_share::run_report;
@@ -24,12 +25,14 @@ mod answer;
 mod batches;
 mod inputs;
 pub mod laws;
+mod line;
 mod merge;
 mod one_summary;
 mod output;
+mod page;
+mod parts;
 mod reader;
 mod report;
-mod report_text;
 mod summary;
 #[cfg(test)]
 mod tests;
@@ -41,6 +44,7 @@ pub use inputs::{MOST_BYTES, join_input, join_inputs, read_input};
 pub use merge::run_merge;
 pub use one_summary::read_summary;
 pub use output::put_text;
-pub use report::{report_of_record, run_report};
+pub use parts::put_record;
+pub use report::{put_report, run_report};
 pub use summary::run_summary;
 pub use tool_fault::ToolFault;

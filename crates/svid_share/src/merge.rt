@@ -1,26 +1,25 @@
 ghost use Rattle.std.specs.Prelude.{◌≡◌, ◌≢◌, OnOk, IfOk, IfErr};
-ghost use Rattle.std.specs.List.{flat_map};
-ghost use Rattle.svid_wire.specs.BatchText.{batch_text};
+ghost use Rattle.svid_wire.specs.RecordText.{record_text};
 ghost use Rattle.svid_wire.specs.Streams.{taken};
 ghost use Rattle.svid_share.specs.Inputs.{IsJoinFault, inputs_of, sources};
 ghost use Rattle.svid_share.specs.Merge.{merge_due};
 ghost use Rattle.svid_share.specs.Written.{IsDue, IsEngineFault, IsWritten};
 
 use crate::ToolFault;
-use crate::batches::put_batches;
 use crate::inputs::join_inputs;
+use crate::parts::put_record;
 use std::alloc::Global;
-use svid_replay::{Batch, IndexedUses, Record};
+use svid_replay::{IndexedUses, Record};
 use svid_wire::{Sink, Source};
 
-// The parts of what all inputs tell.
-fn parts_of_inputs<S: Source>(alloc: Global, inputs: &mut [S]) -> Result<Vec<Batch>, ToolFault>
-    ensures ok { IfOk result (λ parts. IsDue merge_due (inputs_of (sources S.left S.stops inputs.old inputs.new)) (flat_map batch_text parts.items)) }
+// What all inputs tell.
+fn join_all<S: Source>(alloc: Global, inputs: &mut [S]) -> Result<Record<IndexedUses>, ToolFault>
+    ensures ok { IfOk result (λ r. IsDue merge_due (inputs_of (sources S.left S.stops inputs.old inputs.new)) (record_text r)) }
     ensures fault { IfErr result (IsJoinFault (sources S.left S.stops inputs.old inputs.new)) }
 {
     let mut record = Record::new(IndexedUses::new(alloc));
     join_inputs(alloc, inputs, &mut record)?;
-    Ok(record.parts(alloc)?)
+    Ok(record)
 }
 
 /// Joins the batches of all inputs, and writes the record that they come to as the texts of its parts:
@@ -42,6 +41,6 @@ pub fn run_merge<S: Source, K: Sink>(
     ensures fault { IfErr result (IsEngineFault merge_due (sources S.left S.stops inputs.old inputs.new) (taken K.told K.stops out.old out.new)) }
     ensures kept { IfErr result (λ fault. fault ≢ ToolFault.Write → out.new ≡ out.old) }
 {
-    let parts = parts_of_inputs(alloc, inputs)?;
-    put_batches(out, &parts)
+    let record = join_all(alloc, inputs)?;
+    put_record(&record, out)
 }

@@ -1,26 +1,101 @@
-ghost use Rattle.std.specs.Prelude.{◌≡◌, ◌≢◌, OnOk, IfOk, IfErr, string_bytes};
-ghost use Rattle.svid_wire.specs.Streams.{taken};
-ghost use Rattle.svid_share.specs.Report.{report_due, report_of};
+ghost use Rattle.std.specs.Prelude.{◌≡◌, ◌≢◌, ◌≤◌, ◌++◌, ◌⊎◌, length, OnOk, OnErr, IfOk, IfErr};
+ghost use Rattle.std.specs.List.{flat_map};
+ghost use Rattle.svid_replay.specs.Sets.{rising};
+ghost use Rattle.svid_wire.specs.Streams.{TookAll, TookPart, taken};
+ghost use Rattle.svid_share.specs.Pages.{Passes};
+ghost use Rattle.svid_share.specs.Report.{number_line, report_due, report_of, report_text, twice_line, use_line};
 ghost use Rattle.svid_share.specs.Inputs.{IsJoinFault, inputs_of, sources};
 ghost use Rattle.svid_share.specs.Joined.{raised_to};
 ghost use Rattle.svid_share.specs.Written.{IsDue, IsEngineFault, IsWritten};
+ghost use Rattle.svid_share.specs.declared.tool_fault.ToolFault.TheVariants.{OutOfMemory, Write};
 
 use crate::ToolFault;
 use crate::inputs::join_inputs;
-use crate::output::put_text;
-use crate::report_text::report_text;
-use std::alloc::{AllocError, Global};
-use svid_replay::{IndexedUses, Record, UseStore};
+use crate::line::{number_line, twice_line, use_line};
+use crate::page::Page;
+use std::alloc::Global;
+use svid_replay::{IndexedUses, Record, Twice, UseStore};
 use svid_wire::{Sink, Source};
 
-/// The report of a record: its moment, its uses, and the keys that are used more than once; as [`run_report`]
-/// writes it.
-pub fn report_of_record<T: UseStore>(alloc: Global, state: &Record<T>) -> Result<String, AllocError>
-    ensures { IfOk result (λ text. string_bytes text ≡ report_of state.now) }
+// A number under its name.
+fn put_number<K: Sink>(
+    page: &mut Page,
+    name: &str,
+    number: u64,
+    out: &mut K,
+) -> Result<(), ToolFault>
+    requires { length name.now ≤ 100 }
+    ensures ok { OnOk result (Passes (taken K.told K.stops out.old out.new) page.old (number_line name.now number) page.new) }
+    ensures fault { IfErr result (λ e. e ≡ Write) }
+    ensures part { OnErr result (TookPart (taken K.told K.stops out.old out.new) (page.old ++ number_line name.now number)) }
 {
-    let uses = state.uses(alloc)?;
+    page.put(out, number_line(name, number).bytes())
+}
+
+// The lines of the uses, as they are walked.
+fn put_uses<T: UseStore, K: Sink>(
+    page: &mut Page,
+    state: &Record<T>,
+    out: &mut K,
+) -> Result<(), ToolFault>
+    ensures ok { OnOk result (Passes (taken K.told K.stops out.old out.new) page.old (flat_map use_line (rising state.now.uses)) page.new) }
+    ensures fault { IfErr result (λ e. e ≡ Write) }
+    ensures part { OnErr result (TookPart (taken K.told K.stops out.old out.new) (page.old ++ flat_map use_line (rising state.now.uses))) }
+{
+    let mut after = None;
+    while let Some(used) = state.next_after(after) {
+        page.put(out, use_line(&used).bytes())?;
+        after = Some(used);
+    }
+    Ok(())
+}
+
+fn put_twice<K: Sink>(page: &mut Page, twice: &[Twice], out: &mut K) -> Result<(), ToolFault>
+    ensures ok { OnOk result (Passes (taken K.told K.stops out.old out.new) page.old (flat_map twice_line twice.now) page.new) }
+    ensures fault { IfErr result (λ e. e ≡ Write) }
+    ensures part { OnErr result (TookPart (taken K.told K.stops out.old out.new) (page.old ++ flat_map twice_line twice.now)) }
+{
+    for used_twice in twice {
+        page.put(out, twice_line(used_twice).bytes())?;
+    }
+    Ok(())
+}
+
+// The text of a report, line by line.
+fn put_lines<T: UseStore, K: Sink>(
+    state: &Record<T>,
+    twice: &[Twice],
+    out: &mut K,
+) -> Result<(), ToolFault>
+    ensures ok { OnOk result (TookAll (taken K.told K.stops out.old out.new) (report_text state.now.moment (rising state.now.uses) twice.now)) }
+    ensures fault { IfErr result (λ e. e ≡ Write) }
+    ensures part { OnErr result (TookPart (taken K.told K.stops out.old out.new) (report_text state.now.moment (rising state.now.uses) twice.now)) }
+{
+    let mut page = Page::new();
+    put_number(&mut page, "moment", state.moment(), out)?;
+    put_number(&mut page, "uses", state.len() as u64, out)?;
+    put_uses(&mut page, state, out)?;
+    put_number(&mut page, "twice", twice.len() as u64, out)?;
+    put_twice(&mut page, twice, out)?;
+    page.flush(out)?;
+    Ok(())
+}
+
+/// Writes the report of a record: its moment, its uses, and the keys that are used more than once; as
+/// [`run_report`] writes it.
+///
+/// Refused for want of memory, before anything is written, and where the sink stopped (`Write`): then a part of
+/// the report went out.
+pub fn put_report<T: UseStore, K: Sink>(
+    alloc: Global,
+    state: &Record<T>,
+    out: &mut K,
+) -> Result<(), ToolFault>
+    ensures ok { OnOk result (TookAll (taken K.told K.stops out.old out.new) (report_of state.now)) }
+    ensures part { IfErr result (λ fault. (fault ≡ Write) × TookPart (taken K.told K.stops out.old out.new) (report_of state.now) ⊎ (fault ≡ OutOfMemory) × (out.new ≡ out.old)) }
+{
     let twice = state.report(alloc)?;
-    report_text(alloc, state.moment(), &uses, &twice)
+    put_lines(state, &twice, out)
 }
 
 // Raises a record to a moment, where one is given.
@@ -32,19 +107,20 @@ fn raise_to<T: UseStore>(target: &mut Record<T>, now: Option<u64>)
     }
 }
 
-// The report of what all inputs tell.
-fn text_of_inputs<S: Source>(
+// What all inputs tell, and its keys that are used more than once.
+fn join_all<S: Source>(
     alloc: Global,
     inputs: &mut [S],
     now: Option<u64>,
-) -> Result<String, ToolFault>
-    ensures ok { IfOk result (λ text. IsDue (report_due now) (inputs_of (sources S.left S.stops inputs.old inputs.new)) (string_bytes text)) }
+) -> Result<(Record<IndexedUses>, Vec<Twice>), ToolFault>
+    ensures ok { IfOk result (λ r. IsDue (report_due now) (inputs_of (sources S.left S.stops inputs.old inputs.new)) (report_text r.0.moment (rising r.0.uses) r.1.items)) }
     ensures fault { IfErr result (IsJoinFault (sources S.left S.stops inputs.old inputs.new)) }
 {
     let mut record = Record::new(IndexedUses::new(alloc));
     join_inputs(alloc, inputs, &mut record)?;
     raise_to(&mut record, now);
-    Ok(report_of_record(alloc, &record)?)
+    let twice = record.report(alloc)?;
+    Ok((record, twice))
 }
 
 /// Joins the batches of all inputs, raises what they come to to the moment `now` (in seconds) where one is
@@ -65,6 +141,6 @@ pub fn run_report<S: Source, K: Sink>(
     ensures fault { IfErr result (IsEngineFault (report_due now) (sources S.left S.stops inputs.old inputs.new) (taken K.told K.stops out.old out.new)) }
     ensures kept { IfErr result (λ fault. fault ≢ ToolFault.Write → out.new ≡ out.old) }
 {
-    let text = text_of_inputs(alloc, inputs, now)?;
-    put_text(out, text.as_str())
+    let (record, twice) = join_all(alloc, inputs, now)?;
+    put_lines(&record, &twice, out)
 }

@@ -71,5 +71,5 @@ pub use source::Source;
 pub use stopped::Stopped;
 pub use wire_fault::WireFault;
 pub use write_fault::WriteFault;
-pub use writing::{put_all, write_batch};
+pub use writing::{batch_head, put_all, write_batch};
 pub use writing_summary::write_summary;

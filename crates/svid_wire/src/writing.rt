@@ -24,15 +24,16 @@ pub fn put_all<K: Sink>(sink: &mut K, piece: &[u8]) -> Result<(), WriteFault>
     Ok(())
 }
 
-// What stands before the first use.
-fn head_of(batch: &Batch) -> [u8; HEAD_LEN]
-    ensures { result ≡ head_text Version.Two batch.now.moment (length batch.now.uses) }
+/// What stands before the uses of a batch of this moment (in seconds) that has so many of them: its first 17
+/// bytes. Takes no memory.
+pub fn batch_head(moment: u64, count: u32) -> [u8; HEAD_LEN]
+    ensures { result ≡ head_text Version.Two moment count }
 {
     let mut head = [0; HEAD_LEN];
     head[..KIND_PLACE].copy_from_slice(&MAGIC);
     head[KIND_PLACE] = BATCH_KIND;
-    head[MOMENT_PLACE..COUNT_PLACE].copy_from_slice(&batch.moment().to_be_bytes());
-    head[COUNT_PLACE..].copy_from_slice(&(batch.uses().len() as u32).to_be_bytes());
+    head[MOMENT_PLACE..COUNT_PLACE].copy_from_slice(&moment.to_be_bytes());
+    head[COUNT_PLACE..].copy_from_slice(&count.to_be_bytes());
     head
 }
 
@@ -44,7 +45,7 @@ pub fn write_batch<K: Sink>(batch: &Batch, sink: &mut K) -> Result<(), WriteFaul
     ensures ok { OnOk result (TookAll (taken K.told K.stops sink.old sink.new) (batch_text batch.now)) }
     ensures err { IfErr result (λ e. StoppedAfter (taken K.told K.stops sink.old sink.new) (batch_text batch.now) e.written) }
 {
-    let head = head_of(batch);
+    let head = batch_head(batch.moment(), batch.uses().len() as u32);
     put_all(sink, &head)?;
     let mut written = head.len();
     for used in batch.uses() {

@@ -4,7 +4,7 @@ ghost use Rattle.std.specs.Prelude.{◌<◌};
 
 use super::refusing::{refuse, was_refused};
 use super::sweep::keyed;
-use super::{absorb, at, indexed, sorted};
+use super::{absorb, at, in_runs, indexed, sorted};
 use crate::{Batch, IndexedUses, Record, Use, UseStore};
 use std::alloc::{AllocError, Global};
 use std::process::Abort;
@@ -152,13 +152,14 @@ fn joins_a_front<S: UseStore>(
     Ok(refused)
 }
 
-// A join to a record of either store, with each growth refused in turn.
+// A join to a record of each store, with each growth refused in turn.
 fn sweep_join(rt: &impl Abort, alloc: Global, told: Told<'_>, own: u64) -> Result<(), Fail> {
     let mut refused = true;
     for nth in 1..10000usize {
         let one = joins_a_front(rt, alloc, nth, &mut sorted(alloc), told, own)?;
         let two = joins_a_front(rt, alloc, nth, &mut indexed(alloc), told, own)?;
-        refused = one || two;
+        let three = joins_a_front(rt, alloc, nth, &mut in_runs(alloc), told, own)?;
+        refused = one || two || three;
         if !refused {
             break;
         }

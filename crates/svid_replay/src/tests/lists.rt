@@ -3,7 +3,7 @@
 ghost use Rattle.std.specs.Prelude.{◌<◌};
 
 use super::refusing::{refuse, was_refused};
-use super::{absorb, add, at, indexed, sorted, uses_to};
+use super::{absorb, add, at, in_runs, indexed, sorted, uses_to};
 use crate::{Batch, Record, Summary, Twice, Use, UseStore};
 use std::alloc::{AllocError, Global};
 use std::process::Abort;
@@ -212,7 +212,8 @@ fn lists_and_stays<S: UseStore>(
 fn lists_of_many_uses_tell_want_of_memory(rt: HostRuntime) -> Result<(), Fail> {
     let alloc = rt.alloc();
     lists_and_stays(&rt, alloc, &mut sorted(alloc))?;
-    lists_and_stays(&rt, alloc, &mut indexed(alloc))
+    lists_and_stays(&rt, alloc, &mut indexed(alloc))?;
+    lists_and_stays(&rt, alloc, &mut in_runs(alloc))
 }
 
 // Lists of two batches.

@@ -2,10 +2,10 @@
 // loaded. What they answered is looked at afterwards.
 use super::joins::{Part, uses_of};
 use super::refusing::{refuse, was_refused};
-use super::{FIRST, GONE, SECOND, absorb, add, indexed, sorted, uses_to};
+use super::{FIRST, GONE, SECOND, absorb, add, in_runs, indexed, sorted, uses_to};
 use crate::{
-    Batch, BatchFault, Flaw, IndexedUses, Raised, Record, SortedUses, Summary, Use, UseList,
-    UseStore, flaw_of,
+    Batch, BatchFault, Flaw, IndexedUses, Raised, Record, RunUses, SortedUses, Summary, Use,
+    UseList, UseStore, flaw_of,
 };
 use std::alloc::Global;
 use std::process::Abort;
@@ -88,7 +88,9 @@ fn values_are_made_and_told_without_memory(rt: HostRuntime) -> Result<(), Fail> 
     let uses = list.into_vec();
     let one = Record::new(SortedUses::new(alloc));
     let other = Record::new(IndexedUses::new(alloc));
+    let third = Record::new(RunUses::new(alloc));
     let records = (one.moment(), one.len(), other.moment(), other.len());
+    let in_runs = (third.moment(), third.len());
     let refused = was_refused(alloc);
     refuse(alloc, 0);
     assert!(rt; !refused);
@@ -99,6 +101,7 @@ fn values_are_made_and_told_without_memory(rt: HostRuntime) -> Result<(), Fail> 
     assert_eq!(rt; len, (2, false));
     assert_eq!(rt; uses.as_slice(), [FIRST, SECOND].as_slice());
     assert_eq!(rt; records, (0, 0, 0, 0));
+    assert_eq!(rt; in_runs, (0, 0));
     Ok(())
 }
 
@@ -144,7 +147,8 @@ fn stores_without_memory<S: UseStore>(
 fn only_a_new_use_takes_memory_of_a_store(rt: HostRuntime) -> Result<(), Fail> {
     let alloc = rt.alloc();
     stores_without_memory(&rt, alloc, &mut SortedUses::new(alloc))?;
-    stores_without_memory(&rt, alloc, &mut IndexedUses::new(alloc))
+    stores_without_memory(&rt, alloc, &mut IndexedUses::new(alloc))?;
+    stores_without_memory(&rt, alloc, &mut RunUses::new(alloc))
 }
 
 // A record with these uses tells what it has, without memory.
@@ -224,5 +228,6 @@ fn only_new_uses_and_lists_take_memory_of_a_record(rt: HostRuntime) -> Result<()
     let mut other = indexed(alloc);
     absorb(&mut other, alloc, 5000, &uses_of(alloc, Part::Told, 5000)?)?;
     takes_no_memory(&rt, alloc, &mut sorted(alloc), &other)?;
-    takes_no_memory(&rt, alloc, &mut indexed(alloc), &other)
+    takes_no_memory(&rt, alloc, &mut indexed(alloc), &other)?;
+    takes_no_memory(&rt, alloc, &mut in_runs(alloc), &other)
 }

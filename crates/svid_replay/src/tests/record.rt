@@ -1,5 +1,5 @@
-use super::{FIRST, SECOND, absorb, add, at, indexed, sorted, uses_to};
-use crate::{IndexedUses, Raised, Record, SortedUses, Use, UseStore};
+use super::{FIRST, SECOND, absorb, add, at, in_runs, indexed, sorted, uses_to};
+use crate::{IndexedUses, Raised, Record, RunUses, SortedUses, Use, UseStore};
 use std::alloc::Global;
 use std::process::Abort;
 use std::test::Fail;
@@ -232,7 +232,8 @@ fn has_parts_of_65536_uses<S: UseStore, T: UseStore>(
 fn stores_hold_sets_of_uses(rt: HostRuntime) -> Result<(), Fail> {
     let alloc = rt.alloc();
     stores_a_set_of_uses(&rt, &mut SortedUses::new(alloc))?;
-    stores_a_set_of_uses(&rt, &mut IndexedUses::new(alloc))
+    stores_a_set_of_uses(&rt, &mut IndexedUses::new(alloc))?;
+    stores_a_set_of_uses(&rt, &mut RunUses::new(alloc))
 }
 
 #[test]
@@ -241,28 +242,35 @@ fn records_merge_over_any_two_stores(rt: HostRuntime) -> Result<(), Fail> {
     merges_any_number_of_times(&rt, alloc, &mut sorted(alloc), &mut sorted(alloc))?;
     merges_any_number_of_times(&rt, alloc, &mut indexed(alloc), &mut indexed(alloc))?;
     merges_any_number_of_times(&rt, alloc, &mut indexed(alloc), &mut sorted(alloc))?;
-    merges_any_number_of_times(&rt, alloc, &mut sorted(alloc), &mut indexed(alloc))
+    merges_any_number_of_times(&rt, alloc, &mut sorted(alloc), &mut indexed(alloc))?;
+    merges_any_number_of_times(&rt, alloc, &mut in_runs(alloc), &mut in_runs(alloc))?;
+    merges_any_number_of_times(&rt, alloc, &mut in_runs(alloc), &mut sorted(alloc))?;
+    merges_any_number_of_times(&rt, alloc, &mut indexed(alloc), &mut in_runs(alloc))
 }
 
 #[test]
 fn records_join_the_greater_moment(rt: HostRuntime) -> Result<(), Fail> {
     let alloc = rt.alloc();
     joins_the_greater_moment(&rt, alloc, &mut indexed(alloc), &mut sorted(alloc))?;
-    joins_the_greater_moment(&rt, alloc, &mut sorted(alloc), &mut indexed(alloc))
+    joins_the_greater_moment(&rt, alloc, &mut sorted(alloc), &mut indexed(alloc))?;
+    joins_the_greater_moment(&rt, alloc, &mut in_runs(alloc), &mut sorted(alloc))?;
+    joins_the_greater_moment(&rt, alloc, &mut indexed(alloc), &mut in_runs(alloc))
 }
 
 #[test]
 fn records_have_parts(rt: HostRuntime) -> Result<(), Fail> {
     let alloc = rt.alloc();
     has_parts_of_65536_uses(&rt, alloc, &mut sorted(alloc), &mut indexed(alloc))?;
-    has_parts_of_65536_uses(&rt, alloc, &mut indexed(alloc), &mut sorted(alloc))
+    has_parts_of_65536_uses(&rt, alloc, &mut indexed(alloc), &mut sorted(alloc))?;
+    has_parts_of_65536_uses(&rt, alloc, &mut in_runs(alloc), &mut in_runs(alloc))
 }
 
 #[test]
 fn records_drop_what_expires_once(rt: HostRuntime) -> Result<(), Fail> {
     let alloc = rt.alloc();
     drops_what_expires_once(&rt, alloc, &mut sorted(alloc))?;
-    drops_what_expires_once(&rt, alloc, &mut indexed(alloc))
+    drops_what_expires_once(&rt, alloc, &mut indexed(alloc))?;
+    drops_what_expires_once(&rt, alloc, &mut in_runs(alloc))
 }
 
 #[test]
@@ -270,13 +278,16 @@ fn records_report_keys_used_twice(rt: HostRuntime) -> Result<(), Fail> {
     let alloc = rt.alloc();
     reports_a_key_until_one_use_expires(&rt, alloc, &mut sorted(alloc))?;
     reports_a_key_until_one_use_expires(&rt, alloc, &mut indexed(alloc))?;
+    reports_a_key_until_one_use_expires(&rt, alloc, &mut in_runs(alloc))?;
     lists_keys_in_order_with_all_their_uses(&rt, alloc, &mut sorted(alloc))?;
-    lists_keys_in_order_with_all_their_uses(&rt, alloc, &mut indexed(alloc))
+    lists_keys_in_order_with_all_their_uses(&rt, alloc, &mut indexed(alloc))?;
+    lists_keys_in_order_with_all_their_uses(&rt, alloc, &mut in_runs(alloc))
 }
 
 #[test]
 fn records_add_a_use_once(rt: HostRuntime) -> Result<(), Fail> {
     let alloc = rt.alloc();
     adds_a_use_once(&rt, &mut sorted(alloc))?;
-    adds_a_use_once(&rt, &mut indexed(alloc))
+    adds_a_use_once(&rt, &mut indexed(alloc))?;
+    adds_a_use_once(&rt, &mut in_runs(alloc))
 }

@@ -1,5 +1,5 @@
 // The digests are those that hashlib of Python gives for the texts.
-use super::{FIRST, GONE, SECOND, absorb, indexed, sorted, uses_to};
+use super::{FIRST, GONE, SECOND, absorb, in_runs, indexed, sorted, uses_to};
 use crate::{Batch, IndexedUses, Record, SortedUses, Summary, Use, UseStore};
 use std::alloc::{AllocError, Global};
 use std::process::Abort;
@@ -226,7 +226,9 @@ fn a_summary_tells_the_digest_of_each_bucket(rt: HostRuntime) -> Result<(), Fail
     let alloc = rt.alloc();
     tells_its_buckets(&rt, alloc, &mut sorted(alloc))?;
     tells_its_buckets(&rt, alloc, &mut indexed(alloc))?;
-    assert_same(&rt, alloc, &mut sorted(alloc), &mut indexed(alloc))
+    tells_its_buckets(&rt, alloc, &mut in_runs(alloc))?;
+    assert_same(&rt, alloc, &mut sorted(alloc), &mut indexed(alloc))?;
+    assert_same(&rt, alloc, &mut indexed(alloc), &mut in_runs(alloc))
 }
 
 #[test]
@@ -234,18 +236,23 @@ fn an_answer_has_what_differs_after_the_raise(rt: HostRuntime) -> Result<(), Fai
     let alloc = rt.alloc();
     answers_what_differs(&rt, alloc, &mut sorted(alloc))?;
     answers_what_differs(&rt, alloc, &mut indexed(alloc))?;
+    answers_what_differs(&rt, alloc, &mut in_runs(alloc))?;
     answers_with_what_it_joined(&rt, alloc, &mut sorted(alloc), &mut indexed(alloc))?;
     answers_with_what_it_joined(&rt, alloc, &mut indexed(alloc), &mut sorted(alloc))?;
     raises_before_it_compares(&rt, alloc, &mut sorted(alloc), &mut indexed(alloc))?;
     raises_before_it_compares(&rt, alloc, &mut indexed(alloc), &mut sorted(alloc))?;
-    does_not_bring_back(&rt, alloc, &mut sorted(alloc), &mut indexed(alloc))
+    does_not_bring_back(&rt, alloc, &mut sorted(alloc), &mut indexed(alloc))?;
+    answers_with_what_it_joined(&rt, alloc, &mut in_runs(alloc), &mut indexed(alloc))?;
+    raises_before_it_compares(&rt, alloc, &mut in_runs(alloc), &mut sorted(alloc))?;
+    does_not_bring_back(&rt, alloc, &mut in_runs(alloc), &mut in_runs(alloc))
 }
 
 #[test]
 fn an_answer_has_uses_of_both_kinds(rt: HostRuntime) -> Result<(), Fail> {
     let alloc = rt.alloc();
     answers_with_both_kinds(&rt, alloc, &mut sorted(alloc), &mut indexed(alloc))?;
-    answers_with_both_kinds(&rt, alloc, &mut indexed(alloc), &mut sorted(alloc))
+    answers_with_both_kinds(&rt, alloc, &mut indexed(alloc), &mut sorted(alloc))?;
+    answers_with_both_kinds(&rt, alloc, &mut in_runs(alloc), &mut in_runs(alloc))
 }
 
 #[test]
@@ -254,5 +261,7 @@ fn an_answer_has_whole_buckets_in_full_batches(rt: HostRuntime) -> Result<(), Fa
     answers_bucket_by_bucket(&rt, alloc, &mut sorted(alloc))?;
     answers_bucket_by_bucket(&rt, alloc, &mut indexed(alloc))?;
     answers_in_full_batches(&rt, alloc, &mut sorted(alloc))?;
-    answers_in_full_batches(&rt, alloc, &mut indexed(alloc))
+    answers_in_full_batches(&rt, alloc, &mut indexed(alloc))?;
+    answers_bucket_by_bucket(&rt, alloc, &mut in_runs(alloc))?;
+    answers_in_full_batches(&rt, alloc, &mut in_runs(alloc))
 }

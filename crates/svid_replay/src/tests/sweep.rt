@@ -2,8 +2,8 @@
 ghost use Rattle.std.specs.Prelude.{◌<◌};
 
 use super::refusing::{refuse, was_refused};
-use super::{FIRST, SECOND, absorb, add, at, indexed, sorted, uses_to};
-use crate::{Batch, IndexedUses, Record, SortedUses, Summary, Use, UseStore};
+use super::{FIRST, SECOND, absorb, add, at, in_runs, indexed, sorted, uses_to};
+use crate::{Batch, IndexedUses, Record, RunUses, SortedUses, Summary, Use, UseStore};
 use std::alloc::{AllocError, Global};
 use std::process::Abort;
 use std::test::Fail;
@@ -60,7 +60,9 @@ fn a_batch_is_absorbed_as_far_as_memory_goes(rt: HostRuntime) -> Result<(), Fail
     let small = Batch::make(69_999, uses_to(alloc, 200)?)?;
     refused = true;
     for nth in 1..10000usize {
-        refused = absorbs_as_far_as_memory_goes(&rt, alloc, nth, &mut indexed(alloc), &small)?;
+        let one = absorbs_as_far_as_memory_goes(&rt, alloc, nth, &mut indexed(alloc), &small)?;
+        let two = absorbs_as_far_as_memory_goes(&rt, alloc, nth, &mut in_runs(alloc), &small)?;
+        refused = one || two;
         if !refused {
             break;
         }
@@ -102,7 +104,8 @@ fn a_record_is_merged_as_far_as_memory_goes(rt: HostRuntime) -> Result<(), Fail>
     for nth in 1..10000usize {
         let one = merges_as_far_as_memory_goes(&rt, alloc, nth, &mut sorted(alloc), &other)?;
         let two = merges_as_far_as_memory_goes(&rt, alloc, nth, &mut indexed(alloc), &other)?;
-        refused = one || two;
+        let three = merges_as_far_as_memory_goes(&rt, alloc, nth, &mut in_runs(alloc), &other)?;
+        refused = one || two || three;
         if !refused {
             break;
         }
@@ -124,7 +127,11 @@ pub(super) fn keyed(number: u64) -> Use {
 }
 
 // The uses of a store, from each to the next.
-fn walk<S: UseStore>(rt: &impl Abort, alloc: Global, store: &S) -> Result<Vec<Use>, AllocError> {
+pub(super) fn walk<S: UseStore>(
+    rt: &impl Abort,
+    alloc: Global,
+    store: &S,
+) -> Result<Vec<Use>, AllocError> {
     let mut uses = Vec::new(alloc);
     let mut after = None;
     for _ in 0..store.len() {
@@ -178,7 +185,8 @@ fn puts_a_use_in_or_stays<S: UseStore>(
 fn a_use_is_put_in_or_the_store_stays(rt: HostRuntime) -> Result<(), Fail> {
     let alloc = rt.alloc();
     puts_a_use_in_or_stays(&rt, alloc, &mut SortedUses::new(alloc))?;
-    puts_a_use_in_or_stays(&rt, alloc, &mut IndexedUses::new(alloc))
+    puts_a_use_in_or_stays(&rt, alloc, &mut IndexedUses::new(alloc))?;
+    puts_a_use_in_or_stays(&rt, alloc, &mut RunUses::new(alloc))
 }
 
 // Adds one use after the other while each growth is refused in turn: a refusal leaves all as it was.
@@ -215,23 +223,32 @@ fn adds_a_use_or_stays<S: UseStore>(
 fn a_use_is_added_or_the_record_stays(rt: HostRuntime) -> Result<(), Fail> {
     let alloc = rt.alloc();
     adds_a_use_or_stays(&rt, alloc, &mut sorted(alloc))?;
-    adds_a_use_or_stays(&rt, alloc, &mut indexed(alloc))
+    adds_a_use_or_stays(&rt, alloc, &mut indexed(alloc))?;
+    adds_a_use_or_stays(&rt, alloc, &mut in_runs(alloc))
 }
 
-#[test]
-fn an_indexed_store_of_100000_uses_loses_none(rt: HostRuntime) -> Result<(), Fail> {
-    let alloc = rt.alloc();
-    let mut store = IndexedUses::new(alloc);
+fn loses_none_of_100000<S: UseStore>(
+    rt: &impl Abort,
+    alloc: Global,
+    store: &mut S,
+) -> Result<(), Fail> {
     for number in 0..100_000u64 {
         store.insert(at(number * 7919 % 100_000))?;
     }
     assert_eq!(rt; store.len(), 100_000);
     assert!(rt; store.has(&at(0).key));
     let uses = uses_to(alloc, 100_000)?;
-    assert_eq!(rt; walk(&rt, alloc, &store)?.as_slice(), uses.as_slice());
+    assert_eq!(rt; walk(rt, alloc, store)?.as_slice(), uses.as_slice());
     assert_eq!(rt; store.drop_expired(70_000).dropped, 100_000);
     assert!(rt; !store.has(&at(0).key));
     Ok(())
+}
+
+#[test]
+fn stores_of_100000_uses_lose_none(rt: HostRuntime) -> Result<(), Fail> {
+    let alloc = rt.alloc();
+    loses_none_of_100000(&rt, alloc, &mut IndexedUses::new(alloc))?;
+    loses_none_of_100000(&rt, alloc, &mut RunUses::new(alloc))
 }
 
 #[test]
@@ -304,7 +321,8 @@ fn a_record_answers_or_is_only_raised(rt: HostRuntime) -> Result<(), Fail> {
     for nth in 1..10000usize {
         let one = answers_or_is_only_raised(&rt, alloc, nth, &mut sorted(alloc), &uses)?;
         let two = answers_or_is_only_raised(&rt, alloc, nth, &mut indexed(alloc), &uses)?;
-        refused = one || two;
+        let three = answers_or_is_only_raised(&rt, alloc, nth, &mut in_runs(alloc), &uses)?;
+        refused = one || two || three;
         if !refused {
             break;
         }

@@ -1,8 +1,8 @@
 // Withdrawals among the uses of stores and records.
 ghost use Rattle.std.specs.Prelude.{◌<◌};
 
-use super::{FIRST, GONE, SECOND, absorb, add, at, indexed, sorted, uses_to};
-use crate::{IndexedUses, Raised, Record, SortedUses, Use, UseStore};
+use super::{FIRST, GONE, SECOND, absorb, add, at, in_runs, indexed, sorted, uses_to};
+use crate::{IndexedUses, Raised, Record, RunUses, SortedUses, Use, UseStore};
 use std::alloc::Global;
 use std::process::Abort;
 use std::test::Fail;
@@ -96,8 +96,10 @@ fn all_tell(
 ) -> Result<(), Fail> {
     store_tells(rt, &mut SortedUses::new(alloc), uses, has, gone)?;
     store_tells(rt, &mut IndexedUses::new(alloc), uses, has, gone)?;
+    store_tells(rt, &mut RunUses::new(alloc), uses, has, gone)?;
     record_tells(rt, alloc, &mut sorted(alloc), uses, has, gone)?;
-    record_tells(rt, alloc, &mut indexed(alloc), uses, has, gone)
+    record_tells(rt, alloc, &mut indexed(alloc), uses, has, gone)?;
+    record_tells(rt, alloc, &mut in_runs(alloc), uses, has, gone)
 }
 
 #[test]
@@ -137,6 +139,7 @@ fn the_least_and_the_greatest_withdrawal_are_found(rt: HostRuntime) -> Result<()
     ] {
         store_tells(&rt, &mut SortedUses::new(alloc), &uses, true, gone)?;
         store_tells(&rt, &mut IndexedUses::new(alloc), &uses, true, gone)?;
+        store_tells(&rt, &mut RunUses::new(alloc), &uses, true, gone)?;
     }
     Ok(())
 }
@@ -167,7 +170,8 @@ fn one_among_many<S: UseStore>(
 fn one_withdrawal_is_found_among_many_uses_of_its_key(rt: HostRuntime) -> Result<(), Fail> {
     let alloc = rt.alloc();
     one_among_many(&rt, alloc, &mut sorted(alloc))?;
-    one_among_many(&rt, alloc, &mut indexed(alloc))
+    one_among_many(&rt, alloc, &mut indexed(alloc))?;
+    one_among_many(&rt, alloc, &mut in_runs(alloc))
 }
 
 // Each use goes when it expires, whatever its kind.
@@ -201,6 +205,7 @@ fn a_withdrawal_goes_when_it_expires(rt: HostRuntime) -> Result<(), Fail> {
     ] {
         expires(&rt, alloc, &mut sorted(alloc), later, gone)?;
         expires(&rt, alloc, &mut indexed(alloc), later, gone)?;
+        expires(&rt, alloc, &mut in_runs(alloc), later, gone)?;
     }
     Ok(())
 }
@@ -256,7 +261,9 @@ fn joins_keep_both_kinds(rt: HostRuntime) -> Result<(), Fail> {
     joins_both_kinds(&rt, alloc, &mut sorted(alloc), &mut sorted(alloc))?;
     joins_both_kinds(&rt, alloc, &mut indexed(alloc), &mut indexed(alloc))?;
     joins_both_kinds(&rt, alloc, &mut indexed(alloc), &mut sorted(alloc))?;
-    joins_both_kinds(&rt, alloc, &mut sorted(alloc), &mut indexed(alloc))
+    joins_both_kinds(&rt, alloc, &mut sorted(alloc), &mut indexed(alloc))?;
+    joins_both_kinds(&rt, alloc, &mut in_runs(alloc), &mut in_runs(alloc))?;
+    joins_both_kinds(&rt, alloc, &mut in_runs(alloc), &mut indexed(alloc))
 }
 
 // A record with these uses of one key reports it with those that are due, or not at all.
@@ -297,6 +304,7 @@ fn a_report_counts_no_withdrawals(rt: HostRuntime) -> Result<(), Fail> {
     ] {
         reports(&rt, alloc, &mut sorted(alloc), uses, due)?;
         reports(&rt, alloc, &mut indexed(alloc), uses, due)?;
+        reports(&rt, alloc, &mut in_runs(alloc), uses, due)?;
     }
     Ok(())
 }

@@ -6,8 +6,7 @@ use super::engine::{ENGINES, Given, due, run};
 use super::made::{many, part, source, summary_text, summary_with};
 use super::refusing::{refuse, was_refused};
 use super::{NOTHING_DIGEST, TWO_USES, TWO_USES_REPORT};
-use crate::report_text::report_text;
-use crate::{ToolFault, join_input, join_inputs, read_input, read_summary, report_of_record};
+use crate::{ToolFault, join_input, join_inputs, put_report, read_input, read_summary};
 use std::alloc::{AllocError, Global};
 use std::process::Abort;
 use std::test::Fail;
@@ -234,37 +233,28 @@ fn joins_or_tells(rt: &impl Abort, alloc: Global, apart: bool, nth: usize) -> Re
     Ok(refused)
 }
 
-// Makes the text of a report while the nth allocation is refused, and says whether one was.
+// Puts the report of a record while the nth allocation is refused, and says whether one was: before anything was
+// put, or by the sink, and then a part of the report was put.
 fn reports_or_tells(rt: &impl Abort, alloc: Global, nth: usize) -> Result<bool, Fail>
     requires { nth < 4294967296 }
 {
     let mut record = Record::new(IndexedUses::new(alloc));
     join_inputs(alloc, &mut [source(alloc, TWO_USES, 1000)?], &mut record)?;
-    let uses = record.uses(alloc)?;
-    let twice = record.report(alloc)?;
+    let mut out = MemSink::new(alloc, 1000, None);
     refuse(alloc, nth);
-    let answer = report_text(alloc, 100, &uses, &twice);
+    let answer = put_report(alloc, &record, &mut out);
     let refused = was_refused(alloc);
     refuse(alloc, 0);
-    assert_eq!(rt; answer.is_err(), refused);
-    let again = report_text(alloc, 100, &uses, &twice)?;
-    assert_eq!(rt; again.as_str().as_bytes(), TWO_USES_REPORT);
-    Ok(refused)
-}
-
-// Makes the report of a record while the nth allocation is refused, and says whether one was.
-fn reports_a_record_or_tells(rt: &impl Abort, alloc: Global, nth: usize) -> Result<bool, Fail>
-    requires { nth < 4294967296 }
-{
-    let mut record = Record::new(IndexedUses::new(alloc));
-    join_inputs(alloc, &mut [source(alloc, TWO_USES, 1000)?], &mut record)?;
-    refuse(alloc, nth);
-    let answer = report_of_record(alloc, &record);
-    let refused = was_refused(alloc);
-    refuse(alloc, 0);
-    assert_eq!(rt; answer.is_err(), refused);
-    let again = report_of_record(alloc, &record)?;
-    assert_eq!(rt; again.as_str().as_bytes(), TWO_USES_REPORT);
+    match answer {
+        Ok(()) => assert!(rt; !refused && out.bytes() == TWO_USES_REPORT),
+        Err(ToolFault::OutOfMemory) => assert!(rt; refused && out.bytes().is_empty()),
+        Err(fault) => assert!(rt;
+            refused && fault == ToolFault::Write && TWO_USES_REPORT.starts_with(out.bytes())
+        ),
+    }
+    let mut again = MemSink::new(alloc, 1000, None);
+    put_report(alloc, &record, &mut again)?;
+    assert_eq!(rt; again.bytes(), TWO_USES_REPORT);
     Ok(refused)
 }
 
@@ -275,8 +265,7 @@ enum Call {
     ReadSummary,
     JoinInput,
     JoinInputs,
-    ReportText,
-    ReportOfRecord,
+    PutReport,
 }
 
 fn answers_or_tells(rt: &impl Abort, alloc: Global, call: Call, nth: usize) -> Result<bool, Fail>
@@ -287,8 +276,7 @@ fn answers_or_tells(rt: &impl Abort, alloc: Global, call: Call, nth: usize) -> R
         Call::ReadSummary => reads_a_summary_or_tells(rt, alloc, nth),
         Call::JoinInput => joins_or_tells(rt, alloc, false, nth),
         Call::JoinInputs => joins_or_tells(rt, alloc, true, nth),
-        Call::ReportText => reports_or_tells(rt, alloc, nth),
-        Call::ReportOfRecord => reports_a_record_or_tells(rt, alloc, nth),
+        Call::PutReport => reports_or_tells(rt, alloc, nth),
     }
 }
 
@@ -300,8 +288,7 @@ fn calls_tell_want_of_memory(rt: HostRuntime) -> Result<(), Fail> {
         Call::ReadSummary,
         Call::JoinInput,
         Call::JoinInputs,
-        Call::ReportText,
-        Call::ReportOfRecord,
+        Call::PutReport,
     ] {
         let mut refused = true;
         for nth in 1..10000usize {

@@ -7,8 +7,8 @@ use super::refusing::{refuse, was_refused};
 use super::summaries::text_of_numbered;
 use super::{A_SUMMARY, OLD_TWO_USES, TWO_USES, many_old_uses, many_uses, told, write_each};
 use crate::{
-    Counted, Feed, MemSink, MemSource, Message, ReadFault, Reason, Sink, WireFault, read_all,
-    read_up_to,
+    Counted, Feed, MemSink, MemSource, Message, ReadFault, Reason, Sink, WireFault, batch_head,
+    read_all, read_up_to,
 };
 use std::alloc::{AllocError, Global};
 use std::process::Abort;
@@ -185,9 +185,11 @@ fn writing_takes_no_memory(rt: HostRuntime) -> Result<(), Fail> {
     let mut sink = Counted::new(room.as_mut_slice());
     refuse(rt.alloc(), 1);
     let written = write_each(&messages, &mut sink);
+    let head = batch_head(100, 2);
     let refused = was_refused(rt.alloc());
     refuse(rt.alloc(), 0);
     assert_eq!(rt; (written, refused), (Ok(()), false));
+    assert!(rt; TWO_USES.starts_with(&head));
     assert_eq!(rt; room.as_slice() == bytes.as_slice(), true);
     Ok(())
 }

@@ -1,0 +1,528 @@
+-- Runs: merges, and how many uses there are.
+use Rattle.std.proofs.Common.{◌≡◌, ℕ, ◌<◌, ◌≤◌, ◌+◌, zero, suc, Bool, true, false, ◌||◌, List, [], ◌∷◌, ◌++◌, length, drop, take, get_or, cond, ◌-◌, nat_lt, not, filter, append_assoc, refl, sym, ◌∙◌, ap, subst, arith}
+use Rattle.std.proofs.lemmas.List.{append-nil, drop_all, length-drop, take-append-drop, length-append}
+use Rattle.std.proofs.Math.Seq.{drop-cons, take-suc, take-suc-set}
+use Rattle.std.proofs.Math.ListN.{set}
+use Rattle.std.proofs.lemmas.List.{length-set}
+use Rattle.std.proofs.lemmas.List.Folds.{list_any-append}
+use Rattle.std.proofs.lemmas.List.Sums.{prefix_len-le-length}
+use Rattle.std.specs.List.{prefix_len}
+use Rattle.svid_replay.specs.Runs.{all_of, live_of, HasSame}
+use Rattle.svid_replay.specs.Sets.{holds}
+use Rattle.svid_replay.specs.Uses.{uses_in}
+use Rattle.std.proofs.Common.{find, Option, Some, None, is_some}
+use Rattle.std.proofs.Common.{min, max}
+use Rattle.std.specs.Int.Bits.{bit_and, bit_or}
+use Rattle.std.proofs.lemmas.Nat.Bits.{bit_at_and, bit_at_or, same_from_bits}
+use Rattle.std.specs.Int.{bit_at}
+use Rattle.std.specs.FinMap as finmap
+use Rattle.std.proofs.lemmas.List.{length-map}
+use Rattle.std.proofs.lemmas.List.Kept.{IsStrictlySortedBy-filter}
+use Rattle.std.proofs.lemmas.Bool.{false≢true, false_from_ne_true}
+use Rattle.svid_replay.specs.Batches.{is_after}
+use Rattle.svid_replay.specs.declared.until.Mark.{Mark}
+use Rattle.svid_replay.specs.declared.until.Until.{Until}
+use Rattle.svid_replay.specs.Indexed.{is_sought}
+use Rattle.svid_replay.specs.Keys.{AreKeys, TellUses, gone_by, is_held, is_left, left_of, mark_cmp, until_cmp, until_of}
+use Rattle.svid_replay.proofs.KeysLemmas.{left_is_all, live_left, tell_live, tell_mark, tell_merged, until_exact, until_total}
+use Rattle.svid_replay.proofs.MergeLemmas.{first_alike, merge, merge_has, merge_length, merge_rises, below_all, by_rank}
+use Rattle.std.proofs.lemmas.Cmp.{tied_itself}
+use Rattle.std.specs.Ordering.{is_lt}
+use Rattle.svid_replay.specs.Runs.{least_from, least_of, HasBits, IsRun, IsRuns, mask_of, place_of}
+use Rattle.svid_replay.specs.Sets.{rising, with, keep, with_all}
+use Rattle.svid_replay.specs.Uses.{Uses, count, live, next_above}
+use Rattle.svid_replay.proofs.ListLemmas.{any_none, each_true, each_append, each_drop, each_weaker, prefix_from_point}
+use Rattle.svid_replay.proofs.SetsLemmas.{rising_rises, holds-rising, holds-with, same_rising}
+use Rattle.svid_replay.proofs.UsesLemmas.{drop-expired, left_rises, left_is, left_count, not_after_parted, rising-uses_in, uses_in-rising, uses_in-filter, same_uses, holds-uses_in, with-held, rising-keep, to_front, IsPruned}
+use Rattle.std.specs.List.{AllByRecursion, list_any}
+use Rattle.std.specs.List.Sorted.{IsStrictlySortedBy}
+use Rattle.std.specs.Ordering.{eq_by_cmp, is_eq, match_ordering, ordering_reverse}
+use Rattle.std.specs.Set.{sorted_merge, merge_step}
+use Rattle.std.specs.declared.cmp.Ordering.{Ordering}
+use Rattle.std.specs.declared.cmp.Ordering.TheVariants.{Less, Equal, Greater}
+use Rattle.svid_replay.specs.declared.token_use.Use.{Use}
+use Rattle.svid_replay.specs.Use.{use_cmp, IsRising}
+use Rattle.svid_replay.proofs.TestsLemmas.{equal, one_test, or-false, or-true}
+use Rattle.svid_replay.proofs.IndexedLemmas.{any_use, same_key, sought_key}
+use Rattle.svid_replay.proofs.UseLemmas.{use_total, use_exact}
+
+drop_none : {X : Type 0} (n : ℕ) → drop {A = X} n [] ≡ []
+drop_none zero = refl
+drop_none (suc n) = refl
+
+pub drop_more : {X : Type 0} (s d : ℕ) (xs : List X) → drop (s + d) xs ≡ drop d (drop s xs)
+drop_more zero d xs = let e : 0 + d ≡ d = omega arith in ap (λ n. drop n xs) e
+drop_more (suc s) d [] = drop_none (suc s + d) ∙ sym (drop_none d)
+drop_more (suc s) d (x ∷ xs) = let e : suc s + d ≡ suc (s + d) = omega arith in ap (λ n. drop n (x ∷ xs)) e ∙ drop_more s d xs
+
+-- a run whose start has moved behind what is expired
+pub record IsRunCut (items : List Use) (start dropped moment : ℕ) (keys : List Until) (gone : Option ℕ) (words : List ℕ) (told : List Use) : Type 0 where
+  pub is : IsRun items (start + dropped) keys (gone_by gone moment) words
+  pub left : drop (start + dropped) items ≡ filter (λ u. nat_lt moment u.exp) told
+  pub counted : dropped + length (drop (start + dropped) items) ≡ length told
+
+pub run_cut : (items told : List Use) (start dropped moment : ℕ) (keys : List Until) (gone : Option ℕ) (words : List ℕ) → IsRun items start keys gone words → drop start items ≡ told → dropped ≡ prefix_len (λ u. not (nat_lt moment u.exp)) told → IsRunCut items start dropped moment keys gone words told
+run_cut items told start dropped moment keys gone words is view front =
+    let up : IsRising told = subst IsRising view is.rising in
+    let rest : drop (start + dropped) items ≡ drop dropped told = drop_more start dropped items ∙ ap (drop dropped) view in
+    let few : prefix_len (λ u. not (nat_lt moment u.exp)) told ≤ length told = prefix_len-le-length (λ u. not (nat_lt moment u.exp)) told in
+    let long : length told ≡ length items - start = ap length (sym view) ∙ length-drop start items in
+    let less : length (drop dropped told) ≡ length told - dropped = length-drop dropped told in
+    let live : drop (start + dropped) items ≡ filter (λ u. nat_lt moment u.exp) told = rest ∙ ap (λ n. drop n told) front ∙ drop-expired moment told up in
+    record {
+      is = record {
+        bound = omega (arith, few, long, front, is.bound);
+        rising = left_rises told moment dropped _ up (record { front = front; rest = rest });
+        sorted = is.sorted;
+        told = subst (TellUses (left_of (gone_by gone moment) keys)) (sym live) (tell_live gone moment keys told (subst (AllByRecursion (λ u. is_left gone u.exp ≡ true)) view is.live) (subst (TellUses (left_of gone keys)) view is.told));
+        live = subst (AllByRecursion (λ u. is_left (gone_by gone moment) u.exp ≡ true)) (sym live) (live_left gone moment told (subst (AllByRecursion (λ u. is_left gone u.exp ≡ true)) view is.live));
+        some = is.some;
+        known = subst (AllByRecursion (λ u. HasBits words u.key)) (sym (drop_more start dropped items)) (each_drop _ dropped (drop start items) is.known);
+      };
+      left = live;
+      counted = omega (arith, ap length rest, less, few, front);
+    }
+
+pub run_gone : (items : List Use) (start : ℕ) (keys : List Until) (gone later : Option ℕ) (words : List ℕ) → later ≡ gone → IsRun items start keys gone words → IsRun items start keys later words
+run_gone items start keys gone later words e is = subst (λ g. IsRun items start keys g words) (sym e) is
+
+-- the same with the front taken off, and the keys that are gone
+pub run_moved : (items now : List Use) (start : ℕ) (keys swept : List Until) (gone : Option ℕ) (words : List ℕ) → IsRun items start keys gone words → now ≡ drop start items → swept ≡ left_of gone keys → IsRun now 0 swept None words
+run_moved items now start keys swept gone words is e clean = record {
+  bound = omega arith;
+  rising = subst IsRising (sym e) is.rising;
+  sorted = subst AreKeys (sym clean) (IsStrictlySortedBy-filter until_cmp (λ k. is_left gone k.exp) keys is.sorted);
+  told = subst (TellUses (left_of None swept)) (sym e) (subst (λ ks. TellUses ks (drop start items)) (sym (left_is_all swept ∙ clean)) is.told);
+  live = each_true _ (λ u. refl) now;
+  some = is.some;
+  known = subst (AllByRecursion (λ u. HasBits words u.key)) (sym e) is.known;
+}
+
+-- ---- the uses of all runs
+pub all_append : (rs ss : List (List Use)) → all_of (rs ++ ss) ≡ all_of rs ++ all_of ss
+all_append [] ss = refl
+all_append (r ∷ rs) ss = ap (λ us. r ++ us) (all_append rs ss) ∙ sym (append_assoc r (all_of rs) (all_of ss))
+
+-- where the last two runs stand
+pub last_two : (rs : List (List Use)) (k : ℕ) (older newer : List Use) → length rs ≡ suc (suc k) → older ≡ get_or rs k older → newer ≡ get_or rs (suc k) newer → all_of rs ≡ all_of (take k rs) ++ (older ++ newer)
+last_two rs k older newer long at_older at_newer =
+    let one : drop k rs ≡ older ∷ drop (suc k) rs = drop-cons rs k older (omega (arith, long)) ∙ ap (λ r. r ∷ drop (suc k) rs) (sym at_older) in
+    let two : drop (suc k) rs ≡ newer ∷ [] = drop-cons rs (suc k) newer (omega (arith, long)) ∙ (λ i. sym at_newer i ∷ drop_all (suc (suc k)) rs (omega (arith, long)) i) in
+    ap all_of (sym (take-append-drop k rs) ∙ ap (λ ss. take k rs ++ ss) (one ∙ ap (λ ss. older ∷ ss) two))
+    ∙ all_append (take k rs) (older ∷ newer ∷ []) ∙ ap (λ us. all_of (take k rs) ++ (older ++ us)) (append-nil newer)
+
+pub same_with_merged : (us older newer : List Use) → HasSame (us ++ (older ++ newer)) (us ++ merge use_cmp older newer)
+same_with_merged us older newer q =
+    let tie = eq_by_cmp use_cmp q in
+    list_any-append tie us (merge use_cmp older newer) ∙ ap (λ b. list_any tie us || b) (merge_has use_total use_exact (eq_by_cmp use_cmp q) older newer ∙ sym (list_any-append tie older newer)) ∙ sym (list_any-append tie us (older ++ newer))
+
+-- the runs where the last two are merged
+pub record IsMergedLast (rs ss : List (List Use)) : Type 0 where
+  pub same : HasSame (all_of rs) (all_of ss)
+  pub less : length (all_of ss) ≤ length (all_of rs)
+
+pub merged_last : (rs ss : List (List Use)) (k : ℕ) (older newer : List Use) → length rs ≡ suc (suc k) → older ≡ get_or rs k older → newer ≡ get_or rs (suc k) newer → ss ≡ take k rs ++ merge use_cmp older newer ∷ [] → IsMergedLast rs ss
+merged_last rs ss k older newer long at_older at_newer is =
+    let before = last_two rs k older newer long at_older at_newer in
+    let after : all_of ss ≡ all_of (take k rs) ++ merge use_cmp older newer = ap all_of is ∙ all_append (take k rs) (merge use_cmp older newer ∷ []) ∙ ap (λ us. all_of (take k rs) ++ us) (append-nil (merge use_cmp older newer)) in
+    record {
+      same = λ q. ap (list_any (eq_by_cmp use_cmp q)) after ∙ same_with_merged (all_of (take k rs)) older newer q ∙ sym (ap (list_any (eq_by_cmp use_cmp q)) before);
+      less = omega (arith, ap length before, ap length after, length-append (all_of (take k rs)) (merge use_cmp older newer), length-append (all_of (take k rs)) (older ++ newer), length-append older newer, merge_length use_cmp older newer);
+    }
+
+-- a search that has passed over the runs in front
+pub has_none_yet : (tie : Use → Bool) (rs : List (List Use)) (i : ℕ) (r : List Use) → r ≡ get_or rs i r → i < length rs → list_any tie (all_of (drop i rs)) ≡ (list_any tie r || list_any tie (all_of (drop (suc i) rs)))
+has_none_yet tie rs i r at within = ap (λ ss. list_any tie (all_of ss)) (drop-cons rs i r within ∙ ap (λ s. s ∷ drop (suc i) rs) (sym at)) ∙ list_any-append tie r (all_of (drop (suc i) rs))
+
+-- as the code does it: the merged run in the place of the last but one, and the last taken off
+pub merged_two : (rs ss : List (List Use)) (count : ℕ) (older newer merged : List Use) → 2 ≤ count → count ≡ length rs → older ≡ get_or rs (count - 2) older → newer ≡ get_or rs (count - 1) newer → merged ≡ merge use_cmp older newer → ss ≡ take (count - 1) (set rs (count - 2) merged) → IsMergedLast rs ss
+merged_two rs ss count older newer merged two long at_older at_newer is after =
+    let k = count - 2 in
+    let next : suc k ≡ count - 1 = omega arith in
+    merged_last rs ss k older newer (omega arith) at_older (at_newer ∙ ap (λ n. get_or rs n newer) (sym next))
+    (after ∙ ap (λ n. take n (set rs k merged)) (sym next) ∙ take-suc-set rs k merged (omega arith) ∙ ap (λ m. take k rs ++ m ∷ []) is)
+
+-- one more run without what is expired
+pub record IsDroppedSoFar (now old : List (List Use)) (i moment dropped before : ℕ) : Type 0 where
+  pub long : length now ≡ length old
+  pub rest : drop i now ≡ drop i old
+  pub kept : all_of (take i now) ≡ live_of moment (all_of (take i old))
+  pub counted : dropped + length (all_of now) ≡ before + length (all_of old)
+
+same_head : (x y : List Use) (xs ys : List (List Use)) → ◌≡◌ {A = List (List Use)} (x ∷ xs) (y ∷ ys) → x ≡ y
+same_head x y xs ys e = cc
+
+same_tail : (x y : List Use) (xs ys : List (List Use)) → ◌≡◌ {A = List (List Use)} (x ∷ xs) (y ∷ ys) → xs ≡ ys
+same_tail x y xs ys e = cc
+
+pub live_append : (moment : ℕ) (us vs : List Use) → live_of moment (us ++ vs) ≡ live_of moment us ++ live_of moment vs
+live_append moment [] vs = refl
+live_append moment (u ∷ us) vs = elim (nat_lt moment u.exp) as (λ b. cond b (u ∷ live_of moment (us ++ vs)) (live_of moment (us ++ vs)) ≡ cond b (u ∷ live_of moment us) (live_of moment us) ++ live_of moment vs) [
+  | true ↦ ap (λ ws. u ∷ ws) (live_append moment us vs)
+  | false ↦ live_append moment us vs
+]
+
+-- the length of all where one run is another
+set_length : (rs : List (List Use)) (i : ℕ) (r s : List Use) → i < length rs → r ≡ get_or rs i r → length (all_of (set rs i s)) + length r ≡ length (all_of rs) + length s
+set_length [] i r s within at = absurd (omega arith)
+set_length (x ∷ rs) zero r s within at = omega (arith, length-append s (all_of rs), length-append x (all_of rs), ap length at)
+set_length (x ∷ rs) (suc i) r s within at = omega (arith, length-append x (all_of (set rs i s)), length-append x (all_of rs), set_length rs i r s (omega arith) at)
+
+drop_past_set : (rs : List (List Use)) (i : ℕ) (s : List Use) → drop (suc i) (set rs i s) ≡ drop (suc i) rs
+drop_past_set [] zero s = refl
+drop_past_set [] (suc i) s = refl
+drop_past_set (x ∷ rs) zero s = refl
+drop_past_set (x ∷ rs) (suc i) s = drop_past_set rs i s
+
+pub drops_more : (now old : List (List Use)) (i moment dropped before went : ℕ) (run left : List Use) → IsDroppedSoFar now old i moment dropped before → i < length now → run ≡ get_or now i run → left ≡ live_of moment run → went + length left ≡ length run → IsDroppedSoFar (set now i left) old (i + 1) moment (dropped + went) before
+drops_more now old i moment dropped before went run left is within at kept counted =
+    let here : drop i now ≡ run ∷ drop (suc i) now = drop-cons now i run within ∙ ap (λ r. r ∷ drop (suc i) now) (sym at) in
+    let there : drop i old ≡ get_or old i run ∷ drop (suc i) old = drop-cons old i run (omega (arith, is.long)) in
+    let both : run ∷ drop (suc i) now ≡ get_or old i run ∷ drop (suc i) old = sym here ∙ is.rest ∙ there in
+    let same : run ≡ get_or old i run = same_head _ _ _ _ both in
+    let front : all_of (take (suc i) old) ≡ all_of (take i old) ++ run = ap all_of (take-suc old i run (omega (arith, is.long))) ∙ all_append (take i old) (get_or old i run ∷ []) ∙ ap (λ us. all_of (take i old) ++ us) (append-nil (get_or old i run) ∙ sym same) in
+    let next : i + 1 ≡ suc i = omega arith in
+    subst (λ n. IsDroppedSoFar (set now i left) old n moment (dropped + went) before) (sym next) (record {
+      long = length-set now i left ∙ is.long;
+      rest = drop_past_set now i left ∙ same_tail _ _ _ _ both;
+      kept = ap all_of (take-suc-set now i left within) ∙ all_append (take i now) (left ∷ []) ∙ (λ j. is.kept j ++ (append-nil left ∙ kept) j) ∙ sym (ap (live_of moment) front ∙ live_append moment (all_of (take i old)) run);
+      counted = omega (arith, set_length now i run left within at, counted, is.counted);
+    })
+
+-- a search for the next use that has passed over the runs in front
+pub least_step : (after least : Option Use) (rs : List (List Use)) (i : ℕ) (r : List Use) → r ≡ get_or rs i r → i < length rs → least_from after (drop i rs) least ≡ least_from after (drop (suc i) rs) (least_of least (next_above (uses_in r) after))
+least_step after least rs i r at within = ap (λ ss. least_from after ss least) (drop-cons rs i r within ∙ ap (λ s. s ∷ drop (suc i) rs) (sym at))
+
+get_or_any : (us : List Use) (i : ℕ) (d e : Use) → i < length us → get_or us i d ≡ get_or us i e
+get_or_any [] i d e within = absurd (omega arith)
+get_or_any (u ∷ us) zero d e within = refl
+get_or_any (u ∷ us) (suc i) d e within = get_or_any us i d e (omega arith)
+
+-- where the use in front of a place is not after the given one and the next is
+pub place_from_ends : (last : Use) (us : List Use) (i : ℕ) → IsRising us → i ≤ length us → ((u : Use) → i < length us → u ≡ get_or us i u → is_after (Some last) u ≡ true) → ((u : Use) → 0 < i → u ≡ get_or us (i - 1) u → is_after (Some last) u ≡ false) → i ≡ prefix_len (λ u. not (is_after (Some last) u)) us
+place_from_ends last us i up bound behind before =
+    let p = λ (u : Use). not (is_after (Some last) u) in
+    let parted = not_after_parted last us up in
+    prefix_from_point p us i bound (
+      (λ k d low h. let u = get_or us (i - 1) d in parted k (i - 1) d (omega arith) (omega arith) (ap not (before u (omega arith) (get_or_any us (i - 1) d u (omega arith))))),
+      (λ k d low h. let u = get_or us i d in not_true (p (get_or us k d)) (λ e. false≢true (sym (ap not (behind u (omega arith) (get_or_any us i d u (omega arith)))) ∙ parted i k d low h e))),
+    )
+  where
+    not_true : (b : Bool) → (b ≡ true → ⊥) → b ≡ false
+    not_true b never = elim b as (λ x. b ≡ x → x ≡ false) [ true ↦ λ e. absurd (never e) | false ↦ λ e. refl ] refl
+
+-- ---- how many uses there are
+length-keys : (s : Uses) → count s ≡ finmap.len s
+unfolding rising
+length-keys s = length-map (finmap.entries s) (λ e. e.0) ∙ sym (finmap.len-entries s)
+
+pub count-with : (s : Uses) (u : Use) → count (with s u) ≡ cond (holds s u) (count s) (count s + 1)
+unfolding with holds
+count-with s u = length-keys (with s u) ∙ finmap.len-insert use_total s u tt ∙ (λ i. cond (holds s u) (sym (length-keys s) i) (sym (length-keys s) i + 1))
+
+count_with_all : (s : Uses) (us : List Use) → count (with_all s us) ≤ count s + length us
+count_with_all s [] = omega arith
+count_with_all s (u ∷ us) = elim (holds s u) as (λ b. count (with s u) ≡ cond b (count s) (count s + 1) → count (with_all (with s u) us) ≤ count s + suc (length us)) [
+  | true ↦ λ e. omega (arith, e, count_with_all (with s u) us)
+  | false ↦ λ e. omega (arith, e, count_with_all (with s u) us)
+] (count-with s u)
+
+pub count_none : count (uses_in []) ≡ 0
+unfolding IsStrictlySortedBy
+count_none = ap length (rising-uses_in [] tt)
+
+pub count_le : (us : List Use) → count (uses_in us) ≤ length us
+count_le us = omega (arith, count_with_all (uses_in []) us, count_none)
+
+both_parts : (p : Use → Bool) (us : List Use) → length (filter p us) + length (filter (λ u. not (p u)) us) ≡ length us
+both_parts p [] = refl
+both_parts p (u ∷ us) = elim (p u) as (λ b. length (cond b (u ∷ filter p us) (filter p us)) + length (cond (not b) (u ∷ filter (λ v. not (p v)) us) (filter (λ v. not (p v)) us)) ≡ suc (length us)) [
+  | true ↦ omega (arith, both_parts p us)
+  | false ↦ omega (arith, both_parts p us)
+]
+
+-- a list with no use twice has none twice where some are left out
+pub once_filter : (p : Use → Bool) (us : List Use) → length us ≡ count (uses_in us) → length (filter p us) ≡ count (uses_in (filter p us))
+once_filter p us once =
+    let q = λ (u : Use). not (p u) in
+    let kept = ap count (uses_in-filter p us) ∙ ap length (rising-keep p (uses_in us)) in
+    let left = ap count (uses_in-filter q us) ∙ ap length (rising-keep q (uses_in us)) in
+    omega (arith, kept, left, both_parts p us, both_parts p (rising (uses_in us)), once, count_le (filter p us), count_le (filter q us))
+
+-- ---- the whole store
+pub runs_none : IsRuns [] [] 0
+unfolding IsStrictlySortedBy
+runs_none = record { rising = tt; long = refl; once = sym count_none }
+
+pub record IsDropped (front gone_front : List Use) (runs gone_runs : List (List Use)) (total dropped moment : ℕ) (s : Uses) : Type 0 where
+  pub bound : dropped ≤ total
+  pub is : IsRuns gone_front gone_runs (total - dropped)
+  pub kept : uses_in (gone_front ++ all_of gone_runs) ≡ live s moment
+  pub counted : dropped + count (uses_in (gone_front ++ all_of gone_runs)) ≡ count s
+
+pub runs_dropped : (front left : List Use) (runs rest : List (List Use)) (total expired dropped moment : ℕ) (s : Uses) → IsRuns front runs total → uses_in (front ++ all_of runs) ≡ s → IsPruned front moment expired left
+    → all_of rest ≡ live_of moment (all_of runs) → dropped + length (all_of rest) ≡ expired + length (all_of runs) → IsDropped front left runs rest total dropped moment s
+runs_dropped front left runs rest total expired dropped moment s is view cut kept counted =
+    let front_live : left ≡ live_of moment front = left_is front moment expired left is.rising cut in
+    let all_live : left ++ all_of rest ≡ live_of moment (front ++ all_of runs) = (λ i. front_live i ++ kept i) ∙ sym (live_append moment front (all_of runs)) in
+    let once = once_filter (λ u. nat_lt moment u.exp) (front ++ all_of runs) (length-append front (all_of runs) ∙ sym is.long ∙ is.once) in
+    let long = length-append left (all_of rest) in
+    let front_count = left_count front moment expired left (uses_in front) is.rising refl cut in
+    let front_long : count (uses_in front) ≡ length front = ap length (rising-uses_in front is.rising) in
+    let left_rise = left_rises front moment expired left is.rising cut in
+    let left_long : count (uses_in left) ≡ length left = ap length (rising-uses_in left left_rise) in
+    let after : length (left ++ all_of rest) ≡ count (uses_in (left ++ all_of rest)) = ap length all_live ∙ once ∙ ap (λ us. count (uses_in us)) (sym all_live) in
+    let old : count s ≡ total = ap count (sym view) ∙ sym is.once in
+    record {
+      bound = omega (arith, is.long, front_count, front_long, left_long, counted);
+      is = record {
+        rising = left_rise;
+        long = omega (arith, is.long, front_count, front_long, left_long, counted);
+        once = omega (arith, is.long, front_count, front_long, left_long, counted, after, long);
+      };
+      kept = ap uses_in all_live ∙ uses_in-filter (λ u. nat_lt moment u.exp) (front ++ all_of runs) ∙ ap (λ t. live t moment) view;
+      counted = omega (arith, is.long, front_count, front_long, left_long, counted, after, long, old);
+    }
+
+same_sets : (us vs : List Use) → HasSame us vs → uses_in vs ≡ uses_in us
+same_sets us vs same = same_uses (uses_in vs) (uses_in us) (λ q. holds-uses_in vs q ∙ same q ∙ sym (holds-uses_in us q))
+
+-- moved about within the store
+pub record IsSettled (front : List Use) (runs : List (List Use)) (total : ℕ) (s : Uses) : Type 0 where
+  pub is : IsRuns front runs total
+  pub view : uses_in (front ++ all_of runs) ≡ s
+
+pub runs_settled : (front now : List Use) (runs rest : List (List Use)) (total : ℕ) (s : Uses) → IsSettled front runs total s → IsRising now → HasSame (front ++ all_of runs) (now ++ all_of rest) → length now + length (all_of rest) ≤ length front + length (all_of runs) → IsSettled now rest total s
+runs_settled front now runs rest total s was up same less =
+    let sets = same_sets (front ++ all_of runs) (now ++ all_of rest) same in
+    let few = count_le (now ++ all_of rest) in
+    let counts = ap count sets in
+    record {
+      is = record {
+        rising = up;
+        long = omega (arith, few, counts, length-append now (all_of rest), was.is.long, was.is.once, less);
+        once = was.is.once ∙ sym counts;
+      };
+      view = sets ∙ was.view;
+    }
+
+-- one use more in the front
+pub runs_more : (front now : List Use) (runs : List (List Use)) (total : ℕ) (s : Uses) (new : Use) → IsSettled front runs total s → IsRising now → uses_in now ≡ with (uses_in front) new → length front < length now → list_any (eq_by_cmp use_cmp new) (all_of runs) ≡ false → IsSettled now runs (total + 1) (with s new)
+runs_more front now runs total s new was up is longer absent =
+    let front_long : count (uses_in front) ≡ length front = ap length (rising-uses_in front was.is.rising) in
+    let now_long : count (uses_in now) ≡ length now = ap length (rising-uses_in now up) in
+    let grown : count (uses_in now) ≡ cond (holds (uses_in front) new) (count (uses_in front)) (count (uses_in front) + 1) = ap count is ∙ count-with (uses_in front) new in
+    let free : holds (uses_in front) new ≡ false = elim (holds (uses_in front) new) as (λ b. count (uses_in now) ≡ cond b (count (uses_in front)) (count (uses_in front) + 1) → b ≡ false) [ true ↦ λ e. absurd (omega (arith, e, front_long, now_long, longer)) | false ↦ λ e. refl ] grown in
+    let one : length now ≡ length front + 1 = omega (arith, front_long, now_long, grown ∙ ap (λ b. cond b (count (uses_in front)) (count (uses_in front) + 1)) free) in
+    let sets : uses_in (now ++ all_of runs) ≡ with s new = same_uses _ _ (λ q.
+    let tie = eq_by_cmp use_cmp q in
+    holds-uses_in (now ++ all_of runs) q ∙ list_any-append tie now (all_of runs)
+    ∙ ap (λ b. b || list_any tie (all_of runs)) (sym (holds-uses_in now q) ∙ ap (λ t. holds t q) is ∙ holds-with use_total use_exact (uses_in front) new q ∙ ap (λ b. tie new || b) (holds-uses_in front q))
+    ∙ sym (first_alike (tie new) (list_any tie front) (list_any tie (all_of runs)))
+    ∙ ap (λ b. tie new || b) (sym (list_any-append tie front (all_of runs)) ∙ sym (holds-uses_in (front ++ all_of runs) q) ∙ ap (λ t. holds t q) was.view)
+    ∙ sym (holds-with use_total use_exact s new q)) in
+    let none : holds s new ≡ false = ap (λ t. holds t new) (sym was.view) ∙ holds-uses_in (front ++ all_of runs) new ∙ list_any-append (eq_by_cmp use_cmp new) front (all_of runs) ∙ (λ i. (sym (holds-uses_in front new) ∙ free) i || absent i) in
+    let whole : count (with s new) ≡ count s + 1 = count-with s new ∙ ap (λ b. cond b (count s) (count s + 1)) none in
+    record {
+      is = record {
+        rising = up;
+        long = omega (arith, was.is.long, one);
+        once = omega (arith, was.is.once, ap count was.view, ap count sets, whole);
+      };
+      view = sets;
+    }
+
+-- the front has not grown: the use was there
+pub runs_same : (front now : List Use) (runs : List (List Use)) (total : ℕ) (s : Uses) (new : Use) → IsSettled front runs total s → IsRising now → uses_in now ≡ with (uses_in front) new → length now ≤ length front → IsSettled now runs total (with s new)
+runs_same front now runs total s new was up is short =
+    let front_long : count (uses_in front) ≡ length front = ap length (rising-uses_in front was.is.rising) in
+    let now_long : count (uses_in now) ≡ length now = ap length (rising-uses_in now up) in
+    let grown : count (uses_in now) ≡ cond (holds (uses_in front) new) (count (uses_in front)) (count (uses_in front) + 1) = ap count is ∙ count-with (uses_in front) new in
+    let there : holds (uses_in front) new ≡ true = elim (holds (uses_in front) new) as (λ b. count (uses_in now) ≡ cond b (count (uses_in front)) (count (uses_in front) + 1) → b ≡ true) [ true ↦ λ e. refl | false ↦ λ e. absurd (omega (arith, e, front_long, now_long, short)) ] grown in
+    let same : now ≡ front = sym (rising-uses_in now up) ∙ ap rising (is ∙ sym (with-held (uses_in front) new there)) ∙ rising-uses_in front was.is.rising in
+    let held : holds s new ≡ true = ap (λ t. holds t new) (sym was.view) ∙ holds-uses_in (front ++ all_of runs) new ∙ list_any-append (eq_by_cmp use_cmp new) front (all_of runs) ∙ ap (λ b. b || list_any (eq_by_cmp use_cmp new) (all_of runs)) (sym (holds-uses_in front new) ∙ there) in
+    record {
+      is = subst (λ us. IsRuns us runs total) (sym same) was.is;
+      view = ap (λ us. uses_in (us ++ all_of runs)) same ∙ was.view ∙ with-held s new held;
+    }
+
+pub runs_held : (front : List Use) (runs : List (List Use)) (s : Uses) (new : Use) → uses_in (front ++ all_of runs) ≡ s → list_any (eq_by_cmp use_cmp new) (all_of runs) ≡ true → s ≡ with s new
+runs_held front runs s new view held =
+    with-held s new (ap (λ t. holds t new) (sym view) ∙ holds-uses_in (front ++ all_of runs) new ∙ list_any-append (eq_by_cmp use_cmp new) front (all_of runs) ∙ ap (λ b. list_any (eq_by_cmp use_cmp new) front || b) held ∙ or-true (list_any (eq_by_cmp use_cmp new) front))
+
+pub rising_none : (us : List Use) → us ≡ [] → IsRising us
+unfolding IsStrictlySortedBy
+rising_none us e = subst IsRising (sym e) tt
+
+pub front_is : (moment n : ℕ) (us vs : List Use) → n ≡ prefix_len (λ u. not (nat_lt moment u.exp)) us → us ≡ vs → n ≡ prefix_len (λ u. not (nat_lt moment u.exp)) vs
+front_is moment n us vs e same = e ∙ ap (prefix_len (λ u. not (nat_lt moment u.exp))) same
+
+-- ---- a look-up by key
+any_within : (p : Use → Bool) (us vs : List Use) → ((q : Use) → list_any (eq_by_cmp use_cmp q) us ≡ true → list_any (eq_by_cmp use_cmp q) vs ≡ true) → list_any p us ≡ true → list_any p vs ≡ true
+any_within p [] vs sub any = absurd (false≢true any)
+any_within p (u ∷ us) vs sub any = elim (p u) as (λ b. p u ≡ b → (b || list_any p us) ≡ true → list_any p vs ≡ true) [
+  | true ↦ λ e _. any_use p vs u (sub u (ap (λ o. is_eq o || list_any (eq_by_cmp use_cmp u) us) (tied_itself use_total u))) e
+  | false ↦ λ _ rest. any_within p us vs (λ q t. sub q (ap (λ b. eq_by_cmp use_cmp q u || b) t ∙ or-true (eq_by_cmp use_cmp q u))) rest
+] refl any
+
+any_rising : (p : Use → Bool) (us : List Use) → list_any p (rising (uses_in us)) ≡ list_any p us
+any_rising p us =
+    let same = λ (q : Use). sym (holds-rising use_cmp (uses_in us) q) ∙ holds-uses_in us q in
+    one_test _ _ (any_within p (rising (uses_in us)) us (λ q t. sym (same q) ∙ t)) (any_within p us (rising (uses_in us)) (λ q t. same q ∙ t))
+
+runs_has : (p : Use → Bool) (front : List Use) (runs : List (List Use)) (s : Uses) → uses_in (front ++ all_of runs) ≡ s → (list_any p front || list_any p (all_of runs)) ≡ list_any p (rising s)
+runs_has p front runs s view = sym (list_any-append p front (all_of runs)) ∙ sym (any_rising p (front ++ all_of runs)) ∙ ap (λ t. list_any p (rising t)) view
+
+pub has_in_front : (p : Use → Bool) (front : List Use) (runs : List (List Use)) (s : Uses) (found : Bool) → uses_in (front ++ all_of runs) ≡ s → found ≡ list_any p front → found ≡ true → found ≡ list_any p (rising s)
+has_in_front p front runs s found view is e = e ∙ ap (λ b. b || list_any p (all_of runs)) (sym e ∙ is) ∙ runs_has p front runs s view
+
+pub has_in_runs : (p : Use → Bool) (front : List Use) (runs : List (List Use)) (s : Uses) (found later : Bool) → uses_in (front ++ all_of runs) ≡ s → found ≡ list_any p front → found ≡ false → later ≡ list_any p (all_of runs) → later ≡ list_any p (rising s)
+has_in_runs p front runs s found later view is none here = here ∙ ap (λ b. b || list_any p (all_of runs)) (sym none ∙ is) ∙ runs_has p front runs s view
+
+-- ---- the next use
+least_none : (o : Option Use) → least_of o None ≡ o
+least_none None = refl
+least_none (Some u) = refl
+
+least_first : (p : Use → Bool) (x : Use) (ys : List Use) → AllByRecursion (λ z. use_cmp x z ≡ Less) ys → Some x ≡ least_of (Some x) (find p ys)
+least_first p x [] below = refl
+least_first p x (y ∷ ys) below = elim (p y) as (λ b. Some x ≡ least_of (Some x) (cond b (Some y) (find p ys))) [
+  | true ↦ ap (λ o. cond (is_lt o) (Some y) (Some x)) (sym (use_total.antisymm y x ∙ ap ordering_reverse below.0))
+  | false ↦ least_first p x ys below.1
+]
+
+least_second : (p : Use → Bool) (y : Use) (xs : List Use) → AllByRecursion (λ z. use_cmp y z ≡ Less) xs → Some y ≡ least_of (find p xs) (Some y)
+least_second p y [] below = refl
+least_second p y (x ∷ xs) below = elim (p x) as (λ b. Some y ≡ least_of (cond b (Some x) (find p xs)) (Some y)) [
+  | true ↦ ap (λ o. cond (is_lt o) (Some y) (Some x)) (sym below.0)
+  | false ↦ least_second p y xs below.1
+]
+
+least_at : (p : Use → Bool) (x : Use) (xs : List Use) → IsRising (x ∷ xs) → ((ys : List Use) → IsRising ys → find p (merge use_cmp xs ys) ≡ least_of (find p xs) (find p ys)) → (ys : List Use) → IsRising ys → find p (merge use_cmp (x ∷ xs) ys) ≡ least_of (find p (x ∷ xs)) (find p ys)
+unfolding IsStrictlySortedBy
+least_at p x xs s h [] t = sym (least_none (find p (x ∷ xs)))
+least_at p x xs s h (y ∷ ys) t = by_rank (λ l. find p l ≡ least_of (find p (x ∷ xs)) (find p (y ∷ ys))) (use_cmp x y) _ _ _
+    (λ k. elim (p x) as (λ b. cond b (Some x) (find p (merge use_cmp xs (y ∷ ys))) ≡ least_of (cond b (Some x) (find p xs)) (find p (y ∷ ys))) [
+      | true ↦ least_first p x (y ∷ ys) (below_all use_total use_exact x y ys k t.0)
+      | false ↦ h (y ∷ ys) t
+    ])
+    (λ k. let same = use_exact x y k in subst (λ z. find p (x ∷ merge use_cmp xs ys) ≡ least_of (find p (x ∷ xs)) (find p (z ∷ ys))) same
+    (elim (p x) as (λ b. cond b (Some x) (find p (merge use_cmp xs ys)) ≡ least_of (cond b (Some x) (find p xs)) (cond b (Some x) (find p ys))) [
+      | true ↦ ap (λ o. cond (is_lt o) (Some x) (Some x)) (sym (tied_itself use_total x))
+      | false ↦ h ys t.1
+    ]))
+    (λ k. elim (p y) as (λ b. cond b (Some y) (find p (merge use_cmp (x ∷ xs) ys)) ≡ least_of (find p (x ∷ xs)) (cond b (Some y) (find p ys))) [
+      | true ↦ least_second p y (x ∷ xs) (below_all use_total use_exact y x xs (use_total.antisymm y x ∙ ap ordering_reverse k) s.0)
+      | false ↦ least_at p x xs s h ys t.1
+    ])
+
+find_merged : (p : Use → Bool) (xs ys : List Use) → IsRising xs → IsRising ys → find p (merge use_cmp xs ys) ≡ least_of (find p xs) (find p ys)
+unfolding IsStrictlySortedBy
+find_merged p [] ys s t = refl
+find_merged p (x ∷ xs) ys s t = least_at p x xs s (λ zs. find_merged p xs zs s.1) ys t
+
+next_both : (us vs : List Use) (after : Option Use) → least_of (next_above (uses_in us) after) (next_above (uses_in vs) after) ≡ next_above (uses_in (us ++ vs)) after
+next_both us vs after =
+    let xs = rising (uses_in us) in
+    let ys = rising (uses_in vs) in
+    let up = rising_rises use_cmp (uses_in us) in
+    let up' = rising_rises use_cmp (uses_in vs) in
+    let whole : rising (uses_in (us ++ vs)) ≡ merge use_cmp xs ys = same_rising use_total use_exact _ _ (rising_rises use_cmp (uses_in (us ++ vs))) (merge_rises use_total use_exact xs ys up up') (λ q.
+    let tie = eq_by_cmp use_cmp q in
+    any_rising tie (us ++ vs) ∙ list_any-append tie us vs ∙ sym (merge_has use_total use_exact (eq_by_cmp use_cmp q) xs ys ∙ (λ i. any_rising tie us i || any_rising tie vs i))) in
+    sym (ap (find (is_after after)) whole ∙ find_merged (is_after after) xs ys up up')
+
+pub next_in_all : (after : Option Use) (us : List Use) (runs : List (List Use)) → least_from after runs (next_above (uses_in us) after) ≡ next_above (uses_in (us ++ all_of runs)) after
+next_in_all after us [] = ap (λ vs. next_above (uses_in vs) after) (sym (append-nil us))
+next_in_all after us (r ∷ runs) =
+    ap (least_from after runs) (next_both us r after) ∙ next_in_all after (us ++ r) runs ∙ ap (λ vs. next_above (uses_in vs) after) (append_assoc us r (all_of runs))
+
+pub store_next : (after found : Option Use) (front : List Use) (runs : List (List Use)) (s : Uses) → IsRising front → uses_in (front ++ all_of runs) ≡ s → found ≡ least_from after runs (find (is_after after) front) → found ≡ next_above s after
+store_next after found front runs s up view is =
+    is ∙ ap (λ us. least_from after runs (find (is_after after) us)) (sym (rising-uses_in front up)) ∙ next_in_all after front runs ∙ ap (λ t. next_above t after) view
+
+pub take_whole : {X : Type 0} (n : ℕ) (xs ys : List X) → n ≡ length xs → take n (xs ++ ys) ≡ xs
+take_whole {X = X} n xs ys e = ap (λ m. take m (xs ++ ys)) e ∙ take-length xs
+  where
+    take-length : (zs : List X) → take (length zs) (zs ++ ys) ≡ zs
+    take-length [] = refl
+    take-length (z ∷ zs) = ap (λ ws. z ∷ ws) (take-length zs)
+
+-- what the store holds: what the front or the runs have
+store_holds : (front : List Use) (runs : List (List Use)) (s : Uses) (u : Use) → uses_in (front ++ all_of runs) ≡ s → holds s u ≡ (list_any (eq_by_cmp use_cmp u) front || list_any (eq_by_cmp use_cmp u) (all_of runs))
+store_holds front runs s u view = ap (λ t. holds t u) (sym view) ∙ holds-uses_in (front ++ all_of runs) u ∙ list_any-append (eq_by_cmp use_cmp u) front (all_of runs)
+
+pub front_held : (front : List Use) (runs : List (List Use)) (s : Uses) (u : Use) → uses_in (front ++ all_of runs) ≡ s → list_any (eq_by_cmp use_cmp u) front ≡ true → s ≡ with s u
+front_held front runs s u view e = with-held s u (store_holds front runs s u view ∙ ap (λ b. b || list_any (eq_by_cmp use_cmp u) (all_of runs)) e)
+
+pub held_in_front : (front : List Use) (runs : List (List Use)) (s : Uses) (u : Use) → uses_in (front ++ all_of runs) ≡ s → list_any (eq_by_cmp use_cmp u) (all_of runs) ≡ false → holds s u ≡ list_any (eq_by_cmp use_cmp u) front
+held_in_front front runs s u view none = store_holds front runs s u view ∙ ap (λ b. list_any (eq_by_cmp use_cmp u) front || b) none ∙ or-false (list_any (eq_by_cmp use_cmp u) front)
+
+pub run_next : (us vs : List Use) (after same found : Option Use) → IsRising us → us ≡ vs → found ≡ find (is_after after) us → after ≡ same → found ≡ next_above (uses_in vs) same
+run_next us vs after same found up e is alike =
+    is ∙ ap (find (is_after after)) (sym (rising-uses_in us up)) ∙ (λ i. next_above (uses_in (e i)) (alike i))
+
+-- ---- filters
+pub bits_stay : (a m n : ℕ) → bit_and a n ≡ n → bit_and (bit_or a m) n ≡ n
+bits_stay a m n e = same_from_bits _ _ (λ i.
+    let had : min (bit_at a i) (bit_at n i) ≡ bit_at n i = sym (bit_at_and a n i) ∙ ap (λ x. bit_at x i) e in
+    let now : min (max (bit_at a i) (bit_at m i)) (bit_at n i) ≡ bit_at n i = omega arith in
+    bit_at_and (bit_or a m) n i ∙ ap (λ x. min x (bit_at n i)) (bit_at_or a m i) ∙ now)
+
+bits_kept : (words : List ℕ) (at j m n w : ℕ) → w ≡ get_or words at w → bit_and (get_or words j 0) n ≡ n → bit_and (get_or (set words at (bit_or w m)) j 0) n ≡ n
+bits_kept [] at j m n w is e = e
+bits_kept (x ∷ ws) zero zero m n w is e = bits_stay w m n (ap (λ y. bit_and y n) is ∙ e)
+bits_kept (x ∷ ws) zero (suc j) m n w is e = e
+bits_kept (x ∷ ws) (suc at) zero m n w is e = e
+bits_kept (x ∷ ws) (suc at) (suc j) m n w is e = bits_kept ws at j m n w is e
+
+pub bits_in_others : (words : List ℕ) (at m w : ℕ) (other : List ℕ) → w ≡ get_or words at w → HasBits words other → HasBits (set words at (bit_or w m)) other
+bits_in_others words at m w other is e =
+    subst (λ count. bit_and (get_or (set words at (bit_or w m)) (place_of count other) 0) (mask_of other) ≡ mask_of other) (sym (length-set words at (bit_or w m))) (bits_kept words at (place_of (length words) other) m (mask_of other) w is e)
+
+pub known_more : (words now : List ℕ) (us : List Use) (i : ℕ) (d : Use) → AllByRecursion (λ v. HasBits words v.key) (take i us) → ((other : List ℕ) → HasBits words other → HasBits now other) → HasBits now (get_or us i d).key → i < length us → AllByRecursion (λ v. HasBits now v.key) (take (i + 1) us)
+known_more words now us i d known others added within =
+    let next : i + 1 ≡ suc i = omega arith in
+    subst (AllByRecursion (λ v. HasBits now v.key)) (sym (ap (λ n. take n us) next ∙ take-suc us i d within))
+    (each_append _ (take i us) (get_or us i d ∷ []) (each_weaker (λ v. HasBits words v.key) _ (λ v h. others v.key h) (take i us) known) (added, tt))
+
+pub unknown_absent : (words : List ℕ) (us : List Use) (u : Use) → AllByRecursion (λ v. HasBits words v.key) us → (HasBits words u.key → ⊥) → list_any (eq_by_cmp use_cmp u) us ≡ false
+unknown_absent words us u known unknown = any_none (eq_by_cmp use_cmp u) us (each_weaker (λ v. HasBits words v.key) _ (λ v h. elim (eq_by_cmp use_cmp u v) as (λ b. eq_by_cmp use_cmp u v ≡ b → b ≡ false) [
+  | true ↦ λ e. absurd (unknown (subst (λ w. HasBits words w.key) (sym (use_exact u v (equal _ e))) h))
+  | false ↦ λ e. refl
+] refl) us known)
+
+pub run_unknown : (items told : List Use) (start : ℕ) (keys : List Until) (gone : Option ℕ) (words : List ℕ) (u : Use) → IsRun items start keys gone words → drop start items ≡ told → (HasBits words u.key → ⊥) → false ≡ list_any (eq_by_cmp use_cmp u) told
+run_unknown items told start keys gone words u is view unknown = sym (sym (ap (list_any (eq_by_cmp use_cmp u)) view) ∙ unknown_absent words (drop start items) u is.known unknown)
+
+-- a run of which nothing is gone
+pub run_made : (items us : List Use) (keys : List Until) (words : List ℕ) → IsRising items → us ≡ items → AreKeys keys → TellUses keys us → 0 < length words → AllByRecursion (λ u. HasBits words u.key) us → IsRun items 0 keys None words
+run_made items us keys words up same sorted told some known = record {
+  bound = omega arith;
+  rising = up;
+  sorted = sorted;
+  told = subst (TellUses (left_of None keys)) same (subst (λ ks. TellUses ks us) (sym (left_is_all keys)) told);
+  live = each_true _ (λ u. refl) items;
+  some = some;
+  known = subst (AllByRecursion (λ u. HasBits words u.key)) same known;
+}
+
+-- what the keys of a run tell by a mark
+pub run_tells : (items told : List Use) (start : ℕ) (keys : List Until) (gone : Option ℕ) (words : List ℕ) (mark : Mark) → IsRun items start keys gone words → drop start items ≡ told → list_any (is_held mark gone) keys ≡ list_any (λ u. is_eq (mark_cmp mark (until_of u).mark)) told
+run_tells items told start keys gone words mark is view = tell_mark mark gone keys told (subst (TellUses (left_of gone keys)) view is.told)
+
+-- no use has a key that a filter of the uses does not know
+pub run_lacks : (items told : List Use) (start : ℕ) (keys : List Until) (gone : Option ℕ) (words : List ℕ) (withdrawn : Bool) (key : List ℕ) → IsRun items start keys gone words → drop start items ≡ told → (HasBits words key → ⊥) → false ≡ list_any (is_sought withdrawn key) told
+run_lacks items told start keys gone words withdrawn key is view unknown = sym (sym (ap (list_any (is_sought withdrawn key)) view) ∙ any_none (is_sought withdrawn key) (drop start items) (each_weaker (λ v. HasBits words v.key) _ (λ v h. false_from_ne_true _ (λ sought.
+    unknown (subst (HasBits words) (same_key key v.key (sought_key withdrawn key v sought)) h))) (drop start items) is.known))
+
+-- the keys of two runs in one
+pub record AreMergedKeys (keys : List Until) (us : List Use) : Type 0 where
+  pub sorted : AreKeys keys
+  pub told : TellUses keys us
+
+pub keys_merged : (items told others told' : List Use) (start start' : ℕ) (keys keys' : List Until) (gone gone' : Option ℕ) (words words' : List ℕ) (merged : List Until) (uses : List Use) → IsRun items start keys gone words → IsRun others start' keys' gone' words' → drop start items ≡ told → drop start' others ≡ told' → merged ≡ merge until_cmp (left_of gone keys) (left_of gone' keys') → uses ≡ merge use_cmp told told' → AreMergedKeys merged uses
+keys_merged items told others told' start start' keys keys' gone gone' words words' merged uses is is' view view' e f = record {
+  sorted = subst AreKeys (sym e) (merge_rises until_total until_exact _ _ (IsStrictlySortedBy-filter until_cmp (λ k. is_left gone k.exp) keys is.sorted) (IsStrictlySortedBy-filter until_cmp (λ k. is_left gone' k.exp) keys' is'.sorted));
+  told = subst (TellUses merged) (sym f) (subst (λ ks. TellUses ks (merge use_cmp told told')) (sym e) (tell_merged (left_of gone keys) (left_of gone' keys') told told' (subst (TellUses (left_of gone keys)) view is.told) (subst (TellUses (left_of gone' keys')) view' is'.told)));
+}

@@ -1,0 +1,44 @@
+use Rattle.std.proofs.Common.{◌≡◌, ◌+◌, ◌∙◌, ap, sym, subst, arith, length, rules, refl}
+use Rattle.std.proofs.lemmas.Bool.{false≢true}
+use Rattle.std.specs.List.{list_any}
+use Rattle.std.specs.Ordering.{eq_by_cmp}
+use Rattle.svid_replay.specs.Runs.{all_of}
+use Rattle.svid_replay.specs.Sets.{holds, with}
+use Rattle.svid_replay.specs.Use.{use_cmp}
+use Rattle.svid_replay.proofs.UsesLemmas.{holds-uses_in}
+use Rattle.svid_replay.proofs.RunsLemmas.{IsSettled, runs_held, runs_more, runs_same, runs_settled, front_held, held_in_front}
+use Rattle.svid_replay.proofs.run_uses.RunUsesUseStore.insert.Goals as goal
+
+pub returns-then-any_holds-clause-ok : goal.returns-then-any_holds-clause-ok
+returns-then-any_holds-clause-ok c = runs_held c.self.inside.front.items c.self.inside.runs.items _ c.args.new c.self.view_is (sym (c.any_holds.ensures ∙ ap (λ rs. list_any (eq_by_cmp use_cmp c.args.new) (all_of rs)) c.deref.ensures.value) ∙ c.if-any_holds.true)
+
+pub returns-in_err-insert_use-clause-held : goal.returns-in_err-insert_use-clause-held
+returns-in_err-insert_use-clause-held c = λ has.
+    let none = (sym (c.any_holds.ensures ∙ ap (λ rs. list_any (eq_by_cmp use_cmp c.args.new) (all_of rs)) c.deref.ensures.value) ∙ c.if-any_holds.false) in
+    absurd (false≢true (c.in_err-insert_use.ensures.held (holds-uses_in c.self.inside.front.items c.args.new ∙ sym (held_in_front c.self.inside.front.items c.self.inside.runs.items _ c.args.new c.self.view_is none) ∙ has)))
+
+pub invariant_of-self-else-len-ge-FRONT : goal.invariant_of-self-else-len-ge-FRONT
+invariant_of-self-else-len-ge-FRONT c = (subst (λ n. IsSettled c.insert_use.new.uses.items c.self.inside.runs.items n (with c.args.self.now c.args.new)) (search rules) (runs_more c.self.inside.front.items c.insert_use.new.uses.items c.self.inside.runs.items c.self.inside.total _ c.args.new (record { is = c.self.invariant; view = c.self.view_is }) c.in_ok-insert_use.ensures.rising c.in_ok-insert_use.ensures.ok (search rules) (sym (c.any_holds.ensures ∙ ap (λ rs. list_any (eq_by_cmp use_cmp c.args.new) (all_of rs)) c.deref.ensures.value) ∙ c.if-any_holds.false))).is
+
+pub returns-else-len-ge-FRONT-clause-ok : goal.returns-else-len-ge-FRONT-clause-ok
+returns-else-len-ge-FRONT-clause-ok c = (runs_more c.self.inside.front.items c.insert_use.new.uses.items c.self.inside.runs.items c.self.inside.total _ c.args.new (record { is = c.self.invariant; view = c.self.view_is }) c.in_ok-insert_use.ensures.rising c.in_ok-insert_use.ensures.ok (search rules) (sym (c.any_holds.ensures ∙ ap (λ rs. list_any (eq_by_cmp use_cmp c.args.new) (all_of rs)) c.deref.ensures.value) ∙ c.if-any_holds.false)).view
+
+pub invariant_of-self-then-len-ge-FRONT : goal.invariant_of-self-then-len-ge-FRONT
+invariant_of-self-then-len-ge-FRONT c = (runs_settled c.insert_use.new.uses.items c.settle.new.front.items c.self.inside.runs.items c.settle.new.runs.items c.in-Some.total _ (subst (λ n. IsSettled c.insert_use.new.uses.items c.self.inside.runs.items n (with c.args.self.now c.args.new)) (search rules) (runs_more c.self.inside.front.items c.insert_use.new.uses.items c.self.inside.runs.items c.self.inside.total _ c.args.new (record { is = c.self.invariant; view = c.self.view_is }) c.in_ok-insert_use.ensures.rising c.in_ok-insert_use.ensures.ok (search rules) (sym (c.any_holds.ensures ∙ ap (λ rs. list_any (eq_by_cmp use_cmp c.args.new) (all_of rs)) c.deref.ensures.value) ∙ c.if-any_holds.false))) c.settle.ensures.rising c.settle.ensures.same c.settle.ensures.less).is
+
+pub returns-then-len-ge-FRONT-clause-ok : goal.returns-then-len-ge-FRONT-clause-ok
+returns-then-len-ge-FRONT-clause-ok c = (runs_settled c.insert_use.new.uses.items c.settle.new.front.items c.self.inside.runs.items c.settle.new.runs.items c.in-Some.total _ (subst (λ n. IsSettled c.insert_use.new.uses.items c.self.inside.runs.items n (with c.args.self.now c.args.new)) (search rules) (runs_more c.self.inside.front.items c.insert_use.new.uses.items c.self.inside.runs.items c.self.inside.total _ c.args.new (record { is = c.self.invariant; view = c.self.view_is }) c.in_ok-insert_use.ensures.rising c.in_ok-insert_use.ensures.ok (search rules) (sym (c.any_holds.ensures ∙ ap (λ rs. list_any (eq_by_cmp use_cmp c.args.new) (all_of rs)) c.deref.ensures.value) ∙ c.if-any_holds.false))) c.settle.ensures.rising c.settle.ensures.same c.settle.ensures.less).view
+
+pub invariant_of-self-else-len-long : goal.invariant_of-self-else-len-long
+invariant_of-self-else-len-long c = (runs_same c.self.inside.front.items c.insert_use.new.uses.items c.self.inside.runs.items c.self.inside.total _ c.args.new (record { is = c.self.invariant; view = c.self.view_is }) c.in_ok-insert_use.ensures.rising c.in_ok-insert_use.ensures.ok (search rules)).is
+
+pub returns-else-len-long-clause-ok : goal.returns-else-len-long-clause-ok
+returns-else-len-long-clause-ok c = (runs_same c.self.inside.front.items c.insert_use.new.uses.items c.self.inside.runs.items c.self.inside.total _ c.args.new (record { is = c.self.invariant; view = c.self.view_is }) c.in_ok-insert_use.ensures.rising c.in_ok-insert_use.ensures.ok (search rules)).view
+
+pub returns-then-holds_use-clause-ok : goal.returns-then-holds_use-clause-ok
+returns-then-holds_use-clause-ok c = front_held c.self.inside.front.items c.self.inside.runs.items _ c.args.new c.self.view_is (sym (c.holds_use.ensures ∙ ap (list_any (eq_by_cmp use_cmp c.args.new)) c.deref-in_default.ensures.value) ∙ c.if-holds_use.true)
+
+pub returns-in_default-clause-held : goal.returns-in_default-clause-held
+returns-in_default-clause-held c = λ has.
+    let none = (sym (c.any_holds.ensures ∙ ap (λ rs. list_any (eq_by_cmp use_cmp c.args.new) (all_of rs)) c.deref.ensures.value) ∙ c.if-any_holds.false) in
+    absurd (false≢true (sym c.if-holds_use.false ∙ c.holds_use.ensures ∙ ap (list_any (eq_by_cmp use_cmp c.args.new)) c.deref-in_default.ensures.value ∙ sym (held_in_front c.self.inside.front.items c.self.inside.runs.items _ c.args.new c.self.view_is none) ∙ has))

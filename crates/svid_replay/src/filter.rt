@@ -1,0 +1,70 @@
+//! A filter of keys: it says of a key that it is surely not among those put in, or that it may be.
+ghost use Rattle.std.specs.Prelude.{◌≡◌, ◌<◌, ◌≤◌, ℕ, List, false, length, take, drop, IfOk};
+ghost use Rattle.std.specs.Int.{from_be_bytes, w64};
+ghost use Rattle.std.specs.List.{AllByRecursion};
+ghost use Rattle.svid_replay.specs.Runs.{HasBits, mask_of, place_of};
+
+use crate::Use;
+use std::alloc::{AllocError, Global};
+
+#[inline]
+fn number(bytes: &[u8]) -> u64
+    requires { 8 ≤ length bytes.now }
+    ensures { result ≡ from_be_bytes w64 (take 8 bytes.now) }
+{
+    match bytes.first_chunk::<8>() {
+        Some(chunk) => u64::from_be_bytes(*chunk),
+        None => 0,
+    }
+}
+
+#[inline]
+fn mask(key: &[u8; 32]) -> u64
+    ensures { result ≡ mask_of key.now }
+{
+    let (_, rest) = key.split_at(8);
+    let hash = number(rest);
+    (1u64 << (hash % 64)) | (1u64 << (hash / 64 % 64)) | (1u64 << (hash / 4096 % 64))
+}
+
+#[inline]
+fn place(key: &[u8; 32], count: usize) -> usize
+    requires { 0 < count }
+    ensures value { result ≡ place_of count key.now }
+    ensures bound { result < count }
+{
+    (number(key) % count as u64) as usize
+}
+
+fn add(words: &mut Vec<u64>, key: &[u8; 32])
+    requires { 0 < length words.old.items }
+    ensures long { length words.new.items ≡ length words.old.items }
+    ensures added { HasBits words.new.items key.now }
+    ensures others { (other : List ℕ) → HasBits words.old.items other → HasBits words.new.items other }
+{
+    let at = place(key, words.len());
+    words[at] |= mask(key);
+}
+
+/// A filter of the keys of some uses.
+pub(crate) fn filter_of(alloc: Global, uses: &[Use]) -> Result<Vec<u64>, AllocError>
+    ensures some { IfOk result (λ words. 0 < length words.items) }
+    ensures known { IfOk result (λ words. AllByRecursion (λ u. HasBits words.items u.key) uses.now) }
+{
+    let mut words = vec![in alloc; 0u64; uses.len() / 5 + 1]?;
+    for used in uses {
+        let key = used.key;
+        add(&mut words, &key);
+    }
+    Ok(words)
+}
+
+/// Whether a key may be among those put in.
+#[inline]
+pub(crate) fn may_have(words: &[u64], key: &[u8; 32]) -> bool
+    requires { 0 < length words.now }
+    ensures { result ≡ false → HasBits words.now key.now → ⊥ }
+{
+    let mask = mask(key);
+    words[place(key, words.len())] & mask == mask
+}

@@ -1,0 +1,6 @@
+use Rattle.std.proofs.Common.{refl}
+use Rattle.svid_share.proofs.WrittenLemmas.{merged}
+use Rattle.svid_share.proofs.merge.join_all.Goals as goal
+
+pub returns-clause-ok : goal.returns-clause-ok
+returns-clause-ok g c = merged _ _ _ _ c.new-record.ensures c.in_ok-join_inputs.ensures.ok refl

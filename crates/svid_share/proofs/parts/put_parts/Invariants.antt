@@ -1,0 +1,14 @@
+use Rattle.std.proofs.Common.{◌-◌, ◌≡◌, length}
+use Rattle.svid_replay.specs.Sets.{rising}
+use Rattle.svid_wire.specs.Streams.{taken}
+use Rattle.svid_share.specs.Pages.{behind}
+use Rattle.svid_share.proofs.PagesLemmas.{HasCut}
+use Rattle.svid_share.proofs.parts.put_parts.Given as goal
+
+abbrev pub invariant-loop-left : goal.invariant-loop-left
+invariant-loop-left g l =
+    HasCut (taken g.K.Sink.told g.K.Sink.stops l.fn.out l.out) l.fn.page l.page l.state.moment (rising l.state.uses) l.after
+    × (l.left ≡ length (behind l.after (rising l.state.uses)))
+
+abbrev pub decreases-loop-left : goal.decreases-loop-left
+decreases-loop-left g l = l.left

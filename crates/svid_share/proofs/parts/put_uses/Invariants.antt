@@ -1,0 +1,10 @@
+use Rattle.std.proofs.Common.{◌≡◌, drop}
+use Rattle.svid_replay.specs.Sets.{rising}
+use Rattle.svid_wire.specs.Streams.{taken}
+use Rattle.svid_share.specs.Pages.{Passes, behind, next_texts}
+use Rattle.svid_share.proofs.parts.put_uses.Given as goal
+
+abbrev pub invariant-loop : goal.invariant-loop
+invariant-loop g l =
+    Passes (taken g.K.Sink.told g.K.Sink.stops l.fn.out l.out) l.fn.page (next_texts (rising l.state.uses) l.fn.after l.counter) l.page
+    × (behind l.last (rising l.state.uses) ≡ drop l.counter (behind l.fn.after (rising l.state.uses)))

@@ -1,0 +1,126 @@
+ghost use Rattle.std.specs.Prelude.{◌≡◌, ◌++◌, ◌+◌, ◌≤◌, [], length};
+ghost use Rattle.std.specs.Fmt.{decimal};
+ghost use Rattle.hex.specs.Hex.{encode_lower};
+ghost use Rattle.svid_share.specs.Report.{mark, number_line, twice_line, use_line};
+
+use arrayvec::ArrayVec;
+use std::marker::Model;
+use svid_replay::{Twice, Use};
+
+// The longest line of a report is that of a withdrawal, with two numbers of 20 digits.
+const LINE_LEN: usize = 150;
+
+/// A line of a report, made without memory.
+#[derive(Drop)]
+pub(crate) struct Line {
+    room: ArrayVec<u8, LINE_LEN>,
+}
+
+impl Model for Line {
+    ghost use Rattle.std.specs.Prelude.{List, ℕ};
+
+    ghost Value = { List ℕ };
+
+    ghost view = { λ l. l.room.items };
+}
+
+impl Line {
+    fn new() -> Line
+        ensures { result ≡ [] }
+    {
+        Line {
+            room: ArrayVec::new(),
+        }
+    }
+
+    fn push(&mut self, piece: &[u8])
+        requires { length self.old + length piece.now ≤ 150 }
+        ensures { self.new ≡ self.old ++ piece.now }
+    {
+        let _ = self.room.try_extend_from_slice(piece);
+    }
+
+    fn push_number(&mut self, number: u64)
+        requires { length self.old + 20 ≤ 150 }
+        ensures value { self.new ≡ self.old ++ decimal number }
+        ensures short { length self.new ≤ length self.old + 20 }
+    {
+        self.push(itoa::Buffer::new().format(number).as_bytes());
+    }
+
+    fn push_key(&mut self, key: &[u8; 32])
+        requires { length self.old + 64 ≤ 150 }
+        ensures value { self.new ≡ self.old ++ encode_lower key.now }
+        ensures len { length self.new ≡ length self.old + 64 }
+    {
+        let mut digits = [0; 64];
+        let _ = hex::encode_to_slice(key.as_slice(), &mut digits);
+        self.push(&digits);
+    }
+
+    fn push_place(&mut self, place: &[u8; 16])
+        requires { length self.old + 32 ≤ 150 }
+        ensures value { self.new ≡ self.old ++ encode_lower place.now }
+        ensures len { length self.new ≡ length self.old + 32 }
+    {
+        let mut digits = [0; 32];
+        let _ = hex::encode_to_slice(place.as_slice(), &mut digits);
+        self.push(&digits);
+    }
+
+    pub(crate) fn bytes(&self) -> &[u8]
+        ensures { result.now ≡ self.now }
+    {
+        self.room.as_slice()
+    }
+}
+
+// What stands at the end of the line of a withdrawal.
+fn mark(withdrawn: bool) -> &'static str
+    ensures value { result.now ≡ mark withdrawn }
+    ensures short { length result.now ≤ 10 }
+{
+    if withdrawn { " withdrawn" } else { "" }
+}
+
+/// The line of a use.
+pub(crate) fn use_line(used: &Use) -> Line
+    ensures { result ≡ use_line used.now }
+{
+    let mut line = Line::new();
+    line.push_number(used.exp);
+    line.push(b" ");
+    line.push_key(&used.key);
+    line.push(b" ");
+    line.push_place(&used.place);
+    line.push(b" ");
+    line.push_number(used.at);
+    line.push(mark(used.withdrawn).as_bytes());
+    line.push(b"\n");
+    line
+}
+
+/// The line of a number under its name.
+pub(crate) fn number_line(name: &str, number: u64) -> Line
+    requires { length name.now ≤ 100 }
+    ensures { result ≡ number_line name.now number }
+{
+    let mut line = Line::new();
+    line.push(name.as_bytes());
+    line.push(b" ");
+    line.push_number(number);
+    line.push(b"\n");
+    line
+}
+
+/// The line of a key that is used more than once.
+pub(crate) fn twice_line(twice: &Twice) -> Line
+    ensures { result ≡ twice_line twice.now }
+{
+    let mut line = Line::new();
+    line.push_key(&twice.key);
+    line.push(b" ");
+    line.push_number(twice.uses.len() as u64);
+    line.push(b"\n");
+    line
+}

@@ -1,0 +1,62 @@
+ghost use Rattle.std.specs.Prelude.{◌≡◌, ◌++◌, [], OnOk, OnErr, IfErr};
+ghost use Rattle.svid_wire.specs.Streams.{TookAll, TookPart, taken};
+ghost use Rattle.svid_share.specs.Pages.{Passes};
+ghost use Rattle.svid_share.specs.declared.tool_fault.ToolFault.TheVariants.{Write};
+
+use crate::ToolFault;
+use crate::output::put_bytes;
+use arrayvec::ArrayVec;
+use std::marker::Model;
+use svid_wire::Sink;
+
+// How many bytes have room before they go out.
+const PAGE_LEN: usize = 65536;
+
+/// Room of a fixed size before a sink: what is put gathers in it, and goes out when it is full. Takes no memory.
+#[derive(Drop)]
+pub(crate) struct Page {
+    room: ArrayVec<u8, PAGE_LEN>,
+}
+
+impl Model for Page {
+    ghost use Rattle.std.specs.Prelude.{List, ℕ};
+
+    ghost Value = { List ℕ };
+
+    ghost view = { λ p. p.room.items };
+}
+
+impl Page {
+    pub(crate) fn new() -> Page
+        ensures { result ≡ [] }
+    {
+        Page {
+            room: ArrayVec::new(),
+        }
+    }
+
+    /// Puts a text behind what was put before, or answers `Write` where the sink stopped.
+    pub(crate) fn put<K: Sink>(&mut self, out: &mut K, text: &[u8]) -> Result<(), ToolFault>
+        ensures ok { OnOk result (Passes (taken K.told K.stops out.old out.new) self.old text.now self.new) }
+        ensures fault { IfErr result (λ e. e ≡ Write) }
+        ensures part { OnErr result (TookPart (taken K.told K.stops out.old out.new) (self.old ++ text.now)) }
+    {
+        if let Err(_) = self.room.try_extend_from_slice(text) {
+            self.flush(out)?;
+            put_bytes(out, text)?;
+        }
+        Ok(())
+    }
+
+    /// Lets all that was put go out, or answers `Write` where the sink stopped.
+    pub(crate) fn flush<K: Sink>(&mut self, out: &mut K) -> Result<(), ToolFault>
+        ensures ok { OnOk result (TookAll (taken K.told K.stops out.old out.new) self.old) }
+        ensures empty { OnOk result (self.new ≡ []) }
+        ensures fault { IfErr result (λ e. e ≡ Write) }
+        ensures part { OnErr result (TookPart (taken K.told K.stops out.old out.new) self.old) }
+    {
+        put_bytes(out, self.room.as_slice())?;
+        self.room.clear();
+        Ok(())
+    }
+}
