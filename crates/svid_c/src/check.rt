@@ -15,7 +15,7 @@ use crate::writing::put;
 use std::alloc::Global;
 use svid_check::{Accepted, Validator};
 use svid_keys::{Bundles, TableVerifier};
-use svid_replay::{IndexedUses, Use};
+use svid_replay::{RunUses, Use};
 
 /// What a check is told, beside its inputs.
 #[repr(C)]
@@ -84,7 +84,7 @@ fn validator_of(
     bundles: &[u8],
     questions: &[u8],
     messages: &[u8],
-) -> Result<Validator<TableVerifier, IndexedUses>, CheckFault>
+) -> Result<Validator<TableVerifier, RunUses>, CheckFault>
     ensures ok { IfOk result (λ v. IsReady own.now bundles.now questions.now messages.now setting.now (setting_of table_says v) v.state) }
     ensures fault { IfErr result (IsNotReady own.now bundles.now questions.now messages.now) }
 {

@@ -5,7 +5,7 @@ ghost use Rattle.svid_c.specs.Joined.{IsRecordOf, IsSummaryRefused};
 
 use crate::lent::Lent;
 use std::alloc::Global;
-use svid_replay::{IndexedUses, Record, Summary, UseStore};
+use svid_replay::{Record, RunUses, Summary, UseStore};
 use svid_share::{ToolFault, join_input, read_summary};
 
 // Joins the batches of the messages that the input with this number is.
@@ -31,11 +31,11 @@ pub(crate) fn record_of(
     bytes: &[u8],
     number: usize,
     now: u64,
-) -> Result<Record<IndexedUses>, ToolFault>
+) -> Result<Record<RunUses>, ToolFault>
     ensures ok { IfOk result (IsRecordOf bytes.now now) }
     ensures fault { IfErr result (IsRefused number bytes.now) }
 {
-    let mut record = Record::new(IndexedUses::new(alloc));
+    let mut record = Record::new(RunUses::new(alloc));
     join_lent(alloc, bytes, number, &mut record)?;
     record.raise(now);
     Ok(record)

@@ -8,17 +8,16 @@ use crate::inputs::join_lent;
 use crate::told::SvidTold;
 use crate::writing::{put, refuse};
 use std::alloc::{AllocError, Global};
-use svid_replay::{IndexedUses, Record, UseStore};
-use svid_share::{ToolFault, put_batches};
+use svid_replay::{Record, RunUses, UseStore};
+use svid_share::{ToolFault, put_record};
 use svid_wire::MemSink;
 
 // The text of a record.
 fn text_of<T: UseStore>(alloc: Global, state: &Record<T>) -> Result<MemSink, AllocError>
     ensures { IfOk result (λ sink. sink.bytes ≡ record_text state.now) }
 {
-    let parts = state.parts(alloc)?;
     let mut sink = MemSink::new(alloc, 65_536, None);
-    match put_batches(&mut sink, &parts) {
+    match put_record(state, &mut sink) {
         Ok(()) => Ok(sink),
         Err(_) => Err(AllocError),
     }
@@ -29,7 +28,7 @@ fn joined(alloc: Global, a: &[u8], b: &[u8], now: u64) -> Result<MemSink, ToolFa
     ensures ok { IfOk result (λ sink. IsJoined a.now b.now now sink.bytes) }
     ensures fault { IfErr result (AreRefused 1 (a.now ∷ b.now ∷ [])) }
 {
-    let mut record = Record::new(IndexedUses::new(alloc));
+    let mut record = Record::new(RunUses::new(alloc));
     join_lent(alloc, a, 1, &mut record)?;
     join_lent(alloc, b, 2, &mut record)?;
     record.raise(now);

@@ -1,10 +1,13 @@
 -- The verdict, one table after the other.
-use Rattle.std.proofs.Common.{◌≡◌, ◌≢◌, ◌<◌, ℕ, Bool, true, false, List, take, drop, Option, Some, None, refl, ap, ◌∙◌, if◌then◌else◌}
+use Rattle.std.proofs.Common.{◌≡◌, ◌≢◌, ◌<◌, ℕ, Bool, true, false, List, [], ◌∷◌, take, drop, Option, Some, None, refl, ap, ◌∙◌, arith, if◌then◌else◌}
 use Rattle.std.specs.Prelude.{IsSome, Ok, option_map, not, nat_lt}
 use Rattle.std.proofs.lemmas.Bool.{false≢true, ltb-true}
 use Rattle.svid_token.specs.Rows.{Row, Refuses, first_row}
 use Rattle.svid_token.specs.declared.refusal.Refusal.{Refusal}
 use Rattle.svid_token.specs.declared.refusal.Refusal.TheVariants.{Replayed, Withdrawn}
+use Rattle.std.specs.List.{list_any}
+use Rattle.svid_replay.specs.Sets.{rising}
+use Rattle.svid_replay.specs.Twice.{has_key, withdraws}
 use Rattle.svid_replay.specs.Uses.{Uses, has_use_of, has_withdrawal_of}
 use Rattle.svid_check.specs.Said.{Said, reading_of, said_of, token_rows}
 use Rattle.svid_check.specs.Setting.{Setting}
@@ -63,3 +66,12 @@ unused s moment uses t none =
     let rows = setting_rows s moment uses t in
     let behind = passed (has_withdrawal_of uses (key_of t)) Withdrawn (if has_use_of uses (key_of t) then Some Replayed else None) (none_of_both (take 7 rows) (drop 7 rows) none).1 in
     (passed (has_use_of uses (key_of t)) Replayed None behind.1).0
+
+-- what a stronger test finds, a weaker one does
+any_weaker : {X : Type 0} (p q : X → Bool) → ((x : X) → p x ≡ true → q x ≡ true) → (xs : List X) → list_any q xs ≡ false → list_any p xs ≡ false
+any_weaker p q weaker [] none = refl
+any_weaker p q weaker (x ∷ xs) none = grind (arith, any_weaker p q weaker xs, weaker x)
+
+-- a withdrawal is a use: where no use has the key, no withdrawal has it
+pub withdrawn_is_held : (uses : Uses) (key : List ℕ) → has_use_of uses key ≡ false → has_withdrawal_of uses key ≡ false
+withdrawn_is_held uses key none = any_weaker (withdraws key) (has_key key) (λ u is. grind arith) (rising uses) none

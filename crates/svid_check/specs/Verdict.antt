@@ -50,6 +50,13 @@ keys_rows bundles t =
 abbrev pub keys_due : List Bundle → Said → Result (List KeyData) Refusal
 keys_due bundles t = judged (first_row (keys_rows bundles t)) (keys_for bundles t)
 
+-- the refusals of a key for the uses that the record has
+abbrev pub record_rows : Uses → List ℕ → List Row
+record_rows uses key =
+    (Withdrawn, has_withdrawal_of uses key)
+    ∷ (Replayed, has_use_of uses key)
+    ∷ []
+
 -- the refusals of what a token says, by the setting, the moment and the uses
 abbrev pub setting_rows : Setting → ℕ → Uses → Said → List Row
 setting_rows s moment uses t =
@@ -57,9 +64,7 @@ setting_rows s moment uses t =
     ∷ (time_rows s moment t
     ++ (keys_rows s.bundles t
     ++ ((BadSignature, not (is_signed s t))
-    ∷ (Withdrawn, has_withdrawal_of uses (key_of t))
-    ∷ (Replayed, has_use_of uses (key_of t))
-    ∷ [])))
+    ∷ record_rows uses (key_of t))))
 
 -- the refusals of what is said, where it is said
 abbrev pub rows_if_said : (Said → List Row) → Option Said → List Row

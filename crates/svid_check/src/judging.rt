@@ -3,7 +3,7 @@ ghost use Rattle.std.specs.List.{list_any};
 ghost use Rattle.svid_token.specs.Rows.{first_row, holds_of};
 ghost use Rattle.svid_check.specs.Said.{said_in};
 ghost use Rattle.svid_check.specs.Setting.{given_setting};
-ghost use Rattle.svid_check.specs.Verdict.{is_own, is_signed, key_of, setting_rows};
+ghost use Rattle.svid_check.specs.Verdict.{is_own, is_signed, key_of, record_rows, setting_rows};
 
 use crate::given::Given;
 use crate::reading::Reading;
@@ -73,6 +73,20 @@ fn is_signed<V: Verifier>(given: &Given<V>, reading: &Reading<'_>) -> bool
     false
 }
 
+// Why the record refuses a key. A withdrawal is one of its uses, so one look tells of a key that is new.
+#[tactic(auto, using(crate::proofs::VerdictLemmas::withdrawn_is_held))]
+fn record_refusal<S: UseStore>(replay: &Record<S>, key: &[u8; 32]) -> Option<Refusal>
+    ensures { result ≡ first_row (record_rows replay.now.uses key.now) }
+{
+    if !replay.has(key) {
+        return None;
+    }
+    if replay.is_withdrawn(key) {
+        return Some(Refusal::Withdrawn);
+    }
+    Some(Refusal::Replayed)
+}
+
 // Why the setting, the moment and the uses refuse what a token says.
 pub(crate) fn refusal<V: Verifier, S: UseStore>(
     given: &Given<V>,
@@ -104,11 +118,5 @@ pub(crate) fn refusal<V: Verifier, S: UseStore>(
     if !is_signed(given, reading) {
         return Some(Refusal::BadSignature);
     }
-    if replay.is_withdrawn(key) {
-        return Some(Refusal::Withdrawn);
-    }
-    if replay.has(key) {
-        return Some(Refusal::Replayed);
-    }
-    None
+    record_refusal(replay, key)
 }

@@ -1,12 +1,10 @@
 -- What `svid check` writes of what it reads.
 use Rattle.std.specs.Prelude.{◌≡◌, ℕ, Bool, List, [], map, string_bytes, Option, None, Some, ◌⊎◌}
-use Rattle.std.specs.List.{flat_map}
 use Rattle.svid_keys.specs.Bundles.{Bundle}
 use Rattle.svid_keys.specs.Lines.{lines_of}
 use Rattle.svid_keys.specs.Table.{is_among, questions_in, table_fault, table_says}
 use Rattle.svid_keys.specs.declared.table_fault.TableFault.TheVariants as table
 use Rattle.svid_replay.specs.Records.{State}
-use Rattle.svid_wire.specs.BatchText.{batch_text}
 use Rattle.svid_wire.specs.Messages.{batches_of}
 use Rattle.svid_wire.specs.RecordText.{record_text}
 use Rattle.svid_wire.specs.Streams.{Drawn, IsRead, Taken, TookAll, TookPart, drawn, taken}
@@ -89,7 +87,7 @@ pub record Outcome : Type 0 where
 
 -- what contracts see of it
 abbrev pub outcome_view : OutcomeMade → Outcome
-outcome_view made = record { accepted = made.accepted; kept = flat_map batch_text made.kept.items; lines = string_bytes made.lines }
+outcome_view made = record { accepted = made.accepted; kept = record_text made.validator.state; lines = string_bytes made.lines }
 
 -- the setting of the checks, under these bundles and with a verifier that says this
 abbrev pub setting_under : CheckSetting → List Bundle → Says → Setting

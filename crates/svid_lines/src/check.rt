@@ -1,8 +1,7 @@
 ghost use Rattle.std.specs.Prelude.{◌≡◌, ◌≢◌, IfOk, IfErr, OnOk, OnErr, Some};
-ghost use Rattle.std.specs.List.{flat_map};
 ghost use Rattle.svid_keys.specs.Lines.{lines_of};
 ghost use Rattle.svid_keys.specs.Table.{table_says};
-ghost use Rattle.svid_wire.specs.BatchText.{batch_text};
+ghost use Rattle.svid_wire.specs.RecordText.{record_text};
 ghost use Rattle.svid_wire.specs.Streams.{drawn, taken};
 ghost use Rattle.svid_lines.specs.Checks.{tokens_of};
 ghost use Rattle.svid_share.specs.Inputs.{IsInputFault};
@@ -13,8 +12,8 @@ use crate::checks::check_lines;
 use std::alloc::{AllocError, Global};
 use svid_check::Validator;
 use svid_keys::{Bundles, TableVerifier};
-use svid_replay::{Batch, IndexedUses, Record};
-use svid_share::{ToolFault, join_input, put_batches, put_text, read_input};
+use svid_replay::{Record, RunUses, UseStore};
+use svid_share::{ToolFault, join_input, put_record, put_text, read_input};
 use svid_wire::{Sink, Source};
 
 /// What a run of checks is told.
@@ -30,11 +29,11 @@ pub struct CheckSetting {
     pub longest: Option<u64>,
 }
 
-// What a run of checks comes to: whether all are accepted, the record after the last one, and a line for each.
+// What a run of checks comes to: whether all are accepted, the validator after the last one, and a line for each.
 #[derive(Drop)]
 struct Outcome {
     accepted: bool,
-    kept: Vec<Batch>,
+    validator: Validator<TableVerifier, RunUses>,
     lines: String,
 }
 
@@ -50,11 +49,11 @@ fn read_table<S: Source>(alloc: Global, source: &mut S) -> Result<TableVerifier,
 
 // What the earlier record comes to.
 #[tactic(auto, using(crate::proofs::CheckLemmas::begins_with))]
-fn join_earlier<S: Source>(alloc: Global, source: &mut S) -> Result<Record<IndexedUses>, ToolFault>
+fn join_earlier<S: Source>(alloc: Global, source: &mut S) -> Result<Record<RunUses>, ToolFault>
     ensures ok { IfOk result (IsEarlier (Some (drawn S.left S.stops source.old source.new))) }
     ensures fault { IfErr result (IsInputFault 4 (drawn S.left S.stops source.old source.new)) }
 {
-    let mut begun = Record::new(IndexedUses::new(alloc));
+    let mut begun = Record::new(RunUses::new(alloc));
     let mut messages = Vec::new(alloc);
     join_input(alloc, source, 4, &mut messages, &mut begun)?;
     Ok(begun)
@@ -65,13 +64,13 @@ fn join_earlier<S: Source>(alloc: Global, source: &mut S) -> Result<Record<Index
 fn read_earlier<S: Source>(
     alloc: Global,
     earlier: &mut Option<S>,
-) -> Result<Record<IndexedUses>, ToolFault>
+) -> Result<Record<RunUses>, ToolFault>
     ensures ok { IfOk result (IsEarlier (drawn_if S.left S.stops earlier.old earlier.new)) }
     ensures fault { IfErr result (IsEarlierFault (drawn_if S.left S.stops earlier.old earlier.new)) }
 {
     match earlier {
         Some(source) => join_earlier(alloc, source),
-        None => Ok(Record::new(IndexedUses::new(alloc))),
+        None => Ok(Record::new(RunUses::new(alloc))),
     }
 }
 
@@ -81,7 +80,7 @@ fn check_all(
     given: CheckSetting,
     bundles: Bundles,
     table: TableVerifier,
-    begun: Record<IndexedUses>,
+    begun: Record<RunUses>,
     tokens: &[u8],
 ) -> Result<Outcome, AllocError>
     ensures { IfOk result (λ outcome. outcome_view outcome
@@ -95,10 +94,9 @@ fn check_all(
     } = given;
     let mut validator = Validator::new(alloc, own, place, 0, bundles, table, begun, longest);
     let (accepted, lines) = check_lines(alloc, &mut validator, now, tokens)?;
-    let kept = validator.replay().parts(alloc)?;
     Ok(Outcome {
         accepted,
-        kept,
+        validator,
         lines,
     })
 }
@@ -137,13 +135,16 @@ fn outcome_of_inputs<B: Source, T: Source, L: Source, R: Source>(
 }
 
 // Writes the record, where it is kept.
-fn put_kept<P: Sink>(kept: &mut Option<P>, parts: &[Batch]) -> Result<(), ToolFault>
-    ensures ok { OnOk result (TookAllIf (taken_if P.told P.stops kept.old kept.new) (flat_map batch_text parts.now)) }
+fn put_kept<T: UseStore, P: Sink>(
+    kept: &mut Option<P>,
+    state: &Record<T>,
+) -> Result<(), ToolFault>
+    ensures ok { OnOk result (TookAllIf (taken_if P.told P.stops kept.old kept.new) (record_text state.now)) }
     ensures fault { IfErr result (λ e. e ≡ ToolFault.Write) }
-    ensures part { OnErr result (TookPartIf (taken_if P.told P.stops kept.old kept.new) (flat_map batch_text parts.now)) }
+    ensures part { OnErr result (TookPartIf (taken_if P.told P.stops kept.old kept.new) (record_text state.now)) }
 {
     match kept {
-        Some(sink) => put_batches(sink, parts),
+        Some(sink) => put_record(state, sink),
         None => Ok(()),
     }
 }
@@ -191,7 +192,7 @@ pub fn run_check<B: Source, T: Source, L: Source, R: Source, P: Sink, K: Sink>(
     ensures unwritten { IfErr result (λ fault. fault ≢ ToolFault.Write → (kept.new ≡ kept.old) × (out.new ≡ out.old)) }
 {
     let outcome = outcome_of_inputs(alloc, given, bundles, table, tokens, earlier)?;
-    put_kept(kept, &outcome.kept)?;
+    put_kept(kept, outcome.validator.replay())?;
     put_text(out, outcome.lines.as_str())?;
     Ok(outcome.accepted)
 }

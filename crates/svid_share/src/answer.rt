@@ -11,7 +11,7 @@ use crate::batches::put_batches;
 use crate::inputs::join_inputs;
 use crate::one_summary::read_summary;
 use std::alloc::Global;
-use svid_replay::{Batch, IndexedUses, Record, Summary};
+use svid_replay::{Batch, Record, RunUses, Summary};
 use svid_wire::{Sink, Source};
 
 // The answer to a summary, of what all inputs tell.
@@ -23,7 +23,7 @@ fn answer_of_inputs<S: Source>(
     ensures ok { IfOk result (λ batches. IsDue (answer_due asked.now) (inputs_of (sources S.left S.stops inputs.old inputs.new)) (flat_map batch_text batches.items)) }
     ensures fault { IfErr result (IsJoinFault (sources S.left S.stops inputs.old inputs.new)) }
 {
-    let mut record = Record::new(IndexedUses::new(alloc));
+    let mut record = Record::new(RunUses::new(alloc));
     join_inputs(alloc, inputs, &mut record)?;
     Ok(record.answer(alloc, asked)?)
 }

@@ -9,15 +9,15 @@ use crate::ToolFault;
 use crate::inputs::join_inputs;
 use crate::parts::put_record;
 use std::alloc::Global;
-use svid_replay::{IndexedUses, Record};
+use svid_replay::{Record, RunUses};
 use svid_wire::{Sink, Source};
 
 // What all inputs tell.
-fn join_all<S: Source>(alloc: Global, inputs: &mut [S]) -> Result<Record<IndexedUses>, ToolFault>
+fn join_all<S: Source>(alloc: Global, inputs: &mut [S]) -> Result<Record<RunUses>, ToolFault>
     ensures ok { IfOk result (λ r. IsDue merge_due (inputs_of (sources S.left S.stops inputs.old inputs.new)) (record_text r)) }
     ensures fault { IfErr result (IsJoinFault (sources S.left S.stops inputs.old inputs.new)) }
 {
-    let mut record = Record::new(IndexedUses::new(alloc));
+    let mut record = Record::new(RunUses::new(alloc));
     join_inputs(alloc, inputs, &mut record)?;
     Ok(record)
 }

@@ -14,7 +14,7 @@ use crate::inputs::join_inputs;
 use crate::line::{number_line, twice_line, use_line};
 use crate::page::Page;
 use std::alloc::Global;
-use svid_replay::{IndexedUses, Record, Twice, UseStore};
+use svid_replay::{Record, RunUses, Twice, UseStore};
 use svid_wire::{Sink, Source};
 
 // A number under its name.
@@ -112,11 +112,11 @@ fn join_all<S: Source>(
     alloc: Global,
     inputs: &mut [S],
     now: Option<u64>,
-) -> Result<(Record<IndexedUses>, Vec<Twice>), ToolFault>
+) -> Result<(Record<RunUses>, Vec<Twice>), ToolFault>
     ensures ok { IfOk result (λ r. IsDue (report_due now) (inputs_of (sources S.left S.stops inputs.old inputs.new)) (report_text r.0.moment (rising r.0.uses) r.1.items)) }
     ensures fault { IfErr result (IsJoinFault (sources S.left S.stops inputs.old inputs.new)) }
 {
-    let mut record = Record::new(IndexedUses::new(alloc));
+    let mut record = Record::new(RunUses::new(alloc));
     join_inputs(alloc, inputs, &mut record)?;
     raise_to(&mut record, now);
     let twice = record.report(alloc)?;

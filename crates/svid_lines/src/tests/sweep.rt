@@ -14,7 +14,7 @@ use std::process::Abort;
 use std::test::Fail;
 use svid_check::Validator;
 use svid_keys::{Bundles, TableVerifier};
-use svid_replay::{IndexedUses, Record};
+use svid_replay::{Record, RunUses};
 use svid_share::ToolFault;
 use svid_token::Refusal;
 use svid_wire::{Counted, MemSink, MemSource, Sink};
@@ -169,11 +169,11 @@ fn reads_or_tells(rt: &impl Abort, alloc: Global, nth: usize) -> Result<bool, Fa
 }
 
 // A validator at the token's setting, with a new record.
-fn validator(alloc: Global) -> Result<Validator<TableVerifier, IndexedUses>, Fail> {
+fn validator(alloc: Global) -> Result<Validator<TableVerifier, RunUses>, Fail> {
     let given = setting(alloc)?;
     let bundles = Bundles::read(alloc, ONE_KEY)?;
     let table = TableVerifier::read(alloc, TABLE)?;
-    let record = Record::new(IndexedUses::new(alloc));
+    let record = Record::new(RunUses::new(alloc));
     Ok(Validator::new(
         alloc,
         given.own,

@@ -5,7 +5,7 @@ use super::refusing::{refuse, was_refused};
 use crate::{ToolFault, join_inputs, put_batches, put_record, put_text};
 use std::alloc::Global;
 use std::test::Fail;
-use svid_replay::{Batch, IndexedUses, Record};
+use svid_replay::{Batch, Record, RunUses};
 use svid_wire::{Counted, MemSink, Message, read_all};
 
 // The batch of two uses, twice.
@@ -28,7 +28,7 @@ fn putting_takes_no_memory(rt: HostRuntime) -> Result<(), Fail> {
     let batches = batches(alloc)?;
     let mut text = Vec::with_capacity(alloc, 10)?;
     let mut messages = Vec::with_capacity(alloc, 294)?;
-    let mut record = Record::new(IndexedUses::new(alloc));
+    let mut record = Record::new(RunUses::new(alloc));
     join_inputs(alloc, &mut [source(alloc, TWO_USES, 1000)?], &mut record)?;
     let mut whole = Vec::with_capacity(alloc, 147)?;
     let mut stopped = MemSink::new(alloc, 100, Some(1));

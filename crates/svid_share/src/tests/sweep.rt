@@ -10,7 +10,7 @@ use crate::{ToolFault, join_input, join_inputs, put_report, read_input, read_sum
 use std::alloc::{AllocError, Global};
 use std::process::Abort;
 use std::test::Fail;
-use svid_replay::{IndexedUses, Record, Use};
+use svid_replay::{Record, RunUses, Use};
 use svid_wire::{Counted, MemSink, MemSource};
 
 // Runs an engine while the nth allocation is refused, into a vector that has room: no growth is its own. So each
@@ -138,8 +138,8 @@ fn reads_a_summary_or_tells(rt: &impl Abort, alloc: Global, nth: usize) -> Resul
 }
 
 // A record of moment 100 with the five of many uses from use 100 on.
-fn begun(alloc: Global) -> Result<Record<IndexedUses>, Fail> {
-    let mut record = Record::new(IndexedUses::new(alloc));
+fn begun(alloc: Global) -> Result<Record<RunUses>, Fail> {
+    let mut record = Record::new(RunUses::new(alloc));
     let mut messages = Vec::new(alloc);
     join_input(
         alloc,
@@ -168,7 +168,7 @@ fn join_both(
     alloc: Global,
     apart: bool,
     nth: usize,
-    record: &mut Record<IndexedUses>,
+    record: &mut Record<RunUses>,
 ) -> Result<(Result<(), ToolFault>, bool), Fail>
     requires { nth < 4294967296 }
 {
@@ -195,7 +195,7 @@ fn join_both(
 fn assert_joined_in_part(
     rt: &impl Abort,
     alloc: Global,
-    record: &Record<IndexedUses>,
+    record: &Record<RunUses>,
     whole: &[Use],
 ) -> Result<(), Fail> {
     let kept = record.uses(alloc)?;
@@ -238,7 +238,7 @@ fn joins_or_tells(rt: &impl Abort, alloc: Global, apart: bool, nth: usize) -> Re
 fn reports_or_tells(rt: &impl Abort, alloc: Global, nth: usize) -> Result<bool, Fail>
     requires { nth < 4294967296 }
 {
-    let mut record = Record::new(IndexedUses::new(alloc));
+    let mut record = Record::new(RunUses::new(alloc));
     join_inputs(alloc, &mut [source(alloc, TWO_USES, 1000)?], &mut record)?;
     let mut out = MemSink::new(alloc, 1000, None);
     refuse(alloc, nth);
