@@ -8,7 +8,7 @@ use clap::{Arg, ArgAction, ArgMatches, Command, Error};
 use hex::FromHex;
 use std::alloc::{AllocError, Global};
 use std::fs::File;
-use std::io::{BufWriter, Printer, Write};
+use std::io::{BufWriter, Write};
 use std::{io, str};
 use svid_lines::{CheckSetting, run_candidates, run_check, run_id};
 use svid_share::{ToolFault, run_answer, run_merge, run_report, run_summary};
@@ -272,55 +272,37 @@ fn report(rt: &HostRuntime, matches: &ArgMatches<'_>) -> Result<u8, Failure> {
     Ok(0)
 }
 
-// Standard output in large pieces: a batch is put use by use, and a summary digest by digest.
-fn buffered(rt: &HostRuntime) -> Result<BufWriter<Printer<'_, HostRuntime>>, Failure> {
-    match BufWriter::new(rt.alloc(), io::writer(rt)) {
-        Ok(writer) => Ok(writer),
-        Err(_) => Err(Failure::Tool(ToolFault::OutOfMemory)),
-    }
+fn merge(rt: &HostRuntime, matches: &ArgMatches<'_>) -> Result<u8, Failure> {
+    let mut inputs = open_all(rt, matches.get_strs("file").unwrap_or(&[]))?;
+    let mut out = Counted::new(io::writer(rt));
+    run_merge(rt.alloc(), inputs.as_mut_slice(), &mut out)?;
+    Ok(0)
 }
 
-// Writes out what is left of the last piece.
-fn flushed<W: Write + Drop>(mut writer: BufWriter<W>) -> Result<u8, Failure> {
+fn summary(rt: &HostRuntime, matches: &ArgMatches<'_>) -> Result<u8, Failure> {
+    let mut inputs = open_all(rt, matches.get_strs("file").unwrap_or(&[]))?;
+    // (a summary is put digest by digest)
+    let mut writer = match BufWriter::new(rt.alloc(), io::writer(rt)) {
+        Ok(writer) => writer,
+        Err(_) => return Err(Failure::Tool(ToolFault::OutOfMemory)),
+    };
+    run_summary(
+        rt.alloc(),
+        inputs.as_mut_slice(),
+        &mut Counted::new(&mut writer),
+    )?;
     match writer.flush() {
         Ok(()) => Ok(0),
         Err(_) => Err(Failure::Tool(ToolFault::Write)),
     }
 }
 
-fn merge(rt: &HostRuntime, matches: &ArgMatches<'_>) -> Result<u8, Failure> {
-    let mut inputs = open_all(rt, matches.get_strs("file").unwrap_or(&[]))?;
-    let mut writer = buffered(rt)?;
-    run_merge(
-        rt.alloc(),
-        inputs.as_mut_slice(),
-        &mut Counted::new(&mut writer),
-    )?;
-    flushed(writer)
-}
-
-fn summary(rt: &HostRuntime, matches: &ArgMatches<'_>) -> Result<u8, Failure> {
-    let mut inputs = open_all(rt, matches.get_strs("file").unwrap_or(&[]))?;
-    let mut writer = buffered(rt)?;
-    run_summary(
-        rt.alloc(),
-        inputs.as_mut_slice(),
-        &mut Counted::new(&mut writer),
-    )?;
-    flushed(writer)
-}
-
 fn answer(rt: &HostRuntime, matches: &ArgMatches<'_>) -> Result<u8, Failure> {
     let mut asked = Counted::new(open(rt, matches.get_str("summary").unwrap_or(""))?);
     let mut inputs = open_all(rt, matches.get_strs("file").unwrap_or(&[]))?;
-    let mut writer = buffered(rt)?;
-    run_answer(
-        rt.alloc(),
-        &mut asked,
-        inputs.as_mut_slice(),
-        &mut Counted::new(&mut writer),
-    )?;
-    flushed(writer)
+    let mut out = Counted::new(io::writer(rt));
+    run_answer(rt.alloc(), &mut asked, inputs.as_mut_slice(), &mut out)?;
+    Ok(0)
 }
 
 fn candidates(rt: &HostRuntime, matches: &ArgMatches<'_>) -> Result<u8, Failure> {
