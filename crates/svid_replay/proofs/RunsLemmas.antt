@@ -28,10 +28,11 @@ use Rattle.svid_replay.proofs.KeysLemmas.{left_is_all, live_left, tell_live, tel
 use Rattle.svid_replay.proofs.MergeLemmas.{first_alike, merge, merge_has, merge_length, merge_rises, below_all, by_rank}
 use Rattle.std.proofs.lemmas.Cmp.{tied_itself}
 use Rattle.std.specs.Ordering.{is_lt}
-use Rattle.svid_replay.specs.Runs.{least_from, least_of, HasBits, IsRun, IsRuns, mask_of, place_of}
+use Rattle.svid_replay.specs.Runs.{least_from, least_of, HasBits, IsFront, IsRun, IsRuns, mask_of, place_of}
+use Rattle.svid_replay.specs.Twice.{has_key}
 use Rattle.svid_replay.specs.Sets.{rising, with, keep, with_all}
 use Rattle.svid_replay.specs.Uses.{Uses, count, live, next_above}
-use Rattle.svid_replay.proofs.ListLemmas.{any_none, each_true, each_append, each_drop, each_weaker, prefix_from_point}
+use Rattle.svid_replay.proofs.ListLemmas.{any_none, each_true, each_append, each_drop, each_take, each_weaker, prefix_from_point}
 use Rattle.svid_replay.proofs.SetsLemmas.{rising_rises, holds-rising, holds-with, same_rising}
 use Rattle.svid_replay.proofs.UsesLemmas.{drop-expired, left_rises, left_is, left_count, not_after_parted, rising-uses_in, uses_in-rising, uses_in-filter, same_uses, holds-uses_in, with-held, rising-keep, to_front, IsPruned}
 use Rattle.std.specs.List.{AllByRecursion, list_any}
@@ -526,3 +527,19 @@ keys_merged items told others told' start start' keys keys' gone gone' words wor
   sorted = subst AreKeys (sym e) (merge_rises until_total until_exact _ _ (IsStrictlySortedBy-filter until_cmp (λ k. is_left gone k.exp) keys is.sorted) (IsStrictlySortedBy-filter until_cmp (λ k. is_left gone' k.exp) keys' is'.sorted));
   told = subst (TellUses merged) (sym f) (subst (λ ks. TellUses ks (merge use_cmp told told')) (sym e) (tell_merged (left_of gone keys) (left_of gone' keys') told told' (subst (TellUses (left_of gone keys)) view is.told) (subst (TellUses (left_of gone' keys')) view' is'.told)));
 }
+
+-- ---- the front
+pub front_none : (us : List Use) (words : List ℕ) → us ≡ [] → length words ≡ 64 → IsFront us words
+front_none us words none long = record { long = long; rising = rising_none us none; known = subst (AllByRecursion (λ u. HasBits words u.key)) (sym none) tt }
+
+-- a use in a place, among uses of which the same holds
+pub known_insert : (words : List ℕ) (us : List Use) (place : ℕ) (new : Use) → HasBits words new.key → AllByRecursion (λ u. HasBits words u.key) us → AllByRecursion (λ u. HasBits words u.key) (take place us ++ new ∷ drop place us)
+known_insert words us place new here known = each_append _ (take place us) (new ∷ drop place us) (each_take _ place us known) (here, each_drop _ place us known)
+
+-- a key whose bits are not there is none of theirs
+pub front_unknown : (words : List ℕ) (us : List Use) (key : List ℕ) (p : Use → Bool) → AllByRecursion (λ u. HasBits words u.key) us → (HasBits words key → ⊥) → ((u : Use) → p u ≡ true → has_key key u ≡ true) → list_any p us ≡ false
+front_unknown words [] key p known unknown finds = refl
+front_unknown words (u ∷ us) key p known unknown finds = elim (p u) as (λ b. p u ≡ b → (b || list_any p us) ≡ false) [
+  | true ↦ λ e. absurd (unknown (subst (HasBits words) (same_key key u.key (finds u e)) known.0))
+  | false ↦ λ e. front_unknown words us key p known.1 unknown finds
+] refl

@@ -36,6 +36,11 @@ or-comm true false = refl
 or-comm false true = refl
 or-comm false false = refl
 
+-- of two tests that pass the first does
+pub first_true : (a b : Bool) → (a && b) ≡ true → a ≡ true
+first_true true b e = refl
+first_true false b e = e
+
 pub and-comm : (a b : Bool) → (a && b) ≡ (b && a)
 and-comm true true = refl
 and-comm true false = refl

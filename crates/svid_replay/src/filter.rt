@@ -36,11 +36,12 @@ fn place(key: &[u8; 32], count: usize) -> usize
     (number(key) % count as u64) as usize
 }
 
-fn add(words: &mut Vec<u64>, key: &[u8; 32])
-    requires { 0 < length words.old.items }
-    ensures long { length words.new.items ≡ length words.old.items }
-    ensures added { HasBits words.new.items key.now }
-    ensures others { (other : List ℕ) → HasBits words.old.items other → HasBits words.new.items other }
+/// Puts a key in.
+pub(crate) fn add(words: &mut [u64], key: &[u8; 32])
+    requires { 0 < length words.old }
+    ensures long { length words.new ≡ length words.old }
+    ensures added { HasBits words.new key.now }
+    ensures others { (other : List ℕ) → HasBits words.old other → HasBits words.new other }
 {
     let at = place(key, words.len());
     words[at] |= mask(key);

@@ -45,6 +45,7 @@ mod batch_fault;
 mod buckets;
 mod filter;
 mod flaw;
+mod front;
 mod indexed_uses;
 mod key_first;
 mod keys;

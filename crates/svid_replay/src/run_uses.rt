@@ -10,10 +10,9 @@ ghost use Rattle.svid_replay.specs.Use.{IsRising, use_cmp};
 ghost use Rattle.svid_replay.specs.Uses.{no_uses, uses_in};
 
 use crate::Use;
+use crate::front::Front;
 use crate::run::{Run, holds_use};
-use crate::sorted::{
-    count_expired, drop_front, first_after, has_use_of, has_withdrawal_of, insert_use,
-};
+use crate::sorted::first_after;
 use crate::store::{Raised, UseStore};
 use std::alloc::{AllocError, Global};
 use std::marker::Model;
@@ -31,7 +30,7 @@ const FACTOR: usize = 2;
 #[derive(Debug, Drop)]
 pub struct RunUses {
     alloc: Global,
-    front: Vec<Use>,
+    front: Front,
     runs: Vec<Run>,
     total: usize,
 }
@@ -45,9 +44,9 @@ impl Model for RunUses {
 
     ghost coded = { uses_code };
 
-    ghost view = { λ s. uses_in (s.front.items ++ all_of s.runs.items) };
+    ghost view = { λ s. uses_in (s.front ++ all_of s.runs.items) };
 
-    ghost invariant = { λ s. IsRuns s.front.items s.runs.items s.total };
+    ghost invariant = { λ s. IsRuns s.front s.runs.items s.total };
 }
 
 // Whether one of the runs has the use.
@@ -139,13 +138,12 @@ fn merge_last(alloc: Global, runs: &mut Vec<Run>) -> bool
 }
 
 // Makes the front a run and merges runs, as far as memory is given.
-fn settle(alloc: Global, front: &mut Vec<Use>, runs: &mut Vec<Run>) -> Result<(), AllocError>
-    requires { IsRising front.old.items }
-    ensures rising { IsRising front.new.items }
-    ensures same { HasSame (front.old.items ++ all_of runs.old.items) (front.new.items ++ all_of runs.new.items) }
-    ensures less { length front.new.items + length (all_of runs.new.items) ≤ length front.old.items + length (all_of runs.old.items) }
+fn settle(alloc: Global, front: &mut Front, runs: &mut Vec<Run>) -> Result<(), AllocError>
+    ensures rising { IsRising front.new }
+    ensures same { HasSame (front.old ++ all_of runs.old.items) (front.new ++ all_of runs.new.items) }
+    ensures less { length front.new + length (all_of runs.new.items) ≤ length front.old + length (all_of runs.old.items) }
 {
-    let run = Run::of(alloc, front)?;
+    let run = Run::of(alloc, front.uses())?;
     runs.push(run)?;
     front.clear();
     while merge_last(alloc, runs) {}
@@ -159,7 +157,7 @@ impl RunUses {
     {
         RunUses {
             alloc,
-            front: Vec::new(alloc),
+            front: Front::new(alloc),
             runs: Vec::new(alloc),
             total: 0,
         }
@@ -174,13 +172,13 @@ impl UseStore for RunUses {
             return Ok(());
         }
         let Some(total) = self.total.checked_add(1) else {
-            if holds_use(&self.front, &new) {
+            if holds_use(self.front.uses(), &new) {
                 return Ok(());
             }
             return Err(AllocError);
         };
         let long = self.front.len();
-        insert_use(&mut self.front, new)?;
+        self.front.insert(new)?;
         if self.front.len() > long {
             self.total = total;
             if self.front.len() % FRONT == 0 {
@@ -192,19 +190,18 @@ impl UseStore for RunUses {
     }
 
     fn drop_expired(&mut self, moment: u64) -> Raised {
-        let expired = count_expired(&self.front, moment);
-        drop_front(&mut self.front, expired);
+        let expired = self.front.drop_expired(moment);
         let dropped = drop_all_expired(&mut self.runs, moment, expired);
         self.total -= dropped;
         Raised { dropped }
     }
 
     fn has(&self, key: &[u8; 32]) -> bool {
-        has_use_of(&self.front, key) || any_has(&self.runs, key, false)
+        self.front.has(key) || any_has(&self.runs, key, false)
     }
 
     fn is_withdrawn(&self, key: &[u8; 32]) -> bool {
-        has_withdrawal_of(&self.front, key) || any_has(&self.runs, key, true)
+        self.front.is_withdrawn(key) || any_has(&self.runs, key, true)
     }
 
     fn len(&self) -> usize {
@@ -212,6 +209,6 @@ impl UseStore for RunUses {
     }
 
     fn next_after(&self, after: Option<Use>) -> Option<Use> {
-        least_after(&self.runs, after, first_after(&self.front, after))
+        least_after(&self.runs, after, first_after(self.front.uses(), after))
     }
 }

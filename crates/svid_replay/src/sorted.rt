@@ -1,6 +1,7 @@
-ghost use Rattle.std.specs.Prelude.{◌≡◌, ◌≤◌, length, Some, drop, find, not, nat_lt, IsTrue, IsOk, OnOk, OnErr};
-ghost use Rattle.std.specs.List.{list_any, prefix_len};
+ghost use Rattle.std.specs.Prelude.{◌≡◌, ◌≤◌, ℕ, List, length, Some, drop, find, not, nat_lt, IsTrue, IsOk, OnOk, OnErr};
+ghost use Rattle.std.specs.List.{AllByRecursion, list_any, prefix_len};
 ghost use Rattle.svid_replay.specs.Batches.{is_after};
+ghost use Rattle.svid_replay.specs.Runs.{HasBits};
 ghost use Rattle.svid_replay.specs.Sets.{holds, with};
 ghost use Rattle.svid_replay.specs.Twice.{has_key, withdraws};
 ghost use Rattle.svid_replay.specs.Use.{IsRising};
@@ -38,6 +39,7 @@ pub(crate) fn insert_use(uses: &mut Vec<Use>, new: Use) -> Result<(), AllocError
     ensures ok { OnOk result (uses_in uses.new.items ≡ with (uses_in uses.old.items) new) }
     ensures err { OnErr result (uses.new.items ≡ uses.old.items) }
     ensures held { IsTrue (holds (uses_in uses.old.items) new) → IsOk result }
+    ensures known { (words : List ℕ) → HasBits words new.key → AllByRecursion (λ u. HasBits words u.key) uses.old.items → AllByRecursion (λ u. HasBits words u.key) uses.new.items }
 {
     match uses.binary_search(&new) {
         Ok(_) => Ok(()),
@@ -52,7 +54,11 @@ pub(crate) fn count_expired(uses: &[Use], moment: u64) -> usize
     requires { IsRising uses.now }
     ensures { result ≡ prefix_len (λ u. not (nat_lt moment u.exp)) uses.now }
 {
-    uses.partition_point(|used| !used.is_live(moment))
+    match uses.first() {
+        // (mostly nothing has expired)
+        Some(first) if first.is_live(moment) => 0,
+        _ => uses.partition_point(|used| !used.is_live(moment)),
+    }
 }
 
 pub(crate) fn drop_front(uses: &mut Vec<Use>, count: usize)

@@ -4,9 +4,9 @@ use Rattle.svid_replay.proofs.run_uses.settle.Given as goal
 
 abbrev pub invariant-loop-alloc : goal.invariant-loop-alloc
 invariant-loop-alloc l = record {
-  empty : l.front.items ≡ [];
-  same : HasSame (l.fn.front.items ++ all_of l.fn.runs.items) (all_of l.runs.items);
-  less : length (all_of l.runs.items) ≤ length l.fn.front.items + length (all_of l.fn.runs.items);
+  empty : l.front ≡ [];
+  same : HasSame (l.fn.front ++ all_of l.fn.runs.items) (all_of l.runs.items);
+  less : length (all_of l.runs.items) ≤ length l.fn.front + length (all_of l.fn.runs.items);
 }
 
 abbrev pub decreases-loop-alloc : goal.decreases-loop-alloc

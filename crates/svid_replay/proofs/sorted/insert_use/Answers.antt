@@ -1,8 +1,11 @@
 use Rattle.std.proofs.Common.{rules, arith, length, sym, ap, ◌∙◌, subst}
 use Rattle.std.proofs.lemmas.Bool.{false≢true}
+use Rattle.std.specs.List.{AllByRecursion}
+use Rattle.svid_replay.specs.Runs.{HasBits}
 use Rattle.svid_replay.specs.Use.{IsRising}
 use Rattle.svid_replay.specs.Uses.{uses_in}
 use Rattle.svid_replay.proofs.UsesLemmas.{place_from_search, place_rises, place_is_free, uses_in-insert, with-held, found_is_held}
+use Rattle.svid_replay.proofs.RunsLemmas.{known_insert}
 use Rattle.svid_replay.proofs.sorted.insert_use.Goals as goal
 
 pub returns-in_err-insert-in-Err-clause-held : goal.returns-in_err-insert-in-Err-clause-held
@@ -18,3 +21,7 @@ returns-in_ok-insert-in-Err-clause-rising c =
 
 pub returns-in_ok-insert-in-Err-clause-ok : goal.returns-in_ok-insert-in-Err-clause-ok
 returns-in_ok-insert-in-Err-clause-ok c = ap uses_in c.in_ok-insert-in-Err.ensures.items ∙ uses_in-insert c.args.uses.now.items c.in-Err.place c.args.new
+
+pub returns-in_ok-insert-in-Err-clause-known : goal.returns-in_ok-insert-in-Err-clause-known
+returns-in_ok-insert-in-Err-clause-known c = λ words here known.
+    subst (AllByRecursion (λ u. HasBits words u.key)) (sym c.in_ok-insert-in-Err.ensures.items) (known_insert words c.args.uses.now.items c.in-Err.place c.args.new here known)

@@ -6,36 +6,32 @@ use Rattle.svid_replay.specs.Uses.{uses_in, count}
 use Rattle.svid_replay.proofs.RunsLemmas.{front_is, IsDropped, runs_dropped, take_whole}
 use Rattle.svid_replay.proofs.run_uses.RunUsesUseStore.drop_expired.Goals as goal
 
-pub drop_front-requires : goal.drop_front-requires
-drop_front-requires c = omega (arith, c.count_expired-expired.ensures, ap length c.deref.ensures.value, prefix_len-le-length (λ u. not (nat_lt c.args.moment u.exp)) c.deref.result.now)
-
 pub drop_all_expired-dropped-requires : goal.drop_all_expired-dropped-requires
-drop_all_expired-dropped-requires c =
-    omega (arith, c.count_expired-expired.ensures, ap length c.deref.ensures.value, prefix_len-le-length (λ u. not (nat_lt c.args.moment u.exp)) c.deref.result.now, c.self.invariant.long, ap (λ rs. length (all_of rs)) c.deref_mut.ensures.value)
+drop_all_expired-dropped-requires c = omega (arith, c.drop_expired-expired.ensures.bound, ap length c.drop_expired-expired.ensures.rest, c.self.invariant.long, ap (λ rs. length (all_of rs)) c.deref_mut.ensures.value)
 
 pub overflow_sub-self : goal.overflow_sub-self
 overflow_sub-self c =
-    (runs_dropped c.self.inside.front.items c.drop_front.new.uses.items c.self.inside.runs.items c.drop_all_expired-dropped.new.runs c.self.inside.total c.count_expired-expired.result c.drop_all_expired-dropped.result c.args.moment _ c.self.invariant c.self.view_is
-    (record { front = front_is c.args.moment _ _ _ c.count_expired-expired.ensures c.deref.ensures.value; rest = c.drop_front.ensures })
-    (c.drop_all_expired-dropped.ensures.kept ∙ ap (λ rs. live_of c.args.moment (all_of rs)) c.deref_mut.ensures.value) (c.drop_all_expired-dropped.ensures.dropped ∙ ap (λ rs. c.count_expired-expired.result + length (all_of rs)) c.deref_mut.ensures.value)).bound
+    (runs_dropped c.self.inside.front c.drop_expired-expired.new.self c.self.inside.runs.items c.drop_all_expired-dropped.new.runs c.self.inside.total c.drop_expired-expired.result c.drop_all_expired-dropped.result c.args.moment _ c.self.invariant c.self.view_is
+    (record { front = c.drop_expired-expired.ensures.front; rest = c.drop_expired-expired.ensures.rest })
+    (c.drop_all_expired-dropped.ensures.kept ∙ ap (λ rs. live_of c.args.moment (all_of rs)) c.deref_mut.ensures.value) (c.drop_all_expired-dropped.ensures.dropped ∙ ap (λ rs. c.drop_expired-expired.result + length (all_of rs)) c.deref_mut.ensures.value)).bound
 
 pub invariant_of-self : goal.invariant_of-self
 invariant_of-self c =
     let whole = take_whole c.self.inside.runs.len c.drop_all_expired-dropped.new.runs _ (search rules) in
-    subst (λ rs. IsRuns c.drop_front.new.uses.items rs (c.self.inside.total - c.drop_all_expired-dropped.result)) (sym whole) (runs_dropped c.self.inside.front.items c.drop_front.new.uses.items c.self.inside.runs.items c.drop_all_expired-dropped.new.runs c.self.inside.total c.count_expired-expired.result c.drop_all_expired-dropped.result c.args.moment _ c.self.invariant c.self.view_is
-    (record { front = front_is c.args.moment _ _ _ c.count_expired-expired.ensures c.deref.ensures.value; rest = c.drop_front.ensures })
-    (c.drop_all_expired-dropped.ensures.kept ∙ ap (λ rs. live_of c.args.moment (all_of rs)) c.deref_mut.ensures.value) (c.drop_all_expired-dropped.ensures.dropped ∙ ap (λ rs. c.count_expired-expired.result + length (all_of rs)) c.deref_mut.ensures.value)).is
+    subst (λ rs. IsRuns c.drop_expired-expired.new.self rs (c.self.inside.total - c.drop_all_expired-dropped.result)) (sym whole) (runs_dropped c.self.inside.front c.drop_expired-expired.new.self c.self.inside.runs.items c.drop_all_expired-dropped.new.runs c.self.inside.total c.drop_expired-expired.result c.drop_all_expired-dropped.result c.args.moment _ c.self.invariant c.self.view_is
+    (record { front = c.drop_expired-expired.ensures.front; rest = c.drop_expired-expired.ensures.rest })
+    (c.drop_all_expired-dropped.ensures.kept ∙ ap (λ rs. live_of c.args.moment (all_of rs)) c.deref_mut.ensures.value) (c.drop_all_expired-dropped.ensures.dropped ∙ ap (λ rs. c.drop_expired-expired.result + length (all_of rs)) c.deref_mut.ensures.value)).is
 
 pub returns-clause-kept : goal.returns-clause-kept
 returns-clause-kept c =
     let whole = take_whole c.self.inside.runs.len c.drop_all_expired-dropped.new.runs _ (search rules) in
-    ap (λ rs. uses_in (c.drop_front.new.uses.items ++ all_of rs)) whole ∙ (runs_dropped c.self.inside.front.items c.drop_front.new.uses.items c.self.inside.runs.items c.drop_all_expired-dropped.new.runs c.self.inside.total c.count_expired-expired.result c.drop_all_expired-dropped.result c.args.moment _ c.self.invariant c.self.view_is
-    (record { front = front_is c.args.moment _ _ _ c.count_expired-expired.ensures c.deref.ensures.value; rest = c.drop_front.ensures })
-    (c.drop_all_expired-dropped.ensures.kept ∙ ap (λ rs. live_of c.args.moment (all_of rs)) c.deref_mut.ensures.value) (c.drop_all_expired-dropped.ensures.dropped ∙ ap (λ rs. c.count_expired-expired.result + length (all_of rs)) c.deref_mut.ensures.value)).kept
+    ap (λ rs. uses_in (c.drop_expired-expired.new.self ++ all_of rs)) whole ∙ (runs_dropped c.self.inside.front c.drop_expired-expired.new.self c.self.inside.runs.items c.drop_all_expired-dropped.new.runs c.self.inside.total c.drop_expired-expired.result c.drop_all_expired-dropped.result c.args.moment _ c.self.invariant c.self.view_is
+    (record { front = c.drop_expired-expired.ensures.front; rest = c.drop_expired-expired.ensures.rest })
+    (c.drop_all_expired-dropped.ensures.kept ∙ ap (λ rs. live_of c.args.moment (all_of rs)) c.deref_mut.ensures.value) (c.drop_all_expired-dropped.ensures.dropped ∙ ap (λ rs. c.drop_expired-expired.result + length (all_of rs)) c.deref_mut.ensures.value)).kept
 
 pub returns-clause-dropped : goal.returns-clause-dropped
 returns-clause-dropped c =
     let whole = take_whole c.self.inside.runs.len c.drop_all_expired-dropped.new.runs _ (search rules) in
-    ap (λ rs. c.drop_all_expired-dropped.result + count (uses_in (c.drop_front.new.uses.items ++ all_of rs))) whole ∙ (runs_dropped c.self.inside.front.items c.drop_front.new.uses.items c.self.inside.runs.items c.drop_all_expired-dropped.new.runs c.self.inside.total c.count_expired-expired.result c.drop_all_expired-dropped.result c.args.moment _ c.self.invariant c.self.view_is
-    (record { front = front_is c.args.moment _ _ _ c.count_expired-expired.ensures c.deref.ensures.value; rest = c.drop_front.ensures })
-    (c.drop_all_expired-dropped.ensures.kept ∙ ap (λ rs. live_of c.args.moment (all_of rs)) c.deref_mut.ensures.value) (c.drop_all_expired-dropped.ensures.dropped ∙ ap (λ rs. c.count_expired-expired.result + length (all_of rs)) c.deref_mut.ensures.value)).counted
+    ap (λ rs. c.drop_all_expired-dropped.result + count (uses_in (c.drop_expired-expired.new.self ++ all_of rs))) whole ∙ (runs_dropped c.self.inside.front c.drop_expired-expired.new.self c.self.inside.runs.items c.drop_all_expired-dropped.new.runs c.self.inside.total c.drop_expired-expired.result c.drop_all_expired-dropped.result c.args.moment _ c.self.invariant c.self.view_is
+    (record { front = c.drop_expired-expired.ensures.front; rest = c.drop_expired-expired.ensures.rest })
+    (c.drop_all_expired-dropped.ensures.kept ∙ ap (λ rs. live_of c.args.moment (all_of rs)) c.deref_mut.ensures.value) (c.drop_all_expired-dropped.ensures.dropped ∙ ap (λ rs. c.drop_expired-expired.result + length (all_of rs)) c.deref_mut.ensures.value)).counted

@@ -6,8 +6,8 @@ use Rattle.svid_replay.specs.Runs.{all_of}
 use Rattle.svid_replay.proofs.RunsLemmas.{has_in_front, has_in_runs}
 use Rattle.svid_replay.proofs.run_uses.RunUsesUseStore.has.Goals as goal
 
-pub returns-then-has_use_of : goal.returns-then-has_use_of
-returns-then-has_use_of c = has_in_front (has_key c.args.key.now) c.self.inside.front.items c.self.inside.runs.items _ _ c.self.view_is (c.has_use_of.ensures ∙ ap (list_any (has_key c.args.key.now)) c.deref.ensures.value) c.if-has_use_of.true
+pub returns-then-has : goal.returns-then-has
+returns-then-has c = has_in_front (has_key c.args.key.now) c.self.inside.front c.self.inside.runs.items _ _ c.self.view_is c.has.ensures c.if-has.true
 
-pub returns-else-has_use_of : goal.returns-else-has_use_of
-returns-else-has_use_of c = has_in_runs (has_key c.args.key.now) c.self.inside.front.items c.self.inside.runs.items _ _ _ c.self.view_is (c.has_use_of.ensures ∙ ap (list_any (has_key c.args.key.now)) c.deref.ensures.value) c.if-has_use_of.false (c.any_has.ensures ∙ ap (λ rs. list_any (is_sought false c.args.key.now) (all_of rs)) c.deref-else-has_use_of.ensures.value)
+pub returns-else-has : goal.returns-else-has
+returns-else-has c = has_in_runs (has_key c.args.key.now) c.self.inside.front c.self.inside.runs.items _ _ _ c.self.view_is c.has.ensures c.if-has.false (c.any_has.ensures ∙ ap (λ rs. list_any (is_sought false c.args.key.now) (all_of rs)) c.deref.ensures.value)
