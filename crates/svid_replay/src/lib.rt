@@ -7,8 +7,8 @@
 //! both sides those that expire after it. So records may be merged in any order, any number of times,
 //! and come out the same ([`laws`]). Where memory is refused on the way, the record is the join with
 //! a part that the contract names. Of the stores [`SortedUses`] is for few uses, or uses that come in
-//! their order, [`IndexedUses`] for many and for look-ups by key, and [`RunUses`] for very many: it takes
-//! them in sooner, but a few of its inserts move most of them.
+//! their order, [`IndexedUses`] for many where no insert may be long, and [`RunUses`] for many that are
+//! all to be taken in soon: a few of its inserts move most of them.
 //!
 //! Two records that mostly agree need not tell each other all: a [`Summary`] has a digest for each of
 //! 256 buckets, one for each first byte of a key, and a record answers one with all uses of the buckets
