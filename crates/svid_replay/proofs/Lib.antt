@@ -8,6 +8,7 @@ pub mod PartsLemmas
 pub mod RecordsLemmas
 pub mod RunsLemmas
 pub mod SetsLemmas
+pub mod StaleLemmas
 pub mod TestsLemmas
 pub mod TwiceLemmas
 pub mod UseLemmas

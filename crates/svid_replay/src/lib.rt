@@ -55,6 +55,7 @@ mod record;
 mod run;
 mod run_uses;
 mod sorted;
+mod stale;
 mod store;
 mod summary;
 #[cfg(test)]
@@ -72,6 +73,7 @@ pub use layout::{MOST_USES, USE_LEN};
 pub use record::Record;
 pub use run_uses::RunUses;
 pub use sorted::SortedUses;
+pub use stale::Stale;
 pub use store::{Raised, UseStore};
 pub use summary::Summary;
 pub use token_use::Use;

@@ -1,5 +1,5 @@
 ghost use Rattle.std.specs.Prelude.{◌≡◌, ◌↔◌, ◌+◌, ◌<◌, ◌≤◌, [], ◌∷◌, false, IsTrue, IsOk, IfOk, OnOk, OnErr};
-ghost use Rattle.svid_replay.specs.Buckets.{answer_to, raised_to, summary_of};
+ghost use Rattle.svid_replay.specs.Buckets.{answer_to, raised_to, stale_part, summary_of};
 ghost use Rattle.svid_replay.specs.Parts.{cut};
 ghost use Rattle.svid_replay.specs.Records.{HasNoNew, IsPartlyJoined, IsRecord, batch_state, join, state_of};
 ghost use Rattle.svid_replay.specs.Sets.{holds, rising};
@@ -8,6 +8,7 @@ ghost use Rattle.svid_replay.specs.Uses.{count, has_use_of, has_withdrawal_of, n
 
 use crate::buckets::{digests_of, stale_uses};
 use crate::parts::cut;
+use crate::stale::Stale;
 use crate::store::{Raised, UseStore};
 use crate::twice::twice_in;
 use crate::{Batch, Summary, Twice, Use};
@@ -215,6 +216,15 @@ impl<S: UseStore> Record<S> {
         ensures { result ≡ summary_of self.now }
     {
         Summary::make(self.moment, digests_of(&self.store))
+    }
+
+    /// The uses of all buckets whose digest differs from the summary's, to be walked. The record is not raised.
+    ///
+    /// Takes no memory, and looks at each use once.
+    pub fn stale<'a>(&'a self, summary: &'a Summary) -> Stale<'a, S>
+        ensures { result ≡ stale_part summary.now self.now }
+    {
+        Stale::of(self, summary, digests_of(&self.store))
     }
 
     /// Raises the record to the summary's moment, and answers the uses of all buckets whose digest then
