@@ -4,6 +4,7 @@ pub mod IndexedLemmas
 pub mod KeysLemmas
 pub mod ListLemmas
 pub mod MergeLemmas
+pub mod NumbersLemmas
 pub mod PartsLemmas
 pub mod RecordsLemmas
 pub mod RunsLemmas

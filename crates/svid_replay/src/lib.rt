@@ -50,6 +50,7 @@ mod key_first;
 mod keys;
 pub mod laws;
 mod layout;
+mod numbers;
 mod parts;
 mod record;
 mod run;

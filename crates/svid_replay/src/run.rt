@@ -22,7 +22,7 @@ use std::marker::Model;
 
 // Uses that rise, and their keys. The uses in front of `start` are gone: they expired by the moment `gone`. Their keys
 // may still be there. `words` is a filter of the keys, and `finger` is where the last search ended.
-#[derive(Drop)]
+#[derive(Debug, Drop)]
 pub(crate) struct Run {
     by_use: Vec<Use>,
     start: usize,

@@ -18,7 +18,8 @@ use crate::store::{Raised, UseStore};
 use std::alloc::{AllocError, Global};
 use std::marker::Model;
 
-// The front becomes a run when it is so long.
+// The front becomes a run when it is so long. Where memory was refused for that, it is tried again when so many more
+// uses are there.
 const FRONT: usize = 256;
 
 // A run is merged with the one behind it while it is not longer than so many times that.
@@ -27,7 +28,7 @@ const FACTOR: usize = 2;
 /// A set of uses as a short sorted vector, and runs: sorted vectors, each with its keys. Most inserts are
 /// short, but one that fills the short vector makes it a run and may merge runs, at worst all of them. Where
 /// that is refused memory it is left undone, and the use is in the set all the same.
-#[derive(Drop)]
+#[derive(Debug, Drop)]
 pub struct RunUses {
     alloc: Global,
     front: Vec<Use>,
@@ -182,7 +183,7 @@ impl UseStore for RunUses {
         insert_use(&mut self.front, new)?;
         if self.front.len() > long {
             self.total = total;
-            if self.front.len() >= FRONT {
+            if self.front.len() % FRONT == 0 {
                 // (where memory is refused, the front stays as it is)
                 let _ = settle(self.alloc, &mut self.front, &mut self.runs);
             }

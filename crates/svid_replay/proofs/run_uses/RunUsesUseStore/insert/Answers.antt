@@ -17,17 +17,17 @@ returns-in_err-insert_use-clause-held c = λ has.
     let none = (sym (c.any_holds.ensures ∙ ap (λ rs. list_any (eq_by_cmp use_cmp c.args.new) (all_of rs)) c.deref.ensures.value) ∙ c.if-any_holds.false) in
     absurd (false≢true (c.in_err-insert_use.ensures.held (holds-uses_in c.self.inside.front.items c.args.new ∙ sym (held_in_front c.self.inside.front.items c.self.inside.runs.items _ c.args.new c.self.view_is none) ∙ has)))
 
-pub invariant_of-self-else-len-ge-FRONT : goal.invariant_of-self-else-len-ge-FRONT
-invariant_of-self-else-len-ge-FRONT c = (subst (λ n. IsSettled c.insert_use.new.uses.items c.self.inside.runs.items n (with c.args.self.now c.args.new)) (search rules) (runs_more c.self.inside.front.items c.insert_use.new.uses.items c.self.inside.runs.items c.self.inside.total _ c.args.new (record { is = c.self.invariant; view = c.self.view_is }) c.in_ok-insert_use.ensures.rising c.in_ok-insert_use.ensures.ok (search rules) (sym (c.any_holds.ensures ∙ ap (λ rs. list_any (eq_by_cmp use_cmp c.args.new) (all_of rs)) c.deref.ensures.value) ∙ c.if-any_holds.false))).is
+pub invariant_of-self-else-len-eq0 : goal.invariant_of-self-else-len-eq0
+invariant_of-self-else-len-eq0 c = (subst (λ n. IsSettled c.insert_use.new.uses.items c.self.inside.runs.items n (with c.args.self.now c.args.new)) (search rules) (runs_more c.self.inside.front.items c.insert_use.new.uses.items c.self.inside.runs.items c.self.inside.total _ c.args.new (record { is = c.self.invariant; view = c.self.view_is }) c.in_ok-insert_use.ensures.rising c.in_ok-insert_use.ensures.ok (search rules) (sym (c.any_holds.ensures ∙ ap (λ rs. list_any (eq_by_cmp use_cmp c.args.new) (all_of rs)) c.deref.ensures.value) ∙ c.if-any_holds.false))).is
 
-pub returns-else-len-ge-FRONT-clause-ok : goal.returns-else-len-ge-FRONT-clause-ok
-returns-else-len-ge-FRONT-clause-ok c = (runs_more c.self.inside.front.items c.insert_use.new.uses.items c.self.inside.runs.items c.self.inside.total _ c.args.new (record { is = c.self.invariant; view = c.self.view_is }) c.in_ok-insert_use.ensures.rising c.in_ok-insert_use.ensures.ok (search rules) (sym (c.any_holds.ensures ∙ ap (λ rs. list_any (eq_by_cmp use_cmp c.args.new) (all_of rs)) c.deref.ensures.value) ∙ c.if-any_holds.false)).view
+pub returns-else-len-eq0-clause-ok : goal.returns-else-len-eq0-clause-ok
+returns-else-len-eq0-clause-ok c = (runs_more c.self.inside.front.items c.insert_use.new.uses.items c.self.inside.runs.items c.self.inside.total _ c.args.new (record { is = c.self.invariant; view = c.self.view_is }) c.in_ok-insert_use.ensures.rising c.in_ok-insert_use.ensures.ok (search rules) (sym (c.any_holds.ensures ∙ ap (λ rs. list_any (eq_by_cmp use_cmp c.args.new) (all_of rs)) c.deref.ensures.value) ∙ c.if-any_holds.false)).view
 
-pub invariant_of-self-then-len-ge-FRONT : goal.invariant_of-self-then-len-ge-FRONT
-invariant_of-self-then-len-ge-FRONT c = (runs_settled c.insert_use.new.uses.items c.settle.new.front.items c.self.inside.runs.items c.settle.new.runs.items c.in-Some.total _ (subst (λ n. IsSettled c.insert_use.new.uses.items c.self.inside.runs.items n (with c.args.self.now c.args.new)) (search rules) (runs_more c.self.inside.front.items c.insert_use.new.uses.items c.self.inside.runs.items c.self.inside.total _ c.args.new (record { is = c.self.invariant; view = c.self.view_is }) c.in_ok-insert_use.ensures.rising c.in_ok-insert_use.ensures.ok (search rules) (sym (c.any_holds.ensures ∙ ap (λ rs. list_any (eq_by_cmp use_cmp c.args.new) (all_of rs)) c.deref.ensures.value) ∙ c.if-any_holds.false))) c.settle.ensures.rising c.settle.ensures.same c.settle.ensures.less).is
+pub invariant_of-self-then-len-eq0 : goal.invariant_of-self-then-len-eq0
+invariant_of-self-then-len-eq0 c = (runs_settled c.insert_use.new.uses.items c.settle.new.front.items c.self.inside.runs.items c.settle.new.runs.items c.in-Some.total _ (subst (λ n. IsSettled c.insert_use.new.uses.items c.self.inside.runs.items n (with c.args.self.now c.args.new)) (search rules) (runs_more c.self.inside.front.items c.insert_use.new.uses.items c.self.inside.runs.items c.self.inside.total _ c.args.new (record { is = c.self.invariant; view = c.self.view_is }) c.in_ok-insert_use.ensures.rising c.in_ok-insert_use.ensures.ok (search rules) (sym (c.any_holds.ensures ∙ ap (λ rs. list_any (eq_by_cmp use_cmp c.args.new) (all_of rs)) c.deref.ensures.value) ∙ c.if-any_holds.false))) c.settle.ensures.rising c.settle.ensures.same c.settle.ensures.less).is
 
-pub returns-then-len-ge-FRONT-clause-ok : goal.returns-then-len-ge-FRONT-clause-ok
-returns-then-len-ge-FRONT-clause-ok c = (runs_settled c.insert_use.new.uses.items c.settle.new.front.items c.self.inside.runs.items c.settle.new.runs.items c.in-Some.total _ (subst (λ n. IsSettled c.insert_use.new.uses.items c.self.inside.runs.items n (with c.args.self.now c.args.new)) (search rules) (runs_more c.self.inside.front.items c.insert_use.new.uses.items c.self.inside.runs.items c.self.inside.total _ c.args.new (record { is = c.self.invariant; view = c.self.view_is }) c.in_ok-insert_use.ensures.rising c.in_ok-insert_use.ensures.ok (search rules) (sym (c.any_holds.ensures ∙ ap (λ rs. list_any (eq_by_cmp use_cmp c.args.new) (all_of rs)) c.deref.ensures.value) ∙ c.if-any_holds.false))) c.settle.ensures.rising c.settle.ensures.same c.settle.ensures.less).view
+pub returns-then-len-eq0-clause-ok : goal.returns-then-len-eq0-clause-ok
+returns-then-len-eq0-clause-ok c = (runs_settled c.insert_use.new.uses.items c.settle.new.front.items c.self.inside.runs.items c.settle.new.runs.items c.in-Some.total _ (subst (λ n. IsSettled c.insert_use.new.uses.items c.self.inside.runs.items n (with c.args.self.now c.args.new)) (search rules) (runs_more c.self.inside.front.items c.insert_use.new.uses.items c.self.inside.runs.items c.self.inside.total _ c.args.new (record { is = c.self.invariant; view = c.self.view_is }) c.in_ok-insert_use.ensures.rising c.in_ok-insert_use.ensures.ok (search rules) (sym (c.any_holds.ensures ∙ ap (λ rs. list_any (eq_by_cmp use_cmp c.args.new) (all_of rs)) c.deref.ensures.value) ∙ c.if-any_holds.false))) c.settle.ensures.rising c.settle.ensures.same c.settle.ensures.less).view
 
 pub invariant_of-self-else-len-long : goal.invariant_of-self-else-len-long
 invariant_of-self-else-len-long c = (runs_same c.self.inside.front.items c.insert_use.new.uses.items c.self.inside.runs.items c.self.inside.total _ c.args.new (record { is = c.self.invariant; view = c.self.view_is }) c.in_ok-insert_use.ensures.rising c.in_ok-insert_use.ensures.ok (search rules)).is
