@@ -22,12 +22,12 @@ enum svid_status {
     SVID_OK = 0,
     SVID_TOO_SHORT = 1,      /* the text is longer than the room */
     SVID_NO_MEMORY = 2,
-    SVID_TOO_MUCH = 3,       /* an input has more than 67,108,864 bytes */
+    SVID_TOO_MUCH = 3,       /* an input of messages has more than 67,108,864 bytes; told: input */
     SVID_NOT_SUMMARY = 4,    /* the input is messages, but not one summary */
 
     /* why an input is no row of messages; told: input, message, place */
     SVID_MAGIC = 11,         /* the first four bytes are those of no version */
-    SVID_KIND = 12,          /* the fifth byte is that of no kind of message */
+    SVID_KIND = 12,          /* the fifth byte is that of no kind of message of the version */
     SVID_COUNT = 13,         /* a batch tells of too many uses */
     SVID_USE_KIND = 14,      /* the last byte of a use is neither 0 nor 1 */
     SVID_USE_EXPIRED = 15,   /* a use expires at its batch's moment or before it */

@@ -35,24 +35,30 @@ pub fn read_summary(file: &str) -> Result<Summary, Box<dyn Error>> {
     }
 }
 
-fn open(file: &str) -> Result<File, String> {
+pub fn open(file: &str) -> Result<File, String> {
     File::open(file).map_err(|error| format!("cannot open {file}: {error}"))
 }
 
-/// Hands over the messages of the input with this number, counted from 1.
-fn read_input(
-    input: usize,
-    source: impl Read,
-    each: &mut impl FnMut(Message),
-) -> Result<(), Box<dyn Error>> {
+/// The bytes of the input with this number, counted from 1.
+pub fn read_bytes(input: usize, source: impl Read) -> Result<Vec<u8>, String> {
     let mut bytes = Vec::new();
     source
         .take(MOST_BYTES + 1)
         .read_to_end(&mut bytes)
         .map_err(|error| format!("cannot read input {input}: {error}"))?;
     if bytes.len() as u64 > MOST_BYTES {
-        return Err(format!("input {input} too long").into());
+        return Err(format!("input {input} too long"));
     }
+    Ok(bytes)
+}
+
+/// Hands over the messages of the input with this number.
+fn read_input(
+    input: usize,
+    source: impl Read,
+    each: &mut impl FnMut(Message),
+) -> Result<(), Box<dyn Error>> {
+    let bytes = read_bytes(input, source)?;
     let mut rest = bytes.as_slice();
     for message in 1.. {
         if rest.is_empty() {

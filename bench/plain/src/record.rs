@@ -57,7 +57,13 @@ impl Record {
         }
     }
 
-    fn insert(&mut self, used: Use) {
+    /// Whether a use of the record that is no withdrawal has this key.
+    pub fn has(&self, key: &[u8; 32]) -> bool {
+        self.keys.contains_key(key)
+    }
+
+    /// Puts a live use into the record.
+    pub fn insert(&mut self, used: Use) {
         if self.uses.insert(used) && used.told == Told::Used {
             *self.keys.entry(used.key).or_insert(0) += 1;
         }

@@ -1,14 +1,17 @@
-//! What the inputs of `bench/run` don't show: faults, uses that expire, and digests of any length. The
-//! expected values are worked out by hand from docs/FORMATS.md, and digests by `sha256sum`.
+//! What the inputs of `bench/run` don't show: faults, uses that expire, digests of any length, and tokens that
+//! are refused. The expected values are worked out by hand from docs/FORMATS.md, and digests by `sha256sum`.
 
+use crate::base64url;
 use crate::batch::{self, Batch};
 use crate::fault::{Fault, Reason};
 use crate::hex::Hex;
+use crate::json::Json;
 use crate::message::Message;
 use crate::record::Record;
 use crate::report;
 use crate::sha256::Sha256;
 use crate::summary::Summary;
+use crate::token::{Refusal, Token};
 use crate::token_use::{Told, Use};
 
 const MAGIC: &[u8] = b"JSR\x02";
@@ -241,5 +244,114 @@ fn answers_the_buckets_that_differ() {
             panic!("no summary");
         };
         assert_eq!(asked.differing(&all), uses);
+    }
+}
+
+#[test]
+fn reads_json_and_writes_its_compact_text() {
+    let deep = |depth: usize| "[".repeat(depth) + &"]".repeat(depth);
+    let deepest = deep(127);
+    let table = [
+        (
+            r#" { "b" : [ 1 , -2 ] , "a" : { } } "#,
+            Some(r#"{"a":{},"b":[1,-2]}"#),
+        ),
+        (
+            r#"{"a":1,"a":null,"b":[true,false]}"#,
+            Some(r#"{"a":null,"b":[true,false]}"#),
+        ),
+        (
+            r#""\u0041\u001F\b\f\/\"\\\ud834\udd1e""#,
+            Some("\"A\\u001f\\b\\f/\\\"\\\\\u{1d11e}\""),
+        ),
+        ("18446744073709551615", Some("18446744073709551615")),
+        (&deepest, Some(&deepest)),
+        ("18446744073709551616", None),
+        ("-0", None),
+        ("1.5e+3", None),
+    ];
+    for (text, expected) in table {
+        let mut compact = String::new();
+        let value = Json::read(text.as_bytes()).expect(text);
+        let written = value.write_compact(&mut compact).map(|()| compact.as_str());
+        assert_eq!(written, expected, "{text}");
+    }
+    let no_json = [
+        "",
+        "01",
+        "1.",
+        ".5",
+        "1e",
+        "+1",
+        "1e999",
+        "nul",
+        "[1 2]",
+        "[1,]",
+        "{\"a\":1,}",
+        "{1:2}",
+        "\"\\x\"",
+        "\"\\ud834\"",
+        "\"\\udd1e\"",
+        "\"\\u+041\"",
+        "\"\n\"",
+        "\"",
+        "1 1",
+        &deep(128),
+    ];
+    for text in no_json {
+        assert!(Json::read(text.as_bytes()).is_none(), "{text}");
+    }
+}
+
+#[test]
+fn decodes_base64url() {
+    let table: [(&str, Option<&[u8]>); 8] = [
+        ("", Some(b"")),
+        ("Zg", Some(b"f")),
+        ("Zm8", Some(b"fo")),
+        ("Zm9v", Some(b"foo")),
+        ("-_8", Some(b"\xfb\xff")),
+        ("Zh", None),
+        ("Zm9", None),
+        ("Z", None),
+    ];
+    for (text, bytes) in table {
+        assert_eq!(
+            base64url::decode(text.as_bytes()).as_deref(),
+            bytes,
+            "{text}"
+        );
+    }
+}
+
+const TOKEN: &str = "eyJhbGciOiJFUzI1NiIsImtpZCI6ImswMSIsInR5cCI6IkpXVCJ9.eyJzdWIiOiJzcGlmZmU6Ly9hL2IiLCJhdWQiOiJzIiwiZXhwIjoxMDAxLCJqdGkiOiJqMSJ9.c2ln";
+
+#[test]
+fn asks_the_question_of_a_token() {
+    let token = Token::read(TOKEN.as_bytes()).unwrap();
+    let entry = r#"{"crv":"P-256","kid":"k01","kty":"EC","use":"jwt-svid","x":"AA","y":"AA"}"#;
+    let digests = [token.question(entry), token.key()].map(|digest| Hex(digest).to_string());
+    let expected = [
+        "bc905fb9ff409ccd144f0ea328f043d7d765a8e7d61f27505a41839950f6ed1e",
+        "aa248ce528cb9cae518c0ae05cdaf85eda5482429ab9cc3d6d5681f47a1f4596",
+    ];
+    assert_eq!(digests, expected);
+}
+
+#[test]
+fn refuses_tokens() {
+    let (signed, _) = TOKEN.rsplit_once('.').unwrap();
+    let (header, _) = signed.split_once('.').unwrap();
+    let table = [
+        (format!("{header}.e30"), Refusal::NotThreeParts),
+        ("e30.e30.c2ln".to_string(), Refusal::Alg),
+        (format!("{signed}."), Refusal::SignatureSpelling),
+        (format!("{signed}.c2lo="), Refusal::SignatureSpelling),
+        (format!("{header}.e30.c2ln"), Refusal::Sub),
+        (format!("{header}.W10.c2ln"), Refusal::PayloadNotObject),
+        ("a".repeat(65_537), Refusal::TooLong),
+    ];
+    for (text, refusal) in table {
+        assert_eq!(Token::read(text.as_bytes()).err(), Some(refusal));
     }
 }

@@ -1,9 +1,11 @@
 -- The lines of a text, one at a time.
-use Rattle.std.proofs.Common.{◌≡◌, ◌≢◌, ◌==◌, ℕ, Bool, true, false, if◌then◌else◌, List, [], ◌∷◌, ◌++◌, All, map, inl, inr, refl, ap, eqb-true, ◌∙◌}
-use Rattle.std.proofs.lemmas.Bool.{ne_eqb}
-use Rattle.std.proofs.lemmas.List.Elements.{All-weaker}
+use Rattle.std.proofs.Common.{◌≡◌, ◌≢◌, ◌==◌, ◌+◌, ℕ, Bool, true, false, if◌then◌else◌, List, [], ◌∷◌, ◌++◌, All, length, take, drop, map, Some, inl, inr, refl, ap, sym, arith, ◌∙◌}
+use Rattle.std.proofs.lemmas.Bool.{eq-eqb, eqb-true, ne_eqb}
+use Rattle.std.proofs.lemmas.List.{drop_more, get_or-take, length-take-le, take-append-drop}
+use Rattle.std.proofs.lemmas.List.Elements.{All-from_get_or, All-weaker}
 use Rattle.std.proofs.lemmas.List.Splits.{slice_split_at, slice_split_none}
 use Rattle.std.specs.List.{AllByRecursion, AllZip, join_with_byte}
+use Rattle.memchr.specs.Find.{IsFirstByte, is_byte}
 use Rattle.svid_keys.specs.Lines.{HasNoFeed, IsPieceOf, carriage_return, line_feed, lines_of, pieces_of, without_return}
 
 whole : (bytes : List ℕ) → HasNoFeed bytes → All (λ b. (b == line_feed) ≡ false) bytes
@@ -18,6 +20,18 @@ pub lines_of-first : (text line rest : List ℕ) → HasNoFeed line → text ≡
     → lines_of text ≡ without_return line ∷ lines_of rest
 lines_of-first text line rest none is =
     ap lines_of is ∙ ap (map without_return) (slice_split_at _ line line_feed rest (whole line none) refl)
+
+-- a text is cut at the first line feed
+pub cut_at_feed : (text : List ℕ) (at : ℕ) → IsFirstByte (is_byte line_feed) text (Some at)
+    → HasNoFeed (take at text) × (text ≡ take at text ++ line_feed ∷ drop (at + 1) text)
+cut_at_feed text at found =
+    let first = found.0 in
+    let long : length (take at text) ≡ at = length-take-le at text (omega (arith, first.high)) in
+    let none : HasNoFeed (take at text) = All-from_get_or (λ b. b ≢ line_feed) (take at text) 0
+    (λ i within is. first.before i (omega arith) (omega arith) (eq-eqb _ _ (sym (get_or-take at text i 0 (omega arith)) ∙ is))) in
+    let cut : drop at text ≡ line_feed ∷ drop (at + 1) text =
+    drop_more text at 0 first.high ∙ ap (λ b. b ∷ drop (at + 1) text) (eqb-true _ _ found.1) in
+    (none, sym (take-append-drop at text) ∙ ap (λ rest. take at text ++ rest) cut)
 
 -- a carriage return at the end is no part of the line
 pub without_return-return : (front : List ℕ) → without_return (front ++ carriage_return ∷ []) ≡ front

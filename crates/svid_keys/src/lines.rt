@@ -1,6 +1,8 @@
 ghost use Rattle.std.specs.Prelude.{◌≡◌, ◌∷◌, ◌++◌, MatchOption};
 ghost use Rattle.svid_keys.specs.Lines.{HasNoFeed, line_feed, without_return};
 
+use memchr::memchr;
+
 const LINE_FEED: u8 = b'\n';
 
 const CARRIAGE_RETURN: u8 = b'\r';
@@ -50,11 +52,12 @@ impl<'a> Iterator for Lines<'a> {
 }
 
 // What stands before and after the first line feed.
+#[tactic(auto, using(crate::proofs::LinesLemmas::cut_at_feed))]
 fn split_feed(bytes: &[u8]) -> Option<(&[u8], &[u8])>
     ensures { MatchOption result (HasNoFeed bytes.now)
         (λ x. HasNoFeed x.0.now × (bytes.now ≡ x.0.now ++ line_feed ∷ x.1.now)) }
 {
-    let at = bytes.iter().position(|byte| *byte == LINE_FEED)?;
+    let at = memchr(LINE_FEED, bytes)?;
     let (before, _) = bytes.split_at(at);
     let (_, after) = bytes.split_at(at + 1);
     Some((before, after))

@@ -64,7 +64,8 @@ fn answer(alloc: Global, text: &[u8]) -> Result<(bool, String), AllocError>
 
 /// Writes the parts of the SPIFFE ID that the text is, or why it is none; and says whether it is one.
 ///
-/// Answers `Write` where the sink stopped, and `OutOfMemory`; then nothing was written.
+/// Refused for want of memory, and then nothing was written; and where the sink stopped (`Write`), and then a
+/// part of the answer went out.
 pub fn run_id<K: Sink>(alloc: Global, text: &[u8], out: &mut K) -> Result<bool, ToolFault>
     ensures accepted { IfOk result (λ accepted. accepted ≡ is_id text.now) }
     ensures answer { IfOk result (λ _. TookAll (taken K.told K.stops out.old out.new) (id_answer text.now)) }

@@ -2,7 +2,10 @@
 //! and whether a validator accepts the tokens of a text.
 //!
 //! An engine is generic over the sources it reads and the sinks it writes to, and its contract says
-//! what it writes of what it reads, which fault it answers, and what it leaves as it was.
+//! what it writes of what it reads, which fault it answers, and what it leaves as it was. [`run_id`]
+//! writes the parts of an ID, [`run_candidates`] the questions for the first token of its lines, and
+//! [`run_check`] the verdicts on all tokens of its lines, as a [`CheckSetting`] says. [`token_lines`] has
+//! the questions for one token, without sources and sinks.
 //!
 //! ```rust
 //! use svid_lines::run_id;

@@ -4,10 +4,12 @@ pub mod IndexedLemmas
 pub mod KeysLemmas
 pub mod ListLemmas
 pub mod MergeLemmas
+pub mod NumbersLemmas
 pub mod PartsLemmas
 pub mod RecordsLemmas
 pub mod RunsLemmas
 pub mod SetsLemmas
+pub mod StaleLemmas
 pub mod TestsLemmas
 pub mod TwiceLemmas
 pub mod UseLemmas

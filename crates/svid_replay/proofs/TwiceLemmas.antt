@@ -1,11 +1,14 @@
-use Rattle.std.proofs.Common.{◌≡◌, ℕ, ◌<◌, ◌+◌, suc, Bool, true, false, cond, not, ◌&&◌, ◌||◌, List, [], ◌∷◌, ◌++◌, map, length, take, drop, refl, sym, ◌∙◌, ap, subst, T, arith, nat_lt, Some, None, slice_get, All, Contains}
+use Rattle.std.proofs.Common.{◌≡◌, ◌⊎◌, ⊎_elim, ℕ, ◌<◌, ◌+◌, suc, Bool, true, false, cond, not, ◌&&◌, ◌||◌, List, [], ◌∷◌, ◌++◌, map, length, take, drop, refl, sym, ◌∙◌, ap, subst, T, arith, nat_lt, Some, None, slice_get, All, Contains}
 use Rattle.std.specs.FinMap.{IsAntisymmetric, slice_cmp-IsAntisymmetric, nat_cmp-IsAntisymmetric}
 use Rattle.std.specs.Cmp.{IsTotalOrder}
 use Rattle.std.proofs.lemmas.Cmp.{nat_list_cmp_total, tied_itself, alike_right}
 use Rattle.std.specs.List.{AllByRecursion, list_any, filter, prefix_len}
 use Rattle.std.specs.List.Sorted.{IsStrictlySortedBy, IsSortedByKey, IsStableByKey, ties}
 use Rattle.std.proofs.lemmas.List.Sorted.{sorted_far, ranks_by}
-use Rattle.std.proofs.lemmas.List.Elements.{All-contains_itself, All-filter, All-map, recursion_from_All, filter_agree, filter-append}
+use Rattle.std.proofs.lemmas.Bool.{false≢true}
+use Rattle.std.proofs.lemmas.Bool.Decides.{nat_tests}
+use Rattle.std.proofs.lemmas.Map.Views.{any-filter_same}
+use Rattle.std.proofs.lemmas.List.Elements.{filter_passes, All-contains_itself, All-filter, All-map, recursion_from_All, filter_agree, filter-append}
 use Rattle.std.proofs.lemmas.List.Kept.{IsStrictlySortedBy-filter}
 use Rattle.std.proofs.lemmas.List.{length-drop, append-nil, append_assoc, map-append, take-append-drop}
 use Rattle.std.proofs.lemmas.List.Folds.{list_any-append}
@@ -33,7 +36,7 @@ pub record HasListed (sorted rest : List Use) (listed : List Twice) : Type 0 whe
 key_total : IsTotalOrder bytes_cmp
 key_total = nat_list_cmp_total
 
-key_exact : IsAntisymmetric bytes_cmp
+pub key_exact : IsAntisymmetric bytes_cmp
 key_exact = slice_cmp-IsAntisymmetric nat_cmp-IsAntisymmetric
 
 -- ---- what a sort by key gives
@@ -240,13 +243,36 @@ lists_nothing sorted left listed first group others h is few =
     let more = lists_more sorted left listed first group others h is in
     subst (HasListed sorted others) (append-nil listed) (rw few at more)
 
--- ---- the lists that two orders of the same uses give
-same-keys : (us vs : List Use) → ((key : List ℕ) → uses_of key us ≡ uses_of key vs) → keys_of us ≡ keys_of vs
-same-keys us vs is = same-keys_of us (keys_of vs) (keys_of_rises vs) (λ q. any-filter (has_key q) us ∙ ap (λ xs. nat_lt 0 (length xs)) (is q) ∙ sym (any-filter (has_key q) vs) ∙ sym (any-keys_of vs q))
+-- ---- the lists that two lists of uses give
+abbrev is_twice_in : List Use → List ℕ → Bool
+is_twice_in us key = nat_lt 1 (length (uses_of key us))
 
-pub same-twice_of : (us vs : List Use) → ((key : List ℕ) → uses_of key us ≡ uses_of key vs) → twice_of us ≡ twice_of vs
+abbrev twice_keys : List Use → List (List ℕ)
+twice_keys us = filter (is_twice_in us) (keys_of us)
+
+entries_that : (us : List Use) (ks : List (List ℕ)) → filter two (map (entry us) ks) ≡ map (entry us) (filter (is_twice_in us) ks)
+entries_that us [] = refl
+entries_that us (k ∷ ks) =
+    elim (nat_lt 1 (length (uses_of k us))) as (λ b. cond b (entry us k ∷ filter two (map (entry us) ks)) (filter two (map (entry us) ks)) ≡ map (entry us) (cond b (k ∷ filter (is_twice_in us) ks) (filter (is_twice_in us) ks))) [
+      | true ↦ ap (λ xs. entry us k ∷ xs) (entries_that us ks)
+      | false ↦ entries_that us ks
+    ]
+
+more_than_one : (n : ℕ) → (nat_lt 1 n && nat_lt 0 n) ≡ nat_lt 1 n
+more_than_one n = grind (arith, nat_tests)
+
+any-twice_keys : (us : List Use) (q : List ℕ) → list_any (eq_by_cmp bytes_cmp q) (twice_keys us) ≡ is_twice_in us q
+any-twice_keys us q =
+    any-filter_same (eq_by_cmp bytes_cmp q) (is_twice_in us) (is_twice_in us q) (λ k e. ap (is_twice_in us) (sym (key_exact q k (equal _ e)))) (keys_of us) ∙ ap (λ b. is_twice_in us q && b) (any-keys_of us q ∙ any-filter (has_key q) us) ∙ more_than_one (length (uses_of q us))
+
+-- only the keys that more than one use has count
+pub same-twice_of : (us vs : List Use) → ((key : List ℕ) → (uses_of key us ≡ uses_of key vs) ⊎ ((is_twice_in us key ≡ false) × (is_twice_in vs key ≡ false))) → twice_of us ≡ twice_of vs
 unfolding twice_of
-same-twice_of us vs is = ap (λ ks. filter two (map (entry us) ks)) (same-keys us vs is) ∙ ap (filter two) (same_map (entry us) (entry vs) (keys_of vs) (each_true (λ q. entry us q ≡ entry vs q) (λ q. ap (λ xs. record { key = q; uses = xs }) (is q)) (keys_of vs)))
+same-twice_of us vs is =
+    let keys : twice_keys us ≡ twice_keys vs = same_rising key_total key_exact (twice_keys us) (twice_keys vs) (IsStrictlySortedBy-filter bytes_cmp (is_twice_in us) (keys_of us) (keys_of_rises us)) (IsStrictlySortedBy-filter bytes_cmp (is_twice_in vs) (keys_of vs) (keys_of_rises vs)) (λ q.
+    any-twice_keys us q ∙ ⊎_elim (λ e. ap (λ xs. nat_lt 1 (length xs)) e) (λ few. few.0 ∙ sym few.1) (is q) ∙ sym (any-twice_keys vs q)) in
+    let each : AllByRecursion (λ k. entry us k ≡ entry vs k) (twice_keys vs) = each_weaker (λ k. is_twice_in vs k ≡ true) (λ k. entry us k ≡ entry vs k) (λ k many. ⊎_elim (λ e. ap (λ xs. record { key = k; uses = xs }) e) (λ few. absurd (false≢true (sym few.1 ∙ many))) (is k)) (twice_keys vs) (recursion_from_All _ (twice_keys vs) (filter_passes (is_twice_in vs) (keys_of vs))) in
+    entries_that us (keys_of us) ∙ ap (map (entry us)) keys ∙ same_map (entry us) (entry vs) (twice_keys vs) each ∙ sym (entries_that vs (keys_of vs))
 
 key_in : (ks : List (List ℕ)) (key : List ℕ) → list_any (eq_by_cmp bytes_cmp key) ks ≡ true → Contains ks key
 key_in ks key any = found (Contains ks) (eq_by_cmp bytes_cmp key) (Contains ks key) ks (recursion_from_All (Contains ks) ks (All-contains_itself ks)) any (λ k has e. subst (Contains ks) (sym (key_exact key k (equal _ e))) has)

@@ -44,6 +44,10 @@ differs s uses u = not (is_eq (bytes_cmp (bucket_digest (bucket_of u) uses) (sli
 unfoldable pub stale : SummaryData → Uses → Uses
 stale s uses = keep (differs s uses) uses
 
+-- of a record, the uses of all buckets whose digest differs from the summary's, at the record's moment
+abbrev pub stale_part : SummaryData → State → State
+stale_part s r = record { moment = r.moment; uses = stale s r.uses }
+
 -- a record raised to a moment
 abbrev pub raised_to : State → ℕ → State
 raised_to r moment = join r (state_of moment [])

@@ -66,7 +66,7 @@ pub(crate) fn digests_of<S: UseStore>(store: &S) -> [[u8; 32]; 256]
 }
 
 // Whether the digest of the use's bucket is another than the summary's.
-fn differs(digests: &[[u8; 32]; 256], summary: &Summary, used: &Use) -> bool
+pub(crate) fn differs(digests: &[[u8; 32]; 256], summary: &Summary, used: &Use) -> bool
     ensures { (uses : Uses) → digests.now ≡ digests_of uses → result ≡ differs summary.now uses used.now }
 {
     let bucket = bucket_of(used);

@@ -7,8 +7,9 @@ ghost use Rattle.svid_replay.specs.Runs.{HasBits, mask_of, place_of};
 use crate::Use;
 use std::alloc::{AllocError, Global};
 
+/// The number whose bytes are the first 8, the greatest first.
 #[inline]
-fn number(bytes: &[u8]) -> u64
+pub(crate) fn number(bytes: &[u8]) -> u64
     requires { 8 ≤ length bytes.now }
     ensures { result ≡ from_be_bytes w64 (take 8 bytes.now) }
 {

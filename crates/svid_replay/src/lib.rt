@@ -7,8 +7,8 @@
 //! both sides those that expire after it. So records may be merged in any order, any number of times,
 //! and come out the same ([`laws`]). Where memory is refused on the way, the record is the join with
 //! a part that the contract names. Of the stores [`SortedUses`] is for few uses, or uses that come in
-//! their order, [`IndexedUses`] for many and for look-ups by key, and [`RunUses`] for very many: it takes
-//! them in sooner, but a few of its inserts move most of them.
+//! their order, [`IndexedUses`] for many where no insert may be long, and [`RunUses`] for many that are
+//! all to be taken in soon: a few of its inserts move most of them.
 //!
 //! Two records that mostly agree need not tell each other all: a [`Summary`] has a digest for each of
 //! 256 buckets, one for each first byte of a key, and a record answers one with all uses of the buckets
@@ -51,11 +51,13 @@ mod key_first;
 mod keys;
 pub mod laws;
 mod layout;
+mod numbers;
 mod parts;
 mod record;
 mod run;
 mod run_uses;
 mod sorted;
+mod stale;
 mod store;
 mod summary;
 #[cfg(test)]
@@ -73,6 +75,7 @@ pub use layout::{MOST_USES, USE_LEN};
 pub use record::Record;
 pub use run_uses::RunUses;
 pub use sorted::SortedUses;
+pub use stale::Stale;
 pub use store::{Raised, UseStore};
 pub use summary::Summary;
 pub use token_use::Use;

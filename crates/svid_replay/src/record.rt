@@ -1,5 +1,7 @@
-ghost use Rattle.std.specs.Prelude.{◌≡◌, ◌↔◌, ◌+◌, ◌<◌, ◌≤◌, [], ◌∷◌, false, IsTrue, IsOk, IfOk, OnOk, OnErr};
-ghost use Rattle.svid_replay.specs.Buckets.{answer_to, raised_to, summary_of};
+ghost use Rattle.std.specs.Prelude.{◌≡◌, ◌↔◌, ◌+◌, ◌<◌, ◌≤◌, [], ◌∷◌, false, filter, map, IsTrue, IsOk, IfOk, OnOk, OnErr};
+ghost use Rattle.std.specs.List.Sorted.{IsNonDecreasing};
+ghost use Rattle.svid_replay.specs.Buckets.{answer_to, raised_to, stale_part, summary_of};
+ghost use Rattle.svid_replay.specs.Numbers.{is_among, number_of};
 ghost use Rattle.svid_replay.specs.Parts.{cut};
 ghost use Rattle.svid_replay.specs.Records.{HasNoNew, IsPartlyJoined, IsRecord, batch_state, join, state_of};
 ghost use Rattle.svid_replay.specs.Sets.{holds, rising};
@@ -7,7 +9,9 @@ ghost use Rattle.svid_replay.specs.Twice.{IsTwice, twice_of, used};
 ghost use Rattle.svid_replay.specs.Uses.{count, has_use_of, has_withdrawal_of, next_above, no_uses};
 
 use crate::buckets::{digests_of, stale_uses};
+use crate::numbers::{is_among, number_of, repeated};
 use crate::parts::cut;
+use crate::stale::Stale;
 use crate::store::{Raised, UseStore};
 use crate::twice::twice_in;
 use crate::{Batch, Summary, Twice, Use};
@@ -171,14 +175,28 @@ impl<S: UseStore> Record<S> {
         Ok(uses)
     }
 
-    // the uses that are no withdrawals, rising
-    fn used(&self, alloc: Global) -> Result<Vec<Use>, AllocError>
-        ensures { IfOk result (λ uses. uses.items ≡ used (rising self.now.uses)) }
+    // the numbers that the keys of the uses begin with
+    fn numbers(&self, alloc: Global) -> Result<Vec<u64>, AllocError>
+        ensures { IfOk result (λ numbers. numbers.items ≡ map (λ u. number_of u.key) (rising self.now.uses)) }
+    {
+        let mut numbers = Vec::with_capacity(alloc, self.len())?;
+        let mut after = None;
+        while let Some(used) = self.next_after(after) {
+            numbers.push(number_of(&used))?;
+            after = Some(used);
+        }
+        Ok(numbers)
+    }
+
+    // the uses that are no withdrawals and whose keys have these numbers, rising
+    fn used_among(&self, alloc: Global, numbers: &[u64]) -> Result<Vec<Use>, AllocError>
+        requires { IsNonDecreasing numbers.now }
+        ensures { IfOk result (λ uses. uses.items ≡ filter (is_among numbers.now) (rising self.now.uses)) }
     {
         let mut uses = Vec::new(alloc);
         let mut after = None;
         while let Some(used) = self.next_after(after) {
-            if !used.withdrawn {
+            if is_among(numbers, &used) {
                 uses.push(used)?;
             }
             after = Some(used);
@@ -189,13 +207,16 @@ impl<S: UseStore> Record<S> {
     /// The keys that two or more of the record's uses have, rising, each with all its uses. A withdrawal
     /// is none of them.
     ///
-    /// Takes about n log n steps for n uses.
+    /// Looks at each use twice, and takes about n log n steps for n uses. Beside what it answers it holds
+    /// 8 bytes a use, and then one copy of the uses whose keys begin with 8 bytes that another key of the
+    /// record begins with too, or that two of its uses have.
     pub fn report(&self, alloc: Global) -> Result<Vec<Twice>, AllocError>
         ensures value { IfOk result (λ listed. listed.items ≡ twice_of (used (rising self.now.uses))) }
         ensures relation { IfOk result (λ listed. IsTwice (used (rising self.now.uses)) listed.items) }
     {
-        let uses = self.used(alloc)?;
-        twice_in(alloc, &uses)
+        let numbers = repeated(alloc, self.numbers(alloc)?)?;
+        let uses = self.used_among(alloc, &numbers)?;
+        twice_in(alloc, uses)
     }
 
     /// The record as batches of its moment, which hold its uses in rising order: 65,536 in each but the
@@ -215,6 +236,15 @@ impl<S: UseStore> Record<S> {
         ensures { result ≡ summary_of self.now }
     {
         Summary::make(self.moment, digests_of(&self.store))
+    }
+
+    /// The uses of all buckets whose digest differs from the summary's, to be walked. The record is not raised.
+    ///
+    /// Takes no memory, and looks at each use once.
+    pub fn stale<'a>(&'a self, summary: &'a Summary) -> Stale<'a, S>
+        ensures { result ≡ stale_part summary.now self.now }
+    {
+        Stale::of(self, summary, digests_of(&self.store))
     }
 
     /// Raises the record to the summary's moment, and answers the uses of all buckets whose digest then

@@ -1,7 +1,6 @@
 ghost use Rattle.std.specs.Prelude.{◌≡◌, ℕ, List, IfOk, take, drop, length, nat_lt};
 ghost use Rattle.std.specs.List.{prefix_len};
-ghost use Rattle.svid_replay.specs.Use.{IsRising};
-ghost use Rattle.svid_replay.specs.Twice.{IsKeySorted, IsTwice, has_key, twice_of, uses_of, withdraws};
+ghost use Rattle.svid_replay.specs.Twice.{IsKeySorted, has_key, twice_of, uses_of, withdraws};
 
 use crate::{Use, UseList};
 use std::alloc::{AllocError, Global};
@@ -43,11 +42,11 @@ fn split_key<'a>(key: &[u8; 32], uses: &'a [Use]) -> (&'a [Use], &'a [Use])
     uses.split_at(count)
 }
 
-fn sorted_by_key(alloc: Global, uses: &[Use]) -> Result<Vec<Use>, AllocError>
+fn sorted_by_key(uses: Vec<Use>) -> Result<Vec<Use>, AllocError>
     ensures sorted { IfOk result (λ sorted. IsKeySorted sorted.items) }
-    ensures stable { IfOk result (λ sorted. (key : List ℕ) → uses_of key sorted.items ≡ uses_of key uses.now) }
+    ensures stable { IfOk result (λ sorted. (key : List ℕ) → uses_of key sorted.items ≡ uses_of key uses.items) }
 {
-    let mut sorted = uses.to_vec(alloc)?;
+    let mut sorted = uses;
     sorted.sort_by_key(
         |used: &Use| -> [u8; 32]
             ensures { result ≡ used.now.key }
@@ -77,11 +76,9 @@ fn list_groups(alloc: Global, sorted: &[Use]) -> Result<Vec<Twice>, AllocError>
 }
 
 // The keys that two or more of these uses have, rising, each with all its uses in their order.
-pub(crate) fn twice_in(alloc: Global, uses: &[Use]) -> Result<Vec<Twice>, AllocError>
-    requires { IsRising uses.now }
-    ensures value { IfOk result (λ listed. listed.items ≡ twice_of uses.now) }
-    ensures relation { IfOk result (λ listed. IsTwice uses.now listed.items) }
+pub(crate) fn twice_in(alloc: Global, uses: Vec<Use>) -> Result<Vec<Twice>, AllocError>
+    ensures { IfOk result (λ listed. listed.items ≡ twice_of uses.items) }
 {
-    let sorted = sorted_by_key(alloc, uses)?;
+    let sorted = sorted_by_key(uses)?;
     list_groups(alloc, &sorted)
 }

@@ -46,9 +46,9 @@ summarized inputs summary first second new joins is = record {
 }
 
 -- the answer of what a new record is after all inputs were joined
-pub answered : (inputs : List Drawn) (asked : SummaryData) (batches : List BatchData) (first second : State) → first ≡ state_of 0 [] → JoinsAll inputs first second → batches ≡ answer_to second asked → IsDue (answer_due asked) inputs (flat_map batch_text batches)
-answered inputs asked batches first second new joins is = record {
+pub answered : (inputs : List Drawn) (asked : SummaryData) (first second : State) → first ≡ state_of 0 [] → JoinsAll inputs first second → IsDue (answer_due asked) inputs (flat_map batch_text (answer_to second asked))
+answered inputs asked first second new joins = record {
   told = joins.told;
   whole = joins.whole;
-  is = ap (flat_map batch_text) (is ∙ ap (λ r. answer_to r asked) (all_joined inputs first second new joins));
+  is = ap (λ r. flat_map batch_text (answer_to r asked)) (all_joined inputs first second new joins);
 }

@@ -1,31 +1,47 @@
-ghost use Rattle.std.specs.Prelude.{◌≡◌, ◌≢◌, OnOk, IfOk, IfErr};
+ghost use Rattle.std.specs.Prelude.{◌≡◌, ◌≢◌, OnOk, OnErr, IfOk, IfErr};
 ghost use Rattle.std.specs.List.{flat_map};
+ghost use Rattle.svid_replay.specs.Buckets.{answer_to, raised_to};
+ghost use Rattle.svid_replay.specs.Summary.{SummaryData};
 ghost use Rattle.svid_wire.specs.BatchText.{batch_text};
-ghost use Rattle.svid_wire.specs.Streams.{drawn, taken};
+ghost use Rattle.svid_wire.specs.Streams.{TookAll, TookPart, drawn, taken};
 ghost use Rattle.svid_share.specs.Answer.{IsAnswerFault, IsAnswered, answer_due, behind_one};
 ghost use Rattle.svid_share.specs.Inputs.{IsJoinFault, inputs_of, sources};
 ghost use Rattle.svid_share.specs.Written.{IsDue};
+ghost use Rattle.svid_share.specs.declared.tool_fault.ToolFault.TheVariants.{Write};
 
 use crate::ToolFault;
-use crate::batches::put_batches;
 use crate::inputs::join_inputs;
 use crate::one_summary::read_summary;
+use crate::parts::put_walked;
 use std::alloc::Global;
-use svid_replay::{Batch, Record, RunUses, Summary};
+use svid_replay::{Record, RunUses, Summary, UseStore};
 use svid_wire::{Sink, Source};
 
-// The answer to a summary, of what all inputs tell.
-fn answer_of_inputs<S: Source>(
-    alloc: Global,
-    inputs: &mut [S],
+/// Raises a record to the summary's moment, and writes its answer: the uses of all buckets whose digest then
+/// differs from the summary's, as batches; as [`run_answer`] does. Answers `Write` where the sink stopped, and
+/// then a part of them went out. Takes no memory.
+pub fn put_answer<T: UseStore, K: Sink>(
+    state: &mut Record<T>,
     asked: &Summary,
-) -> Result<Vec<Batch>, ToolFault>
-    ensures ok { IfOk result (λ batches. IsDue (answer_due asked.now) (inputs_of (sources S.left S.stops inputs.old inputs.new)) (flat_map batch_text batches.items)) }
+    out: &mut K,
+) -> Result<(), ToolFault>
+    ensures raised { state.new ≡ raised_to state.old asked.now.moment }
+    ensures ok { OnOk result (TookAll (taken K.told K.stops out.old out.new) (flat_map batch_text (answer_to state.old asked.now))) }
+    ensures fault { IfErr result (λ e. e ≡ Write) }
+    ensures part { OnErr result (TookPart (taken K.told K.stops out.old out.new) (flat_map batch_text (answer_to state.old asked.now))) }
+{
+    state.raise(asked.moment());
+    put_walked(&state.stale(asked), out)
+}
+
+// What all inputs tell: its answer to any summary is the one that is due.
+fn join_all<S: Source>(alloc: Global, inputs: &mut [S]) -> Result<Record<RunUses>, ToolFault>
+    ensures ok { IfOk result (λ r. (asked : SummaryData) → IsDue (answer_due asked) (inputs_of (sources S.left S.stops inputs.old inputs.new)) (flat_map batch_text (answer_to r asked))) }
     ensures fault { IfErr result (IsJoinFault (sources S.left S.stops inputs.old inputs.new)) }
 {
     let mut record = Record::new(RunUses::new(alloc));
     join_inputs(alloc, inputs, &mut record)?;
-    Ok(record.answer(alloc, asked)?)
+    Ok(record)
 }
 
 // The fault of inputs before which one more stands.
@@ -74,8 +90,8 @@ pub fn run_answer<Z: Source, S: Source, K: Sink>(
     ensures kept { IfErr result (λ fault. fault ≢ ToolFault.Write → out.new ≡ out.old) }
 {
     let asked = read_summary(alloc, summary, 1)?;
-    match answer_of_inputs(alloc, inputs, &asked) {
-        Ok(batches) => put_batches(out, &batches),
+    match join_all(alloc, inputs) {
+        Ok(mut record) => put_answer(&mut record, &asked, out),
         Err(fault) => Err(behind_one(fault)),
     }
 }

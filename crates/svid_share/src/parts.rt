@@ -10,25 +10,26 @@ ghost use Rattle.svid_share.specs.declared.tool_fault.ToolFault.TheVariants.{Wri
 
 use crate::ToolFault;
 use crate::page::Page;
+use crate::walked::Walked;
 use svid_replay::{MOST_USES, Record, Use, UseStore};
 use svid_wire::{Sink, batch_head};
 
 // The texts of so many uses behind one of them; answers the last.
-fn put_uses<T: UseStore, K: Sink>(
+fn put_uses<W: Walked, K: Sink>(
     page: &mut Page,
-    state: &Record<T>,
+    walked: &W,
     after: Option<Use>,
     count: usize,
     out: &mut K,
 ) -> Result<Option<Use>, ToolFault>
-    requires { count ≤ length (behind after (rising state.now.uses)) }
-    ensures ok { IfOk result (PassesUses (taken K.told K.stops out.old out.new) page.old page.new (rising state.now.uses) after count) }
+    requires { count ≤ length (behind after (rising (W.state walked.now).uses)) }
+    ensures ok { IfOk result (PassesUses (taken K.told K.stops out.old out.new) page.old page.new (rising (W.state walked.now).uses) after count) }
     ensures fault { IfErr result (λ e. e ≡ Write) }
-    ensures part { OnErr result (TookPart (taken K.told K.stops out.old out.new) (page.old ++ next_texts (rising state.now.uses) after count)) }
+    ensures part { OnErr result (TookPart (taken K.told K.stops out.old out.new) (page.old ++ next_texts (rising (W.state walked.now).uses) after count)) }
 {
     let mut last = after;
     for _ in 0..count {
-        if let Some(used) = state.next_after(last) {
+        if let Some(used) = walked.next_after(last) {
             page.put(out, &used.text())?;
             last = Some(used);
         }
@@ -37,41 +38,49 @@ fn put_uses<T: UseStore, K: Sink>(
 }
 
 // The batch of so many uses behind one of them; answers the last.
-fn put_batch<T: UseStore, K: Sink>(
+fn put_batch<W: Walked, K: Sink>(
     page: &mut Page,
-    state: &Record<T>,
+    walked: &W,
     after: Option<Use>,
     count: usize,
     out: &mut K,
 ) -> Result<Option<Use>, ToolFault>
-    requires there { count ≤ length (behind after (rising state.now.uses)) }
+    requires there { count ≤ length (behind after (rising (W.state walked.now).uses)) }
     requires few { count ≤ 65536 }
-    ensures ok { IfOk result (PassesBatch (taken K.told K.stops out.old out.new) page.old page.new state.now.moment (rising state.now.uses) after count) }
+    ensures ok { IfOk result (PassesBatch (taken K.told K.stops out.old out.new) page.old page.new (W.state walked.now).moment (rising (W.state walked.now).uses) after count) }
     ensures fault { IfErr result (λ e. e ≡ Write) }
-    ensures part { OnErr result (TookPart (taken K.told K.stops out.old out.new) (page.old ++ batch_text (next_batch state.now.moment (rising state.now.uses) after count))) }
+    ensures part { OnErr result (TookPart (taken K.told K.stops out.old out.new) (page.old ++ batch_text (next_batch (W.state walked.now).moment (rising (W.state walked.now).uses) after count))) }
 {
-    page.put(out, &batch_head(state.moment(), count as u32))?;
-    let last = put_uses(page, state, after, count, out)?;
+    page.put(out, &batch_head(walked.moment(), count as u32))?;
+    let last = put_uses(page, walked, after, count, out)?;
     Ok(last)
 }
 
-// The texts of a record's parts, as they are walked.
-fn put_parts<T: UseStore, K: Sink>(
-    page: &mut Page,
-    state: &Record<T>,
-    out: &mut K,
-) -> Result<(), ToolFault>
-    ensures ok { OnOk result (Passes (taken K.told K.stops out.old out.new) page.old (flat_map batch_text (parts_of state.now)) page.new) }
+// The texts of the parts of what is walked.
+fn put_parts<W: Walked, K: Sink>(page: &mut Page, walked: &W, out: &mut K) -> Result<(), ToolFault>
+    ensures ok { OnOk result (Passes (taken K.told K.stops out.old out.new) page.old (flat_map batch_text (parts_of (W.state walked.now))) page.new) }
     ensures fault { IfErr result (λ e. e ≡ Write) }
-    ensures part { OnErr result (TookPart (taken K.told K.stops out.old out.new) (page.old ++ flat_map batch_text (parts_of state.now))) }
+    ensures part { OnErr result (TookPart (taken K.told K.stops out.old out.new) (page.old ++ flat_map batch_text (parts_of (W.state walked.now)))) }
 {
-    let mut left = state.len();
+    let mut left = walked.count();
     let mut after = None;
     while left > MOST_USES {
-        after = put_batch(page, state, after, MOST_USES, out)?;
+        after = put_batch(page, walked, after, MOST_USES, out)?;
         left -= MOST_USES;
     }
-    put_batch(page, state, after, left, out)?;
+    put_batch(page, walked, after, left, out)?;
+    Ok(())
+}
+
+// All parts of what is walked, to the last byte.
+pub(crate) fn put_walked<W: Walked, K: Sink>(walked: &W, out: &mut K) -> Result<(), ToolFault>
+    ensures ok { OnOk result (TookAll (taken K.told K.stops out.old out.new) (flat_map batch_text (parts_of (W.state walked.now)))) }
+    ensures fault { IfErr result (λ e. e ≡ Write) }
+    ensures part { OnErr result (TookPart (taken K.told K.stops out.old out.new) (flat_map batch_text (parts_of (W.state walked.now)))) }
+{
+    let mut page = Page::new();
+    put_parts(&mut page, walked, out)?;
+    page.flush(out)?;
     Ok(())
 }
 
@@ -82,8 +91,5 @@ pub fn put_record<T: UseStore, K: Sink>(state: &Record<T>, out: &mut K) -> Resul
     ensures fault { IfErr result (λ e. e ≡ Write) }
     ensures part { OnErr result (TookPart (taken K.told K.stops out.old out.new) (record_text state.now)) }
 {
-    let mut page = Page::new();
-    put_parts(&mut page, state, out)?;
-    page.flush(out)?;
-    Ok(())
+    put_walked(state, out)
 }

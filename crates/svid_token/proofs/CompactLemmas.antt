@@ -1,8 +1,10 @@
 -- A token cut at each period: how many parts there are.
-use Rattle.std.proofs.Common.{◌≡◌, ◌≢◌, ◌==◌, ℕ, ◌+◌, ◌<◌, Bool, true, false, cond, List, [], ◌∷◌, ◌++◌, length, take, All, Some, None, refl, ap, sym, subst, ◌∙◌, arith}
-use Rattle.std.proofs.lemmas.Bool.{eqb-false, ne_eqb}
-use Rattle.std.proofs.lemmas.List.{append_assoc, length-append, take_at}
-use Rattle.std.proofs.lemmas.List.Elements.{All-cons, All-nil, All-weaker}
+use Rattle.std.proofs.Common.{◌≡◌, ◌≢◌, ◌==◌, ℕ, ◌+◌, ◌<◌, Bool, true, false, cond, List, [], ◌∷◌, ◌++◌, suc, length, take, drop, get_or, All, Some, None, refl, ap, sym, subst, ◌∙◌, arith}
+use Rattle.memchr.specs.Find.{IsFirstByte, is_byte}
+use Rattle.std.proofs.Math.Seq.{split_at}
+use Rattle.std.proofs.lemmas.Bool.{eq-eqb, eqb-false, eqb-true, ne_eqb}
+use Rattle.std.proofs.lemmas.List.{append_assoc, get_or-take, length-append, length-take, take_at}
+use Rattle.std.proofs.lemmas.List.Elements.{All-cons, All-from_get_or, All-nil, All-weaker}
 use Rattle.std.proofs.lemmas.List.Splits.{join_with_byte-slice_split, length-slice_split, slice_split_at, slice_split_none}
 use Rattle.std.specs.List.{AllByRecursion, join_with_byte, onto_first, slice_split}
 use Rattle.svid_token.specs.Compact.{HasNoPeriod, IsCompact, Parts, parts_of, period, three}
@@ -10,6 +12,19 @@ use Rattle.svid_token.specs.Compact.{HasNoPeriod, IsCompact, Parts, parts_of, pe
 -- the parts between the periods
 abbrev pieces : List ℕ → List (List ℕ)
 pieces = slice_split (λ b. b == period)
+
+-- what stands before the first period and after it
+pub first_period : (bytes : List ℕ) (at : ℕ) → IsFirstByte (is_byte period) bytes (Some at)
+    → HasNoPeriod (take at bytes) × (bytes ≡ take at bytes ++ period ∷ drop (at + 1) bytes)
+first_period bytes at first =
+    let none : HasNoPeriod (take at bytes) = All-from_get_or (λ b. b ≢ period) (take at bytes) 0 (λ i inside e.
+    let early : i < at = omega (arith, length-take at bytes) in
+    first.0.before i (omega arith) early (eq-eqb _ period (sym (get_or-take at bytes i 0 early) ∙ e))) in
+    let here : get_or bytes at 0 ≡ period = eqb-true _ period first.1 in
+    let next : suc at ≡ at + 1 = omega arith in
+    let cut : bytes ≡ take at bytes ++ get_or bytes at 0 ∷ drop (at + 1) bytes =
+    split_at bytes at 0 first.0.high ∙ ap (λ n. take at bytes ++ get_or bytes at 0 ∷ drop n bytes) next in
+    (none, cut ∙ ap (λ b. take at bytes ++ b ∷ drop (at + 1) bytes) here)
 
 whole : (bytes : List ℕ) → HasNoPeriod bytes → All (λ b. (b == period) ≡ false) bytes
 whole bytes none = All-weaker _ _ (λ b. ne_eqb b period) bytes none

@@ -2,6 +2,7 @@ ghost use Rattle.std.specs.Prelude.{◌≡◌, ◌++◌, ◌∷◌, None, MatchO
 ghost use Rattle.svid_token.specs.Compact.{AreParts, HasNoPeriod, parts_of, period};
 
 use crate::refusal::Refusal;
+use memchr::memchr;
 
 const PERIOD: u8 = b'.';
 
@@ -70,11 +71,12 @@ fn three_parts(token: &[u8]) -> Option<(&[u8], &[u8], &[u8])>
 }
 
 // What stands before and after the first period.
+#[tactic(auto, using(crate::proofs::CompactLemmas::first_period))]
 fn split_period(bytes: &[u8]) -> Option<(&[u8], &[u8])>
     ensures { MatchOption result (HasNoPeriod bytes.now)
         (λ x. HasNoPeriod x.0.now × (bytes.now ≡ x.0.now ++ period ∷ x.1.now)) }
 {
-    let at = bytes.iter().position(|b| *b == PERIOD)?;
+    let at = memchr(PERIOD, bytes)?;
     let (before, _) = bytes.split_at(at);
     let (_, after) = bytes.split_at(at + 1);
     Some((before, after))

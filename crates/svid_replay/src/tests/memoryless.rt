@@ -159,15 +159,19 @@ fn tells_without_memory<S: UseStore>(
     uses: &[Use],
     due: &Summary,
 ) {
+    let nothing = Summary::make(0, [[0; 32]; 256]);
     refuse(alloc, 1);
     let looks = (record.moment(), record.len(), record.is_empty());
     let first = record.next_after(None);
     let has = record.has(&FIRST.key);
     let gone = record.is_withdrawn(&FIRST.key);
     let summary = record.summary();
+    let stale = record.stale(&nothing);
+    let walked = (stale.moment(), stale.count(), stale.next_after(first));
     let refused = was_refused(alloc);
     refuse(alloc, 0);
     assert!(rt; !refused);
+    assert_eq!(rt; walked, (5000, uses.len(), record.next_after(first)));
     assert_eq!(rt; looks, (5000, uses.len(), false));
     assert_eq!(rt; first, uses.first().copied());
     assert_eq!(rt; has, uses.iter().any(|used| used.key == FIRST.key));

@@ -1,9 +1,9 @@
 // A store whose uses are many enough to stand in runs.
 ghost use Rattle.std.specs.Prelude.{◌<◌};
 
-use super::refusing::refuse;
+use super::refusing::{refuse, was_refused};
 use super::sweep::walk;
-use super::{absorb, at, in_runs, indexed, uses_to};
+use super::{absorb, add, at, in_runs, indexed, uses_to};
 use crate::{IndexedUses, RunUses, Use, UseStore};
 use std::alloc::Global;
 use std::process::Abort;
@@ -118,14 +118,41 @@ fn keys_that_begin_alike_are_told_apart(rt: HostRuntime) -> Result<(), Fail> {
     Ok(())
 }
 
-// Puts a use in while all memory but that for the front is refused.
-fn insert_in_front(rt: &impl Abort, alloc: Global, runs: &mut RunUses, new: Use) {
+// Of keys that begin alike a report lists only the one that two uses have: a withdrawal is none of them.
+#[test]
+fn a_report_tells_keys_that_begin_alike_apart(rt: HostRuntime) -> Result<(), Fail> {
+    let alloc = rt.alloc();
+    let mut record = in_runs(alloc);
+    absorb(&mut record, alloc, 69_999, &[])?;
+    let again = Use {
+        place: [0x33; 16],
+        ..alike(1)
+    };
+    let gone = Use {
+        withdrawn: true,
+        ..alike(2)
+    };
+    for used in [alike(0), alike(1), again, alike(2), gone, alike(3)] {
+        assert!(rt; add(&mut record, used)?);
+    }
+    let listed = record.report(alloc)?;
+    assert_eq!(rt; listed.len(), 1);
+    assert_eq!(rt; listed[0].key, alike(1).key);
+    assert_eq!(rt; listed[0].uses.as_slice(), [alike(1), again].as_slice());
+    Ok(())
+}
+
+// Puts a use in while all memory but that for the front is refused, and says whether memory was asked for.
+fn insert_in_front(rt: &impl Abort, alloc: Global, runs: &mut RunUses, new: Use) -> bool {
     refuse(alloc, 1);
-    if runs.insert(new).is_err() {
+    let answer = runs.insert(new);
+    let asked = was_refused(alloc);
+    if answer.is_err() {
         refuse(alloc, 2);
         assert!(rt; runs.insert(new).is_ok());
     }
     refuse(alloc, 0);
+    asked
 }
 
 #[test]
@@ -133,10 +160,15 @@ fn the_front_grows_while_memory_for_runs_is_refused(rt: HostRuntime) -> Result<(
     let alloc = rt.alloc();
     let mut runs = RunUses::new(alloc);
     let mut other = IndexedUses::new(alloc);
+    let mut asked = 0u64;
     for number in 0..1200u64 {
-        insert_in_front(&rt, alloc, &mut runs, mixed(number));
+        if insert_in_front(&rt, alloc, &mut runs, mixed(number)) {
+            asked = asked.saturating_add(1);
+        }
         other.insert(mixed(number))?;
     }
+    // a run is tried four times, and the front grows ten times at most
+    assert!(rt; asked <= 14);
     assert_alike(&rt, alloc, &runs, &other)?;
     assert_eq!(rt; runs.drop_expired(5040), other.drop_expired(5040));
     assert_alike(&rt, alloc, &runs, &other)?;

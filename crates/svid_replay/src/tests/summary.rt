@@ -37,6 +37,25 @@ fn assert_one_batch(rt: &impl Abort, answer: &[Batch], moment: u64, uses: &[Use]
     assert_eq!(rt; answer[0].uses(), uses);
 }
 
+// At a record's moment these are the uses that are stale to a summary, walked one after the other.
+fn assert_stale<S: UseStore>(
+    rt: &impl Abort,
+    record: &Record<S>,
+    summary: &Summary,
+    moment: u64,
+    uses: &[Use],
+) {
+    let stale = record.stale(summary);
+    assert_eq!(rt; (stale.moment(), stale.count()), (moment, uses.len()));
+    let mut last = None;
+    for used in uses {
+        let next = stale.next_after(last);
+        assert_eq!(rt; next, Some(*used));
+        last = next;
+    }
+    assert_eq!(rt; stale.next_after(last), None);
+}
+
 // Each bucket has the digest of no bytes, but for that of the key of FIRST, GONE and SECOND.
 fn assert_digests(rt: &impl Abort, summary: &Summary, of_key: &[u8; 32]) {
     for bucket in 0..=255u8 {
@@ -163,6 +182,42 @@ fn answers_bucket_by_bucket<S: UseStore>(
     Ok(())
 }
 
+// What is stale is so at the record's own moment, and is all that the record has of some buckets.
+fn walks_what_differs<S: UseStore>(
+    rt: &impl Abort,
+    alloc: Global,
+    record: &mut Record<S>,
+) -> Result<(), Fail> {
+    assert_stale(rt, record, &summary_of_nothing(7), 0, &[]);
+    absorb(
+        record,
+        alloc,
+        100,
+        &[FIRST, SECOND, in_bucket(3), in_bucket(255)],
+    )?;
+    let own = record.summary();
+    assert_stale(rt, record, &own, 100, &[]);
+    assert_stale(
+        rt,
+        record,
+        &summary_of_nothing(101),
+        100,
+        &[FIRST, SECOND, in_bucket(3), in_bucket(255)],
+    );
+    for (bucket, uses) in [
+        (0x11u8, [FIRST, SECOND].as_slice()),
+        (255, [in_bucket(255)].as_slice()),
+        (4, [].as_slice()),
+    ] {
+        let mut digests = *own.digests();
+        digests[bucket as usize] = ALL;
+        assert_stale(rt, record, &Summary::make(100, digests), 100, uses);
+    }
+    let first = record.stale(&summary_of_nothing(0)).next_after(Some(GONE));
+    assert_eq!(rt; first, Some(SECOND));
+    Ok(())
+}
+
 fn answers_in_full_batches<S: UseStore>(
     rt: &impl Abort,
     alloc: Global,
@@ -264,4 +319,12 @@ fn an_answer_has_whole_buckets_in_full_batches(rt: HostRuntime) -> Result<(), Fa
     answers_in_full_batches(&rt, alloc, &mut indexed(alloc))?;
     answers_bucket_by_bucket(&rt, alloc, &mut in_runs(alloc))?;
     answers_in_full_batches(&rt, alloc, &mut in_runs(alloc))
+}
+
+#[test]
+fn what_is_stale_is_walked(rt: HostRuntime) -> Result<(), Fail> {
+    let alloc = rt.alloc();
+    walks_what_differs(&rt, alloc, &mut sorted(alloc))?;
+    walks_what_differs(&rt, alloc, &mut indexed(alloc))?;
+    walks_what_differs(&rt, alloc, &mut in_runs(alloc))
 }

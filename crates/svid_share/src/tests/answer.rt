@@ -1,4 +1,4 @@
-use super::made::{chosen, front, source, summary_text, summary_with, with_one_use};
+use super::made::{chosen, front, many, source, summary_text, summary_with, with_one_use};
 use super::{NOTHING_DIGEST, OLD_TWO_USES, TWO_USES};
 use crate::{ToolFault, run_answer, run_merge, run_summary};
 use std::alloc::{AllocError, Global};
@@ -107,6 +107,23 @@ fn answers_with_all_buckets_that_differ(rt: HostRuntime) -> Result<(), Fail> {
     ] {
         assert_eq!(rt; answer(&rt, alloc, &asked, &bytes)?, Ok(due));
     }
+    Ok(())
+}
+
+// What is answered of 70,000 uses is two batches, and is what a merge of them writes.
+#[test]
+fn answers_in_full_batches(rt: HostRuntime) -> Result<(), Fail> {
+    let alloc = rt.alloc();
+    let mut whole = many(alloc, 0, 65536)?;
+    whole.extend_from_slice(&many(alloc, 65536, 4464)?)?;
+    let mut first = source(alloc, &summary_text(alloc, 0)?, 1000)?;
+    let mut inputs = [source(alloc, &whole, 100_000)?];
+    let mut out = MemSink::new(alloc, 100_000, None);
+    assert_eq!(rt;
+        run_answer(alloc, &mut first, &mut inputs, &mut out),
+        Ok(())
+    );
+    assert!(rt; out.bytes() == whole.as_slice());
     Ok(())
 }
 

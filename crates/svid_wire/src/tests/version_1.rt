@@ -1,4 +1,4 @@
-// Batches of version 1, which are read and no longer written.
+// Batches of version 1, which are read and never written.
 use super::{OLD_TWO_USES, TWO_USES, fault_of, many_old_uses, told, write_each};
 use crate::{MemSink, Message, Reason, WireFault, read_all};
 use std::alloc::{AllocError, Global};

@@ -10,15 +10,15 @@ use Rattle.svid_share.proofs.parts.put_batch.Goals as goal
 
 pub returns-in_err-put-clause-part : goal.returns-in_err-put-clause-part
 returns-in_err-put-clause-part g c =
-    on_err _ _ (passed_part g.K.Sink.told g.K.Sink.stops _ _ _ c.args.page.now [] _ _ (next_texts (rising c.args.state.now.uses) c.args.after c.args.count) _ (next_batch_text c.args.state.now.moment (rising c.args.state.now.uses) c.args.after c.args.count c.batch_head.result c.requires.there (c.batch_head.ensures ∙ ap (λ m. head_text Two m c.args.count) c.moment.ensures.value)) (passed_none g.K.Sink.told g.K.Sink.stops _ _) c.in_err-put.ensures.part)
+    on_err _ _ (passed_part g.K.Sink.told g.K.Sink.stops _ _ _ c.args.page.now [] _ _ (next_texts (rising (g.W.Walked.state c.args.walked.now).uses) c.args.after c.args.count) _ (next_batch_text (g.W.Walked.state c.args.walked.now).moment (rising (g.W.Walked.state c.args.walked.now).uses) c.args.after c.args.count c.batch_head.result c.requires.there (c.batch_head.ensures ∙ ap (λ m. head_text Two m c.args.count) c.moment.ensures)) (passed_none g.K.Sink.told g.K.Sink.stops _ _) c.in_err-put.ensures.part)
 
 pub returns-in_err-last-clause-part : goal.returns-in_err-last-clause-part
 returns-in_err-last-clause-part g c =
-    on_err _ _ (passed_part g.K.Sink.told g.K.Sink.stops _ _ _ c.args.page.now c.batch_head.result _ (next_texts (rising c.args.state.now.uses) c.args.after c.args.count) [] _ ((next_batch_text c.args.state.now.moment (rising c.args.state.now.uses) c.args.after c.args.count c.batch_head.result c.requires.there (c.batch_head.ensures ∙ ap (λ m. head_text Two m c.args.count) c.moment.ensures.value)) ∙ ap (λ x. c.batch_head.result ++ x) (sym (append-nil (next_texts (rising c.args.state.now.uses) c.args.after c.args.count)))) c.in_ok-put.ensures.ok c.in_err-last.ensures.part)
+    on_err _ _ (passed_part g.K.Sink.told g.K.Sink.stops _ _ _ c.args.page.now c.batch_head.result _ (next_texts (rising (g.W.Walked.state c.args.walked.now).uses) c.args.after c.args.count) [] _ ((next_batch_text (g.W.Walked.state c.args.walked.now).moment (rising (g.W.Walked.state c.args.walked.now).uses) c.args.after c.args.count c.batch_head.result c.requires.there (c.batch_head.ensures ∙ ap (λ m. head_text Two m c.args.count) c.moment.ensures)) ∙ ap (λ x. c.batch_head.result ++ x) (sym (append-nil (next_texts (rising (g.W.Walked.state c.args.walked.now).uses) c.args.after c.args.count)))) c.in_ok-put.ensures.ok c.in_err-last.ensures.part)
 
 pub returns-clause-ok : goal.returns-clause-ok
 returns-clause-ok g c = record {
-  passes = subst (λ x. Passes (taken g.K.Sink.told g.K.Sink.stops c.args.out.now c.put_uses.new.out) c.args.page.now x c.put_uses.new.page) (sym (next_batch_text c.args.state.now.moment (rising c.args.state.now.uses) c.args.after c.args.count c.batch_head.result c.requires.there (c.batch_head.ensures ∙ ap (λ m. head_text Two m c.args.count) c.moment.ensures.value)))
+  passes = subst (λ x. Passes (taken g.K.Sink.told g.K.Sink.stops c.args.out.now c.put_uses.new.out) c.args.page.now x c.put_uses.new.page) (sym (next_batch_text (g.W.Walked.state c.args.walked.now).moment (rising (g.W.Walked.state c.args.walked.now).uses) c.args.after c.args.count c.batch_head.result c.requires.there (c.batch_head.ensures ∙ ap (λ m. head_text Two m c.args.count) c.moment.ensures)))
       (passed_both g.K.Sink.told g.K.Sink.stops _ _ _ _ _ _ _ _ c.in_ok-put.ensures.ok c.in_ok-last.ensures.ok.passes);
   left = c.in_ok-last.ensures.ok.left;
 }

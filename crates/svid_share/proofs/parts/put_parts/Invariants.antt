@@ -7,8 +7,8 @@ use Rattle.svid_share.proofs.parts.put_parts.Given as goal
 
 abbrev pub invariant-loop-left : goal.invariant-loop-left
 invariant-loop-left g l =
-    HasCut (taken g.K.Sink.told g.K.Sink.stops l.fn.out l.out) l.fn.page l.page l.state.moment (rising l.state.uses) l.after
-    × (l.left ≡ length (behind l.after (rising l.state.uses)))
+    HasCut (taken g.K.Sink.told g.K.Sink.stops l.fn.out l.out) l.fn.page l.page (g.W.Walked.state l.walked).moment (rising (g.W.Walked.state l.walked).uses) l.after
+    × (l.left ≡ length (behind l.after (rising (g.W.Walked.state l.walked).uses)))
 
 abbrev pub decreases-loop-left : goal.decreases-loop-left
 decreases-loop-left g l = l.left

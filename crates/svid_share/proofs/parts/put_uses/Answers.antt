@@ -9,16 +9,16 @@ use Rattle.svid_share.proofs.parts.put_uses.Goals as goal
 
 pub returns-in_err-put-clause-part : goal.returns-in_err-put-clause-part
 returns-in_err-put-clause-part g c =
-    on_err _ _ (next_stops (rising c.args.state.now.uses) c.args.after c.loop.last _ c.loop.counter c.args.count g.K.Sink.told g.K.Sink.stops _ _ _ _ _ _ c.loop-test.true c.text.ensures (rising_rises use_cmp _) c.loop.invariant.1 (sym c.in-Some.ensures) c.loop.invariant.0 c.in_err-put.ensures.part)
+    on_err _ _ (next_stops (rising (g.W.Walked.state c.args.walked.now).uses) c.args.after c.loop.last _ c.loop.counter c.args.count g.K.Sink.told g.K.Sink.stops _ _ _ _ _ _ c.loop-test.true c.text.ensures (rising_rises use_cmp _) c.loop.invariant.1 (sym c.in-Some.ensures) c.loop.invariant.0 c.in_err-put.ensures.part)
 
 pub loop-preserved : goal.loop-preserved
 loop-preserved g c =
     elim c.match-next_after.branch [
       | in-Some+in_ok-put w ↦
-          let (_, left, _) = next_there (rising c.args.state.now.uses) c.args.after c.loop.last _ c.loop.counter (rising_rises use_cmp _) c.loop.invariant.1 (sym w.in-Some.ensures) in
+          let (_, left, _) = next_there (rising (g.W.Walked.state c.args.walked.now).uses) c.args.after c.loop.last _ c.loop.counter (rising_rises use_cmp _) c.loop.invariant.1 (sym w.in-Some.ensures) in
           rw (w.page-is, w.out-is, w.last-is) (
-            next_passes (rising c.args.state.now.uses) c.args.after c.loop.last _ c.loop.counter g.K.Sink.told g.K.Sink.stops _ _ _ _ _ _ _ w.text.ensures (rising_rises use_cmp _) c.loop.invariant.1 (sym w.in-Some.ensures) c.loop.invariant.0 w.in_ok-put.ensures.ok,
+            next_passes (rising (g.W.Walked.state c.args.walked.now).uses) c.args.after c.loop.last _ c.loop.counter g.K.Sink.told g.K.Sink.stops _ _ _ _ _ _ _ w.text.ensures (rising_rises use_cmp _) c.loop.invariant.1 (sym w.in-Some.ensures) c.loop.invariant.0 w.in_ok-put.ensures.ok,
             left,
           )
-      | in_default w ↦ absurd (next_is_there (rising c.args.state.now.uses) c.args.after c.loop.last c.loop.counter c.args.count c.loop-test.true c.requires c.loop.invariant.1 (sym w.in_default.ensures))
+      | in_default w ↦ absurd (next_is_there (rising (g.W.Walked.state c.args.walked.now).uses) c.args.after c.loop.last c.loop.counter c.args.count c.loop-test.true c.requires c.loop.invariant.1 (sym w.in_default.ensures))
     ]

@@ -6,5 +6,5 @@ use Rattle.svid_share.proofs.parts.put_uses.Given as goal
 
 abbrev pub invariant-loop : goal.invariant-loop
 invariant-loop g l =
-    Passes (taken g.K.Sink.told g.K.Sink.stops l.fn.out l.out) l.fn.page (next_texts (rising l.state.uses) l.fn.after l.counter) l.page
-    × (behind l.last (rising l.state.uses) ≡ drop l.counter (behind l.fn.after (rising l.state.uses)))
+    Passes (taken g.K.Sink.told g.K.Sink.stops l.fn.out l.out) l.fn.page (next_texts (rising (g.W.Walked.state l.walked).uses) l.fn.after l.counter) l.page
+    × (behind l.last (rising (g.W.Walked.state l.walked).uses) ≡ drop l.counter (behind l.fn.after (rising (g.W.Walked.state l.walked).uses)))

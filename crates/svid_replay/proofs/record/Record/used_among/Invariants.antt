@@ -1,12 +1,13 @@
-use Rattle.std.proofs.Common.{length, not}
+use Rattle.std.proofs.Common.{length}
 use Rattle.std.specs.List.{filter}
 use Rattle.svid_replay.specs.Batches.{is_after}
+use Rattle.svid_replay.specs.Numbers.{is_among}
 use Rattle.svid_replay.specs.Sets.{rising}
 use Rattle.svid_replay.proofs.BucketsLemmas.{HasPicked}
-use Rattle.svid_replay.proofs.record.Record.used.Given as goal
+use Rattle.svid_replay.proofs.record.Record.used_among.Given as goal
 
 abbrev pub invariant-loop-used : goal.invariant-loop-used
-invariant-loop-used g l = HasPicked (λ u. not u.withdrawn) l.self.uses l.after l.uses.items
+invariant-loop-used g l = HasPicked (is_among l.numbers) l.self.uses l.after l.uses.items
 
 abbrev pub decreases-loop-used : goal.decreases-loop-used
 decreases-loop-used g l = length (filter (is_after l.after) (rising l.self.uses))
