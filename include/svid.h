@@ -8,6 +8,8 @@
  * is. Where it is longer than the room, the status is SVID_TOO_SHORT, `told->len` is its length, and the room is
  * as it was: call again with that much. With any other status the room is as it was too.
  *
+ * Where several inputs are refused, the first is told, in the order of the call's parameters.
+ *
  * Nothing that a call allocates outlives it, and two calls share nothing: threads may call at once. Where malloc
  * gives nothing, the status is SVID_NO_MEMORY. */
 #ifndef SVID_H

@@ -26,7 +26,7 @@ all_given : (old new bytes : List ℕ) → old ≡ bytes ++ new → new ≡ [] �
 all_given old new bytes given ended = given ∙ ap (λ n. bytes ++ n) ended ∙ append-nil bytes
 
 whole : (old new : List ℕ) (told : List Message) → IsWhole (lent old new) told → AreMessages old told
-whole old new told w = subst (λ b. AreMessages b told) (sym (all_given old new w.bytes w.read.given w.read.ended)) w.splits
+whole old new told w = subst (λ b. AreMessages b told) (sym (all_given old new w.bytes w.read.given w.read.ended)) (w.splits, w.read.within)
 
 Splits-more : (bytes more rest : List ℕ) (messages : List Message) → Splits bytes messages rest → Splits (bytes ++ more) messages (rest ++ more)
 Splits-more bytes more rest messages s =

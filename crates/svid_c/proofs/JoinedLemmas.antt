@@ -47,4 +47,4 @@ refused_summary summary bytes fault why = inl why
 
 -- the summary was read, and what stands behind it is refused
 pub refused_behind : (summary bytes : List ℕ) (asked : SummaryData) (fault : ToolFault) → AreMessages summary (Summary asked ∷ []) → AreRefused 2 (bytes ∷ []) fault → IsAnswerRefused summary bytes fault
-refused_behind summary bytes asked fault one why = inr (record { told = Summary asked ∷ []; are = one; next = why })
+refused_behind summary bytes asked fault one why = inr (record { asked = asked; one = one; why = why })

@@ -1,11 +1,11 @@
 -- What a check for C answers.
-use Rattle.std.specs.Prelude.{◌≡◌, ◌≢◌, ℕ, IsUtf8, nat_lt, filter, List, [], ◌∷◌, length, Option, Some, None, Ok, Result}
+use Rattle.std.specs.Prelude.{◌≡◌, ◌≢◌, ℕ, All, IsUtf8, nat_lt, filter, List, [], ◌∷◌, length, Option, Some, None, Ok, Result}
 use Rattle.std.specs.List.{Contains}
 use Rattle.svid_id.specs.Id.{id_text}
 use Rattle.svid_token.specs.Rows.{Refuses}
 use Rattle.svid_token.specs.declared.refusal.Refusal.{Refusal}
 use Rattle.svid_token.specs.declared.refusal.Refusal.TheVariants as refusal
-use Rattle.svid_keys.specs.Bundles.{Bundle, bundles_fault, bundles_in}
+use Rattle.svid_keys.specs.Bundles.{Bundle, IsBundles, bundles_fault, bundles_in}
 use Rattle.svid_keys.specs.Lines.{lines_of}
 use Rattle.svid_keys.specs.Table.{questions_in, table_fault, table_says}
 use Rattle.svid_keys.specs.declared.bundle_fault.BundleFault.{BundleFault}
@@ -89,20 +89,31 @@ IsNameFault line (fault.Input given) = given ≡ tool.OutOfMemory
 abbrev pub IsNamesFault : List ℕ → CheckFault → Type 0
 IsNamesFault text given = (line : List ℕ) × Contains (lines_of text) line × IsNameFault line given
 
+-- a text is names: each of its lines is UTF-8
+abbrev pub AreNames : List ℕ → Type 0
+AreNames text = All IsUtf8 (lines_of text)
+
+-- a text is a table of questions
+abbrev pub IsTable : List ℕ → Type 0
+IsTable text = table_fault text ≡ None
+
 -- all inputs say what they are to say: the setting of the check, and the record that it begins with
 pub record IsReady (own bundles questions messages : List ℕ) (given : SvidSetting) (setting : Setting) (r : State) : Type 0 where
   pub kept : List Bundle
+  pub named : AreNames own
   pub are : bundles_in bundles ≡ Some kept
-  pub good : table_fault questions ≡ None
+  pub good : IsTable questions
   pub comes : IsRecordOf messages given.moment r
   pub is : setting ≡ record { own = names_of own; place = given.place; bundles = kept; says = table_says (questions_in questions); longest = Some given.longest }
 
--- why a check is not made: a name is not UTF-8, or another input is refused, or memory was
+-- why a check is not made: memory was refused; or the first of the names, the bundles, the table and the messages that is
+-- refused, while those before it are good
 abbrev pub IsNotReady : List ℕ → List ℕ → List ℕ → List ℕ → CheckFault → Type 0
+IsNotReady own bundles questions messages (fault.Input tool.OutOfMemory) = Unit {0}
 IsNotReady own bundles questions messages fault.Own = IsNamesFault own fault.Own
-IsNotReady own bundles questions messages (fault.Input (tool.Bundles given)) = bundles_fault bundles ≡ Some given
-IsNotReady own bundles questions messages (fault.Input (tool.Table line)) = table_fault questions ≡ Some (table.Line line)
-IsNotReady own bundles questions messages (fault.Input given) = IsRefused 4 messages given
+IsNotReady own bundles questions messages (fault.Input (tool.Bundles given)) = AreNames own × (bundles_fault bundles ≡ Some given)
+IsNotReady own bundles questions messages (fault.Input (tool.Table line)) = AreNames own × IsBundles bundles × (table_fault questions ≡ Some (table.Line line))
+IsNotReady own bundles questions messages (fault.Input given) = AreNames own × IsBundles bundles × IsTable questions × IsRefused 4 messages given
 
 -- The answer to a check: it is not made; or the token is refused, as the verdict says; or it is accepted as the verdict
 -- says, and then the text of its ID is put, and where that has room, its use is told. All else is as it was.

@@ -1,5 +1,5 @@
 -- What the inputs of a call tell, and why one of them is refused.
-use Rattle.std.specs.Prelude.{◌≡◌, ◌≢◌, ℕ, ◌+◌, ◌<◌, ◌⊎◌, List, [], ◌∷◌, length}
+use Rattle.std.specs.Prelude.{◌≡◌, ◌≢◌, ℕ, ◌+◌, ◌<◌, ◌≤◌, ◌⊎◌, List, [], ◌∷◌, length}
 use Rattle.svid_replay.specs.Parts.{join_all}
 use Rattle.svid_replay.specs.Records.{State}
 use Rattle.svid_wire.specs.Messages.{Splits, batches_of}
@@ -10,9 +10,9 @@ use Rattle.svid_share.specs.declared.tool_fault.ToolFault.{ToolFault}
 use Rattle.svid_share.specs.declared.tool_fault.ToolFault.TheVariants as tool
 use Rattle.svid_share.specs.Inputs.{most_bytes}
 
--- the bytes are these messages, one after the other
+-- the bytes are these messages, one after the other, and no more than an input may have
 abbrev pub AreMessages : List ℕ → List Message → Type 0
-AreMessages bytes told = Splits bytes told []
+AreMessages bytes told = Splits bytes told [] × (length bytes ≤ most_bytes)
 
 -- behind whole messages, the message with this number is bad at this place, for this reason
 pub record IsBadMessage (bytes : List ℕ) (message place : ℕ) (reason : Reason) : Type 0 where

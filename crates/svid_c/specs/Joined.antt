@@ -13,7 +13,7 @@ use Rattle.svid_wire.specs.declared.message.Message.TheVariants.{Summary}
 use Rattle.svid_share.specs.Joined.{joined, raised_to}
 use Rattle.svid_share.specs.declared.tool_fault.ToolFault.{ToolFault}
 use Rattle.svid_share.specs.declared.tool_fault.ToolFault.TheVariants.{NotSummary}
-use Rattle.svid_c.specs.Inputs.{AreMessages, AreRefused, IsNextRefused, IsRefused}
+use Rattle.svid_c.specs.Inputs.{AreMessages, AreRefused, IsRefused}
 
 -- the record that the batches of these bytes come to, raised to a moment
 pub record IsRecordOf (bytes : List ℕ) (now : ℕ) (r : State) : Type 0 where
@@ -60,6 +60,12 @@ abbrev pub IsSummaryRefused : List ℕ → ToolFault → Type 0
 IsSummaryRefused bytes NotSummary = IsNoSummary bytes
 IsSummaryRefused bytes fault = IsRefused 1 bytes fault
 
+-- the first input is one summary, and what stands behind it is refused
+pub record IsBehindRefused (summary bytes : List ℕ) (fault : ToolFault) : Type 0 where
+  pub asked : SummaryData
+  pub one : AreMessages summary (Summary asked ∷ [])
+  pub why : AreRefused 2 (bytes ∷ []) fault
+
 -- why there is no answer: the summary is refused, or what stands behind it
 abbrev pub IsAnswerRefused : List ℕ → List ℕ → ToolFault → Type 0
-IsAnswerRefused summary bytes fault = IsSummaryRefused summary fault ⊎ IsNextRefused summary (AreRefused 2 (bytes ∷ [])) fault
+IsAnswerRefused summary bytes fault = IsSummaryRefused summary fault ⊎ IsBehindRefused summary bytes fault

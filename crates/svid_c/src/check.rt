@@ -111,10 +111,9 @@ fn validator_of(
 ///
 /// `own` are the names that the validator answers to, in lines; `bundles` are trust bundles, and `questions` the
 /// table of those that are answered yes, as the program reads them. 1 where the ID is longer than `out`, of which
-/// 2,048 bytes are enough. 101 to 125 where the token is refused, the first of the table. Else an input is
-/// refused, in this order: a name that is not UTF-8 (35), the bundles (31 to 33), the table (34,
-/// with its line), the messages (3, 11 to 18); or 2 for want of memory. Of several the contract says only that
-/// one is told. Where it is not 0, `used` is as it was.
+/// 2,048 bytes are enough. 101 to 125 where the token is refused, the first of the table. Else the first
+/// input is told that is refused, in this order: a name that is not UTF-8 (35), the bundles (31 to 33), the table
+/// (34, with its line), the messages (3, 11 to 18); or 2 for want of memory. Where it is not 0, `used` is as it was.
 #[unsafe(no_mangle)]
 pub extern "C" fn svid_check(
     alloc: Global,
