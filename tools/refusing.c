@@ -1,8 +1,9 @@
 /* Calls each function of svid.h with each of its allocations refused in turn, and with rooms of many lengths, over
  * the files of the folder examples/, where it runs.
  *
- * What goes in and out is lent where the page behind it can't be touched, and is compared afterwards. Linked with
- * --wrap for malloc, realloc and free, through which the library takes all of its memory. */
+ * What goes in and out is lent between two pages that can't be touched, once right before the second one and once
+ * right behind the first one, and is compared afterwards. Linked with --wrap for malloc, realloc and free, through
+ * which the library takes all of its memory. */
 #define _DEFAULT_SOURCE
 #include "svid.h"
 #include <stdio.h>
@@ -64,17 +65,24 @@ static void holds(int truth, const char *why) {
 
 typedef struct { uint8_t *bytes; size_t len; } text;
 
-/* Room of so many bytes, with a page behind it that can't be touched. */
+/* Whether what is lent lies right behind the page before it, and not right before the page behind it. */
+static int lies_first;
+
+/* The bytes of the pages that a room of so many takes. */
+static size_t paged(size_t len, size_t page) { return (len + page - 1) / page * page; }
+
+/* Room of so many bytes, between two pages that can't be touched. */
 static text room(size_t len) {
-    size_t page = (size_t)sysconf(_SC_PAGESIZE), pages = (len + page - 1) / page + 1;
-    uint8_t *all = mmap(NULL, pages * page, PROT_READ | PROT_WRITE, MAP_PRIVATE | MAP_ANONYMOUS, -1, 0);
-    holds(all != MAP_FAILED && !mprotect(all + (pages - 1) * page, page, PROT_NONE), "no memory for the test");
-    return (text){ all + (pages - 1) * page - len, len };
+    size_t page = (size_t)sysconf(_SC_PAGESIZE), own = paged(len, page);
+    uint8_t *all = mmap(NULL, own + 2 * page, PROT_NONE, MAP_PRIVATE | MAP_ANONYMOUS, -1, 0);
+    holds(all != MAP_FAILED && (!own || !mprotect(all + page, own, PROT_READ | PROT_WRITE)), "no memory for the test");
+    return (text){ all + page + (lies_first ? 0 : own - len), len };
 }
 
 static void give_back(text t) {
-    size_t page = (size_t)sysconf(_SC_PAGESIZE), pages = (t.len + page - 1) / page + 1;
-    holds(!munmap(t.bytes + t.len - (pages - 1) * page, pages * page), "munmap");
+    size_t page = (size_t)sysconf(_SC_PAGESIZE);
+    uint8_t *own = t.bytes - (uintptr_t)t.bytes % page;
+    holds(!munmap(own - page, paged(t.len, page) + 2 * page), "munmap");
 }
 
 static text lent(const void *bytes, size_t len) {
@@ -112,42 +120,59 @@ typedef struct { svid_id id; svid_told told; svid_use used; } answer;
 
 static const uint8_t PLACE_OF_THIS[16] = { 1, 2, 3, 4, 5, 6, 7, 8, 9, 10, 11, 12, 13, 14, 15, 16 };
 
-static uint32_t call(const row *r, text out, answer *a) {
-    const text *in = r->in;
-    svid_setting setting = { r->now, r->longest, { 0 } };
-    memcpy(setting.place, PLACE_OF_THIS, sizeof setting.place);
-    switch (r->kind) {
-    case ID: return svid_id_parse(in[0].bytes, in[0].len, &a->id);
-    case JOIN: return svid_join(in[0].bytes, in[0].len, in[1].bytes, in[1].len, r->now, out.bytes, out.len, &a->told);
-    case REPORT: return svid_report(in[0].bytes, in[0].len, r->now, out.bytes, out.len, &a->told);
-    case SUMMARY: return svid_summary(in[0].bytes, in[0].len, r->now, out.bytes, out.len, &a->told);
-    case ANSWER: return svid_answer(in[0].bytes, in[0].len, in[1].bytes, in[1].len, r->now, out.bytes, out.len, &a->told);
-    case QUESTIONS: return svid_questions(in[0].bytes, in[0].len, in[1].bytes, in[1].len, out.bytes, out.len, &a->told);
-    default: return svid_check(&setting, in[0].bytes, in[0].len, in[1].bytes, in[1].len, in[2].bytes, in[2].len,
-                               in[3].bytes, in[3].len, in[4].bytes, in[4].len, out.bytes, out.len, &a->used, &a->told);
+/* What a call is lent. */
+typedef struct { text in[5], setting, out, id, told, used; } loan;
+
+static uint32_t call(enum kind kind, uint64_t now, const loan *l) {
+    const text *in = l->in, out = l->out;
+    svid_told *told = (svid_told *)l->told.bytes;
+    switch (kind) {
+    case ID: return svid_id_parse(in[0].bytes, in[0].len, (svid_id *)l->id.bytes);
+    case JOIN: return svid_join(in[0].bytes, in[0].len, in[1].bytes, in[1].len, now, out.bytes, out.len, told);
+    case REPORT: return svid_report(in[0].bytes, in[0].len, now, out.bytes, out.len, told);
+    case SUMMARY: return svid_summary(in[0].bytes, in[0].len, now, out.bytes, out.len, told);
+    case ANSWER: return svid_answer(in[0].bytes, in[0].len, in[1].bytes, in[1].len, now, out.bytes, out.len, told);
+    case QUESTIONS: return svid_questions(in[0].bytes, in[0].len, in[1].bytes, in[1].len, out.bytes, out.len, told);
+    default: return svid_check((const svid_setting *)l->setting.bytes, in[0].bytes, in[0].len, in[1].bytes, in[1].len,
+                               in[2].bytes, in[2].len, in[3].bytes, in[3].len, in[4].bytes, in[4].len,
+                               out.bytes, out.len, (svid_use *)l->used.bytes, told);
     }
+}
+
+/* Takes back what was only to be read: it is as it was. */
+static void unchanged(text t, const void *was, const char *why) {
+    holds(!t.len || !memcmp(t.bytes, was, t.len), why);
+    give_back(t);
+}
+
+/* Takes back a structure, with what was told in it. */
+static void taken(text t, void *to) {
+    memcpy(to, t.bytes, t.len);
+    give_back(t);
 }
 
 /* Calls with room for `len` bytes, while some allocations are refused: nothing stands afterwards, and no input has
  * changed. What is behind the text, or all of the room where there is none, is as it was. */
 static text called(const row *r, size_t len, long from, long to, answer *a) {
-    text out = room(len), copies[5];
-    memset(out.bytes, 0x5A, len);
+    svid_setting setting = { r->now, r->longest, { 0 } };
+    memcpy(setting.place, PLACE_OF_THIS, sizeof setting.place);
     memset(a, 0xA5, sizeof *a);
-    for (int i = 0; i < 5; i++) copies[i] = lent(r->in[i].bytes, r->in[i].len);
+    loan l = { .setting = lent(&setting, sizeof setting), .out = room(len), .id = lent(&a->id, sizeof a->id),
+               .told = lent(&a->told, sizeof a->told), .used = lent(&a->used, sizeof a->used) };
+    memset(l.out.bytes, 0x5A, len);
+    for (int i = 0; i < 5; i++) l.in[i] = lent(r->in[i].bytes, r->in[i].len);
     asked = 0, refused_from = from, refused_to = to;
-    answered = call(r, out, a);
+    answered = call(r->kind, r->now, &l);
     refused_from = 0;
     holds(standing == 0, "memory was not given back");
+    for (int i = 0; i < 5; i++) unchanged(l.in[i], r->in[i].bytes, "an input was changed");
+    unchanged(l.setting, &setting, "the setting was changed");
+    taken(l.id, &a->id), taken(l.told, &a->told), taken(l.used, &a->used);
     size_t text_len = answered == SVID_OK && r->kind != ID ? a->told.len : 0;
     holds(text_len <= len, "the text is longer than the room");
-    for (size_t i = text_len; i < len; i++) holds(out.bytes[i] == 0x5A, "the room was changed behind the text");
-    for (int i = 0; i < 5; i++) {
-        holds(!r->in[i].len || !memcmp(copies[i].bytes, r->in[i].bytes, r->in[i].len), "an input was changed");
-        give_back(copies[i]);
-    }
+    for (size_t i = text_len; i < len; i++) holds(l.out.bytes[i] == 0x5A, "the room was changed behind the text");
     for (size_t i = 0; answered != SVID_OK && i < sizeof a->used; i++) holds(((uint8_t *)&a->used)[i] == 0xA5, "the use was changed");
-    return out;
+    return l.out;
 }
 
 static int is_told(const answer *a, size_t len, size_t input, size_t message, size_t place) {
@@ -235,15 +260,19 @@ int main(void) {
         { "a join of nothing", JOIN, { o, o, o, o, o }, 0, 0, SVID_OK, 0, 0, 0 },
         { "a join with a cut batch", JOIN, { two, first(two, 40), o, o, o }, 0, 0, SVID_TRUNCATED, 2, 1, 40 },
         { "a join with other bytes", JOIN, { said("{}..."), two, o, o, o }, 0, 0, SVID_MAGIC, 1, 1, 0 },
+        { "a join of two bad inputs", JOIN, { first(two, 40), said("{}..."), o, o, o }, 0, 0, SVID_TRUNCATED, 1, 1, 40 },
         { "a report", REPORT, { two, o, o, o, o }, 0, 0, SVID_OK, 0, 0, 0 },
         { "a report when all has expired", REPORT, { kept, o, o, o, o }, UINT64_MAX, 0, SVID_OK, 0, 0, 0 },
         { "a summary", SUMMARY, { kept, o, o, o, o }, now, 0, SVID_OK, 0, 0, 0 },
         { "an answer", ANSWER, { summary, two, o, o, o }, 0, 0, SVID_OK, 0, 0, 0 },
         { "an answer to a batch", ANSWER, { two, two, o, o, o }, 0, 0, SVID_NOT_SUMMARY, 0, 0, 0 },
         { "an answer of a cut batch", ANSWER, { summary, first(two, 40), o, o, o }, 0, 0, SVID_TRUNCATED, 2, 1, 40 },
+        { "an answer to a batch, of a cut batch", ANSWER, { two, first(two, 40), o, o, o }, 0, 0, SVID_NOT_SUMMARY, 0, 0, 0 },
+        { "an answer to a cut summary, of a cut batch", ANSWER, { first(summary, 50), first(two, 40), o, o, o }, 0, 0, SVID_TRUNCATED, 1, 1, 50 },
         { "questions", QUESTIONS, { bundles, token, o, o, o }, 0, 0, SVID_OK, 0, 0, 0 },
         { "questions over no object", QUESTIONS, { said("[]"), token, o, o, o }, 0, 0, SVID_BUNDLES_NOT_OBJECT, 0, 0, 0 },
         { "questions of no token", QUESTIONS, { bundles, o, o, o, o }, 0, 0, SVID_NOT_THREE_PARTS, 0, 0, 0 },
+        { "questions over no object, of no token", QUESTIONS, { said("[]"), o, o, o, o }, 0, 0, SVID_BUNDLES_NOT_OBJECT, 0, 0, 0 },
         { "a check", CHECK, { ledger, bundles, table, two, token }, now, UINT64_MAX, SVID_OK, 0, 0, 0 },
         { "a check of a used token", CHECK, { ledger, bundles, table, kept, token }, now, UINT64_MAX, SVID_REPLAYED, 0, 0, 0 },
         { "a check by no name", CHECK, { o, bundles, table, o, token }, now, UINT64_MAX, SVID_NOT_AUDIENCE, 0, 0, 0 },
@@ -256,10 +285,17 @@ int main(void) {
         { "a check with a bad table", CHECK, { ledger, bundles, said("\nx\n"), o, token }, now, UINT64_MAX, SVID_TABLE_LINE, 0, 0, 2 },
         { "a check over cut messages", CHECK, { ledger, bundles, table, first(two, 40), token }, now, UINT64_MAX, SVID_TRUNCATED, 4, 1, 40 },
         { "a check of no token", CHECK, { ledger, bundles, table, o, o }, now, UINT64_MAX, SVID_NOT_THREE_PARTS, 0, 0, 0 },
+        /* two inputs next to each other are bad, and then all */
+        { "a check with a bad name and bad keys", CHECK, { lent("\xFF", 1), said("[]"), table, o, token }, now, UINT64_MAX, SVID_OWN_NOT_UTF8, 0, 0, 0 },
+        { "a check with bad keys and a bad table", CHECK, { ledger, said("[]"), said("x"), o, token }, now, UINT64_MAX, SVID_BUNDLES_NOT_OBJECT, 0, 0, 0 },
+        { "a check with a bad table and cut messages", CHECK, { ledger, bundles, said("x"), first(two, 40), token }, now, UINT64_MAX, SVID_TABLE_LINE, 0, 0, 1 },
+        { "a check over cut messages, of no token", CHECK, { ledger, bundles, table, first(two, 40), o }, now, UINT64_MAX, SVID_TRUNCATED, 4, 1, 40 },
+        { "a check of nothing that is good", CHECK, { lent("\xFF", 1), said("[]"), said("x"), first(two, 40), o }, now, UINT64_MAX, SVID_OWN_NOT_UTF8, 0, 0, 0 },
     };
     size_t count = sizeof rows / sizeof *rows;
-    for (size_t i = 0; i < count; i++) try_row(&rows[i]);
+    for (lies_first = 0; lies_first < 2; lies_first++)
+        for (size_t i = 0; i < count; i++) try_row(&rows[i]);
     if (refused_in_all < 100) { printf("only %ld allocations were refused\n", refused_in_all); return 1; }
-    printf("%zu calls of the C library, %ld allocations refused\n", count, refused_in_all);
+    printf("%zu calls of the C library, before and behind pages that can't be touched, %ld allocations refused\n", count, refused_in_all);
     return 0;
 }

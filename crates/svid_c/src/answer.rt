@@ -8,7 +8,7 @@ use crate::told::SvidTold;
 use crate::writing::{put, refuse};
 use std::alloc::Global;
 use svid_replay::Summary;
-use svid_share::{ToolFault, put_batches};
+use svid_share::{ToolFault, put_answer};
 use svid_wire::MemSink;
 
 // The answer to a summary, of what an input tells at a moment.
@@ -23,9 +23,8 @@ fn answer_to(
     ensures fault { IfErr result (AreRefused 2 (messages.now ∷ [])) }
 {
     let mut record = record_of(alloc, messages, 2, now)?;
-    let batches = record.answer(alloc, asked)?;
     let mut sink = MemSink::new(alloc, 65_536, None);
-    match put_batches(&mut sink, &batches) {
+    match put_answer(&mut record, asked, &mut sink) {
         Ok(()) => Ok(sink),
         Err(_) => Err(ToolFault::OutOfMemory),
     }
