@@ -1,6 +1,5 @@
 -- Marks, each with when it expires.
-use Rattle.std.proofs.Common.{◌≡◌, ℕ, suc, ◌<◌, ◌≤◌, ◌+◌, Bool, true, false, not, cond, ◌&&◌, ◌||◌, List, [], ◌∷◌, ◌++◌, drop, length, get_or, max, map, refl, sym, ◌∙◌, ap, subst, arith, nat_lt, slice_get, Option, Some, None}
-use Rattle.std.proofs.Math.Seq.{drop-cons}
+use Rattle.std.proofs.Common.{◌≡◌, ℕ, ◌≤◌, Bool, true, false, not, cond, ◌&&◌, ◌||◌, List, [], ◌∷◌, drop, length, map, refl, sym, ◌∙◌, ap, subst, arith, nat_lt, slice_get, Option, Some, None}
 use Rattle.std.proofs.lemmas.Bool.{false≢true}
 use Rattle.std.proofs.lemmas.Bool.Decides.{nat_tests}
 use Rattle.std.proofs.lemmas.Cmp.{on_total, then_total, nat_cmp_total, nat_list_cmp_total}
@@ -20,7 +19,6 @@ use Rattle.svid_replay.specs.declared.until.Mark.{Mark}
 use Rattle.svid_replay.specs.declared.until.Until.{Until}
 use Rattle.svid_replay.specs.Indexed.{is_sought}
 use Rattle.svid_replay.specs.Keys.{AreKeys, TellUses, behind_by, gone_by, is_behind, is_held, is_left, left_of, mark_cmp, mark_of, until_cmp, until_of}
-use Rattle.svid_replay.specs.Twice.{has_key}
 use Rattle.svid_replay.specs.Use.{bytes_cmp, use_cmp}
 use Rattle.svid_replay.proofs.ListLemmas.{all_same, any_none, drop-parted, each_true, each_weaker, parted_by}
 use Rattle.svid_replay.proofs.MergeLemmas.{merge, merge_has}
@@ -252,15 +250,5 @@ live_left gone moment (u ∷ us) live = elim (nat_lt moment u.exp) as (λ b. nat
 ] refl
 
 -- ---- the merge of what is left
-pub skip_gone : (gone : Option ℕ) (keys : List Until) (i : ℕ) (e : Until) → i < length keys → e ≡ get_or keys i e → is_left gone e.exp ≡ false → left_of gone (drop i keys) ≡ left_of gone (drop (i + 1) keys)
-skip_gone gone keys i e within at out =
-    let next : i + 1 ≡ suc i = omega arith in
-    ap (left_of gone) (drop-cons keys i e within ∙ ap (λ x. x ∷ drop (suc i) keys) (sym at)) ∙ ap (λ b. cond b (e ∷ left_of gone (drop (suc i) keys)) (left_of gone (drop (suc i) keys))) out ∙ ap (λ n. left_of gone (drop n keys)) (sym next)
-
-pub next_left : (gone : Option ℕ) (keys : List Until) (i : ℕ) (e : Until) → i < length keys → e ≡ get_or keys i e → is_left gone e.exp ≡ true → left_of gone (drop i keys) ≡ e ∷ left_of gone (drop (i + 1) keys)
-next_left gone keys i e within at left =
-    let next : i + 1 ≡ suc i = omega arith in
-    ap (left_of gone) (drop-cons keys i e within ∙ ap (λ x. x ∷ drop (suc i) keys) (sym at)) ∙ ap (λ b. cond b (e ∷ left_of gone (drop (suc i) keys)) (left_of gone (drop (suc i) keys))) left ∙ ap (λ n. e ∷ left_of gone (drop n keys)) (sym next)
-
 pub left_at_end : (gone : Option ℕ) (keys : List Until) (i : ℕ) → length keys ≤ i → left_of gone (drop i keys) ≡ []
 left_at_end gone keys i done = ap (left_of gone) (drop_all i keys done)

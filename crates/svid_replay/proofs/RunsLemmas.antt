@@ -10,7 +10,7 @@ use Rattle.std.specs.List.{prefix_len}
 use Rattle.svid_replay.specs.Runs.{all_of, live_of, HasSame}
 use Rattle.svid_replay.specs.Sets.{holds}
 use Rattle.svid_replay.specs.Uses.{uses_in}
-use Rattle.std.proofs.Common.{find, Option, Some, None, is_some}
+use Rattle.std.proofs.Common.{find, Option, Some, None}
 use Rattle.std.proofs.Common.{min, max}
 use Rattle.std.specs.Int.Bits.{bit_and, bit_or}
 use Rattle.std.proofs.lemmas.Nat.Bits.{bit_at_and, bit_at_or, same_from_bits}
@@ -30,17 +30,15 @@ use Rattle.std.proofs.lemmas.Cmp.{tied_itself}
 use Rattle.std.specs.Ordering.{is_lt}
 use Rattle.svid_replay.specs.Runs.{least_from, least_of, HasBits, IsFront, IsRun, IsRuns, mask_of, place_of}
 use Rattle.svid_replay.specs.Twice.{has_key}
-use Rattle.svid_replay.specs.Sets.{rising, with, keep, with_all}
+use Rattle.svid_replay.specs.Sets.{rising, with, with_all}
 use Rattle.svid_replay.specs.Uses.{Uses, count, live, next_above}
 use Rattle.svid_replay.proofs.ListLemmas.{any_none, each_true, each_append, each_drop, each_take, each_weaker, prefix_from_point}
 use Rattle.svid_replay.proofs.SetsLemmas.{rising_rises, holds-rising, holds-with, same_rising}
-use Rattle.svid_replay.proofs.UsesLemmas.{drop-expired, left_rises, left_is, left_count, not_after_parted, rising-uses_in, uses_in-rising, uses_in-filter, same_uses, holds-uses_in, with-held, rising-keep, to_front, IsPruned}
+use Rattle.svid_replay.proofs.UsesLemmas.{drop-expired, left_rises, left_is, left_count, not_after_parted, rising-uses_in, uses_in-filter, same_uses, holds-uses_in, with-held, rising-keep, IsPruned}
 use Rattle.std.specs.List.{AllByRecursion, list_any}
 use Rattle.std.specs.List.Sorted.{IsStrictlySortedBy}
-use Rattle.std.specs.Ordering.{eq_by_cmp, is_eq, match_ordering, ordering_reverse}
-use Rattle.std.specs.Set.{sorted_merge, merge_step}
-use Rattle.std.specs.declared.cmp.Ordering.{Ordering}
-use Rattle.std.specs.declared.cmp.Ordering.TheVariants.{Less, Equal, Greater}
+use Rattle.std.specs.Ordering.{eq_by_cmp, is_eq, ordering_reverse}
+use Rattle.std.specs.declared.cmp.Ordering.TheVariants.{Less}
 use Rattle.svid_replay.specs.declared.token_use.Use.{Use}
 use Rattle.svid_replay.specs.Use.{use_cmp, IsRising}
 use Rattle.svid_replay.proofs.TestsLemmas.{equal, one_test, or-false, or-true}
@@ -131,10 +129,6 @@ merged_last rs ss k older newer long at_older at_newer is =
       less = omega (arith, ap length before, ap length after, length-append (all_of (take k rs)) (merge use_cmp older newer), length-append (all_of (take k rs)) (older ++ newer), length-append older newer, merge_length use_cmp older newer);
     }
 
--- a search that has passed over the runs in front
-pub has_none_yet : (tie : Use → Bool) (rs : List (List Use)) (i : ℕ) (r : List Use) → r ≡ get_or rs i r → i < length rs → list_any tie (all_of (drop i rs)) ≡ (list_any tie r || list_any tie (all_of (drop (suc i) rs)))
-has_none_yet tie rs i r at within = ap (λ ss. list_any tie (all_of ss)) (drop-cons rs i r within ∙ ap (λ s. s ∷ drop (suc i) rs) (sym at)) ∙ list_any-append tie r (all_of (drop (suc i) rs))
-
 -- as the code does it: the merged run in the place of the last but one, and the last taken off
 pub merged_two : (rs ss : List (List Use)) (count : ℕ) (older newer merged : List Use) → 2 ≤ count → count ≡ length rs → older ≡ get_or rs (count - 2) older → newer ≡ get_or rs (count - 1) newer → merged ≡ merge use_cmp older newer → ss ≡ take (count - 1) (set rs (count - 2) merged) → IsMergedLast rs ss
 merged_two rs ss count older newer merged two long at_older at_newer is after =
@@ -189,10 +183,6 @@ drops_more now old i moment dropped before went run left is within at kept count
       kept = ap all_of (take-suc-set now i left within) ∙ all_append (take i now) (left ∷ []) ∙ (λ j. is.kept j ++ (append-nil left ∙ kept) j) ∙ sym (ap (live_of moment) front ∙ live_append moment (all_of (take i old)) run);
       counted = omega (arith, set_length now i run left within at, counted, is.counted);
     })
-
--- a search for the next use that has passed over the runs in front
-pub least_step : (after least : Option Use) (rs : List (List Use)) (i : ℕ) (r : List Use) → r ≡ get_or rs i r → i < length rs → least_from after (drop i rs) least ≡ least_from after (drop (suc i) rs) (least_of least (next_above (uses_in r) after))
-least_step after least rs i r at within = ap (λ ss. least_from after ss least) (drop-cons rs i r within ∙ ap (λ s. s ∷ drop (suc i) rs) (sym at))
 
 get_or_any : (us : List Use) (i : ℕ) (d e : Use) → i < length us → get_or us i d ≡ get_or us i e
 get_or_any [] i d e within = absurd (omega arith)

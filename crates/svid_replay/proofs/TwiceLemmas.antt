@@ -20,7 +20,7 @@ use Rattle.svid_replay.specs.Use.{bytes_cmp, use_cmp, IsRising}
 use Rattle.svid_replay.specs.Twice.{has_key, uses_of, keys_of, twice_of, IsKeySorted, IsTwice, HasTwo}
 use Rattle.svid_replay.specs.declared.token_use.Use.{Use}
 use Rattle.svid_replay.specs.declared.twice.Twice.{Twice}
-use Rattle.svid_replay.proofs.ListLemmas.{all_same, none_same, each_weaker, each_append, found, same_map, any_map, any_here, rises_push, each_drop, any-filter, each_true, has_first, has_later, kept_in, in_kept, any_in, many}
+use Rattle.svid_replay.proofs.ListLemmas.{all_same, none_same, each_weaker, each_append, found, same_map, any_map, any_here, rises_push, each_drop, any-filter, has_first, has_later, kept_in, in_kept, any_in, many}
 use Rattle.svid_replay.proofs.UseLemmas.{use_total}
 use Rattle.svid_replay.proofs.SetsLemmas.{same_rising, rising_rises, holds-rising, holds-set_of}
 use Rattle.svid_replay.proofs.TestsLemmas.{equal, same_some, or-true, or-false}

@@ -11,7 +11,7 @@ use Rattle.svid_replay.specs.declared.token_use.Use.{Use}
 use Rattle.svid_replay.specs.declared.flaw.Flaw.{Flaw}
 use Rattle.svid_replay.specs.declared.flaw.Flaw.TheVariants.{Expired, Future, Order}
 use Rattle.svid_replay.specs.Use.{IsBytes, IsUse, front_text, text_of}
-use Rattle.svid_replay.specs.Batches.{BatchData, IsBatch, AllGood, flaw, last_of}
+use Rattle.svid_replay.specs.Batches.{BatchData, AllGood, flaw, last_of}
 use Rattle.svid_replay.specs.Summary.{SummaryData, IsSummary}
 use Rattle.svid_replay.proofs.BatchesLemmas.{last_of-push}
 use Rattle.svid_wire.specs.BatchText.{IsBatchIn, batch_kind, numbers_text, head_text, batch_text_in}

@@ -19,7 +19,7 @@ use Rattle.svid_wire.specs.BatchText.{batch_kind, numbers_text, head_text}
 use Rattle.svid_wire.specs.Versions.{CanTell, magic_of, most_of, use_len_of, use_text}
 use Rattle.svid_wire.specs.declared.version.Version.{Version}
 use Rattle.svid_wire.specs.declared.version.Version.TheVariants.{One, Two}
-use Rattle.svid_wire.specs.WireFault.{IsUnfinished, in_magic, in_kind, in_numbers, in_uses, in_moment, in_digests, AreBegun, HasSummaries, IsBegun, IsFault, IsUseFault, IsUseKindFault}
+use Rattle.svid_wire.specs.WireFault.{IsUnfinished, in_magic, in_kind, in_numbers, in_uses, in_moment, in_digests, AreBegun, IsBegun, IsFault, IsUseFault}
 use Rattle.svid_wire.specs.Messages.{written_text, IsWritten, BeginsMessage, HasFault, BeginsOrFaults}
 use Rattle.svid_wire.specs.SummaryText.{summary_kind, moment_text, summary_head, digest_text}
 use Rattle.svid_wire.specs.declared.reason.Reason.TheVariants as reason

@@ -8,7 +8,7 @@ use Rattle.svid_replay.specs.Batches.{BatchData, IsBatch}
 use Rattle.svid_replay.proofs.ListLemmas.{each_append}
 use Rattle.svid_wire.specs.WireFault.{IsFault}
 use Rattle.svid_wire.specs.BatchText.{IsBatchIn}
-use Rattle.svid_wire.specs.Messages.{Written, batch_in, summary, written_text, read_as, IsWritten, message_text, IsMessage, batches_of, summaries_of, BeginsMessage, Splits, Appended, Parses, HasFault, NoTextIsLonger, OldBatchIsRead, ParsesOneWay, EachParses, ParseEnds, CutAnywhere, WrittenIsRead}
+use Rattle.svid_wire.specs.Messages.{Written, batch_in, summary, written_text, read_as, IsWritten, IsMessage, batches_of, summaries_of, BeginsMessage, Splits, Appended, Parses, HasFault, NoTextIsLonger, OldBatchIsRead, ParsesOneWay, EachParses, ParseEnds, CutAnywhere, WrittenIsRead}
 use Rattle.svid_wire.specs.Versions.{CanTell}
 use Rattle.svid_wire.specs.declared.version.Version.TheVariants.{One, Two}
 use Rattle.svid_wire.specs.declared.message.Message.{Message}

@@ -9,7 +9,7 @@ use Rattle.svid_wire.specs.WireFault.{IsFault, IsFieldRefusal, IsRefusal}
 use Rattle.svid_wire.specs.declared.message.Message.{Message}
 use Rattle.svid_wire.specs.declared.message.Message.TheVariants.{Batch, Summary}
 use Rattle.svid_wire.specs.declared.version.Version.{Version}
-use Rattle.svid_wire.specs.declared.version.Version.TheVariants.{One, Two}
+use Rattle.svid_wire.specs.declared.version.Version.TheVariants.{One}
 use Rattle.svid_wire.specs.declared.wire_fault.WireFault.{WireFault}
 
 -- the text that is written of a message

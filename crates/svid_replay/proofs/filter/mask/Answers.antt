@@ -1,4 +1,4 @@
-use Rattle.std.proofs.Common.{ℕ, ◌∙◌, ◌*◌, ◌/◌, ◌%◌, ◌^◌, ap, take, rules}
+use Rattle.std.proofs.Common.{ℕ, ◌∙◌, ◌*◌, ◌/◌, ◌%◌, ◌^◌, ap, take}
 use Rattle.std.specs.Int.{from_be_bytes, w64}
 use Rattle.std.specs.Int.Bits.{bit_or}
 use Rattle.svid_replay.specs.Runs.{mask_of}

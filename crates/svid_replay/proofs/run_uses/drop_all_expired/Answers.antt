@@ -1,4 +1,4 @@
-use Rattle.std.proofs.Common.{rules, arith, length, get_or, ap}
+use Rattle.std.proofs.Common.{rules, arith, get_or, ap}
 use Rattle.svid_replay.proofs.RunsLemmas.{drops_more}
 use Rattle.svid_replay.proofs.run_uses.drop_all_expired.Goals as goal
 

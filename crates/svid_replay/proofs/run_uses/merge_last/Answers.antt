@@ -1,6 +1,5 @@
-use Rattle.std.proofs.Common.{rules, ◌≡◌, ◌+◌, ◌-◌, ◌∷◌, [], ◌++◌, arith, length, suc, sym, ap, ◌∙◌, subst, take, get_or}
-use Rattle.std.proofs.Math.Seq.{take-suc-set}
-use Rattle.svid_replay.proofs.RunsLemmas.{IsMergedLast, merged_two}
+use Rattle.std.proofs.Common.{rules, arith}
+use Rattle.svid_replay.proofs.RunsLemmas.{merged_two}
 use Rattle.svid_replay.proofs.run_uses.merge_last.Goals as goal
 
 pub returns-in-Ok-clause-same : goal.returns-in-Ok-clause-same

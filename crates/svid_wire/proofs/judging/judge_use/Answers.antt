@@ -1,8 +1,7 @@
-use Rattle.std.proofs.Common.{◌≡◌, inl, subst, sym, ◌∙◌, ap, Option, None, Some, arith}
+use Rattle.std.proofs.Common.{◌≡◌, subst, sym, ◌∙◌, ap, Option, None}
 use Rattle.svid_replay.specs.declared.token_use.Use.{Use}
 use Rattle.svid_replay.specs.Batches.{AllGood, flaw, last_of}
 use Rattle.svid_replay.proofs.BatchesLemmas.{AllGood-push}
-use Rattle.svid_wire.proofs.StageLemmas.{IsUseFault-last, IsFieldFault-use}
 use Rattle.svid_wire.proofs.judging.judge_use.Goals as goal
 
 pub next-requires-clause-good : goal.next-requires-clause-good

@@ -1,5 +1,5 @@
-use Rattle.std.proofs.Common.{arith, length, ◌∙◌, ap, sym, subst, not, nat_lt}
-use Rattle.std.specs.List.{AllByRecursion, prefix_len}
+use Rattle.std.proofs.Common.{arith, length, ap, sym, subst, not, nat_lt}
+use Rattle.std.specs.List.{AllByRecursion}
 use Rattle.std.proofs.lemmas.List.Sums.{prefix_len-le-length}
 use Rattle.svid_replay.specs.Runs.{HasBits}
 use Rattle.svid_replay.proofs.ListLemmas.{each_drop}

@@ -1,9 +1,7 @@
-use Rattle.std.proofs.Common.{◌≡◌, ◌+◌, ◌-◌, ◌++◌, ◌∙◌, ap, sym, subst, arith, length, not, nat_lt, rules, take}
-use Rattle.std.specs.List.{prefix_len}
-use Rattle.std.proofs.lemmas.List.Sums.{prefix_len-le-length}
+use Rattle.std.proofs.Common.{◌+◌, ◌-◌, ◌++◌, ◌∙◌, ap, sym, subst, arith, length, rules}
 use Rattle.svid_replay.specs.Runs.{all_of, IsRuns, live_of}
 use Rattle.svid_replay.specs.Uses.{uses_in, count}
-use Rattle.svid_replay.proofs.RunsLemmas.{front_is, IsDropped, runs_dropped, take_whole}
+use Rattle.svid_replay.proofs.RunsLemmas.{runs_dropped, take_whole}
 use Rattle.svid_replay.proofs.run_uses.RunUsesUseStore.drop_expired.Goals as goal
 
 pub drop_all_expired-dropped-requires : goal.drop_all_expired-dropped-requires

@@ -1,4 +1,4 @@
-use Rattle.std.proofs.Common.{◌∙◌, ap, sym, false}
+use Rattle.std.proofs.Common.{◌∙◌, ap, false}
 use Rattle.std.specs.List.{list_any}
 use Rattle.svid_replay.specs.Indexed.{is_sought}
 use Rattle.svid_replay.specs.Twice.{has_key}

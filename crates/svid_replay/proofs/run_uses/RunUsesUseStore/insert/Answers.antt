@@ -1,9 +1,9 @@
-use Rattle.std.proofs.Common.{◌≡◌, ◌+◌, ◌∙◌, ap, sym, subst, arith, length, rules, refl}
+use Rattle.std.proofs.Common.{◌∙◌, ap, sym, subst, rules}
 use Rattle.std.proofs.lemmas.Bool.{false≢true}
 use Rattle.std.specs.List.{list_any}
 use Rattle.std.specs.Ordering.{eq_by_cmp}
 use Rattle.svid_replay.specs.Runs.{all_of}
-use Rattle.svid_replay.specs.Sets.{holds, with}
+use Rattle.svid_replay.specs.Sets.{with}
 use Rattle.svid_replay.specs.Use.{use_cmp}
 use Rattle.svid_replay.proofs.UsesLemmas.{holds-uses_in}
 use Rattle.svid_replay.proofs.RunsLemmas.{IsSettled, runs_held, runs_more, runs_same, runs_settled, front_held, held_in_front}

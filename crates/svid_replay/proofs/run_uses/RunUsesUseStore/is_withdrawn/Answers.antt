@@ -1,4 +1,4 @@
-use Rattle.std.proofs.Common.{◌∙◌, ap, sym, true}
+use Rattle.std.proofs.Common.{◌∙◌, ap, true}
 use Rattle.std.specs.List.{list_any}
 use Rattle.svid_replay.specs.Indexed.{is_sought}
 use Rattle.svid_replay.specs.Twice.{withdraws}

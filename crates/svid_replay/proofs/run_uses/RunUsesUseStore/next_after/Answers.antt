@@ -1,4 +1,4 @@
-use Rattle.std.proofs.Common.{◌∙◌, ap, sym, find}
+use Rattle.std.proofs.Common.{◌∙◌, ap, find}
 use Rattle.svid_replay.specs.Batches.{is_after}
 use Rattle.svid_replay.specs.Runs.{least_from}
 use Rattle.svid_replay.proofs.RunsLemmas.{store_next}
