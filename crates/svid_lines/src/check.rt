@@ -135,10 +135,7 @@ fn outcome_of_inputs<B: Source, T: Source, L: Source, R: Source>(
 }
 
 // Writes the record, where it is kept.
-fn put_kept<T: UseStore, P: Sink>(
-    kept: &mut Option<P>,
-    state: &Record<T>,
-) -> Result<(), ToolFault>
+fn put_kept<T: UseStore, P: Sink>(kept: &mut Option<P>, state: &Record<T>) -> Result<(), ToolFault>
     ensures ok { OnOk result (TookAllIf (taken_if P.told P.stops kept.old kept.new) (record_text state.now)) }
     ensures fault { IfErr result (λ e. e ≡ ToolFault.Write) }
     ensures part { OnErr result (TookPartIf (taken_if P.told P.stops kept.old kept.new) (record_text state.now)) }
