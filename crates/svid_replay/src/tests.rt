@@ -1,12 +1,5 @@
 mod batch;
-mod joins;
-mod lists;
-mod memoryless;
 mod record;
-mod refusing;
-mod runs;
-mod summary;
-mod sweep;
 mod token_use;
 mod withdrawn;
 

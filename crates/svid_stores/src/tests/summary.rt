@@ -1,9 +1,9 @@
 // The digests are those that hashlib of Python gives for the texts.
 use super::{FIRST, GONE, SECOND, absorb, in_runs, indexed, sorted, uses_to};
-use crate::{Batch, IndexedUses, Record, SortedUses, Summary, Use, UseStore};
 use std::alloc::{AllocError, Global};
 use std::process::Abort;
 use std::test::Fail;
+use svid_replay::{Batch, IndexedUses, Record, SortedUses, Summary, Use, UseStore};
 
 // The digest of no bytes.
 const NONE: [u8; 32] = [

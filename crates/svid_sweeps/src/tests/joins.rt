@@ -5,10 +5,10 @@ ghost use Rattle.std.specs.Prelude.{◌<◌};
 use super::refusing::{refuse, was_refused};
 use super::sweep::keyed;
 use super::{absorb, at, in_runs, indexed, sorted};
-use crate::{Batch, IndexedUses, Record, Use, UseStore};
 use std::alloc::{AllocError, Global};
 use std::process::Abort;
 use std::test::Fail;
+use svid_replay::{Batch, IndexedUses, Record, Use, UseStore};
 
 // The uses that a record had, those that it is told, and which of these are new to it.
 #[derive(Clone, Copy)]

@@ -3,10 +3,10 @@ ghost use Rattle.std.specs.Prelude.{◌<◌};
 
 use super::refusing::{refuse, was_refused};
 use super::{FIRST, SECOND, absorb, add, at, in_runs, indexed, sorted, uses_to};
-use crate::{Batch, IndexedUses, Record, RunUses, SortedUses, Summary, Use, UseStore};
 use std::alloc::{AllocError, Global};
 use std::process::Abort;
 use std::test::Fail;
+use svid_replay::{Batch, IndexedUses, Record, RunUses, SortedUses, Summary, Use, UseStore};
 
 // A record that was refused memory has the moment and a proper prefix of the uses, which it gives in order.
 fn assert_prefix<S: UseStore>(

@@ -3,13 +3,13 @@
 use super::joins::{Part, uses_of};
 use super::refusing::{refuse, was_refused};
 use super::{FIRST, GONE, SECOND, absorb, add, in_runs, indexed, sorted, uses_to};
-use crate::{
-    Batch, BatchFault, Flaw, IndexedUses, Raised, Record, RunUses, SortedUses, Summary, Use,
-    UseList, UseStore, flaw_of,
-};
 use std::alloc::Global;
 use std::process::Abort;
 use std::test::Fail;
+use svid_replay::{
+    Batch, BatchFault, Flaw, IndexedUses, Raised, Record, RunUses, SortedUses, Summary, Use,
+    UseList, UseStore, flaw_of,
+};
 
 #[test]
 fn a_batch_is_made_or_refused_without_memory(rt: HostRuntime) -> Result<(), Fail> {

@@ -4,10 +4,10 @@ ghost use Rattle.std.specs.Prelude.{◌<◌};
 
 use super::refusing::{refuse, was_refused};
 use super::{absorb, add, at, in_runs, indexed, sorted, uses_to};
-use crate::{Batch, Record, Summary, Twice, Use, UseStore};
 use std::alloc::{AllocError, Global};
 use std::process::Abort;
 use std::test::Fail;
+use svid_replay::{Batch, Record, Summary, Twice, Use, UseStore};
 
 // Gives a record so many uses of one key, and two uses each of 20 others.
 fn fill<S: UseStore>(
