@@ -1,23 +1,30 @@
-use Rattle.std.proofs.Common.{◌≡◌, ℕ, ◌<◌, ◌≤◌, ◌+◌, ◌^◌, max, suc, Bool, true, false, ◌||◌, ◌&&◌, List, [], ◌∷◌, ◌++◌, length, take, drop, get_or, refl, sym, ◌∙◌, ap, subst, arith, nat_lt, Contains, Option, Some, None, Result, Ok, Err, OnErr}
+use Rattle.std.proofs.Common.{◌≡◌, ℕ, ◌<◌, ◌≤◌, ◌+◌, ◌^◌, max, suc, Bool, true, false, ◌||◌, ◌&&◌, List, [], ◌∷◌, ◌++◌, length, take, drop, get_or, refl, sym, ◌∙◌, ap, subst, arith, cond, not, nat_lt, Contains, Option, Some, None, Result, Ok, Err, OnErr}
 use Rattle.std.proofs.lemmas.Bool.{false≢true}
 use Rattle.std.proofs.lemmas.Bool.Decides.{nat_tests}
 use Rattle.std.proofs.lemmas.List.{take_all, take_more, take-append-drop}
 use Rattle.std.proofs.lemmas.List.Folds.{list_any-append}
 use Rattle.std.proofs.lemmas.List.Elements.{Contains-append_right}
 use Rattle.std.proofs.Math.Seq.{drop-cons}
-use Rattle.std.specs.List.{list_any, filter, find}
+use Rattle.std.proofs.lemmas.List.Elements.{recursion_from_All}
+use Rattle.std.proofs.lemmas.List.Kept.{IsStrictlySortedBy-filter}
+use Rattle.std.specs.List.{AllByRecursion, list_any, filter, find, prefix_len}
+use Rattle.std.specs.List.Sorted.{IsStrictlySortedBy}
 use Rattle.std.specs.Ordering.{eq_by_cmp}
+use Rattle.std.specs.declared.cmp.Ordering.TheVariants.{Less}
+use Rattle.svid_replay.specs.declared.flaw.Flaw.TheVariants.{Expired, Future, Order}
 use Rattle.svid_replay.specs.declared.token_use.Use.{Use}
-use Rattle.svid_replay.specs.Batches.{BatchData, AllGood, IsBatch, is_after}
-use Rattle.svid_replay.specs.Sets.{holds, keep, rising, with, union}
-use Rattle.svid_replay.specs.Use.{IsUse, use_cmp}
+use Rattle.svid_replay.specs.Batches.{BatchData, AllGood, IsBatch, flaw, is_after}
+use Rattle.svid_replay.specs.Sets.{holds, keep, rising, with, with_all, union}
+use Rattle.svid_replay.specs.Use.{IsRising, IsUse, use_cmp}
 use Rattle.svid_replay.specs.Uses.{Uses, no_uses, live}
 use Rattle.svid_replay.specs.Records.{State, IsHeldAt, IsRecord, IsPartlyJoined, HasNoNew, join, state_of, batch_state, JoinHoldsUnexpired, JoinIsCommutative, JoinIsAssociative, JoinIsIdempotent, JoinIsClosed}
 use Rattle.svid_replay.proofs.BatchesLemmas.{made_at}
-use Rattle.svid_replay.proofs.SetsLemmas.{rising_rises, holds-keep, holds-with}
+use Rattle.svid_replay.proofs.ListLemmas.{found}
+use Rattle.svid_replay.proofs.MergeLemmas.{below_all}
+use Rattle.svid_replay.proofs.SetsLemmas.{rising_rises, holds-keep, holds-with, holds-with_all}
 use Rattle.svid_replay.proofs.UseLemmas.{use_total, use_exact}
-use Rattle.svid_replay.proofs.UsesLemmas.{IsWalked, walk_none, walk_more, walk_parts, walk_end, found_held, holds-uses_in, holds-live, holds-union, same_uses, uses_in-rising}
-use Rattle.svid_replay.proofs.TestsLemmas.{equal, or-true, or-false, or-comm, and-false, and-comm}
+use Rattle.svid_replay.proofs.UsesLemmas.{IsWalked, any-filter, drop-expired, walk_none, walk_more, walk_parts, walk_end, found_held, holds-uses_in, holds-live, holds-union, same_uses, uses_in-rising}
+use Rattle.svid_replay.proofs.TestsLemmas.{equal, is_less, or-true, or-false, or-comm, and-false, and-comm}
 
 same_state : (a b : State) → a.moment ≡ b.moment → a.uses ≡ b.uses → a ≡ b
 same_state a b m u = λ i. record { moment = m i; uses = u i }
@@ -308,3 +315,117 @@ pub join_new : (r : State) → IsRecord r → join (state_of 0 []) r ≡ r
 join_new r is =
     let same : r.moment ≡ max 0 r.moment = omega arith in
     sym (is_join (state_of 0 []) r r same (λ u. none_before r u is (holds r.uses u) refl ∙ ap (λ n. nat_lt n u.exp && (holds r.uses u || false)) same ∙ ap (λ h. nat_lt (max 0 r.moment) u.exp && (holds r.uses u || h)) (sym (holds-state_of 0 [] u))))
+
+-- ---- the uses of a batch at once
+no_flaw_after : (live future after : Bool) → cond live (Some Expired) (cond future (Some Future) (cond after None (Some Order))) ≡ None → after ≡ true
+no_flaw_after true future after e = cc
+no_flaw_after false true after e = cc
+no_flaw_after false false true e = refl
+no_flaw_after false false false e = cc
+
+good_follow : (m : ℕ) (u : Use) (us : List Use) → AllGood m (Some u) us → AllByRecursion (λ v. use_cmp u v ≡ Less) us × IsRising us
+unfolding IsStrictlySortedBy flaw
+good_follow m u [] good = (tt, tt)
+good_follow m u (v ∷ vs) good =
+    let less : use_cmp u v ≡ Less = is_less (use_cmp u v) (no_flaw_after (not (nat_lt m v.exp)) (nat_lt m v.at) (is_after (Some u) v) good.0) in
+    let rest = good_follow m v vs good.1 in
+    (below_all use_total use_exact u v vs less rest.0, rest)
+
+-- good uses rise
+pub good_rises : (m : ℕ) (us : List Use) → AllGood m None us → IsRising us
+unfolding IsStrictlySortedBy
+good_rises m [] good = tt
+good_rises m (u ∷ us) good = good_follow m u us good.1
+
+-- those of a batch's uses that are not expired were made by a later moment too
+pub good_made : (m later : ℕ) (us : List Use) → m ≤ later → AllGood m None us → AllByRecursion (λ u. u.at ≤ later) us
+good_made m later us le good = recursion_from_All _ us (λ k d h. let made : (get_or us k d).at ≤ m = made_at m None us k d good h in omega arith)
+
+held_live : (m : ℕ) (us : List Use) → AllByRecursion IsUse us → AllByRecursion (λ u. u.at ≤ m) us → AllByRecursion (IsHeldAt m) (filter (λ u. nat_lt m u.exp) us)
+held_live m [] fields made = tt
+held_live m (u ∷ us) fields made = elim (nat_lt m u.exp) as (λ b. nat_lt m u.exp ≡ b → AllByRecursion (IsHeldAt m) (cond b (u ∷ filter (λ v. nat_lt m v.exp) us) (filter (λ v. nat_lt m v.exp) us))) [
+  | true ↦ λ e. let later : m < u.exp = grind (arith, nat_tests) in (record { fields = fields.0; made = made.0; live = later }, held_live m us fields.1 made.1)
+  | false ↦ λ e. held_live m us fields.1 made.1
+] refl
+
+live_of_both : (l a h : Bool) → (l && h) ≡ h → ((l && a) || h) ≡ (l && (a || h))
+live_of_both true a h e = refl
+live_of_both false a h e = sym e
+
+-- a record with those of the uses that are live at its moment
+pub record IsTakenAll (r new : State) (us : List Use) : Type 0 where
+  pub is : IsRecord new
+  pub joined : new ≡ join r (state_of r.moment us)
+
+pub taken_all : (r : State) (us ls : List Use) (s : Uses) → IsRecord r → AllByRecursion IsUse us → AllByRecursion (λ u. u.at ≤ r.moment) us → ls ≡ filter (λ u. nat_lt r.moment u.exp) us → s ≡ with_all r.uses ls → IsTakenAll r (record { moment = r.moment; uses = s }) us
+taken_all r us ls s is fields made live grown =
+    let m = r.moment in
+    let same : m ≡ max m m = omega arith in
+    let held = subst (AllByRecursion (IsHeldAt m)) (sym live) (held_live m us fields made) in
+    record {
+      is = record {
+        moment = is.moment;
+        each = λ v has.
+            let tie = eq_by_cmp use_cmp v in
+            elim (list_any tie ls) as (λ b. list_any tie ls ≡ b → (b || holds r.uses v) ≡ true → IsHeldAt m v) [
+              | true ↦ λ e _. found (IsHeldAt m) tie (IsHeldAt m v) ls held e (λ u h t. subst (IsHeldAt m) (sym (use_exact v u (equal _ t))) h)
+              | false ↦ λ e old. is.each v old
+            ] refl (sym (ap (λ t. holds t v) grown ∙ holds-with_all use_total use_exact r.uses ls v) ∙ has);
+      };
+      joined = is_join r (state_of m us) (record { moment = m; uses = s }) same (λ v.
+          let tie = eq_by_cmp use_cmp v in
+          ap (λ t. holds t v) grown ∙ holds-with_all use_total use_exact r.uses ls v ∙ ap (λ l. list_any tie l || holds r.uses v) live ∙ ap (λ b. b || holds r.uses v) (any-filter (λ u. nat_lt m u.exp) v us)
+          ∙ live_of_both (nat_lt m v.exp) (list_any tie us) (holds r.uses v) (still_live r v is (holds r.uses v) refl)
+          ∙ ap (λ n. nat_lt n v.exp && (list_any tie us || holds r.uses v)) same ∙ ap (λ h. nat_lt (max m m) v.exp && (h || holds r.uses v)) (sym (holds-state_of m us v)));
+    }
+
+at_once : (l t h : Bool) → (l && (t || (l && h))) ≡ (l && (t || h))
+at_once true t h = refl
+at_once false t h = refl
+
+-- a record raised to the moment of uses and joined with them all
+pub absorbed_at_once : (old self new : State) (moment : ℕ) (us : List Use) → self ≡ join old (state_of moment []) → new ≡ join self (state_of self.moment us) → new ≡ join old (state_of moment us)
+absorbed_at_once old self new moment us raise e =
+    let k = max old.moment moment in
+    let here : self.moment ≡ k = ap (λ (r : State). r.moment) raise ∙ moment-join old (state_of moment []) in
+    let twice : max self.moment self.moment ≡ k = omega (arith, here) in
+    e ∙ is_join old (state_of moment us) (join self (state_of self.moment us)) (moment-join self (state_of self.moment us) ∙ twice) (λ v.
+    let tied = eq_by_cmp use_cmp v in
+    holds-join self (state_of self.moment us) v ∙ ap (λ n. nat_lt n v.exp && (holds (state_of self.moment us).uses v || holds self.uses v)) twice
+    ∙ ap (λ h. nat_lt k v.exp && (h || holds self.uses v)) (holds-state_of self.moment us v)
+    ∙ ap (λ h. nat_lt k v.exp && (list_any tied us || h)) (ap (λ (r : State). holds r.uses v) raise ∙ holds-join old (state_of moment []) v ∙ ap (λ h. nat_lt k v.exp && (h || holds old.uses v)) (holds-state_of moment [] v))
+    ∙ at_once (nat_lt k v.exp) (list_any tied us) (holds old.uses v)
+    ∙ ap (λ h. nat_lt k v.exp && (h || holds old.uses v)) (sym (holds-state_of moment us v)))
+
+-- what a record is that was asked to take in all the uses: it has them, or it is as it was
+pub record IsTakenOrNot (moment : ℕ) (s : Uses) (self : State) (us live : List Use) (all : Bool) : Type 0 where
+  pub rising : IsRising live
+  pub is : IsRecord (record { moment = moment; uses = s })
+  pub joined : all ≡ true → record { moment = moment; uses = s } ≡ join self (state_of self.moment us)
+
+pub live_rises : (m : ℕ) (us live : List Use) (n : ℕ) → IsRising us → n ≡ prefix_len (λ u. not (nat_lt m u.exp)) us → live ≡ drop n us → IsRising live
+live_rises m us live n up front e =
+    subst IsRising (sym (e ∙ ap (λ k. drop k us) front ∙ drop-expired m us up)) (IsStrictlySortedBy-filter use_cmp (λ u. nat_lt m u.exp) us up)
+
+pub taken_or_not : (moment : ℕ) (had s : Uses) (self : State) (us live : List Use) (n : ℕ) (all : Bool) → IsRecord (record { moment = moment; uses = had }) → record { moment = moment; uses = had } ≡ self
+    → IsRising us → AllByRecursion IsUse us → AllByRecursion (λ u. u.at ≤ self.moment) us → n ≡ prefix_len (λ u. not (nat_lt moment u.exp)) us → live ≡ drop n us
+    → (all ≡ true → s ≡ with_all had live) → (all ≡ false → s ≡ had) → IsTakenOrNot moment s self us live all
+taken_or_not moment had s self us live n all is view up fields made front e taken not_taken =
+    let r : State = record { moment = moment; uses = had } in
+    let made_here : AllByRecursion (λ u. u.at ≤ r.moment) us = subst (λ (t : State). AllByRecursion (λ u. u.at ≤ t.moment) us) (sym view) made in
+    let are : live ≡ filter (λ u. nat_lt moment u.exp) us = e ∙ ap (λ k. drop k us) front ∙ drop-expired moment us up in
+    let all_in = λ (h : all ≡ true). taken_all r us live s is fields made_here are (taken h) in
+    record {
+      rising = live_rises moment us live n up front e;
+      is = elim all as (λ b. all ≡ b → IsRecord (record { moment = moment; uses = s })) [
+        | true ↦ λ h. (all_in h).is
+        | false ↦ λ h. subst (λ (t : Uses). IsRecord (record { moment = moment; uses = t })) (sym (not_taken h)) is
+      ] refl;
+      joined = λ h. (all_in h).joined ∙ ap (λ (t : State). join t (state_of t.moment us)) view;
+    }
+
+-- the uses of a batch were made by the moment of a record that was raised to it
+pub made_by_raised : (old self : State) (b : BatchData) (us : List Use) → IsBatch b → us ≡ b.uses → self ≡ join old (state_of b.moment []) → AllByRecursion (λ u. u.at ≤ self.moment) us
+made_by_raised old self b us is e raise =
+    let later : b.moment ≤ self.moment = omega (arith, ap (λ (r : State). r.moment) raise, moment-join old (state_of b.moment [])) in
+    good_made b.moment self.moment us later (subst (AllGood b.moment None) (sym e) is.good)

@@ -1,6 +1,6 @@
 -- Runs: merges, and how many uses there are.
-use Rattle.std.proofs.Common.{◌≡◌, ℕ, ◌<◌, ◌≤◌, ◌+◌, zero, suc, Bool, true, false, ◌||◌, List, [], ◌∷◌, ◌++◌, length, drop, take, get_or, cond, ◌-◌, nat_lt, not, filter, append_assoc, refl, sym, ◌∙◌, ap, subst, arith}
-use Rattle.std.proofs.lemmas.List.{append-nil, drop_all, length-drop, take-append-drop, length-append}
+use Rattle.std.proofs.Common.{◌≡◌, ℕ, ◌<◌, ◌≤◌, ◌+◌, zero, suc, Bool, true, false, ◌||◌, ◌&&◌, List, [], ◌∷◌, ◌++◌, length, drop, take, get_or, cond, ◌-◌, nat_lt, not, filter, append_assoc, refl, sym, ◌∙◌, ap, subst, arith}
+use Rattle.std.proofs.lemmas.List.{append-nil, drop_all, take_more, length-drop, take-append-drop, length-append}
 use Rattle.std.proofs.Math.Seq.{drop-cons, take-suc, take-suc-set}
 use Rattle.std.proofs.Math.ListN.{set}
 use Rattle.std.proofs.lemmas.List.{length-set}
@@ -17,6 +17,7 @@ use Rattle.std.proofs.lemmas.Nat.Bits.{bit_at_and, bit_at_or, same_from_bits}
 use Rattle.std.specs.Int.{bit_at}
 use Rattle.std.specs.FinMap as finmap
 use Rattle.std.proofs.lemmas.List.{length-map}
+use Rattle.std.proofs.lemmas.List.Elements.{filter_passes, recursion_from_All}
 use Rattle.std.proofs.lemmas.List.Kept.{IsStrictlySortedBy-filter}
 use Rattle.std.proofs.lemmas.Bool.{false≢true, false_from_ne_true}
 use Rattle.svid_replay.specs.Batches.{is_after}
@@ -28,13 +29,13 @@ use Rattle.svid_replay.proofs.KeysLemmas.{left_is_all, live_left, tell_live, tel
 use Rattle.svid_replay.proofs.MergeLemmas.{first_alike, merge, merge_has, merge_length, merge_rises, below_all, by_rank}
 use Rattle.std.proofs.lemmas.Cmp.{tied_itself}
 use Rattle.std.specs.Ordering.{is_lt}
-use Rattle.svid_replay.specs.Runs.{least_from, least_of, HasBits, IsFront, IsRun, IsRuns, mask_of, place_of}
+use Rattle.svid_replay.specs.Runs.{least_from, least_of, new_among, HasBits, IsFront, IsRun, IsRuns, mask_of, place_of}
 use Rattle.svid_replay.specs.Twice.{has_key}
 use Rattle.svid_replay.specs.Sets.{rising, with, with_all}
 use Rattle.svid_replay.specs.Uses.{Uses, count, live, next_above}
-use Rattle.svid_replay.proofs.ListLemmas.{any_none, each_true, each_append, each_drop, each_take, each_weaker, prefix_from_point}
-use Rattle.svid_replay.proofs.SetsLemmas.{rising_rises, holds-rising, holds-with, same_rising}
-use Rattle.svid_replay.proofs.UsesLemmas.{drop-expired, left_rises, left_is, left_count, not_after_parted, rising-uses_in, uses_in-filter, same_uses, holds-uses_in, with-held, rising-keep, IsPruned}
+use Rattle.svid_replay.proofs.ListLemmas.{any_none, each_true, each_append, each_drop, each_take, each_weaker, prefix_from_point, filter-in, filter-out}
+use Rattle.svid_replay.proofs.SetsLemmas.{rising_rises, holds-rising, holds-with, holds-with_all, same_rising}
+use Rattle.svid_replay.proofs.UsesLemmas.{drop-expired, left_rises, left_is, left_count, not_after_parted, rising-uses_in, uses_in-filter, same_uses, holds-uses_in, with-held, rising-keep, IsPruned, any-filter, to_front}
 use Rattle.std.specs.List.{AllByRecursion, list_any}
 use Rattle.std.specs.List.Sorted.{IsStrictlySortedBy}
 use Rattle.std.specs.Ordering.{eq_by_cmp, is_eq, ordering_reverse}
@@ -533,3 +534,77 @@ front_unknown words (u ∷ us) key p known unknown finds = elim (p u) as (λ b. 
   | true ↦ λ e. absurd (unknown (subst (HasBits words) (same_key key u.key (finds u e)) known.0))
   | false ↦ λ e. front_unknown words us key p known.1 unknown finds
 ] refl
+
+-- ---- many uses at once
+pub holds-with_uses : (s : Uses) (us : List Use) (q : Use) → holds (with_all s us) q ≡ (list_any (eq_by_cmp use_cmp q) us || holds s q)
+holds-with_uses s us q = holds-with_all use_total use_exact s us q
+
+greater_differs : (u v : Use) → use_cmp u v ≡ Less → eq_by_cmp use_cmp v u ≡ false
+greater_differs u v less = ap is_eq (use_total.antisymm v u ∙ ap ordering_reverse less)
+
+still_new : (s : Uses) (u : Use) (vs : List Use) → AllByRecursion (λ v. use_cmp u v ≡ Less) vs → AllByRecursion (λ v. holds s v ≡ false) vs → AllByRecursion (λ v. holds (with s u) v ≡ false) vs
+still_new s u [] above new = tt
+still_new s u (v ∷ vs) above new = (holds-with use_total use_exact s u v ∙ (λ i. greater_differs u v above.0 i || new.0 i), still_new s u vs above.1 new.1)
+
+-- a set has as many uses more as are put in that it does not hold
+count_new : (s : Uses) (us : List Use) → IsRising us → AllByRecursion (λ u. holds s u ≡ false) us → count (with_all s us) ≡ count s + length us
+unfolding IsStrictlySortedBy
+count_new s [] up new = omega arith
+count_new s (u ∷ us) up new =
+    let one : count (with s u) ≡ count s + 1 = count-with s u ∙ ap (λ b. cond b (count s) (count s + 1)) new.0 in
+    omega (arith, one, count_new (with s u) us up.1 (still_new s u us up.0 new.1))
+
+-- a run more, of uses that the store does not hold
+pub runs_all : (front : List Use) (runs rest : List (List Use)) (total : ℕ) (s : Uses) (run : List Use) → IsSettled front runs total s → IsRising run → AllByRecursion (λ u. holds s u ≡ false) run → HasSame (run ++ all_of runs) (all_of rest) → length (all_of rest) ≤ length run + length (all_of runs) → IsSettled front rest (total + length run) (with_all s run)
+runs_all front runs rest total s run was up new same less =
+    let sets : uses_in (front ++ all_of rest) ≡ with_all s run = same_uses _ _ (λ q.
+    let tie = eq_by_cmp use_cmp q in
+    holds-uses_in (front ++ all_of rest) q ∙ list_any-append tie front (all_of rest) ∙ ap (λ b. list_any tie front || b) (same q ∙ list_any-append tie run (all_of runs))
+    ∙ to_front (list_any tie front) (list_any tie run) (list_any tie (all_of runs))
+    ∙ ap (λ b. list_any tie run || b) (sym (list_any-append tie front (all_of runs)) ∙ sym (holds-uses_in (front ++ all_of runs) q) ∙ ap (λ t. holds t q) was.view)
+    ∙ sym (holds-with_uses s run q)) in
+    let grown : count (with_all s run) ≡ count s + length run = count_new s run up new in
+    let few = count_le (front ++ all_of rest) in
+    record {
+      is = record {
+        rising = was.is.rising;
+        long = omega (arith, few, ap count sets, grown, length-append front (all_of rest), was.is.long, was.is.once, ap count was.view, less);
+        once = omega (arith, ap count sets, grown, was.is.once, ap count was.view);
+      };
+      view = sets;
+    }
+
+was_not : (b : Bool) → not b ≡ true → b ≡ false
+was_not true e = absurd (false≢true e)
+was_not false e = refl
+
+-- those of the uses that are not held are not in the set
+pub new_absent : (held : List Use) (s : Uses) (us : List Use) → uses_in held ≡ s → AllByRecursion (λ u. holds s u ≡ false) (new_among held us)
+new_absent held s us view =
+    let test = λ (u : Use). not (list_any (eq_by_cmp use_cmp u) held) in
+    each_weaker (λ u. test u ≡ true) _ (λ u e. ap (λ t. holds t u) (sym view) ∙ holds-uses_in held u ∙ was_not _ e) (filter test us) (recursion_from_All _ (filter test us) (filter_passes test us))
+
+left_or_held : (h any : Bool) → ((not h && any) || h) ≡ (any || h)
+left_or_held true any = sym (or-true any)
+left_or_held false any = refl
+
+-- a set with those of the uses that it does not hold is the set with all of them
+pub with_new : (held : List Use) (s : Uses) (us : List Use) → uses_in held ≡ s → with_all s (new_among held us) ≡ with_all s us
+with_new held s us view = same_uses _ _ (λ q.
+    let has : list_any (eq_by_cmp use_cmp q) held ≡ holds s q = sym (holds-uses_in held q) ∙ ap (λ t. holds t q) view in
+    holds-with_uses s (new_among held us) q ∙ ap (λ b. b || holds s q) (any-filter (λ u. not (list_any (eq_by_cmp use_cmp u) held)) q us ∙ ap (λ h. not h && list_any (eq_by_cmp use_cmp q) us) has)
+    ∙ left_or_held (holds s q) (list_any (eq_by_cmp use_cmp q) us) ∙ sym (holds-with_uses s us q))
+
+-- one use more looked at
+pub new_more : (held us now : List Use) (i : ℕ) (d : Use) → i < length us → now ≡ new_among held (take i us) → not (list_any (eq_by_cmp use_cmp (get_or us i d)) held) ≡ true → now ++ get_or us i d ∷ [] ≡ new_among held (take (i + 1) us)
+new_more held us now i d within so_far e =
+    let test = λ (u : Use). not (list_any (eq_by_cmp use_cmp u) held) in
+    ap (λ xs. xs ++ get_or us i d ∷ []) so_far ∙ sym (filter-in test (take i us) (get_or us i d) e) ∙ sym (ap (filter test) (take_more us i d within))
+
+pub new_same : (held us now : List Use) (i : ℕ) (d : Use) → i < length us → now ≡ new_among held (take i us) → not (list_any (eq_by_cmp use_cmp (get_or us i d)) held) ≡ false → now ≡ new_among held (take (i + 1) us)
+new_same held us now i d within so_far e =
+    let test = λ (u : Use). not (list_any (eq_by_cmp use_cmp u) held) in
+    so_far ∙ sym (filter-out test (take i us) (get_or us i d) e) ∙ sym (ap (filter test) (take_more us i d within))
+
+pub new_rises : (held us now : List Use) → now ≡ new_among held us → IsRising us → IsRising now
+new_rises held us now is up = subst IsRising (sym is) (IsStrictlySortedBy-filter use_cmp (λ u. not (list_any (eq_by_cmp use_cmp u) held)) us up)

@@ -97,7 +97,7 @@ held_already : (tie has : Bool) → (tie ≡ true → has ≡ true) → has ≡ 
 held_already true has h = h refl
 held_already false has h = refl
 
-any-filter : (test : Use → Bool) (u : Use) (us : List Use) → list_any (eq_by_cmp use_cmp u) (filter test us) ≡ (test u && list_any (eq_by_cmp use_cmp u) us)
+pub any-filter : (test : Use → Bool) (u : Use) (us : List Use) → list_any (eq_by_cmp use_cmp u) (filter test us) ≡ (test u && list_any (eq_by_cmp use_cmp u) us)
 any-filter test u [] = elim (test u) as (λ b. false ≡ (b && false)) [ true ↦ refl | false ↦ refl ]
 any-filter test u (v ∷ vs) =
     let tie = eq_by_cmp use_cmp u v in

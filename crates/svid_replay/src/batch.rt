@@ -1,6 +1,6 @@
 ghost use Rattle.std.specs.Prelude.{◌≡◌, ◌↔◌, ◌≤◌, None, length, IfOk, IfErr, IsOk, MatchOption};
 ghost use Rattle.std.specs.List.{AllByRecursion};
-ghost use Rattle.svid_replay.specs.Use.{IsUse};
+ghost use Rattle.svid_replay.specs.Use.{IsRising, IsUse};
 ghost use Rattle.svid_replay.specs.Batches.{AllGood, IsBatch, IsBatchFault, fault_of};
 
 use crate::flaw::{Flaw, flaw_of};
@@ -86,6 +86,7 @@ impl Batch {
     pub fn uses(&self) -> &[Use]
         ensures value { result.now ≡ self.now.uses }
         ensures batch { IsBatch self.now }
+        ensures rising { IsRising result.now }
     {
         &self.uses
     }

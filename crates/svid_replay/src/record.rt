@@ -1,4 +1,5 @@
 ghost use Rattle.std.specs.Prelude.{◌≡◌, ◌↔◌, ◌+◌, ◌<◌, ◌≤◌, [], ◌∷◌, false, filter, map, IsTrue, IsOk, IfOk, OnOk, OnErr};
+ghost use Rattle.std.specs.List.{AllByRecursion};
 ghost use Rattle.std.specs.List.Sorted.{IsNonDecreasing};
 ghost use Rattle.svid_replay.specs.Buckets.{answer_to, raised_to, stale_part, summary_of};
 ghost use Rattle.svid_replay.specs.Numbers.{is_among, number_of};
@@ -6,11 +7,13 @@ ghost use Rattle.svid_replay.specs.Parts.{cut};
 ghost use Rattle.svid_replay.specs.Records.{HasNoNew, IsPartlyJoined, IsRecord, batch_state, join, state_of};
 ghost use Rattle.svid_replay.specs.Sets.{holds, rising};
 ghost use Rattle.svid_replay.specs.Twice.{IsTwice, twice_of, used};
+ghost use Rattle.svid_replay.specs.Use.{IsRising, IsUse};
 ghost use Rattle.svid_replay.specs.Uses.{count, has_use_of, has_withdrawal_of, next_above, no_uses};
 
 use crate::buckets::{digests_of, stale_uses};
 use crate::numbers::{is_among, number_of, repeated};
 use crate::parts::cut;
+use crate::sorted::count_expired;
 use crate::stale::Stale;
 use crate::store::{Raised, UseStore};
 use crate::twice::twice_in;
@@ -113,6 +116,20 @@ impl<S: UseStore> Record<S> {
         Ok(())
     }
 
+    // joins rising uses that were made by the record's moment, all at once; where the store does not do that the
+    // record stays as it was
+    fn take_all(&mut self, uses: &[Use]) -> bool
+        requires rising { IsRising uses.now }
+        requires fields { AllByRecursion IsUse uses.now }
+        requires made { AllByRecursion (λ u. u.at ≤ self.old.moment) uses.now }
+        ensures all { IsTrue result → self.new ≡ join self.old (state_of self.old.moment uses.now) }
+        ensures none { result ≡ false → self.new ≡ self.old }
+    {
+        let expired = count_expired(uses, self.moment);
+        let (_, live) = uses.split_at(expired);
+        self.store.insert_all(live)
+    }
+
     /// Joins one use that was made by the record's moment and expires after it.
     ///
     /// Where memory is refused the record stays as it was. A use that the record has already always
@@ -137,6 +154,9 @@ impl<S: UseStore> Record<S> {
         ensures nothing_new { HasNoNew self.old batch.now.moment batch.now.uses → IsOk result }
     {
         self.raise(batch.moment());
+        if self.take_all(batch.uses()) {
+            return Ok(());
+        }
         for used in batch.uses() {
             self.take_in(*used)?;
         }

@@ -1,10 +1,10 @@
 //! A set of uses as a short sorted front and runs that grow.
-ghost use Rattle.std.specs.Prelude.{◌≡◌, ◌+◌, ◌<◌, ◌≤◌, ◌++◌, false, length, ◌^◌, true, IsTrue, IsOk, OnOk, OnErr};
-ghost use Rattle.std.specs.List.{list_any};
+ghost use Rattle.std.specs.Prelude.{◌≡◌, ◌+◌, ◌<◌, ◌≤◌, ◌++◌, false, length, not, ◌^◌, true, IsTrue, IsOk, IfOk, OnOk, OnErr};
+ghost use Rattle.std.specs.List.{AllByRecursion, list_any};
 ghost use Rattle.std.specs.Ordering.{eq_by_cmp};
 ghost use Rattle.svid_replay.specs.Batches.{is_after};
-ghost use Rattle.svid_replay.specs.Runs.{all_of, least_from, least_of, live_of, HasSame, IsRuns};
-ghost use Rattle.svid_replay.specs.Sets.{holds, with};
+ghost use Rattle.svid_replay.specs.Runs.{all_of, least_from, least_of, live_of, new_among, HasSame, IsRuns};
+ghost use Rattle.svid_replay.specs.Sets.{holds, with, with_all};
 ghost use Rattle.svid_replay.specs.Indexed.{is_sought};
 ghost use Rattle.svid_replay.specs.Use.{IsRising, use_cmp};
 ghost use Rattle.svid_replay.specs.Uses.{no_uses, uses_in};
@@ -26,7 +26,8 @@ const FACTOR: usize = 2;
 
 /// A set of uses as a short sorted vector, and runs: sorted vectors, each with its keys. Most inserts are
 /// short, but one that fills the short vector makes it a run and may merge runs, at worst all of them. Where
-/// that is refused memory it is left undone, and the use is in the set all the same.
+/// that is refused memory it is left undone, and the use is in the set all the same. Many uses at once
+/// (`insert_all`) are a run by themselves, which is merged in the same way.
 #[derive(Debug, Drop)]
 pub struct RunUses {
     alloc: Global,
@@ -137,17 +138,53 @@ fn merge_last(alloc: Global, runs: &mut Vec<Run>) -> bool
     }
 }
 
-// Makes the front a run and merges runs, as far as memory is given.
+// Puts a run behind the others and merges runs, as far as memory is given.
+fn push_run(alloc: Global, runs: &mut Vec<Run>, run: Run) -> Result<(), AllocError>
+    ensures same { OnOk result (HasSame (run ++ all_of runs.old.items) (all_of runs.new.items)) }
+    ensures less { OnOk result (length (all_of runs.new.items) ≤ length run + length (all_of runs.old.items)) }
+    ensures err { OnErr result (runs.new.items ≡ runs.old.items) }
+{
+    if run.uses().is_empty() {
+        return Ok(());
+    }
+    runs.push(run)?;
+    while merge_last(alloc, runs) {}
+    Ok(())
+}
+
+// Makes the front a run, as far as memory is given.
 fn settle(alloc: Global, front: &mut Front, runs: &mut Vec<Run>) -> Result<(), AllocError>
     ensures rising { IsRising front.new }
     ensures same { HasSame (front.old ++ all_of runs.old.items) (front.new ++ all_of runs.new.items) }
     ensures less { length front.new + length (all_of runs.new.items) ≤ length front.old + length (all_of runs.old.items) }
 {
     let run = Run::of(alloc, front.uses())?;
-    runs.push(run)?;
+    push_run(alloc, runs, run)?;
     front.clear();
-    while merge_last(alloc, runs) {}
     Ok(())
+}
+
+// Whether neither the front nor a run has the use.
+fn is_new(front: &[Use], runs: &[Run], used: &Use) -> bool
+    requires { IsRising front.now }
+    ensures { result ≡ not (list_any (eq_by_cmp use_cmp used.now) (front.now ++ all_of runs.now)) }
+{
+    !(holds_use(front, used) || any_holds(runs, used))
+}
+
+// A run of those of the uses that neither the front nor a run has.
+fn run_of_new(alloc: Global, front: &[Use], runs: &[Run], uses: &[Use]) -> Result<Run, AllocError>
+    requires front { IsRising front.now }
+    requires uses { IsRising uses.now }
+    ensures { IfOk result (λ run. run ≡ new_among (front.now ++ all_of runs.now) uses.now) }
+{
+    let mut new = Vec::with_capacity(alloc, uses.len())?;
+    for used in uses {
+        if is_new(front, runs, used) {
+            new.push(*used)?;
+        }
+    }
+    Run::of(alloc, &new)
 }
 
 impl RunUses {
@@ -160,6 +197,25 @@ impl RunUses {
             front: Front::new(alloc),
             runs: Vec::new(alloc),
             total: 0,
+        }
+    }
+
+    // Puts in a run of uses that are not there, if memory is given for it.
+    fn take_run(&mut self, run: Run) -> bool
+        requires rising { IsRising run }
+        requires new { AllByRecursion (λ u. holds self.old u ≡ false) run }
+        ensures all { IsTrue result → self.new ≡ with_all self.old run }
+        ensures none { result ≡ false → self.new ≡ self.old }
+    {
+        let Some(total) = self.total.checked_add(run.uses().len()) else {
+            return false;
+        };
+        match push_run(self.alloc, &mut self.runs, run) {
+            Err(_) => false,
+            Ok(()) => {
+                self.total = total;
+                true
+            }
         }
     }
 }
@@ -187,6 +243,17 @@ impl UseStore for RunUses {
             }
         }
         Ok(())
+    }
+
+    fn insert_all(&mut self, uses: &[Use]) -> bool {
+        // (few go into the front one by one)
+        if uses.len() < FRONT {
+            return false;
+        }
+        match run_of_new(self.alloc, self.front.uses(), &self.runs, uses) {
+            Err(_) => false,
+            Ok(run) => self.take_run(run),
+        }
     }
 
     fn drop_expired(&mut self, moment: u64) -> Raised {

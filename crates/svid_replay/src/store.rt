@@ -1,5 +1,6 @@
-ghost use Rattle.std.specs.Prelude.{◌≡◌, ◌↔◌, ◌+◌, IsTrue, IsOk, OnOk, OnErr};
-ghost use Rattle.svid_replay.specs.Sets.{holds, with};
+ghost use Rattle.std.specs.Prelude.{◌≡◌, ◌↔◌, ◌+◌, false, IsTrue, IsOk, OnOk, OnErr};
+ghost use Rattle.svid_replay.specs.Sets.{holds, with, with_all};
+ghost use Rattle.svid_replay.specs.Use.{IsRising};
 ghost use Rattle.svid_replay.specs.Uses.{Uses, count, has_use_of, has_withdrawal_of, live, next_above, no_uses};
 
 use crate::Use;
@@ -22,6 +23,17 @@ pub trait UseStore {
         ensures ok { OnOk result (content self.new ≡ with (content self.old) new) }
         ensures err { OnErr result (content self.new ≡ content self.old) }
         ensures held { IsTrue (holds (content self.old) new) → IsOk result };
+
+    /// Puts rising uses into the set, all at once, if the set has a quick way to do that and is given the
+    /// memory; answers whether it did. If not, the set stayed as it was, and `insert` takes them one by one.
+    fn insert_all(&mut self, uses: &[Use]) -> bool
+        requires { IsRising uses.now }
+        ensures all { IsTrue result → content self.new ≡ with_all (content self.old) uses.now }
+        ensures none { result ≡ false → content self.new ≡ content self.old }
+    {
+        let _ = uses;
+        false
+    }
 
     /// Takes out the uses that expire at the moment (in seconds) or before it.
     fn drop_expired(&mut self, moment: u64) -> Raised

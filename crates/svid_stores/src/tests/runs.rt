@@ -6,7 +6,7 @@ use super::{absorb, add, at, in_runs, indexed, uses_to};
 use std::alloc::{AllocError, Global};
 use std::process::Abort;
 use std::test::Fail;
-use svid_replay::{IndexedUses, RunUses, Use, UseStore};
+use svid_replay::{Batch, IndexedUses, Record, RunUses, SortedUses, Use, UseStore};
 
 // The uses of a store, from each to the next.
 fn walk<S: UseStore>(rt: &impl Abort, alloc: Global, store: &S) -> Result<Vec<Use>, AllocError> {
@@ -240,5 +240,159 @@ fn records_in_runs_absorb_in_any_order(rt: HostRuntime) -> Result<(), Fail> {
     assert_eq!(rt; record.len(), 2000);
     assert_eq!(rt; record.uses(alloc)?.as_slice(), uses.as_slice());
     assert_eq!(rt; other.uses(alloc)?.as_slice(), uses.as_slice());
+    Ok(())
+}
+
+// Those of the uses of no order that have these numbers, rising, as a batch.
+fn part(rt: &impl Abort, alloc: Global, from: u64, to: u64) -> Result<Batch, Fail>
+    requires { to < 5000 }
+{
+    let mut record = indexed(alloc);
+    absorb(&mut record, alloc, 5000, &[])?;
+    for number in from..to {
+        assert!(rt; add(&mut record, mixed(number))?);
+    }
+    Ok(Batch::make(5000, record.uses(alloc)?)?)
+}
+
+// A record in runs, and one in two orders, that have the first uses, one by one.
+fn first_uses(
+    rt: &impl Abort,
+    alloc: Global,
+    count: u64,
+) -> Result<(Record<RunUses>, Record<IndexedUses>), Fail>
+    requires { count < 5000 }
+{
+    let mut runs = in_runs(alloc);
+    let mut other = indexed(alloc);
+    absorb(&mut runs, alloc, 5000, &[])?;
+    absorb(&mut other, alloc, 5000, &[])?;
+    for number in 0..count {
+        assert!(rt; add(&mut runs, mixed(number))?);
+        assert!(rt; add(&mut other, mixed(number))?);
+    }
+    Ok((runs, other))
+}
+
+// The record in runs tells what the one of two orders does.
+fn assert_records_alike(
+    rt: &impl Abort,
+    alloc: Global,
+    runs: &Record<RunUses>,
+    other: &Record<IndexedUses>,
+) -> Result<(), Fail> {
+    assert_eq!(rt; runs.moment(), other.moment());
+    assert_eq!(rt; runs.len(), other.len());
+    assert_eq!(rt; runs.uses(alloc)?.as_slice(), other.uses(alloc)?.as_slice());
+    for byte in 0..=255u8 {
+        let key = [byte; 32];
+        assert_eq!(rt; runs.has(&key), other.has(&key));
+        assert_eq!(rt; runs.is_withdrawn(&key), other.is_withdrawn(&key));
+    }
+    Ok(())
+}
+
+// Batches of many uses, of which the record has all, some or none, in its front and in its runs.
+#[test]
+fn many_uses_at_once_are_what_they_are_one_by_one(rt: HostRuntime) -> Result<(), Fail> {
+    let alloc = rt.alloc();
+    let (mut runs, mut other) = first_uses(&rt, alloc, 700)?;
+    for (from, to) in [(600, 1500), (600, 1500), (0, 300), (1400, 1660), (0, 2000u64)] {
+        let batch = part(&rt, alloc, from, to)?;
+        runs.absorb(&batch)?;
+        other.absorb(&batch)?;
+        assert_records_alike(&rt, alloc, &runs, &other)?;
+    }
+    // some of these are expired by now
+    assert_eq!(rt; runs.raise(5030), other.raise(5030));
+    let late = part(&rt, alloc, 1000, 2500)?;
+    runs.absorb(&late)?;
+    other.absorb(&late)?;
+    assert_records_alike(&rt, alloc, &runs, &other)?;
+    assert_eq!(rt; runs.raise(5098), other.raise(5098));
+    assert!(rt; runs.is_empty());
+    Ok(())
+}
+
+// Puts many uses in at once while the nth allocation is refused: all of them are in, or none, and then it says so.
+fn puts_in_all_or_none(
+    rt: &impl Abort,
+    alloc: Global,
+    nth: usize,
+    batch: &Batch,
+) -> Result<bool, Fail>
+    requires { nth < 4294967296 }
+{
+    let mut runs = RunUses::new(alloc);
+    let mut other = IndexedUses::new(alloc);
+    for number in 0..300u64 {
+        runs.insert(mixed(number))?;
+        other.insert(mixed(number))?;
+    }
+    refuse(alloc, nth);
+    let all = runs.insert_all(batch.uses());
+    let refused = was_refused(alloc);
+    refuse(alloc, 0);
+    assert!(rt; all || refused);
+    if all {
+        for used in batch.uses() {
+            other.insert(*used)?;
+        }
+    }
+    assert_alike(rt, alloc, &runs, &other)?;
+    Ok(refused)
+}
+
+// A record that absorbs many uses while the nth allocation is refused takes them one by one, as far as memory goes.
+fn absorbs_many_as_far_as_memory_goes(
+    rt: &impl Abort,
+    alloc: Global,
+    nth: usize,
+    batch: &Batch,
+) -> Result<(), Fail>
+    requires { nth < 4294967296 }
+{
+    let (mut runs, mut other) = first_uses(rt, alloc, 300)?;
+    refuse(alloc, nth);
+    let answer = runs.absorb(batch);
+    let refused = was_refused(alloc);
+    refuse(alloc, 0);
+    if answer.is_err() {
+        assert!(rt; refused && runs.len() < 900);
+        runs.absorb(batch)?;
+    }
+    other.absorb(batch)?;
+    assert_records_alike(rt, alloc, &runs, &other)
+}
+
+#[test]
+fn many_uses_at_once_lose_none_where_memory_is_refused(rt: HostRuntime) -> Result<(), Fail> {
+    let alloc = rt.alloc();
+    let batch = part(&rt, alloc, 200, 900)?;
+    let mut refused = true;
+    for nth in 1..100usize {
+        refused = puts_in_all_or_none(&rt, alloc, nth, &batch)?;
+        absorbs_many_as_far_as_memory_goes(&rt, alloc, nth, &batch)?;
+        if !refused {
+            break;
+        }
+    }
+    assert!(rt; !refused);
+    Ok(())
+}
+
+// Few uses are not put in at once, and no store but that of runs does it: they stay as they were.
+#[test]
+fn a_store_that_does_not_take_uses_at_once_stays(rt: HostRuntime) -> Result<(), Fail> {
+    let alloc = rt.alloc();
+    let few = part(&rt, alloc, 0, 255)?;
+    let many = part(&rt, alloc, 0, 256)?;
+    let mut runs = RunUses::new(alloc);
+    let mut other = IndexedUses::new(alloc);
+    let mut sorted = SortedUses::new(alloc);
+    assert!(rt; !runs.insert_all(few.uses()) && runs.is_empty());
+    assert!(rt; !other.insert_all(many.uses()) && other.is_empty());
+    assert!(rt; !sorted.insert_all(many.uses()) && sorted.is_empty());
+    assert!(rt; runs.insert_all(many.uses()) && runs.len() == 256);
     Ok(())
 }
