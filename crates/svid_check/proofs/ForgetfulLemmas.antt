@@ -12,7 +12,7 @@ use Rattle.svid_replay.specs.Batches.{BatchData}
 use Rattle.svid_replay.specs.Buckets.{answer_to, bucket_text, summary_of}
 use Rattle.svid_replay.specs.Parts.{cut, parts_of}
 use Rattle.svid_replay.specs.Records.{IsHeldAt, IsRecord, State, join, state_of}
-use Rattle.svid_replay.specs.Sets.{holds, with}
+use Rattle.svid_replay.specs.Sets.{holds}
 use Rattle.svid_replay.specs.Use.{IsBytes, IsRising, use_cmp}
 use Rattle.svid_replay.specs.Uses.{Uses, uses_in}
 use Rattle.svid_replay.proofs.BucketsLemmas.{own_summary_asks_nothing}

@@ -21,7 +21,6 @@ use Rattle.svid_replay.specs.Uses.{Uses, live, uses_in}
 use Rattle.svid_replay.proofs.UseLemmas.{use_total}
 use Rattle.svid_replay.proofs.UsesLemmas.{holds-live, same_uses, uses_in-rising, with_holds_one_more}
 use Rattle.svid_check.specs.declared.accepted.Accepted.{Accepted}
-use Rattle.svid_check.specs.Changes.{raised}
 use Rattle.svid_check.specs.Headline.{AcceptanceGoesAlong, AcceptanceTells, AcceptedIsRefused, ChainsTell, HasTaken, IsRefusedBy, IsSend, IsUseOf, IsWithin, RestartsPutBack, SendsMakeEqual, SendsTellAll, TakesOnly, ToldIsRefused, WentAlong, WithdrawnAreRefused}
 use Rattle.svid_check.specs.Lawful.{Accepts, input_of}
 use Rattle.svid_check.specs.Runs.{Terms}

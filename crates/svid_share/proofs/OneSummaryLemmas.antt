@@ -1,5 +1,5 @@
 -- What is found in an input that is to be one summary.
-use Rattle.std.proofs.Common.{◌≡◌, ◌≢◌, ℕ, List, [], ◌∷◌, ◌++◌, length, Option, Some, None, Result, Ok, Err, IfOk, IfErr, sym, ◌∙◌, ap, subst, arith, length-append, append-nil, append_assoc}
+use Rattle.std.proofs.Common.{◌≡◌, ◌≢◌, ℕ, List, [], ◌∷◌, ◌++◌, length, Option, Some, Result, Ok, Err, IfOk, IfErr, sym, ◌∙◌, ap, subst, arith, length-append, append-nil, append_assoc}
 use Rattle.svid_replay.specs.Summary.{SummaryData}
 use Rattle.svid_wire.specs.Streams.{Drawn}
 use Rattle.svid_wire.specs.declared.message.Message.{Message}

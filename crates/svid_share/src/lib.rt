@@ -7,8 +7,7 @@
 //! its parts. [`run_summary`] writes the summary of a record, and [`run_answer`] answers one with the uses
 //! of all buckets whose digests differ from the summary's: whole buckets, so also uses that both records
 //! have. [`join_input`] and [`join_inputs`] serve the engines of the crates above, as [`read_summary`],
-//! [`read_input`], [`put_text`], [`put_batches`], [`put_record`], [`put_answer`]
-//! and [`put_report`] do.
+//! [`read_input`], [`put_text`], [`put_record`], [`put_answer`] and [`put_report`] do.
 //!
 //! ```rust
 //! use svid_share::run_report;
@@ -22,7 +21,6 @@
 #![tactic(auto)]
 
 mod answer;
-mod batches;
 mod inputs;
 pub mod laws;
 mod line;
@@ -40,7 +38,6 @@ mod tool_fault;
 mod walked;
 
 pub use answer::{put_answer, run_answer};
-pub use batches::put_batches;
 pub use inputs::{MOST_BYTES, join_input, join_inputs, read_input};
 pub use merge::run_merge;
 pub use one_summary::read_summary;

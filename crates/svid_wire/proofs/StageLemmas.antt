@@ -1,21 +1,20 @@
-use Rattle.std.proofs.Common.{◌≡◌, ◌≢◌, ℕ, ◌+◌, ◌-◌, ◌*◌, ◌^◌, ◌<◌, List, [], ◌∷◌, ◌++◌, length, refl, sym, subst, ap, ◌∙◌, arith, Option, None, Some, append_assoc, append-nil, length-append}
+use Rattle.std.proofs.Common.{◌≡◌, ℕ, ◌-◌, ◌^◌, ◌<◌, List, [], ◌∷◌, ◌++◌, length, refl, sym, subst, ap, ◌∙◌, arith, Option, None, Some, append_assoc, append-nil}
 use Rattle.std.specs.List.{flat_map, slice_get, AllByRecursion}
 use Rattle.std.proofs.lemmas.List.{nil_from_length, flat_map_more}
 use Rattle.svid_replay.specs.declared.token_use.Use.{Use}
 use Rattle.svid_replay.specs.declared.flaw.Flaw.{Flaw}
 use Rattle.svid_replay.specs.declared.flaw.Flaw.TheVariants.{Expired, Future, Order}
-use Rattle.svid_replay.specs.Use.{IsBytes, IsUse}
-use Rattle.svid_replay.specs.Batches.{flaw, last_of}
+use Rattle.svid_replay.specs.Use.{IsBytes}
+use Rattle.svid_replay.specs.Batches.{last_of}
 use Rattle.svid_replay.proofs.BatchesLemmas.{AllByRecursion-push}
 use Rattle.svid_wire.specs.BatchText.{batch_kind, numbers_text, head_text}
-use Rattle.svid_wire.specs.Versions.{CanTell, magic_of, most_of, use_len_of, use_text}
+use Rattle.svid_wire.specs.Versions.{magic_of, most_of, use_text}
 use Rattle.svid_wire.specs.declared.version.Version.{Version}
-use Rattle.svid_wire.specs.declared.version.Version.TheVariants.{Two}
 use Rattle.svid_wire.specs.SummaryText.{summary_head, digest_text}
 use Rattle.svid_wire.specs.Stage.{IsStage, stage_text, field_len}
 use Rattle.svid_wire.specs.declared.stage.Stage.{Stage}
 use Rattle.svid_wire.specs.declared.stage.Stage.TheVariants.{Magic, Kind, Numbers, Uses, Moment, Digests}
-use Rattle.svid_wire.specs.WireFault.{IsUnfinished, in_magic, in_kind, in_numbers, in_uses, in_moment, in_digests, IsBegun, IsFieldFault, IsUseFault, IsUseKindFault, IsCountFault, flaw_reason}
+use Rattle.svid_wire.specs.WireFault.{IsUnfinished, in_magic, in_kind, in_numbers, in_uses, in_moment, in_digests, IsFieldFault, IsUseFault, IsCountFault, flaw_reason}
 
 pub last_of-read : (before : Option Use) (u : Use) (us : List Use) → last_of before (u ∷ us) ≡ slice_get (u ∷ us) (length us)
 last_of-read before u [] = refl
@@ -27,40 +26,6 @@ last_of-None [] = refl
 last_of-None (u ∷ us) =
     let last : length (u ∷ us) - 1 ≡ length us = omega arith in
     ap (slice_get (u ∷ us)) last ∙ sym (last_of-read None u us)
-
--- a use behind the good ones that something is wrong with
-pub IsUseFault-last : (v : Version) (m c : ℕ) (us : List Use) (bad : Use) (place : ℕ) (f : Flaw) → IsBegun v m c us → IsUse bad → CanTell v bad → flaw m (last_of None us) bad ≡ Some f → place ≡ 17 + use_len_of v * length us → IsUseFault (head_text v m c ++ flat_map (use_text v) us ++ use_text v bad) place f
-IsUseFault-last v m c us bad place f begun fits tells found at = record {
-  version = v;
-  moment = m;
-  count = c;
-  uses = us;
-  bad = bad;
-  after = [];
-  parts = append_assoc (head_text v m c) (flat_map (use_text v) us) (use_text v bad) ∙ ap (λ x. head_text v m c ++ (flat_map (use_text v) us ++ x)) (sym (append-nil (use_text v bad)));
-  begun = begun;
-  fields = fits;
-  tells = tells;
-  flawed = found;
-  at = at;
-}
-
--- a use behind the good ones whose last byte is that of no kind
-pub IsUseKindFault-last : (m c : ℕ) (us : List Use) (field front : List ℕ) (kind place : ℕ) → IsBegun Two m c us → length field ≡ 65 → field ≡ front ++ kind ∷ [] → kind ≢ 0 → kind ≢ 1 → place ≡ 17 + 65 * length us → IsUseKindFault (head_text Two m c ++ flat_map (use_text Two) us ++ field) place
-IsUseKindFault-last m c us field front kind place begun size parts no_use no_withdrawal at = record {
-  moment = m;
-  count = c;
-  uses = us;
-  front = front;
-  kind = kind;
-  after = [];
-  parts = append_assoc (head_text Two m c) (flat_map (use_text Two) us) field ∙ ap (λ x. head_text Two m c ++ (flat_map (use_text Two) us ++ x)) parts;
-  begun = begun;
-  size = omega (arith, size, ap length parts, length-append front (kind ∷ []));
-  no_use = no_use;
-  no_withdrawal = no_withdrawal;
-  at = at;
-}
 
 -- the reason of a use's fault names what is wrong with it
 pub IsFieldFault-use : (bytes : List ℕ) (place : ℕ) (f : Flaw) → IsUseFault bytes place f → IsFieldFault bytes (record { place = place; reason = flaw_reason f })

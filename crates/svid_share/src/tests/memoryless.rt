@@ -2,57 +2,32 @@
 use super::TWO_USES;
 use super::made::source;
 use super::refusing::{refuse, was_refused};
-use crate::{ToolFault, join_inputs, put_answer, put_batches, put_record, put_text};
-use std::alloc::Global;
+use crate::{ToolFault, join_inputs, put_answer, put_record, put_text};
 use std::test::Fail;
-use svid_replay::{Batch, Record, RunUses, Summary};
-use svid_wire::{Counted, MemSink, Message, read_all};
-
-// The batch of two uses, twice.
-fn batches(alloc: Global) -> Result<Vec<Batch>, Fail> {
-    let mut messages = Vec::new(alloc);
-    read_all(alloc, TWO_USES, &mut messages)?;
-    read_all(alloc, TWO_USES, &mut messages)?;
-    let mut batches = Vec::new(alloc);
-    for message in messages {
-        if let Message::Batch(batch) = message {
-            batches.push(batch)?;
-        }
-    }
-    Ok(batches)
-}
+use svid_replay::{Record, RunUses, Summary};
+use svid_wire::{Counted, MemSink};
 
 #[test]
 fn putting_takes_no_memory(rt: HostRuntime) -> Result<(), Fail> {
     let alloc = rt.alloc();
-    let batches = batches(alloc)?;
     let mut text = Vec::with_capacity(alloc, 10)?;
-    let mut messages = Vec::with_capacity(alloc, 294)?;
     let mut record = Record::new(RunUses::new(alloc));
     join_inputs(alloc, &mut [source(alloc, TWO_USES, 1000)?], &mut record)?;
     let mut whole = Vec::with_capacity(alloc, 147)?;
     let mut stopped = MemSink::new(alloc, 100, Some(1));
-    let mut stopped_too = MemSink::new(alloc, 100, Some(1));
     refuse(alloc, 1);
     let put = put_text(&mut Counted::new(&mut text), "twice 0\n");
-    let put_too = put_batches(&mut Counted::new(&mut messages), &batches);
     let put_whole = put_record(&record, &mut Counted::new(&mut whole));
     let failed = put_text(&mut stopped, "twice 0\n");
-    let failed_too = put_batches(&mut stopped_too, &batches);
     let status = ToolFault::OutOfMemory.status();
     let refused = was_refused(alloc);
     refuse(alloc, 0);
     assert!(rt; !refused);
-    assert_eq!(rt; (put, put_too, put_whole), (Ok(()), Ok(()), Ok(())));
+    assert_eq!(rt; (put, put_whole), (Ok(()), Ok(())));
     assert!(rt; whole.as_slice() == TWO_USES.as_slice());
     assert_eq!(rt; text.as_slice(), b"twice 0\n".as_slice());
-    assert!(rt; messages.starts_with(TWO_USES) && messages.ends_with(TWO_USES));
-    assert_eq!(rt; messages.len(), 294);
-    assert_eq!(rt;
-        (failed, failed_too),
-        (Err(ToolFault::Write), Err(ToolFault::Write))
-    );
-    assert!(rt; stopped.bytes().is_empty() && stopped_too.bytes().is_empty());
+    assert_eq!(rt; failed, Err(ToolFault::Write));
+    assert!(rt; stopped.bytes().is_empty());
     assert_eq!(rt; status, 2);
     Ok(())
 }

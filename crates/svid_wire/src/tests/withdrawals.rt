@@ -5,22 +5,12 @@ use std::alloc::{AllocError, Global};
 use std::test::Fail;
 use svid_replay::{Batch, Use};
 
-// A batch of moment 100 with a use and a withdrawal of one key, both of exp 101: the use at 99, the
-// withdrawal at 100.
-const USE_AND_WITHDRAWAL: &[u8; 147] = b"JSR\x02\x01\
-\x00\x00\x00\x00\x00\x00\x00\x64\x00\x00\x00\x02\
-\x00\x00\x00\x00\x00\x00\x00\x65\
-\x11\x11\x11\x11\x11\x11\x11\x11\x11\x11\x11\x11\x11\x11\x11\x11\
-\x11\x11\x11\x11\x11\x11\x11\x11\x11\x11\x11\x11\x11\x11\x11\x11\
-\x22\x22\x22\x22\x22\x22\x22\x22\x22\x22\x22\x22\x22\x22\x22\x22\
-\x00\x00\x00\x00\x00\x00\x00\x63\
-\x00\
-\x00\x00\x00\x00\x00\x00\x00\x65\
-\x11\x11\x11\x11\x11\x11\x11\x11\x11\x11\x11\x11\x11\x11\x11\x11\
-\x11\x11\x11\x11\x11\x11\x11\x11\x11\x11\x11\x11\x11\x11\x11\x11\
-\x33\x33\x33\x33\x33\x33\x33\x33\x33\x33\x33\x33\x33\x33\x33\x33\
-\x00\x00\x00\x00\x00\x00\x00\x64\
-\x01";
+// The text of the batch of two uses, whose last byte makes the second one a withdrawal.
+fn use_and_withdrawal_text() -> [u8; 147] {
+    let mut text = *TWO_USES;
+    text[146] = 1;
+    text
+}
 
 fn use_and_withdrawal() -> [Use; 2] {
     let used = Use {
@@ -46,7 +36,7 @@ fn writes_a_use_and_a_withdrawal(rt: HostRuntime) -> Result<(), Fail> {
         assert!(rt; step > 0);
         let mut sink = MemSink::new(rt.alloc(), step, None);
         assert_eq!(rt; write_batch(&batch, &mut sink), Ok(()), "step {step}");
-        assert_eq!(rt; sink.bytes(), USE_AND_WITHDRAWAL.as_slice());
+        assert_eq!(rt; sink.bytes(), use_and_withdrawal_text().as_slice());
     }
     Ok(())
 }
@@ -54,7 +44,7 @@ fn writes_a_use_and_a_withdrawal(rt: HostRuntime) -> Result<(), Fail> {
 #[test]
 fn reads_a_use_and_a_withdrawal(rt: HostRuntime) -> Result<(), Fail> {
     let mut out = Vec::new(rt.alloc());
-    read_all(rt.alloc(), USE_AND_WITHDRAWAL, &mut out)?;
+    read_all(rt.alloc(), &use_and_withdrawal_text(), &mut out)?;
     assert_eq!(rt; out.len(), 1);
     for message in &out {
         assert_eq!(rt; told(message), (100, 2));
@@ -149,7 +139,7 @@ fn refuses_a_bad_withdrawal_by_name(rt: HostRuntime) -> Result<(), Fail> {
         (145, 101, Reason::UseFuture),
         (122, 0x21, Reason::UseOrder),
     ] {
-        let bytes = changed(rt.alloc(), USE_AND_WITHDRAWAL, &[(at, byte)])?;
+        let bytes = changed(rt.alloc(), &use_and_withdrawal_text(), &[(at, byte)])?;
         let found = fault_of(rt.alloc(), &bytes);
         assert_eq!(rt; found, Some(WireFault { place: 82, reason }), "byte {at}");
     }

@@ -1,11 +1,8 @@
 use Rattle.std.proofs.Common.{sym, subst, ap, ◌∙◌}
-use Rattle.std.specs.Prelude.{Some, Result, Option}
+use Rattle.std.specs.Prelude.{Some}
 use Rattle.svid_token.specs.Rows.{Answers}
 use Rattle.svid_replay.specs.Records.{State}
-use Rattle.svid_check.specs.declared.accepted.Accepted.{Accepted}
 use Rattle.svid_check.specs.Changes.{raised}
-use Rattle.svid_check.specs.Said.{RefusesForm}
-use Rattle.svid_check.specs.Told.{record_of, tell_now}
 use Rattle.svid_check.specs.Verdict.{verdict}
 use Rattle.svid_check.specs.World.{answer_at, happen, start}
 use Rattle.svid_check.proofs.AnswersLemmas.{answers_verdict, with_memory}

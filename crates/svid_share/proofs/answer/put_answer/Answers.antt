@@ -1,4 +1,4 @@
-use Rattle.std.proofs.Common.{◌≡◌, ◌∙◌, ap, subst, List, OnOk, OnErr}
+use Rattle.std.proofs.Common.{◌∙◌, ap, subst, List, OnOk, OnErr}
 use Rattle.std.specs.List.{flat_map}
 use Rattle.svid_replay.specs.Batches.{BatchData}
 use Rattle.svid_replay.specs.Buckets.{raised_to}

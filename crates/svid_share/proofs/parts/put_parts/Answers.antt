@@ -1,4 +1,4 @@
-use Rattle.std.proofs.Common.{sym, ◌∙◌, ap, arith, length, length-drop}
+use Rattle.std.proofs.Common.{◌∙◌, ap, arith, length, length-drop}
 use Rattle.svid_replay.specs.Sets.{rising}
 use Rattle.svid_replay.proofs.RecordsLemmas.{on_err}
 use Rattle.svid_replay.proofs.UsesLemmas.{walk_none}

@@ -1,4 +1,4 @@
-use Rattle.std.proofs.Common.{◌-◌, ◌≡◌, length}
+use Rattle.std.proofs.Common.{◌≡◌, length}
 use Rattle.svid_replay.specs.Sets.{rising}
 use Rattle.svid_wire.specs.Streams.{taken}
 use Rattle.svid_share.specs.Pages.{behind}

@@ -1,4 +1,4 @@
-use Rattle.std.proofs.Common.{◌∙◌, ap}
+use Rattle.std.proofs.Common.{ap}
 use Rattle.svid_replay.specs.Sets.{rising}
 use Rattle.svid_share.specs.Report.{report_text}
 use Rattle.svid_share.proofs.WrittenLemmas.{reported}
