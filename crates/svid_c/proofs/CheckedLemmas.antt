@@ -1,4 +1,4 @@
-use Rattle.std.proofs.Common.{◌≡◌, ℕ, List, Option, None, Some, refl, ap, ◌∙◌}
+use Rattle.std.proofs.Common.{◌≡◌, ℕ, List, Some, ap, ◌∙◌}
 use Rattle.svid_keys.specs.Bundles.{Bundle, IsBundles, IsRefusal, bundles_fault, bundles_in}
 use Rattle.svid_keys.specs.Question.{question_of}
 use Rattle.svid_keys.specs.Table.{IsTableRefusal, is_among, questions_in, table_fault, table_says}

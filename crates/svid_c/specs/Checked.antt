@@ -1,5 +1,5 @@
 -- What a check for C answers.
-use Rattle.std.specs.Prelude.{◌≡◌, ◌≢◌, ℕ, All, IsUtf8, nat_lt, filter, List, [], ◌∷◌, length, Option, Some, None, Ok, Result}
+use Rattle.std.specs.Prelude.{◌≡◌, ◌≢◌, ℕ, All, IsUtf8, nat_lt, filter, List, length, Some, None, Ok}
 use Rattle.std.specs.List.{Contains}
 use Rattle.svid_id.specs.Id.{id_text}
 use Rattle.svid_token.specs.Rows.{Refuses}
@@ -8,16 +8,13 @@ use Rattle.svid_token.specs.declared.refusal.Refusal.TheVariants as refusal
 use Rattle.svid_keys.specs.Bundles.{Bundle, IsBundles, bundles_fault, bundles_in}
 use Rattle.svid_keys.specs.Lines.{lines_of}
 use Rattle.svid_keys.specs.Table.{questions_in, table_fault, table_says}
-use Rattle.svid_keys.specs.declared.bundle_fault.BundleFault.{BundleFault}
 use Rattle.svid_keys.specs.declared.table_fault.TableFault.TheVariants as table
 use Rattle.svid_replay.specs.Records.{State}
 use Rattle.svid_replay.specs.declared.token_use.Use.{Use}
 use Rattle.svid_check.specs.Changes.{raised}
 use Rattle.svid_check.specs.Setting.{Setting}
-use Rattle.svid_check.specs.Said.{RefusesForm}
 use Rattle.svid_check.specs.Verdict.{verdict}
 use Rattle.svid_check.specs.declared.accepted.Accepted.{Accepted}
-use Rattle.svid_share.specs.declared.tool_fault.ToolFault.{ToolFault}
 use Rattle.svid_share.specs.declared.tool_fault.ToolFault.TheVariants as tool
 use Rattle.svid_c.specs.Inputs.{IsRefused}
 use Rattle.svid_c.specs.Joined.{IsRecordOf}

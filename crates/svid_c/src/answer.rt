@@ -1,4 +1,4 @@
-ghost use Rattle.std.specs.Prelude.{◌≡◌, [], ◌∷◌, IfOk, IfErr};
+ghost use Rattle.std.specs.Prelude.{[], ◌∷◌, IfOk, IfErr};
 ghost use Rattle.svid_c.specs.Inputs.{AreRefused};
 ghost use Rattle.svid_c.specs.Joined.{IsAnswer, IsAnswerRefused, IsTextOf, answer_text};
 ghost use Rattle.svid_c.specs.Written.{Answers};

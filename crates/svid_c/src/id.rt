@@ -1,4 +1,4 @@
-ghost use Rattle.std.specs.Prelude.{◌≡◌, ◌≢◌, ◌⊎◌, length, Some, unwrap_or};
+ghost use Rattle.std.specs.Prelude.{◌≡◌, ◌≢◌, ◌⊎◌, length, unwrap_or};
 ghost use Rattle.svid_id.specs.Id.{IdParts, IsId, id_fault};
 ghost use Rattle.svid_c.specs.Status.{id_number, id_place};
 

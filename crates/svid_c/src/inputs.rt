@@ -1,6 +1,6 @@
-ghost use Rattle.std.specs.Prelude.{◌≡◌, [], ◌∷◌, OnOk, IfOk, IfErr};
+ghost use Rattle.std.specs.Prelude.{[], ◌∷◌, OnOk, IfOk, IfErr};
 ghost use Rattle.svid_wire.specs.declared.message.Message.TheVariants.{Summary as SummaryTold};
-ghost use Rattle.svid_c.specs.Inputs.{AreMessages, AreRefused, IsRefused, Tells};
+ghost use Rattle.svid_c.specs.Inputs.{AreMessages, IsRefused, Tells};
 ghost use Rattle.svid_c.specs.Joined.{IsRecordOf, IsSummaryRefused};
 
 use crate::lent::Lent;

@@ -1,5 +1,4 @@
 ghost use Rattle.std.specs.Prelude.{◌≡◌, ◌++◌, [], ◌∷◌, ℕ, List, map, IfOk, IfErr, IsUtf8, OnOk, string_bytes};
-ghost use Rattle.svid_keys.specs.Lines.{lines_of};
 ghost use Rattle.svid_c.specs.Checked.{AreNames, IsNameFault, IsNamesFault, full_lines, names_of};
 
 use crate::check_fault::CheckFault;

@@ -1,4 +1,4 @@
-ghost use Rattle.std.specs.Prelude.{◌≡◌, [], ◌∷◌, IfOk, IfErr};
+ghost use Rattle.std.specs.Prelude.{[], ◌∷◌, IfOk, IfErr};
 ghost use Rattle.svid_share.specs.Report.{report_of};
 ghost use Rattle.svid_c.specs.Inputs.{AreRefused};
 ghost use Rattle.svid_c.specs.Joined.{IsTextOf};

@@ -1,6 +1,6 @@
 ghost use Rattle.std.specs.Prelude.{◌≡◌, ◌≢◌, IfOk, IfErr, string_bytes};
 ghost use Rattle.svid_wire.specs.Streams.{TookAll, taken};
-ghost use Rattle.svid_id.specs.Id.{is_id, id_text, IsId};
+ghost use Rattle.svid_id.specs.Id.{is_id};
 ghost use Rattle.svid_lines.specs.Id.{fault_name, path_line, parts_lines, refused_line, id_answer, IsIdEngineFault};
 
 use std::alloc::{AllocError, Global};
