@@ -17,8 +17,8 @@ pub struct Raised {
 pub trait UseStore {
     ghost content: { Self → Uses };
 
-    /// Puts a use into the set. The only call that takes memory; where it is refused the set stays as
-    /// it was. A use that is in the set already always succeeds.
+    /// Puts a use into the set. This and `insert_all` are the only calls that take memory; where it is
+    /// refused the set stays as it was. A use that is in the set already always succeeds.
     fn insert(&mut self, new: Use) -> Result<(), AllocError>
         ensures ok { OnOk result (content self.new ≡ with (content self.old) new) }
         ensures err { OnErr result (content self.new ≡ content self.old) }
