@@ -102,7 +102,8 @@ typedef struct {
 /* What a check is told, beside its inputs. */
 typedef struct {
     uint64_t moment;    /* of the check, in seconds */
-    uint64_t longest;   /* how many seconds past it a token may expire; UINT64_MAX for any */
+    uint64_t longest;   /* how many seconds past it, or past the record's moment where that is greater, a
+                         * token may expire; UINT64_MAX for any */
     uint8_t place[16];  /* tells the validator from every other one that shares its record */
 } svid_setting;
 
@@ -133,7 +134,8 @@ uint32_t svid_report(const uint8_t *messages, size_t messages_len, uint64_t now,
 uint32_t svid_summary(const uint8_t *messages, size_t messages_len, uint64_t now,
                       uint8_t *out, size_t out_len, svid_told *told);
 
-/* The answer to a summary, of what the messages tell: the uses of all buckets whose digests differ. */
+/* The answer to a summary, of what the messages tell, raised to the summary's moment: the uses of all buckets
+ * whose digests differ. */
 uint32_t svid_answer(const uint8_t *summary, size_t summary_len, const uint8_t *messages, size_t messages_len,
                      uint64_t now, uint8_t *out, size_t out_len, svid_told *told);
 
