@@ -297,7 +297,13 @@ fn assert_records_alike(
 fn many_uses_at_once_are_what_they_are_one_by_one(rt: HostRuntime) -> Result<(), Fail> {
     let alloc = rt.alloc();
     let (mut runs, mut other) = first_uses(&rt, alloc, 700)?;
-    for (from, to) in [(600, 1500), (600, 1500), (0, 300), (1400, 1660), (0, 2000u64)] {
+    for (from, to) in [
+        (600, 1500),
+        (600, 1500),
+        (0, 300),
+        (1400, 1660),
+        (0, 2000u64),
+    ] {
         let batch = part(&rt, alloc, from, to)?;
         runs.absorb(&batch)?;
         other.absorb(&batch)?;
