@@ -14,3 +14,4 @@ pub mod TestsLemmas
 pub mod TwiceLemmas
 pub mod UseLemmas
 pub mod UsesLemmas
+pub mod WalksLemmas

@@ -1,11 +1,10 @@
 use Rattle.std.proofs.Common.{◌≡◌, ℕ, ◌<◌, ◌≤◌, ◌+◌, ◌^◌, max, suc, Bool, true, false, ◌||◌, ◌&&◌, List, [], ◌∷◌, ◌++◌, length, take, drop, get_or, refl, sym, ◌∙◌, ap, subst, arith, cond, not, nat_lt, Contains, Option, Some, None, Result, Ok, Err, OnErr}
 use Rattle.std.proofs.lemmas.Bool.{false≢true}
 use Rattle.std.proofs.lemmas.Bool.Decides.{nat_tests}
-use Rattle.std.proofs.lemmas.List.{take_all, take_more, take-append-drop}
+use Rattle.std.proofs.lemmas.List.{take_more, take-append-drop}
 use Rattle.std.proofs.lemmas.List.Folds.{list_any-append}
-use Rattle.std.proofs.lemmas.List.Elements.{Contains-append_right}
+use Rattle.std.proofs.lemmas.List.Elements.{Contains-append_right, recursion_from_All}
 use Rattle.std.proofs.Math.Seq.{drop-cons}
-use Rattle.std.proofs.lemmas.List.Elements.{recursion_from_All}
 use Rattle.std.proofs.lemmas.List.Kept.{IsStrictlySortedBy-filter}
 use Rattle.std.specs.List.{AllByRecursion, list_any, filter, find, prefix_len}
 use Rattle.std.specs.List.Sorted.{IsStrictlySortedBy}
@@ -17,7 +16,7 @@ use Rattle.svid_replay.specs.Batches.{BatchData, AllGood, IsBatch, flaw, is_afte
 use Rattle.svid_replay.specs.Sets.{holds, keep, rising, with, with_all, union}
 use Rattle.svid_replay.specs.Use.{IsRising, IsUse, use_cmp}
 use Rattle.svid_replay.specs.Uses.{Uses, no_uses, live}
-use Rattle.svid_replay.specs.Records.{State, IsHeldAt, IsRecord, IsPartlyJoined, HasNoNew, join, state_of, batch_state, JoinHoldsUnexpired, JoinIsCommutative, JoinIsAssociative, JoinIsIdempotent, JoinIsClosed}
+use Rattle.svid_replay.specs.Records.{State, IsHeldAt, IsRecord, IsPartlyJoined, HasNoNew, join, state_of, JoinHoldsUnexpired, JoinIsCommutative, JoinIsAssociative, JoinIsIdempotent, JoinIsClosed}
 use Rattle.svid_replay.proofs.BatchesLemmas.{made_at}
 use Rattle.svid_replay.proofs.ListLemmas.{found}
 use Rattle.svid_replay.proofs.MergeLemmas.{below_all}
@@ -280,9 +279,6 @@ made_in_batch old self b us i d is e within so_far =
     let made : (get_or us i d).at ≤ b.moment = made_at b.moment None us i d (subst (AllGood b.moment None) (sym e) is.good) within in
     omega (arith, ap (λ (s : State). s.moment) so_far, moment-join old (state_of b.moment (take i us)))
 
-pub absorbed : (old self : State) (b : BatchData) (us : List Use) (i : ℕ) → us ≡ b.uses → length us ≤ i → self ≡ join old (state_of b.moment (take i us)) → self ≡ join old (batch_state b)
-absorbed old self b us i e all so_far = so_far ∙ ap (λ xs. join old (state_of b.moment xs)) (take_all i us all ∙ e)
-
 -- ---- lists of uses, one behind the other
 behind : (l front t h : Bool) → (l && (t || (l && (front || h)))) ≡ (l && ((front || t) || h))
 behind false front t h = refl
@@ -398,8 +394,7 @@ absorbed_at_once old self new moment us raise e =
     ∙ ap (λ h. nat_lt k v.exp && (h || holds old.uses v)) (sym (holds-state_of moment us v)))
 
 -- what a record is that was asked to take in all the uses: it has them, or it is as it was
-pub record IsTakenOrNot (moment : ℕ) (s : Uses) (self : State) (us live : List Use) (all : Bool) : Type 0 where
-  pub rising : IsRising live
+pub record IsTakenOrNot (moment : ℕ) (s : Uses) (self : State) (us : List Use) (all : Bool) : Type 0 where
   pub is : IsRecord (record { moment = moment; uses = s })
   pub joined : all ≡ true → record { moment = moment; uses = s } ≡ join self (state_of self.moment us)
 
@@ -409,14 +404,13 @@ live_rises m us live n up front e =
 
 pub taken_or_not : (moment : ℕ) (had s : Uses) (self : State) (us live : List Use) (n : ℕ) (all : Bool) → IsRecord (record { moment = moment; uses = had }) → record { moment = moment; uses = had } ≡ self
     → IsRising us → AllByRecursion IsUse us → AllByRecursion (λ u. u.at ≤ self.moment) us → n ≡ prefix_len (λ u. not (nat_lt moment u.exp)) us → live ≡ drop n us
-    → (all ≡ true → s ≡ with_all had live) → (all ≡ false → s ≡ had) → IsTakenOrNot moment s self us live all
+    → (all ≡ true → s ≡ with_all had live) → (all ≡ false → s ≡ had) → IsTakenOrNot moment s self us all
 taken_or_not moment had s self us live n all is view up fields made front e taken not_taken =
     let r : State = record { moment = moment; uses = had } in
     let made_here : AllByRecursion (λ u. u.at ≤ r.moment) us = subst (λ (t : State). AllByRecursion (λ u. u.at ≤ t.moment) us) (sym view) made in
     let are : live ≡ filter (λ u. nat_lt moment u.exp) us = e ∙ ap (λ k. drop k us) front ∙ drop-expired moment us up in
     let all_in = λ (h : all ≡ true). taken_all r us live s is fields made_here are (taken h) in
     record {
-      rising = live_rises moment us live n up front e;
       is = elim all as (λ b. all ≡ b → IsRecord (record { moment = moment; uses = s })) [
         | true ↦ λ h. (all_in h).is
         | false ↦ λ h. subst (λ (t : Uses). IsRecord (record { moment = moment; uses = t })) (sym (not_taken h)) is

@@ -33,9 +33,9 @@ use Rattle.svid_replay.specs.Runs.{least_from, least_of, new_among, HasBits, IsF
 use Rattle.svid_replay.specs.Twice.{has_key}
 use Rattle.svid_replay.specs.Sets.{rising, with, with_all}
 use Rattle.svid_replay.specs.Uses.{Uses, count, live, next_above}
-use Rattle.svid_replay.proofs.ListLemmas.{any_none, each_true, each_append, each_drop, each_take, each_weaker, prefix_from_point, filter-in, filter-out}
+use Rattle.svid_replay.proofs.ListLemmas.{any_none, each_true, each_append, each_drop, each_take, each_weaker, filter-in, filter-out}
 use Rattle.svid_replay.proofs.SetsLemmas.{rising_rises, holds-rising, holds-with, holds-with_all, same_rising}
-use Rattle.svid_replay.proofs.UsesLemmas.{drop-expired, left_rises, left_is, left_count, not_after_parted, rising-uses_in, uses_in-filter, same_uses, holds-uses_in, with-held, rising-keep, IsPruned, any-filter, to_front}
+use Rattle.svid_replay.proofs.UsesLemmas.{drop-expired, left_rises, left_is, left_count, rising-uses_in, uses_in-filter, same_uses, holds-uses_in, with-held, rising-keep, IsPruned, any-filter, to_front}
 use Rattle.std.specs.List.{AllByRecursion, list_any}
 use Rattle.std.specs.List.Sorted.{IsStrictlySortedBy}
 use Rattle.std.specs.Ordering.{eq_by_cmp, is_eq, ordering_reverse}
@@ -184,24 +184,6 @@ drops_more now old i moment dropped before went run left is within at kept count
       kept = ap all_of (take-suc-set now i left within) ∙ all_append (take i now) (left ∷ []) ∙ (λ j. is.kept j ++ (append-nil left ∙ kept) j) ∙ sym (ap (live_of moment) front ∙ live_append moment (all_of (take i old)) run);
       counted = omega (arith, set_length now i run left within at, counted, is.counted);
     })
-
-get_or_any : (us : List Use) (i : ℕ) (d e : Use) → i < length us → get_or us i d ≡ get_or us i e
-get_or_any [] i d e within = absurd (omega arith)
-get_or_any (u ∷ us) zero d e within = refl
-get_or_any (u ∷ us) (suc i) d e within = get_or_any us i d e (omega arith)
-
--- where the use in front of a place is not after the given one and the next is
-pub place_from_ends : (last : Use) (us : List Use) (i : ℕ) → IsRising us → i ≤ length us → ((u : Use) → i < length us → u ≡ get_or us i u → is_after (Some last) u ≡ true) → ((u : Use) → 0 < i → u ≡ get_or us (i - 1) u → is_after (Some last) u ≡ false) → i ≡ prefix_len (λ u. not (is_after (Some last) u)) us
-place_from_ends last us i up bound behind before =
-    let p = λ (u : Use). not (is_after (Some last) u) in
-    let parted = not_after_parted last us up in
-    prefix_from_point p us i bound (
-      (λ k d low h. let u = get_or us (i - 1) d in parted k (i - 1) d (omega arith) (omega arith) (ap not (before u (omega arith) (get_or_any us (i - 1) d u (omega arith))))),
-      (λ k d low h. let u = get_or us i d in not_true (p (get_or us k d)) (λ e. false≢true (sym (ap not (behind u (omega arith) (get_or_any us i d u (omega arith)))) ∙ parted i k d low h e))),
-    )
-  where
-    not_true : (b : Bool) → (b ≡ true → ⊥) → b ≡ false
-    not_true b never = elim b as (λ x. b ≡ x → x ≡ false) [ true ↦ λ e. absurd (never e) | false ↦ λ e. refl ] refl
 
 -- ---- how many uses there are
 length-keys : (s : Uses) → count s ≡ finmap.len s
@@ -413,16 +395,17 @@ unfolding IsStrictlySortedBy
 find_merged p [] ys s t = refl
 find_merged p (x ∷ xs) ys s t = least_at p x xs s (λ zs. find_merged p xs zs s.1) ys t
 
-next_both : (us vs : List Use) (after : Option Use) → least_of (next_above (uses_in us) after) (next_above (uses_in vs) after) ≡ next_above (uses_in (us ++ vs)) after
-next_both us vs after =
+pub rising_both : (us vs : List Use) → rising (uses_in (us ++ vs)) ≡ merge use_cmp (rising (uses_in us)) (rising (uses_in vs))
+rising_both us vs =
     let xs = rising (uses_in us) in
     let ys = rising (uses_in vs) in
-    let up = rising_rises use_cmp (uses_in us) in
-    let up' = rising_rises use_cmp (uses_in vs) in
-    let whole : rising (uses_in (us ++ vs)) ≡ merge use_cmp xs ys = same_rising use_total use_exact _ _ (rising_rises use_cmp (uses_in (us ++ vs))) (merge_rises use_total use_exact xs ys up up') (λ q.
+    same_rising use_total use_exact _ _ (rising_rises use_cmp (uses_in (us ++ vs))) (merge_rises use_total use_exact xs ys (rising_rises use_cmp (uses_in us)) (rising_rises use_cmp (uses_in vs))) (λ q.
     let tie = eq_by_cmp use_cmp q in
-    any_rising tie (us ++ vs) ∙ list_any-append tie us vs ∙ sym (merge_has use_total use_exact (eq_by_cmp use_cmp q) xs ys ∙ (λ i. any_rising tie us i || any_rising tie vs i))) in
-    sym (ap (find (is_after after)) whole ∙ find_merged (is_after after) xs ys up up')
+    any_rising tie (us ++ vs) ∙ list_any-append tie us vs ∙ sym (merge_has use_total use_exact (eq_by_cmp use_cmp q) xs ys ∙ (λ i. any_rising tie us i || any_rising tie vs i)))
+
+next_both : (us vs : List Use) (after : Option Use) → least_of (next_above (uses_in us) after) (next_above (uses_in vs) after) ≡ next_above (uses_in (us ++ vs)) after
+next_both us vs after =
+    sym (ap (find (is_after after)) (rising_both us vs) ∙ find_merged (is_after after) (rising (uses_in us)) (rising (uses_in vs)) (rising_rises use_cmp (uses_in us)) (rising_rises use_cmp (uses_in vs)))
 
 pub next_in_all : (after : Option Use) (us : List Use) (runs : List (List Use)) → least_from after runs (next_above (uses_in us) after) ≡ next_above (uses_in (us ++ all_of runs)) after
 next_in_all after us [] = ap (λ vs. next_above (uses_in vs) after) (sym (append-nil us))
@@ -450,9 +433,8 @@ front_held front runs s u view e = with-held s u (store_holds front runs s u vie
 pub held_in_front : (front : List Use) (runs : List (List Use)) (s : Uses) (u : Use) → uses_in (front ++ all_of runs) ≡ s → list_any (eq_by_cmp use_cmp u) (all_of runs) ≡ false → holds s u ≡ list_any (eq_by_cmp use_cmp u) front
 held_in_front front runs s u view none = store_holds front runs s u view ∙ ap (λ b. list_any (eq_by_cmp use_cmp u) front || b) none ∙ or-false (list_any (eq_by_cmp use_cmp u) front)
 
-pub run_next : (us vs : List Use) (after same found : Option Use) → IsRising us → us ≡ vs → found ≡ find (is_after after) us → after ≡ same → found ≡ next_above (uses_in vs) same
-run_next us vs after same found up e is alike =
-    is ∙ ap (find (is_after after)) (sym (rising-uses_in us up)) ∙ (λ i. next_above (uses_in (e i)) (alike i))
+pub run_next : (us vs : List Use) (after found : Option Use) → IsRising us → us ≡ vs → found ≡ find (is_after after) us → found ≡ next_above (uses_in vs) after
+run_next us vs after found up e is = is ∙ ap (find (is_after after)) (sym (rising-uses_in us up)) ∙ (λ i. next_above (uses_in (e i)) after)
 
 -- ---- filters
 pub bits_stay : (a m n : ℕ) → bit_and a n ≡ n → bit_and (bit_or a m) n ≡ n
@@ -536,9 +518,6 @@ front_unknown words (u ∷ us) key p known unknown finds = elim (p u) as (λ b. 
 ] refl
 
 -- ---- many uses at once
-pub holds-with_uses : (s : Uses) (us : List Use) (q : Use) → holds (with_all s us) q ≡ (list_any (eq_by_cmp use_cmp q) us || holds s q)
-holds-with_uses s us q = holds-with_all use_total use_exact s us q
-
 greater_differs : (u v : Use) → use_cmp u v ≡ Less → eq_by_cmp use_cmp v u ≡ false
 greater_differs u v less = ap is_eq (use_total.antisymm v u ∙ ap ordering_reverse less)
 
@@ -562,7 +541,7 @@ runs_all front runs rest total s run was up new same less =
     holds-uses_in (front ++ all_of rest) q ∙ list_any-append tie front (all_of rest) ∙ ap (λ b. list_any tie front || b) (same q ∙ list_any-append tie run (all_of runs))
     ∙ to_front (list_any tie front) (list_any tie run) (list_any tie (all_of runs))
     ∙ ap (λ b. list_any tie run || b) (sym (list_any-append tie front (all_of runs)) ∙ sym (holds-uses_in (front ++ all_of runs) q) ∙ ap (λ t. holds t q) was.view)
-    ∙ sym (holds-with_uses s run q)) in
+    ∙ sym (holds-with_all use_total use_exact s run q)) in
     let grown : count (with_all s run) ≡ count s + length run = count_new s run up new in
     let few = count_le (front ++ all_of rest) in
     record {
@@ -592,8 +571,8 @@ left_or_held false any = refl
 pub with_new : (held : List Use) (s : Uses) (us : List Use) → uses_in held ≡ s → with_all s (new_among held us) ≡ with_all s us
 with_new held s us view = same_uses _ _ (λ q.
     let has : list_any (eq_by_cmp use_cmp q) held ≡ holds s q = sym (holds-uses_in held q) ∙ ap (λ t. holds t q) view in
-    holds-with_uses s (new_among held us) q ∙ ap (λ b. b || holds s q) (any-filter (λ u. not (list_any (eq_by_cmp use_cmp u) held)) q us ∙ ap (λ h. not h && list_any (eq_by_cmp use_cmp q) us) has)
-    ∙ left_or_held (holds s q) (list_any (eq_by_cmp use_cmp q) us) ∙ sym (holds-with_uses s us q))
+    holds-with_all use_total use_exact s (new_among held us) q ∙ ap (λ b. b || holds s q) (any-filter (λ u. not (list_any (eq_by_cmp use_cmp u) held)) q us ∙ ap (λ h. not h && list_any (eq_by_cmp use_cmp q) us) has)
+    ∙ left_or_held (holds s q) (list_any (eq_by_cmp use_cmp q) us) ∙ sym (holds-with_all use_total use_exact s us q))
 
 -- one use more looked at
 pub new_more : (held us now : List Use) (i : ℕ) (d : Use) → i < length us → now ≡ new_among held (take i us) → not (list_any (eq_by_cmp use_cmp (get_or us i d)) held) ≡ true → now ++ get_or us i d ∷ [] ≡ new_among held (take (i + 1) us)

@@ -1,8 +1,8 @@
-use Rattle.std.proofs.Common.{◌≡◌, ℕ, ◌+◌, ◌≤◌, Bool, true, false, cond, List, [], ◌∷◌, ◌++◌, length, Option, Some, None, refl, sym, ap, ◌∙◌, arith, length-append, find}
+use Rattle.std.proofs.Common.{◌≡◌, ℕ, ◌+◌, ◌≤◌, Bool, true, false, cond, List, [], ◌∷◌, ◌++◌, length, Option, Some, None, refl, sym, ap, ◌∙◌, arith, length-append, find, subst, ◌<◌}
 use Rattle.std.specs.List.{filter, slice_get}
 use Rattle.svid_replay.specs.declared.token_use.Use.{Use}
 use Rattle.svid_replay.specs.Batches.{is_after}
-use Rattle.svid_replay.specs.Buckets.{answer_to, raised_to, stale, stale_part}
+use Rattle.svid_replay.specs.Buckets.{answer_to, digests_of, raised_to, stale, stale_part}
 use Rattle.svid_replay.specs.Parts.{parts_of}
 use Rattle.svid_replay.specs.Records.{State}
 use Rattle.svid_replay.specs.Sets.{keep, rising}
@@ -12,13 +12,9 @@ use Rattle.svid_replay.specs.Uses.{Uses, count, next_above}
 use Rattle.svid_replay.proofs.BucketsLemmas.{answered}
 use Rattle.svid_replay.proofs.ListLemmas.{filter-in, filter-out}
 use Rattle.svid_replay.proofs.SetsLemmas.{rising_rises}
-use Rattle.svid_replay.proofs.UsesLemmas.{IsWalked, walk_none, walk_more, walk_end, next_is, none_left, rising-keep}
+use Rattle.svid_replay.proofs.UsesLemmas.{IsWalked, walk_none, walk_more, walk_end, find_kept, next_is, none_left, rising-keep, walk_falls}
 
 -- ---- the least use that passes a test, by a walk over a set
-
-first_kept : (p : Use → Bool) (us : List Use) → find p us ≡ slice_get (filter p us) 0
-first_kept p [] = refl
-first_kept p (v ∷ vs) = elim (p v) as (λ b. cond b (Some v) (find p vs) ≡ slice_get (cond b (v ∷ filter p vs) (filter p vs)) 0) [ true ↦ refl | false ↦ first_kept p vs ]
 
 two_tests : (p q : Use → Bool) (us : List Use) → filter p (filter q us) ≡ filter q (filter p us)
 two_tests p q [] = refl
@@ -37,7 +33,7 @@ two_tests p q (v ∷ vs) =
 -- the next of the uses that are kept is the first of those behind that pass
 next_kept : (test : Use → Bool) (s : Uses) (after : Option Use) → next_above (keep test s) after ≡ slice_get (filter test (filter (is_after after) (rising s))) 0
 next_kept test s after =
-    ap (find (is_after after)) (rising-keep test s) ∙ first_kept (is_after after) (filter test (rising s)) ∙ ap (λ us. slice_get us 0) (two_tests (is_after after) test (rising s))
+    ap (find (is_after after)) (rising-keep test s) ∙ sym (find_kept (is_after after) (filter test (rising s))) ∙ ap (λ us. slice_get us 0) (two_tests (is_after after) test (rising s))
 
 -- the next use of all passes: it is the next of those that are kept
 pub next_passes : (test : Use → Bool) (s : Uses) (after : Option Use) (u : Use) → next_above s after ≡ Some u → test u ≡ true → next_above (keep test s) after ≡ Some u
@@ -93,3 +89,15 @@ pub counts_kept : (test : Use → Bool) (s : Uses) (after : Option Use) (counted
 counts_kept test s after counted so_far none =
     let passed : length (filter test so_far.front) ≡ count (keep test s) = ap (λ us. length (filter test us)) (walk_end (rising s) after so_far.front so_far.walked none) ∙ ap length (sym (rising-keep test s)) in
     omega (arith, so_far.value, passed, ap length (none_left (is_after after) (rising s) none))
+
+-- ---- a walk over what is stale, which stands on a walk over the whole
+pub record IsStaleWalk (s : SummaryData) (digests : List (List ℕ)) (walk part : State) : Type 0 where
+  pub view : stale_part s walk ≡ part
+  pub told : digests ≡ digests_of walk.uses
+
+pub stale_step : (s : SummaryData) (digests : List (List ℕ)) (walk next part : State) → next ≡ walk → IsStaleWalk s digests walk part → IsStaleWalk s digests next part
+stale_step s digests walk next part e is = subst (λ w. IsStaleWalk s digests w part) (sym e) is
+
+pub step_falls : (walk next : State) (after : Option Use) (u : Use) → next ≡ walk → next_above walk.uses after ≡ Some u → length (filter (is_after (Some u)) (rising next.uses)) < length (filter (is_after after) (rising walk.uses))
+step_falls walk next after u e found =
+    omega (arith, walk_falls (rising walk.uses) after u (rising_rises use_cmp walk.uses) found, ap (λ (r : State). length (filter (is_after (Some u)) (rising r.uses))) e)

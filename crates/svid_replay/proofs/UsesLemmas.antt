@@ -6,7 +6,7 @@ use Rattle.std.proofs.lemmas.List.{take-append-drop, length-drop, append_assoc, 
 use Rattle.std.proofs.lemmas.List.Elements.{recursion_from_All, filter_agree, Contains-get_or, All-contains_itself}
 use Rattle.std.proofs.lemmas.List.Kept.{IsStrictlySortedBy-filter}
 use Rattle.std.proofs.lemmas.List.Sums.{prefix_len-le-length}
-use Rattle.std.proofs.lemmas.List.Folds.{list_any-append, find_at}
+use Rattle.std.proofs.lemmas.List.Folds.{list_any-append}
 use Rattle.std.proofs.lemmas.Map.Keys.{Less-from_sorted}
 use Rattle.std.proofs.lemmas.Bool.{false≢true, eqb-true, eq-eqb}
 use Rattle.std.specs.Cmp.Lexicographic.{slice_cmp}
@@ -182,6 +182,10 @@ not_not : (b : Bool) → not (not b) ≡ b
 not_not true = refl
 not_not false = refl
 
+-- what is not greater is a front
+pub filter_is_rest : (last : Use) (us : List Use) → IsRising us → drop (prefix_len (λ u. not (is_after (Some last) u)) us) us ≡ filter (is_after (Some last)) us
+filter_is_rest last us up = drop-parted (λ u. not (is_after (Some last) u)) us (not_after_parted last us up) ∙ filter_agree _ _ (λ u. not_not (is_after (Some last) u)) us
+
 pub drop-expired : (moment : ℕ) (us : List Use) → IsRising us → drop (prefix_len (λ u. not (nat_lt moment u.exp)) us) us ≡ filter (λ u. nat_lt moment u.exp) us
 drop-expired moment us up = drop-parted (λ u. not (nat_lt moment u.exp)) us (expired_parted moment us up) ∙ filter_agree _ _ (λ u. not_not (nat_lt moment u.exp)) us
 
@@ -211,19 +215,10 @@ left_count us moment dropped left s up e is =
     let few : dropped ≤ length us = omega (arith, is.front, prefix_len-le-length (λ u. not (nat_lt moment u.exp)) us) in
     omega arith
 
-get-drop : {X : Type 0} (xs : List X) (n : ℕ) → slice_get (drop n xs) 0 ≡ slice_get xs n
-get-drop [] zero = refl
-get-drop [] (suc n) = refl
-get-drop (x ∷ xs) zero = refl
-get-drop (x ∷ xs) (suc n) = get-drop xs n
-
--- the first of what is left behind the uses that are not greater
-pub find_rest : (last : Use) (us : List Use) → slice_get (drop (prefix_len (λ u. not (is_after (Some last) u)) us) us) 0 ≡ find (is_after (Some last)) us
-find_rest last us = get-drop us (prefix_len (λ u. not (is_after (Some last) u)) us) ∙ sym (find_at (is_after (Some last)) us)
-
-pub find_first : (us : List Use) → slice_get us 0 ≡ find (is_after None) us
-find_first [] = refl
-find_first (u ∷ us) = refl
+-- the first of the uses that pass
+pub find_kept : (p : Use → Bool) (us : List Use) → slice_get (filter p us) 0 ≡ find p us
+find_kept p [] = refl
+find_kept p (u ∷ us) = elim (p u) as (λ b. slice_get (cond b (u ∷ filter p us) (filter p us)) 0 ≡ cond b (Some u) (find p us)) [ true ↦ refl | false ↦ find_kept p us ]
 
 -- ---- a walk from each use to the next
 -- the uses in front are those that a walk has passed, and the rest are after the last of them

@@ -12,3 +12,4 @@ pub mod Summary
 pub mod Twice
 pub mod Use
 pub mod Uses
+pub mod Walks

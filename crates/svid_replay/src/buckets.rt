@@ -9,7 +9,7 @@ ghost use Rattle.svid_replay.specs.Use.{text_of};
 ghost use Rattle.svid_replay.specs.Uses.{Uses};
 
 use crate::store::UseStore;
-use crate::{Summary, Use};
+use crate::{Record, Summary, Use};
 use sha2::{Digest, Sha256};
 use std::alloc::{AllocError, Global};
 use std::array;
@@ -53,12 +53,13 @@ fn finish_all(hashers: [Sha256; 256]) -> [[u8; 32]; 256]
 }
 
 // The digests of the buckets 0 to 255, in one pass over the uses.
-pub(crate) fn digests_of<S: UseStore>(store: &S) -> [[u8; 32]; 256]
-    ensures { result ≡ digests_of (S.content store.now) }
+pub(crate) fn digests_of<S: UseStore>(whole: &Record<S>) -> [[u8; 32]; 256]
+    ensures { result ≡ digests_of whole.now.uses }
 {
     let mut hashers = new_hashers();
+    let mut walk = whole.walk();
     let mut after = None;
-    while let Some(used) = store.next_after(after) {
+    while let Some(used) = walk.next_after(after) {
         take_use(&mut hashers, &used);
         after = Some(used);
     }
@@ -77,15 +78,16 @@ pub(crate) fn differs(digests: &[[u8; 32]; 256], summary: &Summary, used: &Use) 
 // the digests, and one for the uses.
 pub(crate) fn stale_uses<S: UseStore>(
     alloc: Global,
-    store: &S,
+    whole: &Record<S>,
     summary: &Summary,
 ) -> Result<Vec<Use>, AllocError>
-    ensures { IfOk result (λ uses. uses.items ≡ rising (stale summary.now (S.content store.now))) }
+    ensures { IfOk result (λ uses. uses.items ≡ rising (stale summary.now whole.now.uses)) }
 {
-    let digests = digests_of(store);
+    let digests = digests_of(whole);
     let mut uses = Vec::new(alloc);
+    let mut walk = whole.walk();
     let mut after = None;
-    while let Some(used) = store.next_after(after) {
+    while let Some(used) = walk.next_after(after) {
         if differs(&digests, summary, &used) {
             uses.push(used)?;
         }

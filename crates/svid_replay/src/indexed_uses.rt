@@ -13,8 +13,7 @@ use std::collections::BTreeSet;
 use std::marker::Model;
 use std::ops::Bound;
 
-/// A set of uses in two orders, by use and by key: each call costs what its answer needs, however many
-/// uses there are.
+/// A set of uses in two orders, by use and by key, each a tree: no insert moves many uses.
 #[derive(Debug, Drop)]
 pub struct IndexedUses {
     by_use: BTreeSet<Use>,

@@ -9,19 +9,21 @@ ghost use Rattle.svid_replay.specs.Sets.{holds, rising};
 ghost use Rattle.svid_replay.specs.Twice.{IsTwice, twice_of, used};
 ghost use Rattle.svid_replay.specs.Use.{IsRising, IsUse};
 ghost use Rattle.svid_replay.specs.Uses.{count, has_use_of, has_withdrawal_of, next_above, no_uses};
+ghost use Rattle.svid_replay.specs.Walks.{next_few};
 
 use crate::buckets::{digests_of, stale_uses};
 use crate::numbers::{is_among, number_of, repeated};
 use crate::parts::cut;
+use crate::room::Room;
 use crate::sorted::count_expired;
 use crate::stale::Stale;
 use crate::store::{Raised, UseStore};
 use crate::twice::twice_in;
-use crate::{Batch, Summary, Twice, Use};
+use crate::{Batch, Summary, Twice, Use, Walk};
 use std::alloc::{AllocError, Global};
 use std::marker::Model;
 
-/// A moment, and a set of uses that were made by then and expire later. It only grows by joins: the
+/// A moment, and a set of uses that were made by then and expire later. It only changes by joins: the
 /// greater moment, and of the uses of both sides those that expire after it.
 #[derive(Debug, Drop)]
 pub struct Record<S: UseStore> {
@@ -91,6 +93,21 @@ impl<S: UseStore> Record<S> {
         ensures { result ≡ next_above self.now.uses after }
     {
         self.store.next_after(after)
+    }
+
+    // the next uses, as many as the room takes
+    pub(crate) fn next_uses(&self, after: Option<Use>, room: &mut Room)
+        ensures { room.new ≡ next_few self.now.uses after }
+    {
+        self.store.next_uses(after, room);
+    }
+
+    /// The record, to be walked: `next_after` of what is answered takes few steps for the use behind the one that it
+    /// answered before. Takes no memory.
+    pub fn walk(&self) -> Walk<'_, S>
+        ensures { result ≡ self.now }
+    {
+        Walk::of(self)
     }
 
     /// Joins a moment (in seconds): the record's moment becomes the greater, and the uses that expire
@@ -174,8 +191,9 @@ impl<S: UseStore> Record<S> {
         ensures nothing_new { HasNoNew self.old other.now.moment (rising other.now.uses) → IsOk result }
     {
         self.raise(other.moment());
+        let mut walk = other.walk();
         let mut after = None;
-        while let Some(used) = other.next_after(after) {
+        while let Some(used) = walk.next_after(after) {
             self.take_in(used)?;
             after = Some(used);
         }
@@ -187,8 +205,9 @@ impl<S: UseStore> Record<S> {
         ensures { IfOk result (λ uses. uses.items ≡ rising self.now.uses) }
     {
         let mut uses = Vec::with_capacity(alloc, self.len())?;
+        let mut walk = self.walk();
         let mut after = None;
-        while let Some(used) = self.next_after(after) {
+        while let Some(used) = walk.next_after(after) {
             uses.push(used)?;
             after = Some(used);
         }
@@ -200,8 +219,9 @@ impl<S: UseStore> Record<S> {
         ensures { IfOk result (λ numbers. numbers.items ≡ map (λ u. number_of u.key) (rising self.now.uses)) }
     {
         let mut numbers = Vec::with_capacity(alloc, self.len())?;
+        let mut walk = self.walk();
         let mut after = None;
-        while let Some(used) = self.next_after(after) {
+        while let Some(used) = walk.next_after(after) {
             numbers.push(number_of(&used))?;
             after = Some(used);
         }
@@ -214,8 +234,9 @@ impl<S: UseStore> Record<S> {
         ensures { IfOk result (λ uses. uses.items ≡ filter (is_among numbers.now) (rising self.now.uses)) }
     {
         let mut uses = Vec::new(alloc);
+        let mut walk = self.walk();
         let mut after = None;
-        while let Some(used) = self.next_after(after) {
+        while let Some(used) = walk.next_after(after) {
             if is_among(numbers, &used) {
                 uses.push(used)?;
             }
@@ -255,7 +276,7 @@ impl<S: UseStore> Record<S> {
     pub fn summary(&self) -> Summary
         ensures { result ≡ summary_of self.now }
     {
-        Summary::make(self.moment, digests_of(&self.store))
+        Summary::make(self.moment, digests_of(self))
     }
 
     /// The uses of all buckets whose digest differs from the summary's, to be walked. The record is not raised.
@@ -264,7 +285,7 @@ impl<S: UseStore> Record<S> {
     pub fn stale<'a>(&'a self, summary: &'a Summary) -> Stale<'a, S>
         ensures { result ≡ stale_part summary.now self.now }
     {
-        Stale::of(self, summary, digests_of(&self.store))
+        Stale::of(self, summary, digests_of(self))
     }
 
     /// Raises the record to the summary's moment, and answers the uses of all buckets whose digest then
@@ -277,7 +298,7 @@ impl<S: UseStore> Record<S> {
         ensures answer { IfOk result (λ batches. batches.items ≡ answer_to self.old summary.now) }
     {
         self.raise(summary.moment());
-        let uses = stale_uses(alloc, &self.store, summary)?;
+        let uses = stale_uses(alloc, self, summary)?;
         cut(alloc, self.moment, &uses)
     }
 }

@@ -13,15 +13,14 @@ ghost use Rattle.svid_replay.specs.declared.token_use.Use.{Use};
 use crate::Use;
 use crate::filter::{filter_of, may_have};
 use crate::keys::{gone_by, has_left, keys_of, merge_keys, sweep};
-use crate::sorted::{count_expired, count_up_to, drop_front, first_after};
+use crate::sorted::{count_expired, drop_front, first_after};
 use crate::until::{Mark, Until};
 use std::alloc::{AllocError, Global};
-use std::cell::Cell;
 use std::cmp::Ordering;
 use std::marker::Model;
 
 // Uses that rise, and their keys. The uses in front of `start` are gone: they expired by the moment `gone`. Their keys
-// may still be there. `words` is a filter of the keys, and `finger` is where the last search ended.
+// may still be there. `words` is a filter of the keys.
 #[derive(Debug, Drop)]
 pub(crate) struct Run {
     by_use: Vec<Use>,
@@ -29,7 +28,6 @@ pub(crate) struct Run {
     by_key: Vec<Until>,
     gone: Option<u64>,
     words: Vec<u64>,
-    finger: Cell<usize>,
 }
 
 impl Model for Run {
@@ -75,67 +73,6 @@ fn merge_uses(alloc: Global, a: &[Use], b: &[Use]) -> Result<Vec<Use>, AllocErro
     Ok(merged)
 }
 
-// Whether there is no use at a place or it is greater.
-fn next_is_after(uses: &[Use], last: &Use, place: usize) -> bool
-    ensures { (u : Use) → IsTrue result → place < length uses.now → u ≡ slice_index_or uses.now place u → is_after (Some last.now) u ≡ true }
-{
-    if place < uses.len() {
-        last.cmp(&uses[place]).is_lt()
-    } else {
-        true
-    }
-}
-
-// Whether there is no use in front of a place or it is not greater.
-fn last_is_not_after(uses: &[Use], last: &Use, place: usize) -> bool
-    requires { place ≤ length uses.now }
-    ensures { (u : Use) → IsTrue result → 0 < place → u ≡ slice_index_or uses.now (place - 1) u → is_after (Some last.now) u ≡ false }
-{
-    if place > 0 {
-        !last.cmp(&uses[place - 1]).is_lt()
-    } else {
-        true
-    }
-}
-
-// Whether the uses in front of the place are those that are not greater.
-fn is_place(uses: &[Use], last: &Use, place: usize) -> bool
-    requires { IsRising uses.now }
-    ensures { IsTrue result → place ≡ prefix_len (λ u. not (is_after (Some last.now) u)) uses.now }
-{
-    if place > uses.len() {
-        return false;
-    }
-    if !next_is_after(uses, last, place) {
-        return false;
-    }
-    last_is_not_after(uses, last, place)
-}
-
-// How many of the uses are not greater; looks first where the last search ended.
-fn place_after(uses: &[Use], last: &Use, guess: usize) -> usize
-    requires { IsRising uses.now }
-    ensures { result ≡ prefix_len (λ u. not (is_after (Some last.now) u)) uses.now }
-{
-    if is_place(uses, last, guess) {
-        return guess;
-    }
-    let next = guess.saturating_add(1);
-    if is_place(uses, last, next) {
-        return next;
-    }
-    count_up_to(uses, last)
-}
-
-// The first of the uses behind a place in front of which are those that are not greater.
-fn at_place(uses: &[Use], last: &Use, place: usize) -> Option<Use>
-    requires is { place ≡ prefix_len (λ u. not (is_after (Some last.now) u)) uses.now }
-    requires bound { place ≤ length uses.now }
-    ensures { result ≡ find (is_after (Some last.now)) uses.now }
-{
-    uses[place..].first().copied()
-}
-
 pub(crate) fn holds_use(uses: &[Use], used: &Use) -> bool
     requires { IsRising uses.now }
     ensures { result ≡ list_any (eq_by_cmp use_cmp used.now) uses.now }
@@ -160,7 +97,6 @@ impl Run {
             by_key,
             gone: None,
             words,
-            finger: Cell::new(0),
         })
     }
 
@@ -176,7 +112,6 @@ impl Run {
             by_key,
             gone: None,
             words,
-            finger: Cell::new(0),
         })
     }
 
@@ -224,12 +159,7 @@ impl Run {
     pub(crate) fn next_after(&self, after: Option<Use>) -> Option<Use>
         ensures { result ≡ next_above (uses_in self.now) after }
     {
-        let Some(last) = after else {
-            return first_after(self.uses(), None);
-        };
-        let place = place_after(self.uses(), &last, self.finger.get());
-        self.finger.set(place);
-        at_place(self.uses(), &last, place)
+        first_after(self.uses(), after)
     }
 
     pub(crate) fn drop_expired(&mut self, moment: u64) -> usize

@@ -1,5 +1,5 @@
 //! A set of uses as a short sorted front and runs that grow.
-ghost use Rattle.std.specs.Prelude.{◌≡◌, ◌+◌, ◌<◌, ◌≤◌, ◌++◌, false, length, not, ◌^◌, true, IsTrue, IsOk, IfOk, OnOk, OnErr};
+ghost use Rattle.std.specs.Prelude.{◌≡◌, ◌+◌, ◌<◌, ◌≤◌, ◌++◌, List, false, length, not, ◌^◌, true, IsTrue, IsOk, IfOk, OnOk, OnErr};
 ghost use Rattle.std.specs.List.{AllByRecursion, list_any};
 ghost use Rattle.std.specs.Ordering.{eq_by_cmp};
 ghost use Rattle.svid_replay.specs.Batches.{is_after};
@@ -7,12 +7,15 @@ ghost use Rattle.svid_replay.specs.Runs.{all_of, least_from, least_of, live_of, 
 ghost use Rattle.svid_replay.specs.Sets.{holds, with, with_all};
 ghost use Rattle.svid_replay.specs.Indexed.{is_sought};
 ghost use Rattle.svid_replay.specs.Use.{IsRising, use_cmp};
+ghost use Rattle.svid_replay.specs.declared.token_use.Use.{Use};
 ghost use Rattle.svid_replay.specs.Uses.{no_uses, uses_in};
+ghost use Rattle.svid_replay.specs.Walks.{next_few};
 
 use crate::Use;
 use crate::front::Front;
+use crate::room::{Room, merged};
 use crate::run::{Run, holds_use};
-use crate::sorted::first_after;
+use crate::sorted::{first_after, rest_after};
 use crate::store::{Raised, UseStore};
 use std::alloc::{AllocError, Global};
 use std::marker::Model;
@@ -21,7 +24,7 @@ use std::marker::Model;
 // uses are there.
 const FRONT: usize = 256;
 
-// A run is merged with the one behind it while it is not longer than so many times that.
+// A run is merged with the one behind it while it is shorter than so many times that.
 const FACTOR: usize = 2;
 
 /// A set of uses as a short sorted vector, and runs: sorted vectors, each with its keys. Most inserts are
@@ -98,6 +101,15 @@ fn least_after(runs: &[Run], after: Option<Use>, first: Option<Use>) -> Option<U
     least
 }
 
+// Puts into the room what comes next in each run, beside what comes next in other uses.
+fn merge_next(runs: &[Run], after: Option<Use>, room: &mut Room)
+    ensures { (us : List Use) → room.old ≡ next_few (uses_in us) after → room.new ≡ next_few (uses_in (us ++ all_of runs.now)) after }
+{
+    for run in runs {
+        *room = merged(room.as_slice(), rest_after(run.uses(), after));
+    }
+}
+
 // Takes the expired uses out of the runs; answers how many went.
 fn drop_all_expired(runs: &mut [Run], moment: u64, dropped_before: usize) -> usize
     requires { dropped_before + length (all_of runs.old) < 2 ^ 64 }
@@ -138,15 +150,18 @@ fn merge_last(alloc: Global, runs: &mut Vec<Run>) -> bool
     }
 }
 
-// Puts a run behind the others and merges runs, as far as memory is given.
-fn push_run(alloc: Global, runs: &mut Vec<Run>, run: Run) -> Result<(), AllocError>
-    ensures same { OnOk result (HasSame (run ++ all_of runs.old.items) (all_of runs.new.items)) }
-    ensures less { OnOk result (length (all_of runs.new.items) ≤ length run + length (all_of runs.old.items)) }
+// Puts a run of rising uses behind the others and merges runs, as far as memory is given. Takes none where
+// there are no uses.
+fn push_run(alloc: Global, runs: &mut Vec<Run>, uses: &[Use]) -> Result<(), AllocError>
+    requires { IsRising uses.now }
+    ensures same { OnOk result (HasSame (uses.now ++ all_of runs.old.items) (all_of runs.new.items)) }
+    ensures less { OnOk result (length (all_of runs.new.items) ≤ length uses.now + length (all_of runs.old.items)) }
     ensures err { OnErr result (runs.new.items ≡ runs.old.items) }
 {
-    if run.uses().is_empty() {
+    if uses.is_empty() {
         return Ok(());
     }
+    let run = Run::of(alloc, uses)?;
     runs.push(run)?;
     while merge_last(alloc, runs) {}
     Ok(())
@@ -158,8 +173,7 @@ fn settle(alloc: Global, front: &mut Front, runs: &mut Vec<Run>) -> Result<(), A
     ensures same { HasSame (front.old ++ all_of runs.old.items) (front.new ++ all_of runs.new.items) }
     ensures less { length front.new + length (all_of runs.new.items) ≤ length front.old + length (all_of runs.old.items) }
 {
-    let run = Run::of(alloc, front.uses())?;
-    push_run(alloc, runs, run)?;
+    push_run(alloc, runs, front.uses())?;
     front.clear();
     Ok(())
 }
@@ -172,19 +186,23 @@ fn is_new(front: &[Use], runs: &[Run], used: &Use) -> bool
     !(holds_use(front, used) || any_holds(runs, used))
 }
 
-// A run of those of the uses that neither the front nor a run has.
-fn run_of_new(alloc: Global, front: &[Use], runs: &[Run], uses: &[Use]) -> Result<Run, AllocError>
-    requires front { IsRising front.now }
-    requires uses { IsRising uses.now }
-    ensures { IfOk result (λ run. run ≡ new_among (front.now ++ all_of runs.now) uses.now) }
+// Those of the uses that neither the front nor a run has. Takes no memory where they all are there.
+fn new_uses(
+    alloc: Global,
+    front: &[Use],
+    runs: &[Run],
+    uses: &[Use],
+) -> Result<Vec<Use>, AllocError>
+    requires { IsRising front.now }
+    ensures { IfOk result (λ new. new.items ≡ new_among (front.now ++ all_of runs.now) uses.now) }
 {
-    let mut new = Vec::with_capacity(alloc, uses.len())?;
+    let mut new = Vec::new(alloc);
     for used in uses {
         if is_new(front, runs, used) {
             new.push(*used)?;
         }
     }
-    Run::of(alloc, &new)
+    Ok(new)
 }
 
 impl RunUses {
@@ -201,16 +219,16 @@ impl RunUses {
     }
 
     // Puts in a run of uses that are not there, if memory is given for it.
-    fn take_run(&mut self, run: Run) -> bool
-        requires rising { IsRising run }
-        requires new { AllByRecursion (λ u. holds self.old u ≡ false) run }
-        ensures all { IsTrue result → self.new ≡ with_all self.old run }
+    fn take_run(&mut self, uses: &[Use]) -> bool
+        requires rising { IsRising uses.now }
+        requires new { AllByRecursion (λ u. holds self.old u ≡ false) uses.now }
+        ensures all { IsTrue result → self.new ≡ with_all self.old uses.now }
         ensures none { result ≡ false → self.new ≡ self.old }
     {
-        let Some(total) = self.total.checked_add(run.uses().len()) else {
+        let Some(total) = self.total.checked_add(uses.len()) else {
             return false;
         };
-        match push_run(self.alloc, &mut self.runs, run) {
+        match push_run(self.alloc, &mut self.runs, uses) {
             Err(_) => false,
             Ok(()) => {
                 self.total = total;
@@ -250,9 +268,9 @@ impl UseStore for RunUses {
         if uses.len() < FRONT {
             return false;
         }
-        match run_of_new(self.alloc, self.front.uses(), &self.runs, uses) {
+        match new_uses(self.alloc, self.front.uses(), &self.runs, uses) {
             Err(_) => false,
-            Ok(run) => self.take_run(run),
+            Ok(new) => self.take_run(&new),
         }
     }
 
@@ -277,5 +295,11 @@ impl UseStore for RunUses {
 
     fn next_after(&self, after: Option<Use>) -> Option<Use> {
         least_after(&self.runs, after, first_after(self.front.uses(), after))
+    }
+
+    fn next_uses(&self, after: Option<Use>, room: &mut Room) {
+        room.clear();
+        room.extend(rest_after(self.front.uses(), after));
+        merge_next(&self.runs, after, room);
     }
 }

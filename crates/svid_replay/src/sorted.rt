@@ -1,4 +1,4 @@
-ghost use Rattle.std.specs.Prelude.{◌≡◌, ◌≤◌, ℕ, List, length, Some, drop, find, not, nat_lt, IsTrue, IsOk, OnOk, OnErr};
+ghost use Rattle.std.specs.Prelude.{◌≡◌, ◌≤◌, ℕ, List, length, Some, drop, filter, find, not, nat_lt, IsTrue, IsOk, OnOk, OnErr};
 ghost use Rattle.std.specs.List.{AllByRecursion, list_any, prefix_len};
 ghost use Rattle.svid_replay.specs.Batches.{is_after};
 ghost use Rattle.svid_replay.specs.Runs.{HasBits};
@@ -8,6 +8,7 @@ ghost use Rattle.svid_replay.specs.Use.{IsRising};
 ghost use Rattle.svid_replay.specs.Uses.{no_uses, uses_in};
 
 use crate::Use;
+use crate::room::Room;
 use crate::store::{Raised, UseStore};
 use crate::twice::{has_key, withdraws};
 use std::alloc::{AllocError, Global};
@@ -78,15 +79,22 @@ pub(crate) fn count_up_to(uses: &[Use], last: &Use) -> usize
     uses.partition_point(|used| !last.cmp(used).is_lt())
 }
 
+// Those of the uses that are greater than the one given, or all.
+pub(crate) fn rest_after(uses: &[Use], after: Option<Use>) -> &[Use]
+    requires { IsRising uses.now }
+    ensures { result.now ≡ filter (is_after after) uses.now }
+{
+    match after {
+        None => uses,
+        Some(last) => &uses[count_up_to(uses, &last)..],
+    }
+}
+
 pub(crate) fn first_after(uses: &[Use], after: Option<Use>) -> Option<Use>
     requires { IsRising uses.now }
     ensures { result ≡ find (is_after after) uses.now }
 {
-    let rest = match after {
-        None => uses,
-        Some(last) => &uses[count_up_to(uses, &last)..],
-    };
-    rest.first().copied()
+    rest_after(uses, after).first().copied()
 }
 
 pub(crate) fn has_use_of(uses: &[Use], key: &[u8; 32]) -> bool
@@ -139,5 +147,10 @@ impl UseStore for SortedUses {
 
     fn next_after(&self, after: Option<Use>) -> Option<Use> {
         first_after(&self.uses, after)
+    }
+
+    fn next_uses(&self, after: Option<Use>, room: &mut Room) {
+        room.clear();
+        room.extend(rest_after(&self.uses, after));
     }
 }

@@ -4,14 +4,14 @@ ghost use Rattle.svid_replay.specs.Uses.{count, next_above};
 
 use crate::buckets::differs;
 use crate::store::UseStore;
-use crate::{Record, Summary, Use};
+use crate::{Record, Summary, Use, Walk};
 use std::marker::Model;
 
 /// Of a record, the uses of all buckets whose digest differs from a summary's: what it answers to the summary,
 /// to be walked. No step takes memory.
 #[derive(Debug, Drop)]
 pub struct Stale<'a, S: UseStore> {
-    whole: &'a Record<S>,
+    walk: Walk<'a, S>,
     summary: &'a Summary,
     digests: [[u8; 32]; 256],
 }
@@ -25,9 +25,9 @@ impl<'a, S: UseStore> Model for Stale<'a, S> {
 
     ghost coded = { state_code };
 
-    ghost view = { λ s. stale_part s.summary.now s.whole.now };
+    ghost view = { λ s. stale_part s.summary.now s.walk };
 
-    ghost invariant = { λ s. s.digests ≡ digests_of s.whole.now.uses };
+    ghost invariant = { λ s. s.digests ≡ digests_of s.walk.uses };
 }
 
 impl<'a, S: UseStore> Stale<'a, S> {
@@ -40,7 +40,7 @@ impl<'a, S: UseStore> Stale<'a, S> {
         ensures { result ≡ stale_part summary.now whole.now }
     {
         Stale {
-            whole,
+            walk: whole.walk(),
             summary,
             digests,
         }
@@ -50,16 +50,17 @@ impl<'a, S: UseStore> Stale<'a, S> {
     pub fn moment(&self) -> u64
         ensures { result ≡ self.now.moment }
     {
-        self.whole.moment()
+        self.walk.moment()
     }
 
     /// How many these uses are. Looks at each use of the record.
-    pub fn count(&self) -> usize
-        ensures { result ≡ count self.now.uses }
+    pub fn count(&mut self) -> usize
+        ensures count { result ≡ count self.old.uses }
+        ensures same { self.new ≡ self.old }
     {
-        let mut stale = self.whole.len();
+        let mut stale = self.walk.len();
         let mut after = None;
-        while let Some(used) = self.whole.next_after(after) {
+        while let Some(used) = self.walk.next_after(after) {
             if !differs(&self.digests, self.summary, &used) {
                 stale -= 1;
             }
@@ -68,12 +69,14 @@ impl<'a, S: UseStore> Stale<'a, S> {
         stale
     }
 
-    /// The least of these uses, or the least that is greater than the one given.
-    pub fn next_after(&self, after: Option<Use>) -> Option<Use>
-        ensures { result ≡ next_above self.now.uses after }
+    /// The least of these uses, or the least that is greater than the one given. Quick where that is the use which
+    /// the call before answered, and else a search.
+    pub fn next_after(&mut self, after: Option<Use>) -> Option<Use>
+        ensures next { result ≡ next_above self.old.uses after }
+        ensures same { self.new ≡ self.old }
     {
         let mut last = after;
-        while let Some(used) = self.whole.next_after(last) {
+        while let Some(used) = self.walk.next_after(last) {
             if differs(&self.digests, self.summary, &used) {
                 return Some(used);
             }

@@ -2,8 +2,10 @@ ghost use Rattle.std.specs.Prelude.{◌≡◌, ◌↔◌, ◌+◌, false, IsTrue
 ghost use Rattle.svid_replay.specs.Sets.{holds, with, with_all};
 ghost use Rattle.svid_replay.specs.Use.{IsRising};
 ghost use Rattle.svid_replay.specs.Uses.{Uses, count, has_use_of, has_withdrawal_of, live, next_above, no_uses};
+ghost use Rattle.svid_replay.specs.Walks.{next_few};
 
 use crate::Use;
+use crate::room::Room;
 use std::alloc::AllocError;
 
 /// What a greater moment did to a set of uses.
@@ -62,4 +64,20 @@ pub trait UseStore {
     /// The least use of the set, or the least that is greater than the one given.
     fn next_after(&self, after: Option<Use>) -> Option<Use>
         ensures { result ≡ next_above (content self.now) after };
+
+    /// The next uses of the set, from the least or from the least that is greater than the one given, rising: as
+    /// many as the room takes, 64, or all that there are. What was in the room goes.
+    fn next_uses(&self, after: Option<Use>, room: &mut Room)
+        ensures { room.new ≡ next_few (content self.now) after }
+    {
+        room.clear();
+        let mut last = after;
+        while let Some(used) = self.next_after(last) {
+            if room.is_full() {
+                return;
+            }
+            room.push(used);
+            last = Some(used);
+        }
+    }
 }

@@ -9,9 +9,9 @@ use crate::layout::{AT_START, EXP_START, KEY_START, KIND_START, PLACE_START, USE
 pub struct Use {
     /// When the token expires, in seconds.
     pub exp: u64,
-    /// The key of the token: two uses of one token have the same.
+    /// The key of the token. Uses of one key are taken for uses of one token.
     pub key: [u8; 32],
-    /// The place where it was used or withdrawn: each validator has one of its own.
+    /// The place where it was used or withdrawn. Validators are told apart by their places.
     pub place: [u8; 16],
     /// When it was used or withdrawn, in seconds.
     pub at: u64,

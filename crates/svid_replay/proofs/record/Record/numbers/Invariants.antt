@@ -1,4 +1,4 @@
-use Rattle.std.proofs.Common.{length}
+use Rattle.std.proofs.Common.{◌≡◌, length}
 use Rattle.std.specs.List.{filter}
 use Rattle.svid_replay.specs.Batches.{is_after}
 use Rattle.svid_replay.specs.Sets.{rising}
@@ -6,7 +6,10 @@ use Rattle.svid_replay.proofs.NumbersLemmas.{HasNumbers}
 use Rattle.svid_replay.proofs.record.Record.numbers.Given as goal
 
 abbrev pub invariant-loop-used : goal.invariant-loop-used
-invariant-loop-used g l = HasNumbers l.self.uses l.after l.numbers.items
+invariant-loop-used g l = record {
+  walk : l.walk ≡ l.self;
+  so_far : HasNumbers l.self.uses l.after l.numbers.items;
+}
 
 abbrev pub decreases-loop-used : goal.decreases-loop-used
 decreases-loop-used g l = length (filter (is_after l.after) (rising l.self.uses))

@@ -1,4 +1,4 @@
-use Rattle.std.proofs.Common.{length}
+use Rattle.std.proofs.Common.{◌≡◌, length}
 use Rattle.std.specs.List.{filter}
 use Rattle.svid_replay.specs.Batches.{is_after}
 use Rattle.svid_replay.specs.Sets.{rising}
@@ -6,7 +6,10 @@ use Rattle.svid_replay.proofs.UsesLemmas.{IsWalked}
 use Rattle.svid_replay.proofs.record.Record.uses.Given as goal
 
 abbrev pub invariant-loop-used : goal.invariant-loop-used
-invariant-loop-used g l = IsWalked (rising l.self.uses) l.after l.uses.items
+invariant-loop-used g l = record {
+  walk : l.walk ≡ l.self;
+  so_far : IsWalked (rising l.self.uses) l.after l.uses.items;
+}
 
 abbrev pub decreases-loop-used : goal.decreases-loop-used
 decreases-loop-used g l = length (filter (is_after l.after) (rising l.self.uses))

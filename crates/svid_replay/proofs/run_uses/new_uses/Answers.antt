@@ -1,10 +1,9 @@
 use Rattle.std.proofs.Common.{◌++◌, ◌∙◌, ap, sym}
 use Rattle.std.proofs.lemmas.List.{take_all}
-use Rattle.std.proofs.lemmas.Result.{IfOk-weaker}
 use Rattle.svid_replay.specs.Runs.{all_of, new_among}
-use Rattle.svid_replay.proofs.RunsLemmas.{new_more, new_same, new_rises}
-use Rattle.svid_replay.proofs.run_uses.run_of_new.Goals as goal
-use Rattle.svid_replay.proofs.run_uses.run_of_new.Goals.{then-is_new+in_ok-push, else-is_new}
+use Rattle.svid_replay.proofs.RunsLemmas.{new_more, new_same}
+use Rattle.svid_replay.proofs.run_uses.new_uses.Goals as goal
+use Rattle.svid_replay.proofs.run_uses.new_uses.Goals.{then-is_new+in_ok-push, else-is_new}
 
 pub loop-used-preserved : goal.loop-used-preserved
 loop-used-preserved c = elim c.if-is_new.branch [
@@ -12,12 +11,7 @@ loop-used-preserved c = elim c.if-is_new.branch [
   | else-is_new w ↦ ap (λ v. v.items) w.new-is ∙ new_same (c.args.front.now ++ all_of c.args.runs.now) c.args.uses.now _ _ _ c.loop-used-test.true c.loop-used.invariant (sym c.is_new.ensures ∙ w.if-is_new.false)
 ]
 
-pub of-requires : goal.of-requires
-of-requires c =
-    let held = c.args.front.now ++ all_of c.args.runs.now in
-    new_rises held c.args.uses.now _ (c.deref.ensures.value ∙ c.loop-used.invariant ∙ ap (new_among held) (take_all c.loop-used.used-index c.args.uses.now c.loop-used-test.false)) c.requires.uses
-
 pub returns : goal.returns
 returns c =
     let held = c.args.front.now ++ all_of c.args.runs.now in
-    IfOk-weaker c.of.result _ _ (λ run e. e ∙ c.deref.ensures.value ∙ c.loop-used.invariant ∙ ap (new_among held) (take_all c.loop-used.used-index c.args.uses.now c.loop-used-test.false)) c.of.ensures
+    c.loop-used.invariant ∙ ap (new_among held) (take_all c.loop-used.used-index c.args.uses.now c.loop-used-test.false)

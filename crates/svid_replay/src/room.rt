@@ -1,0 +1,127 @@
+//! Room for the next uses of a walk.
+ghost use Rattle.std.specs.Prelude.{◌≡◌, ◌==◌, ◌<◌, ◌≤◌, [], ◌∷◌, ◌++◌, length, take, true};
+ghost use Rattle.std.specs.Set.{sorted_merge};
+ghost use Rattle.svid_replay.specs.Use.{use_cmp};
+
+use crate::Use;
+use std::cmp::Ordering;
+use std::marker::Model;
+
+/// How many uses a [`Room`] takes.
+pub const ROOM_USES: usize = 64;
+
+const NO_USE: Use = Use {
+    exp: 0,
+    key: [0; 32],
+    place: [0; 16],
+    at: 0,
+    withdrawn: false,
+};
+
+/// Room for at most 64 uses, which lie in the value itself: the next of a walk. Takes no memory.
+#[derive(Debug, Drop)]
+pub struct Room {
+    uses: [Use; ROOM_USES],
+    len: usize,
+}
+
+impl Model for Room {
+    ghost use Rattle.std.specs.Prelude.{◌≡◌, ◌≤◌, List, length, take};
+    ghost use Rattle.svid_replay.specs.Runs.{run_code};
+    ghost use Rattle.svid_replay.specs.declared.token_use.Use.{Use};
+
+    ghost Value = { List Use };
+
+    ghost coded = { run_code };
+
+    ghost view = { λ r. take r.len r.uses };
+
+    ghost invariant = { λ r. (length r.uses ≡ 64) × (r.len ≤ 64) };
+}
+
+impl Room {
+    /// Room that has no uses.
+    pub fn new() -> Room
+        ensures { result ≡ [] }
+    {
+        Room {
+            uses: [NO_USE; ROOM_USES],
+            len: 0,
+        }
+    }
+
+    /// The uses.
+    pub fn as_slice(&self) -> &[Use]
+        ensures value { result.now ≡ self.now }
+        ensures few { length result.now ≤ 64 }
+    {
+        &self.uses[..self.len]
+    }
+
+    /// Whether there is room for no use more.
+    pub fn is_full(&self) -> bool
+        ensures { result ≡ (length self.now == 64) }
+    {
+        self.len == ROOM_USES
+    }
+
+    /// Takes out all uses.
+    pub fn clear(&mut self)
+        ensures { self.new ≡ [] }
+    {
+        self.len = 0;
+    }
+
+    /// Puts a use behind the others. Where there is no room for it they stay as they were.
+    pub fn push(&mut self, used: Use)
+        ensures pushed { length self.old < 64 → self.new ≡ self.old ++ used ∷ [] }
+        ensures full { 64 ≤ length self.old → self.new ≡ self.old }
+    {
+        if self.len < ROOM_USES {
+            self.uses[self.len] = used;
+            self.len += 1;
+        }
+    }
+
+    /// Puts uses behind the others, as many as there is room for.
+    pub fn extend(&mut self, uses: &[Use])
+        ensures { self.new ≡ take 64 (self.old ++ uses.now) }
+    {
+        let count = uses.len().min(ROOM_USES - self.len);
+        let end = self.len + count;
+        self.uses[self.len..end].copy_from_slice(&uses[..count]);
+        self.len = end;
+    }
+}
+
+// The first 64 of two rising lists in one; a use that both have comes once.
+pub(crate) fn merged(a: &[Use], b: &[Use]) -> Room
+    ensures { result ≡ take 64 (sorted_merge use_cmp true a.now b.now) }
+{
+    let mut room = Room::new();
+    let mut i = 0;
+    let mut j = 0;
+    while i < a.len() && j < b.len() {
+        if room.is_full() {
+            return room;
+        }
+        match a[i].cmp(&b[j]) {
+            Ordering::Less => {
+                room.push(a[i]);
+                i += 1;
+            }
+            Ordering::Equal => {
+                room.push(a[i]);
+                i += 1;
+                j += 1;
+            }
+            Ordering::Greater => {
+                room.push(b[j]);
+                j += 1;
+            }
+        }
+    }
+    room.extend(&a[i..]);
+    room.extend(&b[j..]);
+    room
+}

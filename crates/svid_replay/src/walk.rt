@@ -1,0 +1,95 @@
+ghost use Rattle.std.specs.Prelude.{◌≡◌, ◌<◌, ◌≤◌, List, length, IfSome, Some, find};
+ghost use Rattle.std.specs.Ordering.{eq_by_cmp};
+ghost use Rattle.svid_replay.specs.Batches.{is_after};
+ghost use Rattle.svid_replay.specs.Use.{IsRising, use_cmp};
+ghost use Rattle.svid_replay.specs.Uses.{count, next_above};
+ghost use Rattle.svid_replay.specs.Walks.{IsStretch};
+ghost use Rattle.svid_replay.specs.declared.token_use.Use.{Use};
+
+use crate::room::Room;
+use crate::store::UseStore;
+use crate::{Record, Use};
+use std::marker::Model;
+
+/// A record, to be walked. The walk takes its uses from the store by the dozen and has them at hand, so that the
+/// step from one use to the next is short. No step takes memory.
+#[derive(Debug, Drop)]
+pub struct Walk<'a, S: UseStore> {
+    whole: &'a Record<S>,
+    room: Room,
+    given: usize,
+}
+
+impl<'a, S: UseStore> Model for Walk<'a, S> {
+    ghost use Rattle.std.specs.Prelude.{◌≤◌};
+    ghost use Rattle.svid_replay.specs.Records.{State, state_code};
+    ghost use Rattle.svid_replay.specs.Sets.{rising};
+    ghost use Rattle.svid_replay.specs.Walks.{IsStretch};
+
+    ghost Value = { State };
+
+    ghost coded = { state_code };
+
+    ghost view = { λ w. w.whole.now };
+
+    ghost invariant = { λ w. IsStretch (rising w.whole.now.uses) w.room × (w.given ≤ 64) };
+}
+
+fn is_same(one: &Use, other: &Use) -> bool
+    ensures { result ≡ eq_by_cmp use_cmp one.now other.now }
+{
+    one.cmp(other).is_eq()
+}
+
+// The use at a place, if the one in front of that is the one given.
+fn behind(uses: &[Use], place: usize, last: Option<Use>) -> Option<Use>
+    ensures next { (whole : List Use) → IsRising whole → IsStretch whole uses.now → IfSome result (λ u. find (is_after last) whole ≡ Some u) }
+    ensures bound { IfSome result (λ u. place < length uses.now) }
+{
+    let last = last?;
+    if place == 0 || place >= uses.len() || !is_same(&uses[place - 1], &last) {
+        return None;
+    }
+    Some(uses[place])
+}
+
+impl<'a, S: UseStore> Walk<'a, S> {
+    pub(crate) fn of(whole: &'a Record<S>) -> Walk<'a, S>
+        ensures { result ≡ whole.now }
+    {
+        Walk {
+            whole,
+            room: Room::new(),
+            given: 0,
+        }
+    }
+
+    /// The record's moment, in seconds.
+    pub fn moment(&self) -> u64
+        ensures { result ≡ self.now.moment }
+    {
+        self.whole.moment()
+    }
+
+    /// How many uses the record has.
+    pub fn len(&self) -> usize
+        ensures { result ≡ count self.now.uses }
+    {
+        self.whole.len()
+    }
+
+    /// The least use of the record, or the least that is greater than the one given. Quick where that is the use
+    /// which the call before answered, and else a search.
+    pub fn next_after(&mut self, after: Option<Use>) -> Option<Use>
+        ensures next { result ≡ next_above self.old.uses after }
+        ensures same { self.new ≡ self.old }
+    {
+        if let Some(used) = behind(self.room.as_slice(), self.given, after) {
+            self.given += 1;
+            return Some(used);
+        }
+        self.whole.next_uses(after, &mut self.room);
+        self.given = 1;
+        self.room.as_slice().first().copied()
+    }
+}
