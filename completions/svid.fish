@@ -30,7 +30,7 @@ complete -c svid -n '__svid_is check' -l now -x -d 'The moment of the checks, in
 complete -c svid -n '__svid_is check' -l place -x -d 'What tells this validator from every other one'
 complete -c svid -n '__svid_is check' -l record -r -F -d 'The record that the checks begin with'
 complete -c svid -n '__svid_is check' -l out -r -F -d 'The file that gets the record after the last check'
-complete -c svid -n '__svid_is check' -l longest -x -d 'How many seconds past the moment a token may expire'
+complete -c svid -n '__svid_is check' -l longest -x -d 'How many seconds past the moment of the checks, or of the record where that is greater, a token may expire'
 
 complete -c svid -n '__svid_is report' -l now -x -d 'A moment in seconds, to which the record is raised'
 complete -c svid -n '__svid_is report' -F

@@ -10,7 +10,7 @@ use Rattle.svid_replay.specs.Records.{State}
 use Rattle.svid_share.specs.Faults.{bundle_fault_of, table_fault_of}
 use Rattle.svid_share.specs.declared.tool_fault.ToolFault.{ToolFault}
 use Rattle.svid_share.specs.declared.tool_fault.ToolFault.TheVariants as tool
-use Rattle.svid_check.specs.Setting.{Says, Setting}
+use Rattle.svid_check.specs.Setting.{Says}
 use Rattle.svid_c.specs.Checked.{AreNames, IsNamesFault, IsNotReady, IsReady, IsTable, names_of}
 use Rattle.svid_c.specs.Inputs.{IsRefused}
 use Rattle.svid_c.specs.Joined.{IsRecordOf}

@@ -23,7 +23,8 @@ use svid_replay::{RunUses, Use};
 pub struct SvidSetting {
     /// The moment of the check, in seconds.
     pub moment: u64,
-    /// How many seconds past the moment a token may expire; with 2^64-1 it may at any moment.
+    /// How many seconds past `moment`, or past the record's moment where that is greater, a token may expire; with
+    /// 2^64-1 it may at any moment.
     pub longest: u64,
     /// What tells the validator from every other one that shares its record.
     pub place: [u8; 16],

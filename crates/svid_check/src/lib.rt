@@ -2,11 +2,12 @@
 //!
 //! A [`Validator`] is given its own audiences, its place, trust bundles, a verifier of signatures and
 //! the record of the tokens that were used or withdrawn. [`Validator::check`] answers for a token at a moment that
-//! is handed in: no clock is looked at. An accepted token is added to the record, so that it is
-//! refused as `Replayed` from then on, and the record can be told to other validators: they take its
-//! parts by [`Validator::take`], as far as these lie at most so many seconds ahead of the moment of the
-//! call, or send the summary of their own record, which [`Validator::answer`] answers with the uses of all
-//! buckets whose digests differ from the summary's: whole buckets, so also uses that both records have.
+//! is handed in: no clock is looked at. An accepted token is added to the record: until it expires it is
+//! then refused as `Replayed`, or as `Withdrawn` while the record has a withdrawal of it, and afterwards
+//! as `Expired`. The record can be told to other validators: they take its parts by [`Validator::take`],
+//! as far as these lie at most so many seconds ahead of the moment of the call, or send the summary of
+//! their own record, which [`Validator::answer`] answers with the uses of all buckets whose digests differ
+//! from the summary's: whole buckets, so also uses that both records have.
 //! [`Validator::withdraw`] withdraws a token before it expires, so that it is refused as `Withdrawn`.
 //! [`Validator::run`] makes a list of checks, withdrawals, ticks and takes.
 //!

@@ -25,7 +25,8 @@ pub struct CheckSetting {
     pub place: [u8; 16],
     /// The moment at which the tokens are checked, in seconds.
     pub now: u64,
-    /// How many seconds past the moment a token may expire; any number where there is none.
+    /// How many seconds past `now`, or past the record's moment where that is greater, a token may expire; any
+    /// number where there is none.
     pub longest: Option<u64>,
 }
 

@@ -63,7 +63,9 @@ fn join_messages<T: UseStore>(
 
 /// Reads the messages of the input with this number piece by piece, and joins their batches; summaries
 /// are passed over. `messages` is room that is used anew for each piece: beside it and the record, the
-/// memory that is taken is that of one message.
+/// memory that is taken is that of one message, and for a moment what the store takes to join a batch:
+/// `RunUses` has room for the uses of a long batch once more while it makes a run of the new ones
+/// (`insert_all`), and for those of two runs once more while it merges these.
 ///
 /// Refused for the first field that is bad, in the bytes that come before a call of the source stops,
 /// and before the limit; then for a source that stopped, for one that gives more than 67,108,864

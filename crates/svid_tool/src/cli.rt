@@ -126,7 +126,9 @@ fn check_command<'a>(alloc: Global) -> Result<Command<'a>, AllocError> {
         .long("longest")
         .value_name("N")
         .value_parser(clap::value_parser!(u64))
-        .help("How many seconds past the moment a token may expire; without it, any number");
+        .help(
+            "How many seconds past the moment of the checks, or of the record where that is greater, a token may expire; without it, any number",
+        );
     let audience = Arg::new(alloc, "audience")
         .value_name("AUD")
         .required(true)

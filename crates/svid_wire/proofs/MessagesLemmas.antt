@@ -8,7 +8,7 @@ use Rattle.svid_replay.specs.Batches.{BatchData, IsBatch}
 use Rattle.svid_replay.proofs.ListLemmas.{each_append}
 use Rattle.svid_wire.specs.WireFault.{IsFault}
 use Rattle.svid_wire.specs.BatchText.{IsBatchIn}
-use Rattle.svid_wire.specs.Messages.{Written, batch_in, summary, written_text, read_as, IsWritten, IsMessage, batches_of, summaries_of, BeginsMessage, Splits, Appended, Parses, HasFault, NoTextIsLonger, OldBatchIsRead, ParsesOneWay, EachParses, ParseEnds, CutAnywhere, WrittenIsRead}
+use Rattle.svid_wire.specs.Messages.{Written, batch_in, summary, written_text, read_as, IsWritten, IsMessage, batches_of, BeginsMessage, Splits, Appended, Parses, HasFault, NoTextIsLonger, OldBatchIsRead, ParsesOneWay, EachParses, ParseEnds, CutAnywhere, WrittenIsRead}
 use Rattle.svid_wire.specs.Versions.{CanTell}
 use Rattle.svid_wire.specs.declared.version.Version.TheVariants.{One, Two}
 use Rattle.svid_wire.specs.declared.message.Message.{Message}
@@ -20,11 +20,6 @@ pub batches_of-append : (ms ns : List Message) → batches_of (ms ++ ns) ≡ bat
 batches_of-append [] ns = refl
 batches_of-append (Batch b ∷ ms) ns = ap (λ x. b ∷ x) (batches_of-append ms ns)
 batches_of-append (Summary s ∷ ms) ns = batches_of-append ms ns
-
-pub summaries_of-append : (ms ns : List Message) → summaries_of (ms ++ ns) ≡ summaries_of ms ++ summaries_of ns
-summaries_of-append [] ns = refl
-summaries_of-append (Batch b ∷ ms) ns = summaries_of-append ms ns
-summaries_of-append (Summary s ∷ ms) ns = ap (λ x. s ∷ x) (summaries_of-append ms ns)
 
 -- messages behind messages
 Splits-append : (bytes : List ℕ) (ms ns : List Message) (mid rest : List ℕ) → Splits bytes ms mid → Splits mid ns rest → Splits bytes (ms ++ ns) rest

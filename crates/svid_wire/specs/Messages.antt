@@ -48,12 +48,6 @@ batches_of [] = []
 batches_of (Batch b ∷ ms) = b ∷ batches_of ms
 batches_of (Summary s ∷ ms) = batches_of ms
 
--- the summaries among messages
-abbrev pub summaries_of : List Message → List SummaryData
-summaries_of [] = []
-summaries_of (Batch b ∷ ms) = summaries_of ms
-summaries_of (Summary s ∷ ms) = s ∷ summaries_of ms
-
 -- the bytes are texts of these messages, one after the other, and then a rest
 pub record Splits (bytes : List ℕ) (messages : List Message) (rest : List ℕ) : Type 0 where
   pub written : List Written

@@ -1,4 +1,4 @@
-ghost use Rattle.std.specs.Prelude.{◌≡◌, length, OnOk, IfErr};
+ghost use Rattle.std.specs.Prelude.{◌≡◌, OnOk, IfErr};
 ghost use Rattle.svid_wire.specs.BatchText.{batch_text, head_text};
 ghost use Rattle.svid_wire.specs.Streams.{StoppedAfter, TookAll, taken};
 ghost use Rattle.svid_wire.specs.declared.version.Version.{Version};

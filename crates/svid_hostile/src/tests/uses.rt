@@ -1,6 +1,6 @@
 // Validators that had uses before, the uses that they are told, and what they then have.
 
-use super::{ONE_KEY, PLACE, Sig, with_record};
+use super::{PLACE, Sig, with_record};
 use std::alloc::{AllocError, Global};
 use std::process::Abort;
 use std::test::Fail;

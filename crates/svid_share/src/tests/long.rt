@@ -1,5 +1,5 @@
 // Inputs as long as an input may be, and one byte longer.
-ghost use Rattle.std.specs.Prelude.{◌+◌, ◌≤◌, IfOk, length, None};
+ghost use Rattle.std.specs.Prelude.{◌≤◌, IfOk, length, None};
 ghost use Rattle.std.specs.Io.KnownBytes.{ReadConsumes};
 ghost use Rattle.svid_wire.specs.Faults.{CountsFault};
 

@@ -11,7 +11,7 @@ use std::alloc::{AllocError, Global};
 use std::process::Abort;
 use std::test::Fail;
 use svid_replay::{Record, RunUses, Use};
-use svid_wire::{Counted, MemSink, MemSource};
+use svid_wire::{Counted, MemSink};
 
 // Runs an engine while the nth allocation is refused, into a vector that has room: no growth is its own. So each
 // that is refused is told as want of memory, with nothing written. Says whether one was.

@@ -3,7 +3,7 @@ use super::{FIRST, GONE, SECOND, absorb, in_runs, indexed, sorted, uses_to};
 use std::alloc::{AllocError, Global};
 use std::process::Abort;
 use std::test::Fail;
-use svid_replay::{Batch, IndexedUses, Record, SortedUses, Summary, Use, UseStore};
+use svid_replay::{Batch, Record, Summary, Use, UseStore};
 
 // The digest of no bytes.
 const NONE: [u8; 32] = [

@@ -1,6 +1,6 @@
 use super::{TWO_USES, many_uses, write_each};
 use crate::{Counted, MemSink, Sink, WriteFault, read_all, write_batch};
-use std::alloc::{AllocError, Global};
+use std::alloc::Global;
 use std::test::Fail;
 use svid_replay::{Batch, Use};
 
