@@ -1,11 +1,15 @@
 -- Walks: what comes next in several lists, and stretches of a list.
 use borrow.Rule.Slice.PartMut.{post_of, put_mid}
-use Rattle.std.proofs.Common.{◌≡◌, ℕ, ◌<◌, ◌≤◌, ◌+◌, ◌-◌, zero, suc, Bool, true, false, cond, not, ◌||◌, ◌&&◌, List, [], ◌∷◌, ◌++◌, length, take, drop, get_or, filter, find, min, nat_eq, slice_get, Option, Some, None, refl, sym, ◌∙◌, ap, subst, arith}
+use Rattle.std.proofs.Common.{◌≡◌, ℕ, ◌<◌, ◌≤◌, ◌+◌, ◌-◌, zero, suc, Bool, true, false, cond, not, ◌||◌, ◌&&◌, List, [], ◌∷◌, ◌++◌, length, take, drop, get_or, filter, find, min, nat_eq, slice_get, Option, Some, None, refl, sym, ◌∙◌, ap, subst, arith, ⊎_elim}
 use Rattle.std.proofs.Math.Seq.{drop-cons, take-append-add, take-append_seam}
 use Rattle.std.proofs.lemmas.Bool.Decides.{nat_tests}
 use Rattle.std.proofs.lemmas.Cmp.{tied_itself}
-use Rattle.std.proofs.lemmas.List.{append-nil, append_assoc, length-append, length-take, take_all, take-append-le, take-append-drop, take_min, take-take, take_more}
+use Rattle.std.proofs.lemmas.List.{append-nil, append_assoc, length-append, length-take, take_all, take-append-le, take-append-drop, take_min, nil_from_length, take-take, take_more}
+use Rattle.std.proofs.lemmas.Bool.{cases_lt}
+use Rattle.std.proofs.lemmas.List.Elements.{recursion_from_All}
+use Rattle.std.proofs.lemmas.List.Folds.{list_any-append}
 use Rattle.std.proofs.lemmas.List.Kept.{IsStrictlySortedBy-filter}
+use Rattle.std.proofs.lemmas.Map.Keys.{Less-from_sorted}
 use Rattle.std.specs.List.{AllByRecursion, list_any, prefix_len}
 use Rattle.std.specs.List.Sorted.{IsStrictlySortedBy}
 use Rattle.std.specs.Ordering.{eq_by_cmp, is_lt, match_ordering, ordering_reverse}
@@ -19,13 +23,13 @@ use Rattle.svid_replay.specs.Sets.{rising}
 use Rattle.svid_replay.specs.Use.{use_cmp, IsRising}
 use Rattle.svid_replay.specs.Uses.{Uses, next_above, uses_in}
 use Rattle.svid_replay.specs.Walks.{next_few, IsStretch}
-use Rattle.svid_replay.proofs.ListLemmas.{all_same, each_true}
-use Rattle.svid_replay.proofs.MergeLemmas.{merge, merge_has, merge_rises}
+use Rattle.svid_replay.proofs.ListLemmas.{all_same, each_take, each_true}
+use Rattle.svid_replay.proofs.MergeLemmas.{merge, merge_has, merge_rises, merge_second_done}
 use Rattle.svid_replay.proofs.RunsLemmas.{all_append, rising_both}
 use Rattle.svid_replay.proofs.SetsLemmas.{rising_rises, same_rising}
-use Rattle.svid_replay.proofs.TestsLemmas.{equal}
+use Rattle.svid_replay.proofs.TestsLemmas.{equal, is_less, or-comm}
 use Rattle.svid_replay.proofs.UseLemmas.{use_exact, use_total}
-use Rattle.svid_replay.proofs.UsesLemmas.{any-filter, filter_is_rest, find_kept, next_is, rising-uses_in}
+use Rattle.svid_replay.proofs.UsesLemmas.{any-filter, filter_is_rest, find_kept, holds-uses_in, same_uses, next_is, rising-uses_in}
 
 -- ---- the first of a list, as many as fit
 -- a part that is cut, and more behind it, cut
@@ -47,6 +51,39 @@ take_merged R (suc n) (suc m) le (x ∷ xs) (y ∷ ys) =
       | Greater ↦ ap (λ zs. y ∷ zs) (take_merged R n (suc m) (omega arith) (x ∷ xs) ys)
     ]
 
+take_rises : {K : Type 0} (R : K → K → Ordering) (n : ℕ) (xs : List K) → IsStrictlySortedBy R xs → IsStrictlySortedBy R (take n xs)
+unfolding IsStrictlySortedBy
+take_rises R zero xs up = tt
+take_rises R (suc n) [] up = tt
+take_rises R (suc n) (x ∷ xs) up = (each_take (λ y. R x y ≡ Less) n xs up.0, take_rises R n xs up.1)
+
+-- where all of the one come before the first of the other
+merge_before : {K : Type 0} (R : K → K → Ordering) (xs : List K) (y : K) (ys : List K) → AllByRecursion (λ x. R x y ≡ Less) xs → merge R xs (y ∷ ys) ≡ xs ++ (y ∷ ys)
+merge_before R [] y ys below = refl
+merge_before R (x ∷ xs) y ys below = ap (λ o. match_ordering o (x ∷ merge R xs (y ∷ ys)) (x ∷ merge R xs ys) (y ∷ merge R (x ∷ xs) ys)) below.0 ∙ ap (λ zs. x ∷ zs) (merge_before R xs y ys below.1)
+
+-- where the last of a full room comes before the first of other uses
+pub room_in_front : (room uses self : List Use) (k : ℕ) (d e : Use) → room ≡ self → IsRising self → length room ≡ suc k → is_lt (use_cmp (get_or room k d) (get_or uses 0 e)) ≡ true → 1 ≤ length uses → take (suc k) (merge use_cmp self uses) ≡ self
+room_in_front room uses self k d e same rises full less some =
+    let y = get_or uses 0 e in
+    let ys = drop 1 uses in
+    let up : IsRising room = subst IsRising (sym same) rises in
+    let before : use_cmp (get_or room k d) y ≡ Less = is_less _ less in
+    let all : AllByRecursion (λ x. use_cmp x y ≡ Less) room = recursion_from_All (λ x. use_cmp x y ≡ Less) room (λ i c within.
+    ⊎_elim (λ lt. use_total.trans (get_or room i c) (get_or room k c) y (Less-from_sorted use_cmp room i k c up lt (omega (arith, full))) (subst (λ (u : Use). use_cmp u y ≡ Less) (get_or_any room k d c (omega (arith, full))) before))
+    (λ ge. let same : i ≡ k = omega (arith, full) in subst (λ (u : Use). use_cmp u y ≡ Less) (get_or_any room k d c (omega (arith, full)) ∙ ap (λ n. get_or room n c) (sym same)) before) (cases_lt i k)) in
+    (λ i. take (suc k) (merge use_cmp (sym same i) (drop-cons uses 0 e some i))) ∙ ap (take (suc k)) (merge_before use_cmp room y ys all) ∙ take-append-le (suc k) room (y ∷ ys) (omega (arith, full)) ∙ take_all (suc k) room (omega (arith, full)) ∙ same
+  where
+    get_or_any : (us : List Use) (i : ℕ) (d e : Use) → i < length us → get_or us i d ≡ get_or us i e
+    get_or_any [] i d e within = absurd (omega arith)
+    get_or_any (u ∷ us) zero d e within = refl
+    get_or_any (u ∷ us) (suc i) d e within = get_or_any us i d e (omega arith)
+
+pub room_alone : (room uses self : List Use) → room ≡ self → length room ≤ 64 → length uses < 1 → take 64 (merge use_cmp self uses) ≡ self
+room_alone room uses self same few none =
+    let nothing = nil_from_length uses (omega arith) in
+    ap (take 64) (merge_second_done use_cmp self uses nothing ∙ ap (λ us. self ++ us) nothing ∙ append-nil self) ∙ take_all 64 self (omega (arith, ap length same))
+
 -- ---- what comes next in a list and in a run beside it
 and-or : (p a b : Bool) → (p && (a || b)) ≡ ((p && a) || (p && b))
 and-or true a b = refl
@@ -67,12 +104,27 @@ few_merged us vs after up =
     take_merged use_cmp 64 64 (omega arith) (filter p xs) (filter p vs)
     ∙ ap (take 64) (sym (filter_merged p xs vs (rising_rises use_cmp (uses_in us)) up) ∙ ap (filter p) (ap (merge use_cmp xs) (sym (rising-uses_in vs up)) ∙ sym (rising_both us vs)))
 
+pub few_none : (after : Option Use) → [] ≡ next_few (uses_in []) after
+unfolding IsStrictlySortedBy
+few_none after = ap (λ us. take 64 (filter (is_after after) us)) (sym (rising-uses_in [] tt))
+
+few_rises : (s : Uses) (after : Option Use) → IsRising (next_few s after)
+few_rises s after = take_rises use_cmp 64 (filter (is_after after) (rising s)) (IsStrictlySortedBy-filter use_cmp (is_after after) (rising s) (rising_rises use_cmp s))
+
 -- the room of a walk over runs, with one run more
-pub few_more : (us : List Use) (runs : List (List Use)) (i : ℕ) (after : Option Use) (run rest room next : List Use) → i < length runs → run ≡ get_or runs i run → IsRising run → rest ≡ filter (is_after after) run → room ≡ next_few (uses_in (us ++ all_of (take i runs))) after → next ≡ take 64 (merge use_cmp room rest) → next ≡ next_few (uses_in (us ++ all_of (take (i + 1) runs))) after
-few_more us runs i after run rest room next within at up behind before is =
-    let parts : us ++ all_of (take (i + 1) runs) ≡ (us ++ all_of (take i runs)) ++ run =
-    ap (λ rs. us ++ all_of rs) (take_more runs i run within) ∙ ap (λ ws. us ++ ws) (all_append (take i runs) (get_or runs i run ∷ []) ∙ ap (λ ws. all_of (take i runs) ++ ws) (append-nil (get_or runs i run) ∙ sym at)) ∙ sym (append_assoc us (all_of (take i runs)) run) in
-    is ∙ (λ k. take 64 (merge use_cmp (before k) (behind k))) ∙ few_merged (us ++ all_of (take i runs)) run after up ∙ ap (λ ws. next_few (uses_in ws) after) (sym parts)
+pub few_more : (us : List Use) (after : Option Use) (run rest room next : List Use) → IsRising run → rest ≡ filter (is_after after) run → room ≡ next_few (uses_in us) after → (IsRising room → next ≡ take 64 (merge use_cmp room rest)) → next ≡ next_few (uses_in (us ++ run)) after
+few_more us after run rest room next up behind before is =
+    is (subst IsRising (sym before) (few_rises (uses_in us) after)) ∙ (λ k. take 64 (merge use_cmp (before k) (behind k))) ∙ few_merged us run after up
+
+-- the uses of so many runs and one more
+pub runs_more : (runs : List (List Use)) (i : ℕ) (run : List Use) → i < length runs → run ≡ get_or runs i run → all_of (take i runs) ++ run ≡ all_of (take (i + 1) runs)
+runs_more runs i run within at =
+    sym (ap all_of (take_more runs i run within) ∙ all_append (take i runs) (get_or runs i run ∷ []) ∙ ap (λ ws. all_of (take i runs) ++ ws) (append-nil (get_or runs i run) ∙ sym at))
+
+pub uses_in-turned : (us vs : List Use) → uses_in (us ++ vs) ≡ uses_in (vs ++ us)
+uses_in-turned us vs = same_uses (uses_in (us ++ vs)) (uses_in (vs ++ us)) (λ q.
+    let tie = eq_by_cmp use_cmp q in
+    holds-uses_in (us ++ vs) q ∙ list_any-append tie us vs ∙ or-comm (list_any tie us) (list_any tie vs) ∙ sym (holds-uses_in (vs ++ us) q ∙ list_any-append tie vs us))
 
 -- ---- what a room has of a walk from each use to the next
 pub room_full : (n : ℕ) (room rest whole : List Use) → room ++ rest ≡ whole → length room ≡ n → room ≡ take n whole

@@ -1,7 +1,8 @@
 //! Room for the next uses of a walk.
-ghost use Rattle.std.specs.Prelude.{◌≡◌, ◌==◌, ◌<◌, ◌≤◌, [], ◌∷◌, ◌++◌, length, take, true};
+ghost use Rattle.std.specs.Prelude.{◌≡◌, ◌==◌, ◌<◌, ◌≤◌, [], ◌∷◌, ◌++◌, length, take, true, IsTrue};
+ghost use Rattle.std.specs.Ordering.{is_lt};
 ghost use Rattle.std.specs.Set.{sorted_merge};
-ghost use Rattle.svid_replay.specs.Use.{use_cmp};
+ghost use Rattle.svid_replay.specs.Use.{IsRising, use_cmp};
 
 use crate::Use;
 use std::cmp::Ordering;
@@ -92,10 +93,36 @@ impl Room {
         self.uses[self.len..end].copy_from_slice(&uses[..count]);
         self.len = end;
     }
+
+    // Whether there are no uses, or all of them are behind those of the room, and that is full.
+    fn is_in_front(&self, uses: &[Use]) -> bool
+        ensures { IsTrue result → IsRising self.now → take 64 (sorted_merge use_cmp true self.now uses.now) ≡ self.now }
+    {
+        let room = self.as_slice();
+        match uses {
+            [] => true,
+            [first, ..] => room.len() == ROOM_USES && is_less(&room[ROOM_USES - 1], first),
+        }
+    }
+
+    // Merges other rising uses into those of the room, as many as there is room for.
+    pub(crate) fn merge(&mut self, uses: &[Use])
+        ensures { IsRising self.old → self.new ≡ take 64 (sorted_merge use_cmp true self.old uses.now) }
+    {
+        if !self.is_in_front(uses) {
+            *self = merged(self.as_slice(), uses);
+        }
+    }
+}
+
+fn is_less(one: &Use, other: &Use) -> bool
+    ensures { result ≡ is_lt (use_cmp one.now other.now) }
+{
+    one.cmp(other).is_lt()
 }
 
 // The first 64 of two rising lists in one; a use that both have comes once.
-pub(crate) fn merged(a: &[Use], b: &[Use]) -> Room
+fn merged(a: &[Use], b: &[Use]) -> Room
     ensures { result ≡ take 64 (sorted_merge use_cmp true a.now b.now) }
 {
     let mut room = Room::new();

@@ -1,5 +1,5 @@
 //! A set of uses as a short sorted front and runs that grow.
-ghost use Rattle.std.specs.Prelude.{◌≡◌, ◌+◌, ◌<◌, ◌≤◌, ◌++◌, List, false, length, not, ◌^◌, true, IsTrue, IsOk, IfOk, OnOk, OnErr};
+ghost use Rattle.std.specs.Prelude.{◌≡◌, ◌+◌, ◌<◌, ◌≤◌, ◌++◌, [], false, length, not, ◌^◌, true, IsTrue, IsOk, IfOk, OnOk, OnErr};
 ghost use Rattle.std.specs.List.{AllByRecursion, list_any};
 ghost use Rattle.std.specs.Ordering.{eq_by_cmp};
 ghost use Rattle.svid_replay.specs.Batches.{is_after};
@@ -7,13 +7,12 @@ ghost use Rattle.svid_replay.specs.Runs.{all_of, least_from, least_of, live_of, 
 ghost use Rattle.svid_replay.specs.Sets.{holds, with, with_all};
 ghost use Rattle.svid_replay.specs.Indexed.{is_sought};
 ghost use Rattle.svid_replay.specs.Use.{IsRising, use_cmp};
-ghost use Rattle.svid_replay.specs.declared.token_use.Use.{Use};
 ghost use Rattle.svid_replay.specs.Uses.{no_uses, uses_in};
 ghost use Rattle.svid_replay.specs.Walks.{next_few};
 
 use crate::Use;
 use crate::front::Front;
-use crate::room::{Room, merged};
+use crate::room::Room;
 use crate::run::{Run, holds_use};
 use crate::sorted::{first_after, rest_after};
 use crate::store::{Raised, UseStore};
@@ -101,12 +100,13 @@ fn least_after(runs: &[Run], after: Option<Use>, first: Option<Use>) -> Option<U
     least
 }
 
-// Puts into the room what comes next in each run, beside what comes next in other uses.
+// Puts into an empty room what comes next in the runs.
 fn merge_next(runs: &[Run], after: Option<Use>, room: &mut Room)
-    ensures { (us : List Use) → room.old ≡ next_few (uses_in us) after → room.new ≡ next_few (uses_in (us ++ all_of runs.now)) after }
+    requires { room.old ≡ [] }
+    ensures { room.new ≡ next_few (uses_in (all_of runs.now)) after }
 {
     for run in runs {
-        *room = merged(room.as_slice(), rest_after(run.uses(), after));
+        room.merge(rest_after(run.uses(), after));
     }
 }
 
@@ -299,7 +299,8 @@ impl UseStore for RunUses {
 
     fn next_uses(&self, after: Option<Use>, room: &mut Room) {
         room.clear();
-        room.extend(rest_after(self.front.uses(), after));
         merge_next(&self.runs, after, room);
+        // (the latest uses, which are mostly behind those of the runs)
+        room.merge(rest_after(self.front.uses(), after));
     }
 }

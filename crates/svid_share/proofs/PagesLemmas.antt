@@ -7,6 +7,8 @@ use Rattle.std.specs.Io.KnownBytes.{Appends}
 use Rattle.std.proofs.KnownBytes.{Appends-nil, Appends-trans}
 use Rattle.svid_replay.specs.Batches.{is_after}
 use Rattle.svid_replay.specs.Parts.{cut}
+use Rattle.svid_replay.specs.Records.{State}
+use Rattle.svid_replay.specs.Sets.{rising}
 use Rattle.svid_replay.specs.Use.{IsRising, text_of}
 use Rattle.svid_replay.specs.declared.token_use.Use.{Use}
 use Rattle.svid_replay.proofs.UsesLemmas.{IsWalked, walk_none, walk_more, walk_parts, walk_end, next_is, none_left}
@@ -212,3 +214,13 @@ pub cut_stops_last : (moment : ℕ) (us : List Use) (after : Option Use) (count 
 cut_stops_last moment us after count told stops a b c before mid all few so_far part =
     passed_part told stops a b c before so_far.text mid (batch_text (next_batch moment us after count)) [] (flat_map batch_text (cut moment us))
     (last_part moment us after count so_far.text all few so_far.parts ∙ ap (λ x. so_far.text ++ x) (sym (append-nil (batch_text (next_batch moment us after count))))) so_far.passes part
+
+-- ---- what went out of a walk went out of what is walked
+pub batch_of_same : (r s : State) (sink : Taken) (before now : List ℕ) (after last : Option Use) (count : ℕ) → r ≡ s → PassesBatch sink before now r.moment (rising r.uses) after count last → PassesBatch sink before now s.moment (rising s.uses) after count last
+batch_of_same r s sink before now after last count e is = subst (λ (t : State). PassesBatch sink before now t.moment (rising t.uses) after count last) e is
+
+pub part_of_same : (r s : State) (sink : Taken) (before : List ℕ) (after : Option Use) (count : ℕ) → r ≡ s → TookPart sink (before ++ batch_text (next_batch r.moment (rising r.uses) after count)) → TookPart sink (before ++ batch_text (next_batch s.moment (rising s.uses) after count))
+part_of_same r s sink before after count e is = subst (λ (t : State). TookPart sink (before ++ batch_text (next_batch t.moment (rising t.uses) after count))) e is
+
+pub there_in_same : (r s : State) (after : Option Use) (count : ℕ) → r ≡ s → count ≤ length (behind after (rising s.uses)) → count ≤ length (behind after (rising r.uses))
+there_in_same r s after count e is = subst (λ (t : State). count ≤ length (behind after (rising t.uses))) (sym e) is

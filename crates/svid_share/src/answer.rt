@@ -31,7 +31,7 @@ pub fn put_answer<T: UseStore, K: Sink>(
     ensures part { OnErr result (TookPart (taken K.told K.stops out.old out.new) (flat_map batch_text (answer_to state.old asked.now))) }
 {
     state.raise(asked.moment());
-    put_walked(&state.stale(asked), out)
+    put_walked(&mut state.stale(asked), out)
 }
 
 // What all inputs tell: its answer to any summary is the one that is due.

@@ -17,15 +17,16 @@ use svid_wire::{Sink, batch_head};
 // The texts of so many uses behind one of them; answers the last.
 fn put_uses<W: Walked, K: Sink>(
     page: &mut Page,
-    walked: &W,
+    walked: &mut W,
     after: Option<Use>,
     count: usize,
     out: &mut K,
 ) -> Result<Option<Use>, ToolFault>
-    requires { count ≤ length (behind after (rising (W.state walked.now).uses)) }
-    ensures ok { IfOk result (PassesUses (taken K.told K.stops out.old out.new) page.old page.new (rising (W.state walked.now).uses) after count) }
+    requires { count ≤ length (behind after (rising (W.state walked.old).uses)) }
+    ensures same { W.state walked.new ≡ W.state walked.old }
+    ensures ok { IfOk result (PassesUses (taken K.told K.stops out.old out.new) page.old page.new (rising (W.state walked.old).uses) after count) }
     ensures fault { IfErr result (λ e. e ≡ Write) }
-    ensures part { OnErr result (TookPart (taken K.told K.stops out.old out.new) (page.old ++ next_texts (rising (W.state walked.now).uses) after count)) }
+    ensures part { OnErr result (TookPart (taken K.told K.stops out.old out.new) (page.old ++ next_texts (rising (W.state walked.old).uses) after count)) }
 {
     let mut last = after;
     for _ in 0..count {
@@ -40,16 +41,17 @@ fn put_uses<W: Walked, K: Sink>(
 // The batch of so many uses behind one of them; answers the last.
 fn put_batch<W: Walked, K: Sink>(
     page: &mut Page,
-    walked: &W,
+    walked: &mut W,
     after: Option<Use>,
     count: usize,
     out: &mut K,
 ) -> Result<Option<Use>, ToolFault>
-    requires there { count ≤ length (behind after (rising (W.state walked.now).uses)) }
+    requires there { count ≤ length (behind after (rising (W.state walked.old).uses)) }
     requires few { count ≤ 65536 }
-    ensures ok { IfOk result (PassesBatch (taken K.told K.stops out.old out.new) page.old page.new (W.state walked.now).moment (rising (W.state walked.now).uses) after count) }
+    ensures same { W.state walked.new ≡ W.state walked.old }
+    ensures ok { IfOk result (PassesBatch (taken K.told K.stops out.old out.new) page.old page.new (W.state walked.old).moment (rising (W.state walked.old).uses) after count) }
     ensures fault { IfErr result (λ e. e ≡ Write) }
-    ensures part { OnErr result (TookPart (taken K.told K.stops out.old out.new) (page.old ++ batch_text (next_batch (W.state walked.now).moment (rising (W.state walked.now).uses) after count))) }
+    ensures part { OnErr result (TookPart (taken K.told K.stops out.old out.new) (page.old ++ batch_text (next_batch (W.state walked.old).moment (rising (W.state walked.old).uses) after count))) }
 {
     page.put(out, &batch_head(walked.moment(), count as u32))?;
     let last = put_uses(page, walked, after, count, out)?;
@@ -57,10 +59,10 @@ fn put_batch<W: Walked, K: Sink>(
 }
 
 // The texts of the parts of what is walked.
-fn put_parts<W: Walked, K: Sink>(page: &mut Page, walked: &W, out: &mut K) -> Result<(), ToolFault>
-    ensures ok { OnOk result (Passes (taken K.told K.stops out.old out.new) page.old (flat_map batch_text (parts_of (W.state walked.now))) page.new) }
+fn put_parts<W: Walked, K: Sink>(page: &mut Page, walked: &mut W, out: &mut K) -> Result<(), ToolFault>
+    ensures ok { OnOk result (Passes (taken K.told K.stops out.old out.new) page.old (flat_map batch_text (parts_of (W.state walked.old))) page.new) }
     ensures fault { IfErr result (λ e. e ≡ Write) }
-    ensures part { OnErr result (TookPart (taken K.told K.stops out.old out.new) (page.old ++ flat_map batch_text (parts_of (W.state walked.now)))) }
+    ensures part { OnErr result (TookPart (taken K.told K.stops out.old out.new) (page.old ++ flat_map batch_text (parts_of (W.state walked.old)))) }
 {
     let mut left = walked.count();
     let mut after = None;
@@ -73,10 +75,10 @@ fn put_parts<W: Walked, K: Sink>(page: &mut Page, walked: &W, out: &mut K) -> Re
 }
 
 // All parts of what is walked, to the last byte.
-pub(crate) fn put_walked<W: Walked, K: Sink>(walked: &W, out: &mut K) -> Result<(), ToolFault>
-    ensures ok { OnOk result (TookAll (taken K.told K.stops out.old out.new) (flat_map batch_text (parts_of (W.state walked.now)))) }
+pub(crate) fn put_walked<W: Walked, K: Sink>(walked: &mut W, out: &mut K) -> Result<(), ToolFault>
+    ensures ok { OnOk result (TookAll (taken K.told K.stops out.old out.new) (flat_map batch_text (parts_of (W.state walked.old)))) }
     ensures fault { IfErr result (λ e. e ≡ Write) }
-    ensures part { OnErr result (TookPart (taken K.told K.stops out.old out.new) (flat_map batch_text (parts_of (W.state walked.now)))) }
+    ensures part { OnErr result (TookPart (taken K.told K.stops out.old out.new) (flat_map batch_text (parts_of (W.state walked.old)))) }
 {
     let mut page = Page::new();
     put_parts(&mut page, walked, out)?;
@@ -91,5 +93,5 @@ pub fn put_record<T: UseStore, K: Sink>(state: &Record<T>, out: &mut K) -> Resul
     ensures fault { IfErr result (λ e. e ≡ Write) }
     ensures part { OnErr result (TookPart (taken K.told K.stops out.old out.new) (record_text state.now)) }
 {
-    put_walked(state, out)
+    put_walked(&mut state.walk(), out)
 }

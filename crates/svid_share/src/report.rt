@@ -42,8 +42,9 @@ fn put_uses<T: UseStore, K: Sink>(
     ensures fault { IfErr result (λ e. e ≡ Write) }
     ensures part { OnErr result (TookPart (taken K.told K.stops out.old out.new) (page.old ++ flat_map use_line (rising state.now.uses))) }
 {
+    let mut walk = state.walk();
     let mut after = None;
-    while let Some(used) = state.next_after(after) {
+    while let Some(used) = walk.next_after(after) {
         page.put(out, use_line(&used).bytes())?;
         after = Some(used);
     }

@@ -6,9 +6,11 @@ use Rattle.svid_share.proofs.PagesLemmas.{HasCut}
 use Rattle.svid_share.proofs.parts.put_parts.Given as goal
 
 abbrev pub invariant-loop-left : goal.invariant-loop-left
-invariant-loop-left g l =
-    HasCut (taken g.K.Sink.told g.K.Sink.stops l.fn.out l.out) l.fn.page l.page (g.W.Walked.state l.walked).moment (rising (g.W.Walked.state l.walked).uses) l.after
-    × (l.left ≡ length (behind l.after (rising (g.W.Walked.state l.walked).uses)))
+invariant-loop-left g l = let whole = g.W.Walked.state l.fn.walked in record {
+  same : g.W.Walked.state l.walked ≡ whole;
+  cut : HasCut (taken g.K.Sink.told g.K.Sink.stops l.fn.out l.out) l.fn.page l.page whole.moment (rising whole.uses) l.after;
+  left : l.left ≡ length (behind l.after (rising whole.uses));
+}
 
 abbrev pub decreases-loop-left : goal.decreases-loop-left
 decreases-loop-left g l = l.left

@@ -5,6 +5,8 @@ use Rattle.svid_share.specs.Pages.{Passes, behind, next_texts}
 use Rattle.svid_share.proofs.parts.put_uses.Given as goal
 
 abbrev pub invariant-loop : goal.invariant-loop
-invariant-loop g l =
-    Passes (taken g.K.Sink.told g.K.Sink.stops l.fn.out l.out) l.fn.page (next_texts (rising (g.W.Walked.state l.walked).uses) l.fn.after l.counter) l.page
-    × (behind l.last (rising (g.W.Walked.state l.walked).uses) ≡ drop l.counter (behind l.fn.after (rising (g.W.Walked.state l.walked).uses)))
+invariant-loop g l = let us = rising (g.W.Walked.state l.fn.walked).uses in record {
+  same : g.W.Walked.state l.walked ≡ g.W.Walked.state l.fn.walked;
+  passes : Passes (taken g.K.Sink.told g.K.Sink.stops l.fn.out l.out) l.fn.page (next_texts us l.fn.after l.counter) l.page;
+  left : behind l.last us ≡ drop l.counter (behind l.fn.after us);
+}
