@@ -18,7 +18,7 @@ put_batch-requires-clause-there g c = there_in_same _ _ _ _ c.loop-left.invarian
 
 pub returns-in_err-after-clause-part : goal.returns-in_err-after-clause-part
 returns-in_err-after-clause-part g c =
-    on_err _ _ (cut_stops (g.W.Walked.state c.args.walked.now).moment (rising (g.W.Walked.state c.args.walked.now).uses) c.loop-left.after g.K.Sink.told g.K.Sink.stops _ _ _ _ _ (omega (arith, c.loop-left.invariant.left, c.loop-left-test.true)) c.loop-left.invariant.cut (part_of_same _ _ _ _ _ _ c.loop-left.invariant.same c.in_err-after.ensures.part))
+    on_err _ _ (cut_stops (g.W.Walked.state c.args.walked.now).moment (rising (g.W.Walked.state c.args.walked.now).uses) c.loop-left.after g.K.Sink.told g.K.Sink.stops _ _ _ _ _ (omega (arith, c.loop-left.invariant.left, c.loop-left-test.true)) c.loop-left.invariant.cut (part_of_same _ _ _ _ c.loop-left.after 65536 c.loop-left.invariant.same c.in_err-after.ensures.part))
 
 pub loop-left-preserved : goal.loop-left-preserved
 loop-left-preserved g c =
@@ -31,7 +31,7 @@ loop-left-preserved g c =
 
 pub returns-in_err-put_batch-clause-part : goal.returns-in_err-put_batch-clause-part
 returns-in_err-put_batch-clause-part g c =
-    on_err _ _ (cut_stops_last (g.W.Walked.state c.args.walked.now).moment (rising (g.W.Walked.state c.args.walked.now).uses) c.loop-left.after c.loop-left.left g.K.Sink.told g.K.Sink.stops _ _ _ _ _ c.loop-left.invariant.left (omega (arith, c.loop-left-test.false)) c.loop-left.invariant.cut (part_of_same _ _ _ _ _ _ c.loop-left.invariant.same c.in_err-put_batch.ensures.part))
+    on_err _ _ (cut_stops_last (g.W.Walked.state c.args.walked.now).moment (rising (g.W.Walked.state c.args.walked.now).uses) c.loop-left.after c.loop-left.left g.K.Sink.told g.K.Sink.stops _ _ _ _ _ c.loop-left.invariant.left (omega (arith, c.loop-left-test.false)) c.loop-left.invariant.cut (part_of_same _ _ _ _ c.loop-left.after c.loop-left.left c.loop-left.invariant.same c.in_err-put_batch.ensures.part))
 
 pub returns-clause-ok : goal.returns-clause-ok
 returns-clause-ok g c =
