@@ -2,6 +2,7 @@ mod lists;
 mod refusing;
 mod runs;
 mod summary;
+mod walks;
 
 use std::alloc::{AllocError, Global};
 use std::test::Fail;

@@ -45,7 +45,7 @@ fn assert_stale<S: UseStore>(
     moment: u64,
     uses: &[Use],
 ) {
-    let stale = record.stale(summary);
+    let mut stale = record.stale(summary);
     assert_eq!(rt; (stale.moment(), stale.count()), (moment, uses.len()));
     let mut last = None;
     for used in uses {

@@ -7,7 +7,7 @@ use std::alloc::Global;
 use std::process::Abort;
 use std::test::Fail;
 use svid_replay::{
-    Batch, BatchFault, Flaw, IndexedUses, Raised, Record, RunUses, SortedUses, Summary, Use,
+    Batch, BatchFault, Flaw, IndexedUses, Raised, Record, Room, RunUses, SortedUses, Summary, Use,
     UseList, UseStore, flaw_of,
 };
 
@@ -126,6 +126,8 @@ fn stores_without_memory<S: UseStore>(
     let looks = (store.len(), store.is_empty(), store.has(&least.key));
     let gone = store.is_withdrawn(&FIRST.key);
     let ends = (store.next_after(None), store.next_after(Some(greatest)));
+    let mut room = Room::new();
+    store.next_uses(Some(least), &mut room);
     let dropped = store.drop_expired(5003).dropped;
     let left = (store.len(), store.next_after(Some(least)));
     let all = store.drop_expired(5007).dropped;
@@ -136,6 +138,7 @@ fn stores_without_memory<S: UseStore>(
     assert_eq!(rt; looks, (150, false, true));
     assert_eq!(rt; gone, is_withdrawn_in(&uses, &FIRST.key));
     assert_eq!(rt; ends, (Some(least), None));
+    assert_eq!(rt; room.as_slice(), &uses.as_slice()[1..65]);
     let live = uses_of(alloc, Part::Told, 5003)?;
     assert_eq!(rt; left, (live.len(), live.first().copied()));
     assert_eq!(rt; (dropped, all), (150 - live.len(), live.len()));
@@ -166,12 +169,20 @@ fn tells_without_memory<S: UseStore>(
     let has = record.has(&FIRST.key);
     let gone = record.is_withdrawn(&FIRST.key);
     let summary = record.summary();
-    let stale = record.stale(&nothing);
+    let mut stale = record.stale(&nothing);
     let walked = (stale.moment(), stale.count(), stale.next_after(first));
+    let mut walk = record.walk();
+    let whole = (
+        walk.moment(),
+        walk.len(),
+        walk.next_after(None),
+        walk.next_after(first),
+    );
     let refused = was_refused(alloc);
     refuse(alloc, 0);
     assert!(rt; !refused);
     assert_eq!(rt; walked, (5000, uses.len(), record.next_after(first)));
+    assert_eq!(rt; whole, (5000, uses.len(), first, record.next_after(first)));
     assert_eq!(rt; looks, (5000, uses.len(), false));
     assert_eq!(rt; first, uses.first().copied());
     assert_eq!(rt; has, uses.iter().any(|used| used.key == FIRST.key));
