@@ -1,5 +1,5 @@
 //! A filter of keys: it says of a key that it is surely not among those put in, or that it may be.
-ghost use Rattle.std.specs.Prelude.{◌≡◌, ◌<◌, ◌≤◌, ℕ, List, false, length, take, drop, IfOk};
+ghost use Rattle.std.specs.Prelude.{◌≡◌, ◌<◌, ◌≤◌, ℕ, List, false, length, take, IfOk};
 ghost use Rattle.std.specs.Int.{from_be_bytes, w64};
 ghost use Rattle.std.specs.List.{AllByRecursion};
 ghost use Rattle.svid_replay.specs.Runs.{HasBits, mask_of, place_of};

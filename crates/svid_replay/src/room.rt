@@ -110,7 +110,9 @@ impl Room {
         ensures { IsRising self.old → self.new ≡ take 64 (sorted_merge use_cmp true self.old uses.now) }
     {
         if !self.is_in_front(uses) {
-            *self = merged(self.as_slice(), uses);
+            let before = self.uses;
+            let count = self.len;
+            fill_merged(self, &before[..count], uses);
         }
     }
 }
@@ -121,16 +123,16 @@ fn is_less(one: &Use, other: &Use) -> bool
     one.cmp(other).is_lt()
 }
 
-// The first 64 of two rising lists in one; a use that both have comes once.
-fn merged(a: &[Use], b: &[Use]) -> Room
-    ensures { result ≡ take 64 (sorted_merge use_cmp true a.now b.now) }
+// Puts into the room the first 64 of two rising lists in one; a use that both have comes once. What was in the room goes.
+fn fill_merged(room: &mut Room, a: &[Use], b: &[Use])
+    ensures { room.new ≡ take 64 (sorted_merge use_cmp true a.now b.now) }
 {
-    let mut room = Room::new();
+    room.clear();
     let mut i = 0;
     let mut j = 0;
     while i < a.len() && j < b.len() {
         if room.is_full() {
-            return room;
+            return;
         }
         match a[i].cmp(&b[j]) {
             Ordering::Less => {
@@ -150,5 +152,4 @@ fn merged(a: &[Use], b: &[Use]) -> Room
     }
     room.extend(&a[i..]);
     room.extend(&b[j..]);
-    room
 }

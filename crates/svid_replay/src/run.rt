@@ -1,9 +1,8 @@
 //! Uses that rise, as a run of a larger set.
-ghost use Rattle.std.specs.Prelude.{◌≡◌, ◌+◌, ◌-◌, ◌<◌, ◌≤◌, false, length, slice_index_or, Some, drop, filter, find, not, nat_lt, true, IsTrue, IfOk};
-ghost use Rattle.std.specs.List.{list_any, prefix_len};
+ghost use Rattle.std.specs.Prelude.{◌≡◌, ◌+◌, false, length, drop, filter, nat_lt, true, IfOk};
+ghost use Rattle.std.specs.List.{list_any};
 ghost use Rattle.std.specs.Ordering.{eq_by_cmp, is_eq};
 ghost use Rattle.std.specs.Set.{sorted_merge};
-ghost use Rattle.svid_replay.specs.Batches.{is_after};
 ghost use Rattle.svid_replay.specs.Indexed.{is_sought};
 ghost use Rattle.svid_replay.specs.Keys.{mark_cmp, mark_of, until_of};
 ghost use Rattle.svid_replay.specs.Use.{IsRising, use_cmp};

@@ -1,10 +1,9 @@
 //! A set of uses as a short sorted front and runs that grow.
-ghost use Rattle.std.specs.Prelude.{◌≡◌, ◌+◌, ◌<◌, ◌≤◌, ◌++◌, [], false, length, not, ◌^◌, true, IsTrue, IsOk, IfOk, OnOk, OnErr};
+ghost use Rattle.std.specs.Prelude.{◌≡◌, ◌+◌, ◌<◌, ◌≤◌, ◌++◌, [], false, length, not, ◌^◌, true, IsTrue, IfOk, OnOk, OnErr};
 ghost use Rattle.std.specs.List.{AllByRecursion, list_any};
 ghost use Rattle.std.specs.Ordering.{eq_by_cmp};
-ghost use Rattle.svid_replay.specs.Batches.{is_after};
 ghost use Rattle.svid_replay.specs.Runs.{all_of, least_from, least_of, live_of, new_among, HasSame, IsRuns};
-ghost use Rattle.svid_replay.specs.Sets.{holds, with, with_all};
+ghost use Rattle.svid_replay.specs.Sets.{holds, with_all};
 ghost use Rattle.svid_replay.specs.Indexed.{is_sought};
 ghost use Rattle.svid_replay.specs.Use.{IsRising, use_cmp};
 ghost use Rattle.svid_replay.specs.Uses.{no_uses, uses_in};

@@ -59,7 +59,11 @@ fn put_batch<W: Walked, K: Sink>(
 }
 
 // The texts of the parts of what is walked.
-fn put_parts<W: Walked, K: Sink>(page: &mut Page, walked: &mut W, out: &mut K) -> Result<(), ToolFault>
+fn put_parts<W: Walked, K: Sink>(
+    page: &mut Page,
+    walked: &mut W,
+    out: &mut K,
+) -> Result<(), ToolFault>
     ensures ok { OnOk result (Passes (taken K.told K.stops out.old out.new) page.old (flat_map batch_text (parts_of (W.state walked.old))) page.new) }
     ensures fault { IfErr result (λ e. e ≡ Write) }
     ensures part { OnErr result (TookPart (taken K.told K.stops out.old out.new) (page.old ++ flat_map batch_text (parts_of (W.state walked.old)))) }

@@ -1,7 +1,7 @@
 use Rattle.std.proofs.Common.{◌≡◌, true, length, drop, ◌++◌, ◌-◌, ◌≤◌, ◌+◌}
 use Rattle.std.specs.Set.{sorted_merge}
 use Rattle.svid_replay.specs.Use.{use_cmp}
-use Rattle.svid_replay.proofs.room.merged.Given as goal
+use Rattle.svid_replay.proofs.room.fill_merged.Given as goal
 
 abbrev pub invariant-loop-i : goal.invariant-loop-i
 invariant-loop-i l = record {

@@ -4,8 +4,8 @@ use Rattle.std.proofs.lemmas.List.{drop_all, take_rest}
 use Rattle.svid_replay.specs.Use.{use_cmp}
 use Rattle.svid_replay.proofs.MergeLemmas.{merge_first_done, merge_second_done}
 use Rattle.svid_replay.proofs.WalksLemmas.{room_full, take_cut}
-use Rattle.svid_replay.proofs.room.merged.Goals as goal
-use Rattle.svid_replay.proofs.room.merged.Goals.{then-loop-i-test+else-j-b, else-loop-i-test}
+use Rattle.svid_replay.proofs.room.fill_merged.Goals as goal
+use Rattle.svid_replay.proofs.room.fill_merged.Goals.{then-loop-i-test+else-j-b, else-loop-i-test}
 
 pub returns-then-is_full : goal.returns-then-is_full
 returns-then-is_full c = room_full 64 _ _ _ c.loop-i.invariant.left (eqb-true _ 64 (sym c.is_full.ensures ∙ c.if-is_full.true))
