@@ -387,6 +387,28 @@ fn many_uses_at_once_lose_none_where_memory_is_refused(rt: HostRuntime) -> Resul
     Ok(())
 }
 
+// Where none of many uses is new, all memory may be refused: none is asked for.
+#[test]
+fn many_known_uses_at_once_take_no_memory(rt: HostRuntime) -> Result<(), Fail> {
+    let alloc = rt.alloc();
+    let batch = part(&rt, alloc, 200, 900)?;
+    let mut runs = RunUses::new(alloc);
+    assert!(rt; runs.insert_all(batch.uses()));
+    let mut record = in_runs(alloc);
+    record.absorb(&batch)?;
+    refuse(alloc, 1);
+    let all = runs.insert_all(batch.uses());
+    let absorbed = record.absorb(&batch).is_ok();
+    let refused = was_refused(alloc);
+    refuse(alloc, 0);
+    assert!(rt; all && absorbed && !refused);
+    assert_eq!(rt;
+        (runs.len(), record.len()),
+        (batch.uses().len(), batch.uses().len())
+    );
+    Ok(())
+}
+
 // Few uses are not put in at once, and no store but that of runs does it: they stay as they were.
 #[test]
 fn a_store_that_does_not_take_uses_at_once_stays(rt: HostRuntime) -> Result<(), Fail> {

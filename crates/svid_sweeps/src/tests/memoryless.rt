@@ -128,6 +128,11 @@ fn stores_without_memory<S: UseStore>(
     let ends = (store.next_after(None), store.next_after(Some(greatest)));
     let mut room = Room::new();
     store.next_uses(Some(least), &mut room);
+    let mut other = Room::new();
+    other.extend(&uses);
+    let full = other.is_full();
+    other.clear();
+    other.push(greatest);
     let dropped = store.drop_expired(5003).dropped;
     let left = (store.len(), store.next_after(Some(least)));
     let all = store.drop_expired(5007).dropped;
@@ -139,6 +144,8 @@ fn stores_without_memory<S: UseStore>(
     assert_eq!(rt; gone, is_withdrawn_in(&uses, &FIRST.key));
     assert_eq!(rt; ends, (Some(least), None));
     assert_eq!(rt; room.as_slice(), &uses.as_slice()[1..65]);
+    assert!(rt; full);
+    assert_eq!(rt; other.as_slice(), &[greatest]);
     let live = uses_of(alloc, Part::Told, 5003)?;
     assert_eq!(rt; left, (live.len(), live.first().copied()));
     assert_eq!(rt; (dropped, all), (150 - live.len(), live.len()));
