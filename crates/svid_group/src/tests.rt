@@ -13,7 +13,7 @@ use std::process::Abort;
 use std::test::Fail;
 use svid_check::Validator;
 use svid_keys::{Bundles, JwtKey, Verifier};
-use svid_replay::{IndexedUses, Record, Use, UseStore};
+use svid_replay::{Record, RunUses, Use, UseStore};
 use svid_token::{Alg, Refusal};
 
 const HEADER: &str = "{\"alg\":\"ES256\",\"kid\":\"k01\",\"typ\":\"JWT\"}";
@@ -77,12 +77,8 @@ fn with_record<S: UseStore + Drop>(
 }
 
 // One of several validators that share their records, each with a place of its own; with an empty record.
-fn sharing(
-    alloc: Global,
-    place: [u8; 16],
-    ahead: u64,
-) -> Result<Validator<Sig, IndexedUses>, Fail> {
-    with_record(alloc, place, ahead, Record::new(IndexedUses::new(alloc)))
+fn sharing(alloc: Global, place: [u8; 16], ahead: u64) -> Result<Validator<Sig, RunUses>, Fail> {
+    with_record(alloc, place, ahead, Record::new(RunUses::new(alloc)))
 }
 
 // A validator's record has this moment and so many uses.
@@ -100,7 +96,7 @@ fn assert_record<V: Verifier, S: UseStore>(
 fn assert_uses<V: Verifier>(
     rt: &impl Abort,
     alloc: Global,
-    v: &Validator<V, IndexedUses>,
+    v: &Validator<V, RunUses>,
     moment: u64,
     uses: &[Use],
 ) -> Result<(), AllocError> {
@@ -112,7 +108,7 @@ fn assert_uses<V: Verifier>(
 // A check is refused: the record is of its moment, and has so many uses.
 fn assert_refused<V: Verifier>(
     rt: &impl Abort,
-    v: &mut Validator<V, IndexedUses>,
+    v: &mut Validator<V, RunUses>,
     now: u64,
     token: &str,
     refusal: Refusal,

@@ -9,7 +9,7 @@ use std::alloc::{AllocError, Global};
 use std::process::Abort;
 use std::test::Fail;
 use svid_check::Validator;
-use svid_replay::{Batch, IndexedUses, Record, Use};
+use svid_replay::{Batch, Record, RunUses, Use};
 use svid_token::Refusal;
 
 // Another token, which lasts longer.
@@ -44,7 +44,7 @@ fn accepting(
     place: u8,
     now: u64,
     payload: &str,
-) -> Result<Validator<Sig, IndexedUses>, Fail> {
+) -> Result<Validator<Sig, RunUses>, Fail> {
     let token = signed(alloc, payload)?;
     let mut v = sharing(alloc, [place; 16], 10)?;
     v.check(now, token.as_bytes())?;
@@ -52,16 +52,12 @@ fn accepting(
 }
 
 // The texts of all parts of a validator's record.
-fn parts_of(alloc: Global, v: &Validator<Sig, IndexedUses>) -> Result<Vec<Vec<u8>>, Fail> {
+fn parts_of(alloc: Global, v: &Validator<Sig, RunUses>) -> Result<Vec<Vec<u8>>, Fail> {
     texts_of(alloc, &v.replay().parts(alloc)?)
 }
 
 // A validator takes the batches of these texts at 1000.
-fn take_all(
-    alloc: Global,
-    v: &mut Validator<Sig, IndexedUses>,
-    texts: &[Vec<u8>],
-) -> Result<(), Fail> {
+fn take_all(alloc: Global, v: &mut Validator<Sig, RunUses>, texts: &[Vec<u8>]) -> Result<(), Fail> {
     for text in texts {
         v.take(1000, &batch_of(alloc, text, 100)?)?;
     }
@@ -71,19 +67,15 @@ fn take_all(
 // One validator sends its record, and another takes it whole.
 fn send(
     alloc: Global,
-    from: &Validator<Sig, IndexedUses>,
-    to: &mut Validator<Sig, IndexedUses>,
+    from: &Validator<Sig, RunUses>,
+    to: &mut Validator<Sig, RunUses>,
 ) -> Result<(), Fail> {
     take_all(alloc, to, &parts_of(alloc, from)?)
 }
 
 // A validator that begins with what was saved.
-fn restarted(
-    alloc: Global,
-    place: u8,
-    save: &[Vec<u8>],
-) -> Result<Validator<Sig, IndexedUses>, Fail> {
-    let mut record = Record::new(IndexedUses::new(alloc));
+fn restarted(alloc: Global, place: u8, save: &[Vec<u8>]) -> Result<Validator<Sig, RunUses>, Fail> {
+    let mut record = Record::new(RunUses::new(alloc));
     for text in save {
         record.absorb(&batch_of(alloc, text, 100)?)?;
     }
@@ -94,8 +86,8 @@ fn restarted(
 fn assert_equal(
     rt: &impl Abort,
     alloc: Global,
-    v: &Validator<Sig, IndexedUses>,
-    w: &Validator<Sig, IndexedUses>,
+    v: &Validator<Sig, RunUses>,
+    w: &Validator<Sig, RunUses>,
 ) -> Result<(), Fail> {
     assert_uses(rt, alloc, v, w.replay().moment(), &w.replay().uses(alloc)?)?;
     let texts = parts_of(alloc, v)?;
@@ -108,7 +100,7 @@ fn assert_equal(
 fn post(
     alloc: Global,
     posted: &mut Vec<Vec<u8>>,
-    from: &Validator<Sig, IndexedUses>,
+    from: &Validator<Sig, RunUses>,
 ) -> Result<(), Fail> {
     for text in parts_of(alloc, from)? {
         posted.push(text)?;
@@ -163,7 +155,7 @@ fn many_uses(alloc: Global) -> Result<Vec<Use>, AllocError> {
 }
 
 // A validator that was told them.
-fn with_many_uses(alloc: Global) -> Result<Validator<Sig, IndexedUses>, Fail> {
+fn with_many_uses(alloc: Global) -> Result<Validator<Sig, RunUses>, Fail> {
     let mut v = sharing(alloc, [0xAA; 16], 10)?;
     let uses = many_uses(alloc)?;
     for uses in uses.chunks(65536) {
@@ -176,7 +168,7 @@ fn with_many_uses(alloc: Global) -> Result<Validator<Sig, IndexedUses>, Fail> {
 fn assert_sent_whole(
     rt: &impl Abort,
     alloc: Global,
-    sender: &Validator<Sig, IndexedUses>,
+    sender: &Validator<Sig, RunUses>,
     parts: &[Vec<u8>],
 ) -> Result<(), Fail> {
     let mut v = sharing(alloc, [0xBB; 16], 10)?;
@@ -262,7 +254,7 @@ fn a_token_is_accepted_once_but_for_a_restart(rt: HostRuntime) -> Result<(), Fai
 fn assert_reports(
     rt: &impl Abort,
     alloc: Global,
-    v: &mut Validator<Sig, IndexedUses>,
+    v: &mut Validator<Sig, RunUses>,
     uses: &[Use],
 ) -> Result<(), AllocError> {
     let report = v.replay().report(alloc)?;
@@ -295,7 +287,7 @@ fn two_places_are_reported_until_the_token_expires(rt: HostRuntime) -> Result<()
 }
 
 // A validator that accepts a token at 1000 after a restart from the save of an empty record.
-fn begun_anew(alloc: Global) -> Result<Validator<Sig, IndexedUses>, Fail> {
+fn begun_anew(alloc: Global) -> Result<Validator<Sig, RunUses>, Fail> {
     let token = signed(alloc, PAYLOAD)?;
     let save = parts_of(alloc, &sharing(alloc, [0xAA; 16], 10)?)?;
     let mut v = restarted(alloc, 0xAA, &save)?;
@@ -326,8 +318,8 @@ fn a_restart_from_the_parts_gives_the_record(rt: HostRuntime) -> Result<(), Fail
 // The texts of the answer to a validator's summary.
 fn answer_to(
     alloc: Global,
-    asked: &mut Validator<Sig, IndexedUses>,
-    asking: &Validator<Sig, IndexedUses>,
+    asked: &mut Validator<Sig, RunUses>,
+    asking: &Validator<Sig, RunUses>,
 ) -> Result<Vec<Vec<u8>>, Fail> {
     let text = summary_text(alloc, &asking.replay().summary())?;
     let summary = summary_of(alloc, &text, 100)?;
@@ -335,7 +327,7 @@ fn answer_to(
 }
 
 // A validator accepts a token at 1000.
-fn accept(alloc: Global, v: &mut Validator<Sig, IndexedUses>, payload: &str) -> Result<(), Fail> {
+fn accept(alloc: Global, v: &mut Validator<Sig, RunUses>, payload: &str) -> Result<(), Fail> {
     let token = signed(alloc, payload)?;
     v.check(1000, token.as_bytes())?;
     Ok(())
@@ -359,8 +351,8 @@ fn assert_one_of(
 fn exchange(
     rt: &impl Abort,
     alloc: Global,
-    asking: &mut Validator<Sig, IndexedUses>,
-    asked: &mut Validator<Sig, IndexedUses>,
+    asking: &mut Validator<Sig, RunUses>,
+    asked: &mut Validator<Sig, RunUses>,
 ) -> Result<(), Fail> {
     let texts = answer_to(alloc, asked, asking)?;
     assert_one_of(rt, alloc, &texts, 513)?;
@@ -414,7 +406,7 @@ fn a_token_is_judged_at_the_greatest_moment_told(rt: HostRuntime) -> Result<(), 
 fn assert_gone(
     rt: &impl Abort,
     alloc: Global,
-    v: &mut Validator<Sig, IndexedUses>,
+    v: &mut Validator<Sig, RunUses>,
     texts: &[Vec<u8>],
 ) -> Result<(), Fail> {
     let token = signed(alloc, PAYLOAD)?;
@@ -442,7 +434,7 @@ fn a_batch_says_that_an_expired_use_is_gone(rt: HostRuntime) -> Result<(), Fail>
 // A validator takes one of these texts' batches at 1000.
 fn take_part(
     alloc: Global,
-    v: &mut Validator<Sig, IndexedUses>,
+    v: &mut Validator<Sig, RunUses>,
     texts: &[Vec<u8>],
     number: usize,
 ) -> Result<(), Fail> {
