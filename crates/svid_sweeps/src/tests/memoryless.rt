@@ -145,7 +145,7 @@ fn stores_without_memory<S: UseStore>(
     assert_eq!(rt; ends, (Some(least), None));
     assert_eq!(rt; room.as_slice(), &uses.as_slice()[1..65]);
     assert!(rt; full);
-    assert_eq!(rt; other.as_slice(), &[greatest]);
+    assert_eq!(rt; other.as_slice(), [greatest].as_slice());
     let live = uses_of(alloc, Part::Told, 5003)?;
     assert_eq!(rt; left, (live.len(), live.first().copied()));
     assert_eq!(rt; (dropped, all), (150 - live.len(), live.len()));
