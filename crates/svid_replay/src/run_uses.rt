@@ -1,5 +1,5 @@
 //! A set of uses as a short sorted front and runs that grow.
-ghost use Rattle.std.specs.Prelude.{◌≡◌, ◌+◌, ◌<◌, ◌≤◌, ◌++◌, [], false, length, not, ◌^◌, true, IsTrue, IfOk, OnOk, OnErr};
+ghost use Rattle.std.specs.Prelude.{◌≡◌, ◌+◌, ◌<◌, ◌≤◌, ◌++◌, [], ◌∷◌, false, length, not, ◌^◌, true, IsTrue, IfOk, OnOk, OnErr};
 ghost use Rattle.std.specs.List.{AllByRecursion, list_any};
 ghost use Rattle.std.specs.Ordering.{eq_by_cmp};
 ghost use Rattle.svid_replay.specs.Runs.{all_of, least_from, least_of, live_of, new_among, HasSame, IsRuns};
@@ -185,6 +185,17 @@ fn is_new(front: &[Use], runs: &[Run], used: &Use) -> bool
     !(holds_use(front, used) || any_holds(runs, used))
 }
 
+// Puts a use behind the others. Before the first, room for the most that may come is asked for.
+fn push_new(new: &mut Vec<Use>, used: Use, most: usize) -> Result<(), AllocError>
+    ensures { OnOk result (new.new.items ≡ new.old.items ++ used ∷ []) }
+{
+    if new.is_empty() {
+        new.reserve(most)?;
+    }
+    new.push(used)?;
+    Ok(())
+}
+
 // Those of the uses that neither the front nor a run has. Takes no memory where they all are there.
 fn new_uses(
     alloc: Global,
@@ -198,7 +209,7 @@ fn new_uses(
     let mut new = Vec::new(alloc);
     for used in uses {
         if is_new(front, runs, used) {
-            new.push(*used)?;
+            push_new(&mut new, *used, uses.len())?;
         }
     }
     Ok(new)
