@@ -80,7 +80,13 @@ fn assert_rooms<S: UseStore>(
         assert!(rt; room.as_slice() == &rest[..behind][1..]);
     }
     // (less than all of them, and greater, is no use of the store)
-    store.next_uses(Some(at(1)), &mut room);
+    store.next_uses(
+        Some(Use {
+            exp: 60_000,
+            ..at(1)
+        }),
+        &mut room,
+    );
     assert!(rt; room.as_slice() == &uses.as_slice()[..first]);
     store.next_uses(
         Some(Use {
@@ -189,7 +195,13 @@ fn assert_walk<S: UseStore>(
         }
     }
     assert_eq!(rt; walk.next_after(None), uses.first().copied());
-    assert_eq!(rt; walk.next_after(Some(at(1))), uses.first().copied());
+    assert_eq!(rt;
+        walk.next_after(Some(Use {
+            exp: 60_000,
+            ..at(1)
+        })),
+        uses.first().copied()
+    );
     Ok(())
 }
 
