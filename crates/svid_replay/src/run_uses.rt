@@ -1,5 +1,5 @@
 //! A set of uses as a short sorted front and runs that grow.
-ghost use Rattle.std.specs.Prelude.{◌≡◌, ◌+◌, ◌<◌, ◌≤◌, ◌++◌, [], ◌∷◌, false, length, not, ◌^◌, true, IsTrue, IfOk, OnOk, OnErr};
+ghost use Rattle.std.specs.Prelude.{◌≡◌, ◌+◌, ◌<◌, ◌≤◌, ◌++◌, [], ◌∷◌, false, length, not, ◌^◌, true, IsTrue, IfOk, IfSome, OnOk, OnErr, IfNone};
 ghost use Rattle.std.specs.List.{AllByRecursion, list_any};
 ghost use Rattle.std.specs.Ordering.{eq_by_cmp};
 ghost use Rattle.svid_replay.specs.Runs.{all_of, least_from, least_of, live_of, new_among, HasSame, IsRuns};
@@ -149,18 +149,12 @@ fn merge_last(alloc: Global, runs: &mut Vec<Run>) -> bool
     }
 }
 
-// Puts a run of rising uses behind the others and merges runs, as far as memory is given. Takes none where
-// there are no uses.
-fn push_run(alloc: Global, runs: &mut Vec<Run>, uses: &[Use]) -> Result<(), AllocError>
-    requires { IsRising uses.now }
-    ensures same { OnOk result (HasSame (uses.now ++ all_of runs.old.items) (all_of runs.new.items)) }
-    ensures less { OnOk result (length (all_of runs.new.items) ≤ length uses.now + length (all_of runs.old.items)) }
+// Puts a run behind the others and merges runs, as far as memory is given.
+fn push_run(alloc: Global, runs: &mut Vec<Run>, run: Run) -> Result<(), AllocError>
+    ensures same { OnOk result (HasSame (run ++ all_of runs.old.items) (all_of runs.new.items)) }
+    ensures less { OnOk result (length (all_of runs.new.items) ≤ length run + length (all_of runs.old.items)) }
     ensures err { OnErr result (runs.new.items ≡ runs.old.items) }
 {
-    if uses.is_empty() {
-        return Ok(());
-    }
-    let run = Run::of(alloc, uses)?;
     runs.push(run)?;
     while merge_last(alloc, runs) {}
     Ok(())
@@ -172,7 +166,8 @@ fn settle(alloc: Global, front: &mut Front, runs: &mut Vec<Run>) -> Result<(), A
     ensures same { HasSame (front.old ++ all_of runs.old.items) (front.new ++ all_of runs.new.items) }
     ensures less { length front.new + length (all_of runs.new.items) ≤ length front.old + length (all_of runs.old.items) }
 {
-    push_run(alloc, runs, front.uses())?;
+    let run = Run::of(alloc, front.uses())?;
+    push_run(alloc, runs, run)?;
     front.clear();
     Ok(())
 }
@@ -215,6 +210,26 @@ fn new_uses(
     Ok(new)
 }
 
+// A run of those of the uses that neither the front nor a run has; none, and no memory taken, where they all are there.
+fn new_run(
+    alloc: Global,
+    front: &[Use],
+    runs: &[Run],
+    uses: &[Use],
+) -> Result<Option<Run>, AllocError>
+    requires front { IsRising front.now }
+    requires rising { IsRising uses.now }
+    ensures some { IfOk result (λ run. IfSome run (λ r. r ≡ new_among (front.now ++ all_of runs.now) uses.now)) }
+    ensures none { IfOk result (λ run. IfNone run (new_among (front.now ++ all_of runs.now) uses.now ≡ [])) }
+{
+    let new = new_uses(alloc, front, runs, uses)?;
+    if new.is_empty() {
+        return Ok(None);
+    }
+    let run = Run::of(alloc, &new)?;
+    Ok(Some(run))
+}
+
 impl RunUses {
     /// The empty set. Takes no memory.
     pub fn new(alloc: Global) -> RunUses
@@ -229,16 +244,16 @@ impl RunUses {
     }
 
     // Puts in a run of uses that are not there, if memory is given for it.
-    fn take_run(&mut self, uses: &[Use]) -> bool
-        requires rising { IsRising uses.now }
-        requires new { AllByRecursion (λ u. holds self.old u ≡ false) uses.now }
-        ensures all { IsTrue result → self.new ≡ with_all self.old uses.now }
+    fn take_run(&mut self, run: Run) -> bool
+        requires rising { IsRising run }
+        requires new { AllByRecursion (λ u. holds self.old u ≡ false) run }
+        ensures all { IsTrue result → self.new ≡ with_all self.old run }
         ensures none { result ≡ false → self.new ≡ self.old }
     {
-        let Some(total) = self.total.checked_add(uses.len()) else {
+        let Some(total) = self.total.checked_add(run.uses().len()) else {
             return false;
         };
-        match push_run(self.alloc, &mut self.runs, uses) {
+        match push_run(self.alloc, &mut self.runs, run) {
             Err(_) => false,
             Ok(()) => {
                 self.total = total;
@@ -278,9 +293,10 @@ impl UseStore for RunUses {
         if uses.len() < FRONT {
             return false;
         }
-        match new_uses(self.alloc, self.front.uses(), &self.runs, uses) {
+        match new_run(self.alloc, self.front.uses(), &self.runs, uses) {
             Err(_) => false,
-            Ok(new) => self.take_run(&new),
+            Ok(None) => true,
+            Ok(Some(run)) => self.take_run(run),
         }
     }
 

@@ -4,8 +4,8 @@ use Rattle.svid_replay.proofs.run_uses.push_run.Given as goal
 
 abbrev pub invariant-loop-alloc : goal.invariant-loop-alloc
 invariant-loop-alloc l = record {
-  same : HasSame (l.uses ++ all_of l.fn.runs.items) (all_of l.runs.items);
-  less : length (all_of l.runs.items) ≤ length l.uses + length (all_of l.fn.runs.items);
+  same : HasSame (l.fn.run ++ all_of l.fn.runs.items) (all_of l.runs.items);
+  less : length (all_of l.runs.items) ≤ length l.fn.run + length (all_of l.fn.runs.items);
 }
 
 abbrev pub decreases-loop-alloc : goal.decreases-loop-alloc
