@@ -1,7 +1,10 @@
-// The numbers of the layout: how many uses a batch has, and where the fields of a use stand in its text.
+// The numbers of the layout: how many uses a batch and a room have, and where the fields of a use stand in its text.
 
 /// How many uses a batch has at most.
 pub const MOST_USES: usize = 65_536;
+
+/// How many uses a [`Room`](crate::Room) takes.
+pub const ROOM_USES: usize = 64;
 
 /// How many bytes the text of a use has.
 pub const USE_LEN: usize = 65;

@@ -32,6 +32,11 @@
 //! assert_eq!(rt; record.len(), 2);
 //! assert_eq!(rt; record.report(alloc)?.len(), 1);
 //!
+//! let mut walk = record.walk();
+//! assert_eq!(rt; walk.next_after(None), Some(first));
+//! assert_eq!(rt; walk.next_after(Some(first)), Some(second));
+//! assert_eq!(rt; walk.next_after(Some(second)), None);
+//!
 //! let mut other = Record::new(SortedUses::new(alloc));
 //! for part in &record.answer(alloc, &other.summary())? {
 //!     other.absorb(part)?;
@@ -74,9 +79,9 @@ pub use batch::Batch;
 pub use batch_fault::BatchFault;
 pub use flaw::{Flaw, flaw_of};
 pub use indexed_uses::IndexedUses;
-pub use layout::{MOST_USES, USE_LEN};
+pub use layout::{MOST_USES, ROOM_USES, USE_LEN};
 pub use record::Record;
-pub use room::{ROOM_USES, Room};
+pub use room::Room;
 pub use run_uses::RunUses;
 pub use sorted::SortedUses;
 pub use stale::Stale;

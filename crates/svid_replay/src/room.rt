@@ -5,11 +5,9 @@ ghost use Rattle.std.specs.Set.{sorted_merge};
 ghost use Rattle.svid_replay.specs.Use.{IsRising, use_cmp};
 
 use crate::Use;
+use crate::layout::ROOM_USES;
 use std::cmp::Ordering;
 use std::marker::Model;
-
-/// How many uses a [`Room`] takes.
-pub const ROOM_USES: usize = 64;
 
 const NO_USE: Use = Use {
     exp: 0,

@@ -1,8 +1,8 @@
-ghost use Rattle.std.specs.Prelude.{◌≡◌, ◌<◌, ◌≤◌, List, length, IfSome, Some, find};
+ghost use Rattle.std.specs.Prelude.{◌≡◌, ◌<◌, ◌≤◌, ◌↔◌, List, length, IfSome, IsTrue, Some, find};
 ghost use Rattle.std.specs.Ordering.{eq_by_cmp};
 ghost use Rattle.svid_replay.specs.Batches.{is_after};
 ghost use Rattle.svid_replay.specs.Use.{IsRising, use_cmp};
-ghost use Rattle.svid_replay.specs.Uses.{count, next_above};
+ghost use Rattle.svid_replay.specs.Uses.{count, next_above, no_uses};
 ghost use Rattle.svid_replay.specs.Walks.{IsStretch};
 ghost use Rattle.svid_replay.specs.declared.token_use.Use.{Use};
 
@@ -77,6 +77,13 @@ impl<'a, S: UseStore> Walk<'a, S> {
         ensures { result ≡ count self.now.uses }
     {
         self.whole.len()
+    }
+
+    /// Whether the record has no uses.
+    pub fn is_empty(&self) -> bool
+        ensures { IsTrue result ↔ (self.now.uses ≡ no_uses) }
+    {
+        self.whole.is_empty()
     }
 
     /// The least use of the record, or the least that is greater than the one given. Quick where that is the use

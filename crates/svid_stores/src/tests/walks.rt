@@ -170,8 +170,8 @@ fn assert_walk<S: UseStore>(
     let uses = record.uses(alloc)?;
     let mut walk = record.walk();
     assert_eq!(rt;
-        (walk.moment(), walk.len()),
-        (record.moment(), record.len())
+        (walk.moment(), walk.len(), walk.is_empty()),
+        (record.moment(), record.len(), record.is_empty())
     );
     let mut last = None;
     for used in &uses {
