@@ -1,6 +1,6 @@
 // Hashers that are fed with the fields of a question.
 
-ghost use Rattle.std.specs.Prelude.{◌≡◌, ◌<◌, ◌^◌, ◌++◌, List, ℕ, length};
+ghost use Rattle.std.specs.Prelude.{◌<◌, ◌^◌, ◌++◌, List, ℕ, length};
 ghost use Rattle.sha2.specs.Hashers.{Holds256};
 ghost use Rattle.svid_keys.specs.Question.{field};
 

@@ -1,4 +1,4 @@
-ghost use Rattle.std.specs.Prelude.{◌≡◌, ◌++◌, ◌+◌, ◌≤◌, [], length};
+ghost use Rattle.std.specs.Prelude.{◌≡◌, ◌++◌, ◌+◌, ◌*◌, ◌≤◌, [], length};
 ghost use Rattle.std.specs.Fmt.{decimal};
 ghost use Rattle.hex.specs.Hex.{encode_lower};
 ghost use Rattle.svid_share.specs.Report.{mark, number_line, twice_line, use_line};
@@ -48,24 +48,17 @@ impl Line {
         self.push(itoa::Buffer::new().format(number).as_bytes());
     }
 
-    fn push_key(&mut self, key: &[u8; 32])
-        requires { length self.old + 64 ≤ 150 }
-        ensures value { self.new ≡ self.old ++ encode_lower key.now }
-        ensures len { length self.new ≡ length self.old + 64 }
+    // The bytes in hexadecimal, at most 32 of them.
+    fn push_hex(&mut self, bytes: &[u8])
+        requires few { length bytes.now ≤ 32 }
+        requires room { length self.old + 2 * length bytes.now ≤ 150 }
+        ensures value { self.new ≡ self.old ++ encode_lower bytes.now }
+        ensures len { length self.new ≡ length self.old + 2 * length bytes.now }
     {
-        let mut digits = [0; 64];
-        let _ = hex::encode_to_slice(key.as_slice(), &mut digits);
-        self.push(&digits);
-    }
-
-    fn push_place(&mut self, place: &[u8; 16])
-        requires { length self.old + 32 ≤ 150 }
-        ensures value { self.new ≡ self.old ++ encode_lower place.now }
-        ensures len { length self.new ≡ length self.old + 32 }
-    {
-        let mut digits = [0; 32];
-        let _ = hex::encode_to_slice(place.as_slice(), &mut digits);
-        self.push(&digits);
+        let mut room = [0; 64];
+        let digits = &mut room[..2 * bytes.len()];
+        let _ = hex::encode_to_slice(bytes, digits);
+        self.push(digits);
     }
 
     pub(crate) fn bytes(&self) -> &[u8]
@@ -90,9 +83,9 @@ pub(crate) fn use_line(used: &Use) -> Line
     let mut line = Line::new();
     line.push_number(used.exp);
     line.push(b" ");
-    line.push_key(&used.key);
+    line.push_hex(&used.key);
     line.push(b" ");
-    line.push_place(&used.place);
+    line.push_hex(&used.place);
     line.push(b" ");
     line.push_number(used.at);
     line.push(mark(used.withdrawn).as_bytes());
@@ -118,7 +111,7 @@ pub(crate) fn twice_line(twice: &Twice) -> Line
     ensures { result ≡ twice_line twice.now }
 {
     let mut line = Line::new();
-    line.push_key(&twice.key);
+    line.push_hex(&twice.key);
     line.push(b" ");
     line.push_number(twice.uses.len() as u64);
     line.push(b"\n");
