@@ -45,10 +45,8 @@ no_names own bundles questions messages (fault.Input given) (line, there, is) = 
 -- the bundles are refused behind good names
 pub no_bundles : (own text questions messages : List ℕ) (given : BundleFault) → AreNames own → IsRefusal (bundles_fault text) given
     → IsNotReady own text questions messages (fault.Input (bundle_fault_of given))
-no_bundles own text questions messages bundles.NotObject named why = (named, why)
-no_bundles own text questions messages (bundles.Domain place) named why = (named, why)
-no_bundles own text questions messages (bundles.Keys place) named why = (named, why)
 no_bundles own text questions messages bundles.OutOfMemory named why = tt
+no_bundles own text questions messages _ named why = (named, why)
 
 -- the table is refused behind good names and bundles
 pub no_table : (own text questions messages : List ℕ) (given : TableFault) → AreNames own → IsBundles text → IsTableRefusal (table_fault questions) given
@@ -62,8 +60,4 @@ pub no_record : (own text questions messages : List ℕ) (given : ToolFault) →
 no_record own text questions messages (tool.Wire input message place reason) named are good why = (named, are, good, why)
 no_record own text questions messages (tool.TooMuch input) named are good why = (named, are, good, why)
 no_record own text questions messages tool.OutOfMemory named are good why = tt
-no_record own text questions messages tool.NotSummary named are good why = absurd why
-no_record own text questions messages (tool.Bundles f) named are good why = absurd why
-no_record own text questions messages (tool.Table line) named are good why = absurd why
-no_record own text questions messages (tool.Read input) named are good why = absurd why
-no_record own text questions messages tool.Write named are good why = absurd why
+no_record own text questions messages _ named are good why = absurd why

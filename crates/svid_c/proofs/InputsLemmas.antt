@@ -60,15 +60,7 @@ cut old new message place e =
 
 bad : (old new : List ℕ) (message place : ℕ) (reason : Reason) → IsBroken (lent old new) message place reason → IsBadMessage old message place reason
 bad old new message place wire.Truncated b = cut old new message place b
-bad old new message place wire.Magic b = field old new message place _ b
-bad old new message place wire.Kind b = field old new message place _ b
-bad old new message place wire.Count b = field old new message place _ b
-bad old new message place wire.UseKind b = field old new message place _ b
-bad old new message place wire.UseExpired b = field old new message place _ b
-bad old new message place wire.UseFuture b = field old new message place _ b
-bad old new message place wire.UseOrder b = field old new message place _ b
-bad old new message place wire.OutOfMemory b = field old new message place _ b
-bad old new message place wire.Failed b = field old new message place _ b
+bad old new message place _ b = field old new message place _ b
 
 too_long : (old new : List ℕ) → IsTooLong (lent old new) → most_bytes < length old
 too_long old new l =
@@ -84,10 +76,7 @@ refused number old new (tool.Wire input message place reason) f = (f.0, bad old 
 refused number old new (tool.TooMuch input) f = (f.0, too_long old new f.1)
 refused number old new (tool.Read input) f = never_stops old new f.1
 refused number old new tool.OutOfMemory f = tt
-refused number old new tool.NotSummary f = f
-refused number old new (tool.Bundles fault) f = f
-refused number old new (tool.Table line) f = f
-refused number old new tool.Write f = f
+refused number old new _ f = f
 
 -- the bytes of an input that is one summary are that summary
 pub is_one : (old new : List ℕ) (asked : SummaryData) → IsOneSummary (lent old new) asked → AreMessages old (message.Summary asked ∷ [])

@@ -90,18 +90,7 @@ step_is_bounded t x y (Check now token) (Checked answer) small h = subst (λ (z 
 step_is_bounded t x y (Withdraw now key exp) (Withdrawn answer) small h = subst (λ (z : Told). z.greatest ≤ reach x.greatest now t.ahead) (sym h.1) (told_added x now t.ahead (withdrawn_in answer) small)
 step_is_bounded t x y (Tick now) Ticked small h = subst (λ (z : Told). z.greatest ≤ reach x.greatest now t.ahead) (sym h) (at_now x.greatest now t.ahead small)
 step_is_bounded t x y (Take now batch) (Taken answer) small h = told_take x y now t.ahead batch.now answer small h
-step_is_bounded t x y (Check now token) Ticked small h = absurd h
-step_is_bounded t x y (Check now token) (Taken answer) small h = absurd h
-step_is_bounded t x y (Check now token) (Withdrawn answer) small h = absurd h
-step_is_bounded t x y (Tick now) (Checked answer) small h = absurd h
-step_is_bounded t x y (Tick now) (Taken answer) small h = absurd h
-step_is_bounded t x y (Tick now) (Withdrawn answer) small h = absurd h
-step_is_bounded t x y (Take now batch) (Checked answer) small h = absurd h
-step_is_bounded t x y (Take now batch) Ticked small h = absurd h
-step_is_bounded t x y (Take now batch) (Withdrawn answer) small h = absurd h
-step_is_bounded t x y (Withdraw now key exp) (Checked answer) small h = absurd h
-step_is_bounded t x y (Withdraw now key exp) Ticked small h = absurd h
-step_is_bounded t x y (Withdraw now key exp) (Taken answer) small h = absurd h
+step_is_bounded t x y _ _ small h = absurd h
 
 pub runs_are_bounded : RunsAreBounded
 runs_are_bounded t x y [] [] small h = subst (λ (z : Told). z.greatest ≤ reach x.greatest 0 t.ahead) (sym h) (unmoved x.greatest t.ahead)

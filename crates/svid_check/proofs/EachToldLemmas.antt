@@ -192,15 +192,7 @@ module _ (P : Use → Type 0) where
 -- at whatever moment
 any_moment : (e : Event) → IsAt (λ n. Unit {0}) e
 any_moment (Check v now token refused) = tt
-any_moment (Withdraw v now key exp refused) = tt
-any_moment (OldSend v) = tt
-any_moment (Tick v now) = tt
-any_moment (Send v) = tt
-any_moment (Sum v) = tt
-any_moment (Answer v now posting refused) = tt
-any_moment (Take v now posting part refused) = tt
-any_moment (Save v) = tt
-any_moment (Restart v s) = tt
+any_moment _ = tt
 
 -- what holds of each use that the group accepts and of each withdrawal that it makes holds of each that is told
 pub each_told : (group : ℕ → Terms) (events : List Event) (P : Use → Type 0) → ((u : Use) → Contains (accepted group start events) u → P u) → ((u : Use) → Contains (withdrawn group start events) u → P u)
@@ -237,27 +229,11 @@ module _ (group : ℕ → Terms) where
   used_by w (Check v now token refused) u has =
       let answer = answer_at group w v now token refused in
       accepted_used (group v).setting (raised (w.members v).held now) token refused answer u refl (at_most_one (accepted_in answer) u has)
-  used_by w (Withdraw v now key exp refused) u has = has_none u has
-  used_by w (Tick v now) u has = has_none u has
-  used_by w (Send v) u has = has_none u has
-  used_by w (OldSend v) u has = has_none u has
-  used_by w (Sum v) u has = has_none u has
-  used_by w (Answer v now posting refused) u has = has_none u has
-  used_by w (Take v now posting part refused) u has = has_none u has
-  used_by w (Save v) u has = has_none u has
-  used_by w (Restart v s) u has = has_none u has
+  used_by w _ u has = has_none u has
 
   gone_by : (w : World) (e : Event) (u : Use) → Contains (withdrawn_by group w e) u → u.withdrawn ≡ true
   gone_by w (Withdraw v now key exp refused) u has = ap (λ (v : Use). v.withdrawn) (withdrawal_is (group v).setting.place (raised (w.members v).held now) key exp refused u has)
-  gone_by w (Check v now token refused) u has = has_none u has
-  gone_by w (Tick v now) u has = has_none u has
-  gone_by w (Send v) u has = has_none u has
-  gone_by w (OldSend v) u has = has_none u has
-  gone_by w (Sum v) u has = has_none u has
-  gone_by w (Answer v now posting refused) u has = has_none u has
-  gone_by w (Take v now posting part refused) u has = has_none u has
-  gone_by w (Save v) u has = has_none u has
-  gone_by w (Restart v s) u has = has_none u has
+  gone_by w _ u has = has_none u has
 
   all_used : (w : World) (events : List Event) (u : Use) → Contains (accepted group w events) u → u.withdrawn ≡ false
   all_used w [] u has = has_none u has

@@ -32,30 +32,15 @@ gained_told x (Some u) is = sym (told_one x.told (Some u) ∙ ap (λ (r : State)
 gained_told x None is = is
 
 -- of a batch that a sender's told has, what has not expired is told
-both_ways : (late soon own has has_it : Bool) → (has_it ≡ true → has ≡ true) → (late ≡ true → soon ≡ true) → (late ≡ true → own ≡ true)
-    → (late && (((has_it || not own) && has) || true)) ≡ (late && (has_it || (soon && true)))
-both_ways false soon own has has_it h k l = refl
-both_ways true true true true true h k l = refl
-both_ways true true true true false h k l = refl
-both_ways true true true false true h k l = absurd (false≢true (h refl))
-both_ways true true true false false h k l = refl
-both_ways true true false has has_it h k l = absurd (false≢true (l refl))
-both_ways true false own has has_it h k l = absurd (false≢true (k refl))
-
-new_only : (late soon own has has_it : Bool) → (has_it ≡ true → has ≡ true) → (late ≡ true → soon ≡ true) → (late ≡ true → own ≡ true)
-    → (late && (((has_it || not own) && has) || false)) ≡ (late && (has_it || (soon && false)))
-new_only false soon own has has_it h k l = refl
-new_only true true true true true h k l = refl
-new_only true true true true false h k l = refl
-new_only true true true false true h k l = absurd (false≢true (h refl))
-new_only true true true false false h k l = refl
-new_only true true false has has_it h k l = absurd (false≢true (l refl))
-new_only true false own has has_it h k l = absurd (false≢true (k refl))
-
 carried_tests : (late soon own has has_it told : Bool) → (has_it ≡ true → has ≡ true) → (late ≡ true → soon ≡ true) → (late ≡ true → own ≡ true)
     → (late && (((has_it || not own) && has) || told)) ≡ (late && (has_it || (soon && told)))
-carried_tests late soon own has has_it true h k l = both_ways late soon own has has_it h k l
-carried_tests late soon own has has_it false h k l = new_only late soon own has has_it h k l
+carried_tests false soon own has has_it told h k l = refl
+carried_tests true true true true true told h k l = refl
+carried_tests true true true true false told h k l = refl
+carried_tests true true true false true told h k l = absurd (false≢true (h refl))
+carried_tests true true true false false told h k l = refl
+carried_tests true true false has has_it told h k l = absurd (false≢true (l refl))
+carried_tests true false own has has_it told h k l = absurd (false≢true (k refl))
 
 live_left : (m n e : ℕ) → nat_lt (max m n) e ≡ true → nat_lt m e ≡ true
 live_left m n e is = lt-ltb m e (let later = ltb-true (max m n) e is in omega arith)

@@ -73,15 +73,7 @@ module _ (group : ℕ → Terms) where
         let found = in_answer (answer_at group w v now token refused) u has in
         let low = greater x.moment now y.moment (moment-join x (state_of now [])) (h.members v) at in
         subst IsUse found.2 (in_range (group v).setting y.moment y.uses token found.0.used (accepted_is (group v).setting y token refused found.0 found.1) (places v) low)
-    use_by w (Withdraw v now key exp refused) at h u has = has_none u has
-    use_by w (OldSend v) at h u has = has_none u has
-    use_by w (Tick v now) at h u has = has_none u has
-    use_by w (Send v) at h u has = has_none u has
-    use_by w (Sum v) at h u has = has_none u has
-    use_by w (Answer v now posting refused) at h u has = has_none u has
-    use_by w (Take v now posting part refused) at h u has = has_none u has
-    use_by w (Save v) at h u has = has_none u has
-    use_by w (Restart v s) at h u has = has_none u has
+    use_by w _ at h u has = has_none u has
 
     gone_by : (w : World) (e : Event) → IsInRange e → Everywhere HasMoment w → (u : Use) → Contains (withdrawn_by group w e) u → IsUse u
     gone_by w (Withdraw v now key exp refused) at h u has =
@@ -89,15 +81,7 @@ module _ (group : ℕ → Terms) where
         let y = raised x now in
         let low = greater x.moment now y.moment (moment-join x (state_of now [])) (h.members v) at.0 in
         subst IsUse (sym (withdrawal_is (group v).setting.place y key exp refused u has)) (record { exp = at.2; key = at.1; place = places v; at = low })
-    gone_by w (Check v now token refused) at h u has = has_none u has
-    gone_by w (OldSend v) at h u has = has_none u has
-    gone_by w (Tick v now) at h u has = has_none u has
-    gone_by w (Send v) at h u has = has_none u has
-    gone_by w (Sum v) at h u has = has_none u has
-    gone_by w (Answer v now posting refused) at h u has = has_none u has
-    gone_by w (Take v now posting part refused) at h u has = has_none u has
-    gone_by w (Save v) at h u has = has_none u has
-    gone_by w (Restart v s) at h u has = has_none u has
+    gone_by w _ at h u has = has_none u has
 
     withdrawn_are_uses : (w : World) (events : List Event) → AllByRecursion IsInRange events → Everywhere HasMoment w → (u : Use) → Contains (withdrawn group w events) u → IsUse u
     withdrawn_are_uses w [] at h u has = has_none u has

@@ -56,32 +56,8 @@ read_there read (Some x) is held = there (read x) held
 
 -- what a refusal says where it is answered: that it is due, or nothing where memory ran out
 pub told : {A B : Type 0} (refusal : Refusal) (one : Result A Refusal) (other : Result B Refusal) → (Refuses refusal one → (refusal ≡ token.OutOfMemory) ⊎ (one ≡ Err refusal)) × (other ≡ Err refusal → Refuses refusal other)
-told token.TooLong one other = (λ h. inr h, λ h. h)
-told token.NotThreeParts one other = (λ h. inr h, λ h. h)
-told token.HeaderSpelling one other = (λ h. inr h, λ h. h)
-told token.HeaderNotObject one other = (λ h. inr h, λ h. h)
-told token.Crit one other = (λ h. inr h, λ h. h)
-told token.Alg one other = (λ h. inr h, λ h. h)
-told token.Typ one other = (λ h. inr h, λ h. h)
-told token.Kid one other = (λ h. inr h, λ h. h)
-told token.PayloadSpelling one other = (λ h. inr h, λ h. h)
-told token.PayloadNotObject one other = (λ h. inr h, λ h. h)
-told token.SignatureSpelling one other = (λ h. inr h, λ h. h)
-told token.Sub one other = (λ h. inr h, λ h. h)
-told token.Aud one other = (λ h. inr h, λ h. h)
-told token.Exp one other = (λ h. inr h, λ h. h)
-told token.Nbf one other = (λ h. inr h, λ h. h)
-told token.Jti one other = (λ h. inr h, λ h. h)
-told token.NotAudience one other = (λ h. inr h, λ h. h)
-told token.Expired one other = (λ h. inr h, λ h. h)
-told token.NotYet one other = (λ h. inr h, λ h. h)
-told token.TooLongLived one other = (λ h. inr h, λ h. h)
-told token.UnknownDomain one other = (λ h. inr h, λ h. h)
-told token.NoKey one other = (λ h. inr h, λ h. h)
-told token.BadSignature one other = (λ h. inr h, λ h. h)
-told token.Withdrawn one other = (λ h. inr h, λ h. h)
-told token.Replayed one other = (λ h. inr h, λ h. h)
 told token.OutOfMemory one other = (λ h. inl refl, λ h. tt)
+told refusal one other = (λ h. inr h, λ h. h)
 
 -- a refusal that is due may be answered
 pub refused : {A : Type 0} (refusal : Refusal) (due : Result A Refusal) → due ≡ Err refusal → Refuses refusal due

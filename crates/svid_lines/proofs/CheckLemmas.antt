@@ -69,9 +69,4 @@ no_write inputs (inr (inr (inr fourth))) = earlier_not_write inputs.earlier four
 pub inputs_refused : (given : CheckSetting) (inputs : CheckInputs) (outputs : CheckOutputs) (fault : ToolFault) → (fault ≢ tool.OutOfMemory → IsOneRefused inputs fault) → IsCheckFault given inputs outputs fault
 inputs_refused given inputs outputs tool.Write why = absurd (no_write inputs (why (λ is. cc)))
 inputs_refused given inputs outputs tool.OutOfMemory why = tt
-inputs_refused given inputs outputs (tool.Wire input message place reason) why = why (λ is. cc)
-inputs_refused given inputs outputs tool.NotSummary why = why (λ is. cc)
-inputs_refused given inputs outputs (tool.Bundles fault) why = why (λ is. cc)
-inputs_refused given inputs outputs (tool.Table line) why = why (λ is. cc)
-inputs_refused given inputs outputs (tool.Read input) why = why (λ is. cc)
-inputs_refused given inputs outputs (tool.TooMuch input) why = why (λ is. cc)
+inputs_refused given inputs outputs _ why = why (λ is. cc)

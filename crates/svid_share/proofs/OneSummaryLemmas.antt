@@ -44,14 +44,11 @@ pub refused_as_any : (number : ℕ) (input : Drawn) (own : ℕ) (fault : ToolFau
 refused_as_any number input own fault same why = by fault (subst (λ n. IsInputFault n input fault) same why)
   where
     by : (fault : ToolFault) → IsInputFault number input fault → IsSummaryFault number input fault
-    by tool.NotSummary none = absurd none
     by (tool.Wire told message place reason) why = why
     by (tool.Read told) why = why
     by (tool.TooMuch told) why = why
     by tool.OutOfMemory why = why
-    by tool.Write none = absurd none
-    by (tool.Bundles fault) none = absurd none
-    by (tool.Table line) none = absurd none
+    by _ none = absurd none
 
 -- what is the only summary of the input
 pub is_summary : (input : Drawn) (told : List Message) (last : Option Message) (count : ℕ) (r : Result SummaryData ToolFault) → IsWhole input told → count ≡ length told → IsLast told last → IfOk r (λ s. (told : List Message) → length told ≡ count → IsLast told last → told ≡ message.Summary s ∷ []) → IfOk r (IsOneSummary input)
