@@ -1,6 +1,5 @@
 // Tokens with one byte changed, cut tokens, and bytes that are no tokens. The verifier says yes to the
 // question of one token alone, so that no other is accepted.
-ghost use Rattle.std.specs.Prelude.{◌<◌};
 
 use super::uses::assert_has;
 use super::{HEADER, ONE_KEY, PAYLOAD, SIG, USED, assert_record, signed, validator_of};

@@ -1,4 +1,4 @@
-use Rattle.std.proofs.Common.{sym, ◌∙◌}
+use Rattle.std.proofs.Common.{◌∙◌}
 use Rattle.svid_replay.specs.Sets.{rising}
 use Rattle.svid_replay.specs.Use.{use_cmp}
 use Rattle.svid_replay.proofs.RecordsLemmas.{on_err}
