@@ -182,6 +182,7 @@ fn tells_without_memory<S: UseStore>(
     let whole = (
         walk.moment(),
         walk.len(),
+        walk.is_empty(),
         walk.next_after(None),
         walk.next_after(first),
     );
@@ -189,7 +190,10 @@ fn tells_without_memory<S: UseStore>(
     refuse(alloc, 0);
     assert!(rt; !refused);
     assert_eq!(rt; walked, (5000, uses.len(), record.next_after(first)));
-    assert_eq!(rt; whole, (5000, uses.len(), first, record.next_after(first)));
+    assert_eq!(rt;
+        whole,
+        (5000, uses.len(), false, first, record.next_after(first))
+    );
     assert_eq!(rt; looks, (5000, uses.len(), false));
     assert_eq!(rt; first, uses.first().copied());
     assert_eq!(rt; has, uses.iter().any(|used| used.key == FIRST.key));
