@@ -48,12 +48,19 @@ pub(crate) fn add(words: &mut [u64], key: &[u8; 32])
     words[at] |= mask(key);
 }
 
+/// A filter of no key, with place for so many.
+pub(crate) fn no_keys(alloc: Global, count: usize) -> Result<Vec<u64>, AllocError>
+    ensures { IfOk result (λ words. 0 < length words.items) }
+{
+    vec![in alloc; 0u64; count / 5 + 1]
+}
+
 /// A filter of the keys of some uses.
 pub(crate) fn filter_of(alloc: Global, uses: &[Use]) -> Result<Vec<u64>, AllocError>
     ensures some { IfOk result (λ words. 0 < length words.items) }
     ensures known { IfOk result (λ words. AllByRecursion (λ u. HasBits words.items u.key) uses.now) }
 {
-    let mut words = vec![in alloc; 0u64; uses.len() / 5 + 1]?;
+    let mut words = no_keys(alloc, uses.len())?;
     for used in uses {
         let key = used.key;
         add(&mut words, &key);

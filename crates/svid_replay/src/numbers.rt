@@ -1,54 +1,53 @@
-//! Numbers that the keys of uses begin with: a key that two uses have begins with a number that stands twice.
-ghost use Rattle.std.specs.Prelude.{◌≡◌, ◌==◌, ℕ, IfOk, nat_lt, true};
+//! Numbers that the keys of uses begin with, of those keys that two uses may have.
+ghost use Rattle.std.specs.Prelude.{◌≡◌, ◌==◌, ◌<◌, ℕ, [], ◌∷◌, ◌++◌, List, OnOk, length};
 ghost use Rattle.std.specs.List.{list_any};
 ghost use Rattle.std.specs.List.Sorted.{IsNonDecreasing};
-ghost use Rattle.svid_replay.specs.Numbers.{begins_with, is_among, number_of, repeats, times};
+ghost use Rattle.svid_replay.specs.Numbers.{has_number, is_among, IsNoted, number_of};
+ghost use Rattle.svid_replay.specs.declared.token_use.Use.{Use};
 
 use crate::Use;
-use crate::filter::number;
-use std::alloc::{AllocError, Global};
+use crate::filter::{add, may_have, number};
+use std::alloc::AllocError;
 
 // The number that the key of a use begins with.
 #[tactic(auto, unfolding(crate::specs::Numbers::number_of))]
-pub(crate) fn number_of(used: &Use) -> u64
+fn number_of(used: &Use) -> u64
     ensures { result ≡ number_of used.now.key }
 {
     let key = used.key;
     number(&key)
 }
 
-fn begins_with(number: u64, numbers: &[u64]) -> bool
-    ensures { result ≡ begins_with number numbers.now }
+// Puts the key of a use into a filter of the keys before it, and its number behind the others where the key may
+// have been there already. Passes over a withdrawal.
+pub(crate) fn note(
+    words: &mut [u64],
+    numbers: &mut Vec<u64>,
+    used: &Use,
+) -> Result<(), AllocError>
+    requires { 0 < length words.old }
+    ensures long { length words.new ≡ length words.old }
+    ensures noted { OnOk result ((before : List Use) → IsNoted before words.old numbers.old.items → IsNoted (before ++ used.now ∷ []) words.new numbers.new.items) }
 {
-    match numbers {
-        [] => false,
-        [first, ..] => *first == number,
+    if used.withdrawn {
+        return Ok(());
     }
+    let key = used.key;
+    if may_have(words, &key) {
+        numbers.push(number_of(used))?;
+    }
+    add(words, &key);
+    Ok(())
 }
 
-// Those of the numbers that the next one equals.
-fn repeats(alloc: Global, numbers: &[u64]) -> Result<Vec<u64>, AllocError>
-    ensures { IfOk result (λ repeated. repeated.items ≡ repeats numbers.now) }
-{
-    let mut repeated = Vec::new(alloc);
-    let mut rest = numbers;
-    while let [first, behind @ ..] = rest {
-        if begins_with(*first, behind) {
-            repeated.push(*first)?;
-        }
-        rest = behind;
-    }
-    Ok(repeated)
-}
-
-// The numbers that stand twice there, rising.
-pub(crate) fn repeated(alloc: Global, numbers: Vec<u64>) -> Result<Vec<u64>, AllocError>
-    ensures rising { IfOk result (λ repeated. IsNonDecreasing repeated.items) }
-    ensures all { IfOk result (λ repeated. (n : ℕ) → nat_lt 1 (times n numbers.items) ≡ true → list_any (λ m. m == n) repeated.items ≡ true) }
+// The numbers, rising.
+pub(crate) fn in_order(numbers: Vec<u64>) -> Vec<u64>
+    ensures rising { IsNonDecreasing result.items }
+    ensures same { (key : List ℕ) → has_number result.items key ≡ has_number numbers.items key }
 {
     let mut sorted = numbers;
     sorted.sort_unstable();
-    repeats(alloc, &sorted)
+    sorted
 }
 
 // Whether a use is no withdrawal and its key has one of these numbers.

@@ -1,18 +1,19 @@
-ghost use Rattle.std.specs.Prelude.{◌≡◌, ◌↔◌, ◌+◌, ◌<◌, ◌≤◌, [], ◌∷◌, false, filter, map, IsTrue, IsOk, IfOk, OnOk, OnErr};
+ghost use Rattle.std.specs.Prelude.{◌≡◌, ◌↔◌, ◌+◌, ◌<◌, ◌≤◌, ℕ, List, [], ◌∷◌, false, true, filter, length, nat_lt, IsTrue, IsOk, IfOk, OnOk, OnErr};
 ghost use Rattle.std.specs.List.{AllByRecursion};
 ghost use Rattle.std.specs.List.Sorted.{IsNonDecreasing};
 ghost use Rattle.svid_replay.specs.Buckets.{answer_to, raised_to, stale_part, summary_of};
-ghost use Rattle.svid_replay.specs.Numbers.{is_among, number_of};
+ghost use Rattle.svid_replay.specs.Numbers.{has_number, is_among};
 ghost use Rattle.svid_replay.specs.Parts.{cut};
 ghost use Rattle.svid_replay.specs.Records.{HasNoNew, IsPartlyJoined, IsRecord, batch_state, join, state_of};
 ghost use Rattle.svid_replay.specs.Sets.{holds, rising};
-ghost use Rattle.svid_replay.specs.Twice.{IsTwice, twice_of, used};
+ghost use Rattle.svid_replay.specs.Twice.{IsTwice, twice_of, used, uses_of};
 ghost use Rattle.svid_replay.specs.Use.{IsRising, IsUse};
 ghost use Rattle.svid_replay.specs.Uses.{count, has_use_of, has_withdrawal_of, next_above, no_uses};
 ghost use Rattle.svid_replay.specs.Walks.{next_few};
 
 use crate::buckets::{digests_of, stale_uses};
-use crate::numbers::{is_among, number_of, repeated};
+use crate::filter::no_keys;
+use crate::numbers::{in_order, is_among, note};
 use crate::parts::cut;
 use crate::room::Room;
 use crate::sorted::count_expired;
@@ -214,15 +215,16 @@ impl<S: UseStore> Record<S> {
         Ok(uses)
     }
 
-    // the numbers that the keys of the uses begin with
+    // the numbers of the keys that two uses have that are no withdrawals, and maybe of others
     fn numbers(&self, alloc: Global) -> Result<Vec<u64>, AllocError>
-        ensures { IfOk result (λ numbers. numbers.items ≡ map (λ u. number_of u.key) (rising self.now.uses)) }
+        ensures { IfOk result (λ numbers. (key : List ℕ) → nat_lt 1 (length (uses_of key (used (rising self.now.uses)))) ≡ true → has_number numbers.items key ≡ true) }
     {
-        let mut numbers = Vec::with_capacity(alloc, self.len())?;
+        let mut words = no_keys(alloc, self.len())?;
+        let mut numbers = Vec::new(alloc);
         let mut walk = self.walk();
         let mut after = None;
         while let Some(used) = walk.next_after(after) {
-            numbers.push(number_of(&used))?;
+            note(&mut words, &mut numbers, &used)?;
             after = Some(used);
         }
         Ok(numbers)
@@ -255,7 +257,7 @@ impl<S: UseStore> Record<S> {
         ensures value { IfOk result (λ listed. listed.items ≡ twice_of (used (rising self.now.uses))) }
         ensures relation { IfOk result (λ listed. IsTwice (used (rising self.now.uses)) listed.items) }
     {
-        let numbers = repeated(alloc, self.numbers(alloc)?)?;
+        let numbers = in_order(self.numbers(alloc)?);
         let uses = self.used_among(alloc, &numbers)?;
         twice_in(alloc, uses)
     }
