@@ -35,7 +35,7 @@ pub(crate) fn record_of(
     ensures ok { IfOk result (IsRecordOf bytes.now now) }
     ensures fault { IfErr result (IsRefused number bytes.now) }
 {
-    let mut record = Record::new(RunUses::new(alloc));
+    let mut record = Record::new(RunUses::without_keys(alloc));
     join_lent(alloc, bytes, number, &mut record)?;
     record.raise(now);
     Ok(record)

@@ -28,7 +28,7 @@ fn joined(alloc: Global, a: &[u8], b: &[u8], now: u64) -> Result<MemSink, ToolFa
     ensures ok { IfOk result (λ sink. IsJoined a.now b.now now sink.bytes) }
     ensures fault { IfErr result (AreRefused 1 (a.now ∷ b.now ∷ [])) }
 {
-    let mut record = Record::new(RunUses::new(alloc));
+    let mut record = Record::new(RunUses::without_keys(alloc));
     join_lent(alloc, a, 1, &mut record)?;
     join_lent(alloc, b, 2, &mut record)?;
     record.raise(now);

@@ -43,10 +43,12 @@ noted_kept us u words now numbers new e noted some others added kept again = rec
   where
     more : used (us ++ u ∷ []) ≡ used us ++ u ∷ []
     more = filter-in (λ v. not v.withdrawn) us u (ap not e)
+
     before : (key : List ℕ) → has_key key u ≡ true → nat_lt 1 (length (uses_of key (used us ++ u ∷ []))) ≡ true → list_any (has_key key) (used us) ≡ true
     before key same many =
         let long : length (uses_of key (used us ++ u ∷ [])) ≡ length (uses_of key (used us)) + 1 = ap length (filter-in (has_key key) (used us) u same) ∙ length-append (uses_of key (used us)) (u ∷ []) in
         any-filter (has_key key) (used us) ∙ grind (arith, nat_tests, long, many)
+
     twice : (key : List ℕ) → nat_lt 1 (length (uses_of key (used us ++ u ∷ []))) ≡ true → has_number new key ≡ true
     twice key many = elim (has_key key u) as (λ b. has_key key u ≡ b → has_number new key ≡ true) [
       | true ↦ λ same.
@@ -65,6 +67,7 @@ noted_again us u words now numbers new e pushed noted some others added =
   where
     has_new : (key : List ℕ) → has_number new key ≡ (has_number numbers key || list_any (λ m. m == number_of key) (number_of u.key ∷ []))
     has_new key = ap (λ ns. has_number ns key) pushed ∙ list_any-append (λ m. m == number_of key) numbers (number_of u.key ∷ [])
+
     itself : (has_number numbers u.key || list_any (λ m. m == number_of u.key) (number_of u.key ∷ [])) ≡ true
     itself =
         let one : list_any (λ m. m == number_of u.key) (number_of u.key ∷ []) ≡ true = grind (arith, nat_tests) in

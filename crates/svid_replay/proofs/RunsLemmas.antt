@@ -21,11 +21,10 @@ use Rattle.std.proofs.lemmas.List.Elements.{filter_passes, recursion_from_All}
 use Rattle.std.proofs.lemmas.List.Kept.{IsStrictlySortedBy-filter}
 use Rattle.std.proofs.lemmas.Bool.{false≢true, false_from_ne_true}
 use Rattle.svid_replay.specs.Batches.{is_after}
-use Rattle.svid_replay.specs.declared.until.Mark.{Mark}
 use Rattle.svid_replay.specs.declared.until.Until.{Until}
 use Rattle.svid_replay.specs.Indexed.{is_sought}
-use Rattle.svid_replay.specs.Keys.{AreKeys, TellUses, gone_by, is_held, is_left, left_of, mark_cmp, until_cmp, until_of}
-use Rattle.svid_replay.proofs.KeysLemmas.{left_is_all, live_left, tell_live, tell_mark, tell_merged, until_exact, until_total}
+use Rattle.svid_replay.specs.Keys.{AreKeys, TellUses, gone_by, is_left, left_of, until_cmp}
+use Rattle.svid_replay.proofs.KeysLemmas.{left_is_all, live_left, tell_live, tell_merged, until_exact, until_total}
 use Rattle.svid_replay.proofs.MergeLemmas.{first_alike, merge, merge_has, merge_length, merge_rises, below_all, by_rank}
 use Rattle.std.proofs.lemmas.Cmp.{tied_itself}
 use Rattle.std.specs.Ordering.{is_lt}
@@ -42,7 +41,7 @@ use Rattle.std.specs.Ordering.{eq_by_cmp, is_eq, ordering_reverse}
 use Rattle.std.specs.declared.cmp.Ordering.TheVariants.{Less}
 use Rattle.svid_replay.specs.declared.token_use.Use.{Use}
 use Rattle.svid_replay.specs.Use.{use_cmp, IsRising}
-use Rattle.svid_replay.proofs.TestsLemmas.{equal, one_test, or-false, or-true}
+use Rattle.svid_replay.proofs.TestsLemmas.{and-comm, equal, first_true, one_test, or-false, or-true}
 use Rattle.svid_replay.proofs.IndexedLemmas.{any_use, same_key, sought_key}
 use Rattle.svid_replay.proofs.UseLemmas.{use_total, use_exact}
 
@@ -56,13 +55,13 @@ drop_more (suc s) d [] = drop_none (suc s + d) ∙ sym (drop_none d)
 drop_more (suc s) d (x ∷ xs) = let e : suc s + d ≡ suc (s + d) = omega arith in ap (λ n. drop n (x ∷ xs)) e ∙ drop_more s d xs
 
 -- a run whose start has moved behind what is expired
-pub record IsRunCut (items : List Use) (start dropped moment : ℕ) (keys : List Until) (gone : Option ℕ) (words : List ℕ) (told : List Use) : Type 0 where
-  pub is : IsRun items (start + dropped) keys (gone_by gone moment) words
+pub record IsRunCut (items : List Use) (start dropped moment : ℕ) (keyed : Bool) (keys : List Until) (gone : Option ℕ) (words : List ℕ) (told : List Use) : Type 0 where
+  pub is : IsRun items (start + dropped) keyed keys (gone_by gone moment) words
   pub left : drop (start + dropped) items ≡ filter (λ u. nat_lt moment u.exp) told
   pub counted : dropped + length (drop (start + dropped) items) ≡ length told
 
-pub run_cut : (items told : List Use) (start dropped moment : ℕ) (keys : List Until) (gone : Option ℕ) (words : List ℕ) → IsRun items start keys gone words → drop start items ≡ told → dropped ≡ prefix_len (λ u. not (nat_lt moment u.exp)) told → IsRunCut items start dropped moment keys gone words told
-run_cut items told start dropped moment keys gone words is view front =
+pub run_cut : (items told : List Use) (start dropped moment : ℕ) (keyed : Bool) (keys : List Until) (gone : Option ℕ) (words : List ℕ) → IsRun items start keyed keys gone words → drop start items ≡ told → dropped ≡ prefix_len (λ u. not (nat_lt moment u.exp)) told → IsRunCut items start dropped moment keyed keys gone words told
+run_cut items told start dropped moment keyed keys gone words is view front =
     let up : IsRising told = subst IsRising view is.rising in
     let rest : drop (start + dropped) items ≡ drop dropped told = drop_more start dropped items ∙ ap (drop dropped) view in
     let few : prefix_len (λ u. not (nat_lt moment u.exp)) told ≤ length told = prefix_len-le-length (λ u. not (nat_lt moment u.exp)) told in
@@ -74,7 +73,7 @@ run_cut items told start dropped moment keys gone words is view front =
         bound = omega (arith, few, long, front, is.bound);
         rising = left_rises told moment dropped _ up (record { front = front; rest = rest });
         sorted = is.sorted;
-        told = subst (TellUses (left_of (gone_by gone moment) keys)) (sym live) (tell_live gone moment keys told (subst (AllByRecursion (λ u. is_left gone u.exp ≡ true)) view is.live) (subst (TellUses (left_of gone keys)) view is.told));
+        told = λ kept. subst (TellUses (left_of (gone_by gone moment) keys)) (sym live) (tell_live gone moment keys told (subst (AllByRecursion (λ u. is_left gone u.exp ≡ true)) view is.live) (subst (TellUses (left_of gone keys)) view (is.told kept)));
         live = subst (AllByRecursion (λ u. is_left (gone_by gone moment) u.exp ≡ true)) (sym live) (live_left gone moment told (subst (AllByRecursion (λ u. is_left gone u.exp ≡ true)) view is.live));
         some = is.some;
         known = subst (AllByRecursion (λ u. HasBits words u.key)) (sym (drop_more start dropped items)) (each_drop _ dropped (drop start items) is.known);
@@ -83,16 +82,16 @@ run_cut items told start dropped moment keys gone words is view front =
       counted = omega (arith, ap length rest, less, few, front);
     }
 
-pub run_gone : (items : List Use) (start : ℕ) (keys : List Until) (gone later : Option ℕ) (words : List ℕ) → later ≡ gone → IsRun items start keys gone words → IsRun items start keys later words
-run_gone items start keys gone later words e is = subst (λ g. IsRun items start keys g words) (sym e) is
+pub run_gone : (items : List Use) (start : ℕ) (keyed : Bool) (keys : List Until) (gone later : Option ℕ) (words : List ℕ) → later ≡ gone → IsRun items start keyed keys gone words → IsRun items start keyed keys later words
+run_gone items start keyed keys gone later words e is = subst (λ g. IsRun items start keyed keys g words) (sym e) is
 
 -- the same with the front taken off, and the keys that are gone
-pub run_moved : (items now : List Use) (start : ℕ) (keys swept : List Until) (gone : Option ℕ) (words : List ℕ) → IsRun items start keys gone words → now ≡ drop start items → swept ≡ left_of gone keys → IsRun now 0 swept None words
-run_moved items now start keys swept gone words is e clean = record {
+pub run_moved : (items now : List Use) (start : ℕ) (keyed : Bool) (keys swept : List Until) (gone : Option ℕ) (words : List ℕ) → IsRun items start keyed keys gone words → now ≡ drop start items → swept ≡ left_of gone keys → IsRun now 0 keyed swept None words
+run_moved items now start keyed keys swept gone words is e clean = record {
   bound = omega arith;
   rising = subst IsRising (sym e) is.rising;
   sorted = subst AreKeys (sym clean) (IsStrictlySortedBy-filter until_cmp (λ k. is_left gone k.exp) keys is.sorted);
-  told = subst (TellUses (left_of None swept)) (sym e) (subst (λ ks. TellUses ks (drop start items)) (sym (left_is_all swept ∙ clean)) is.told);
+  told = λ kept. subst (TellUses (left_of None swept)) (sym e) (subst (λ ks. TellUses ks (drop start items)) (sym (left_is_all swept ∙ clean)) (is.told kept));
   live = each_true _ (λ u. refl) now;
   some = is.some;
   known = subst (AllByRecursion (λ u. HasBits words u.key)) (sym e) is.known;
@@ -466,39 +465,40 @@ unknown_absent words us u known unknown = any_none (eq_by_cmp use_cmp u) us (eac
   | false ↦ λ e. refl
 ] refl) us known)
 
-pub run_unknown : (items told : List Use) (start : ℕ) (keys : List Until) (gone : Option ℕ) (words : List ℕ) (u : Use) → IsRun items start keys gone words → drop start items ≡ told → (HasBits words u.key → ⊥) → false ≡ list_any (eq_by_cmp use_cmp u) told
-run_unknown items told start keys gone words u is view unknown = sym (sym (ap (list_any (eq_by_cmp use_cmp u)) view) ∙ unknown_absent words (drop start items) u is.known unknown)
+pub run_unknown : (items told : List Use) (start : ℕ) (keyed : Bool) (keys : List Until) (gone : Option ℕ) (words : List ℕ) (u : Use) → IsRun items start keyed keys gone words → drop start items ≡ told → (HasBits words u.key → ⊥) → false ≡ list_any (eq_by_cmp use_cmp u) told
+run_unknown items told start keyed keys gone words u is view unknown = sym (sym (ap (list_any (eq_by_cmp use_cmp u)) view) ∙ unknown_absent words (drop start items) u is.known unknown)
 
 -- a run of which nothing is gone
-pub run_made : (items us : List Use) (keys : List Until) (words : List ℕ) → IsRising items → us ≡ items → AreKeys keys → TellUses keys us → 0 < length words → AllByRecursion (λ u. HasBits words u.key) us → IsRun items 0 keys None words
-run_made items us keys words up same sorted told some known = record {
+pub run_made : (items us : List Use) (keyed : Bool) (keys : List Until) (words : List ℕ) → IsRising items → us ≡ items → AreKeys keys → (keyed ≡ true → TellUses keys us) → 0 < length words → AllByRecursion (λ u. HasBits words u.key) us → IsRun items 0 keyed keys None words
+run_made items us keyed keys words up same sorted told some known = record {
   bound = omega arith;
   rising = up;
   sorted = sorted;
-  told = subst (TellUses (left_of None keys)) same (subst (λ ks. TellUses ks us) (sym (left_is_all keys)) told);
+  told = λ kept. subst (TellUses (left_of None keys)) same (subst (λ ks. TellUses ks us) (sym (left_is_all keys)) (told kept));
   live = each_true _ (λ u. refl) items;
   some = some;
   known = subst (AllByRecursion (λ u. HasBits words u.key)) same known;
 }
 
--- what the keys of a run tell by a mark
-pub run_tells : (items told : List Use) (start : ℕ) (keys : List Until) (gone : Option ℕ) (words : List ℕ) (mark : Mark) → IsRun items start keys gone words → drop start items ≡ told → list_any (is_held mark gone) keys ≡ list_any (λ u. is_eq (mark_cmp mark (until_of u).mark)) told
-run_tells items told start keys gone words mark is view = tell_mark mark gone keys told (subst (TellUses (left_of gone keys)) view is.told)
+-- what the keys of a run tell, where it is keyed
+pub run_tells : (items told : List Use) (start : ℕ) (keyed : Bool) (keys : List Until) (gone : Option ℕ) (words : List ℕ) → IsRun items start keyed keys gone words → drop start items ≡ told → keyed ≡ true → TellUses (left_of gone keys) told
+run_tells items told start keyed keys gone words is view kept = subst (TellUses (left_of gone keys)) view (is.told kept)
 
 -- no use has a key that a filter of the uses does not know
-pub run_lacks : (items told : List Use) (start : ℕ) (keys : List Until) (gone : Option ℕ) (words : List ℕ) (withdrawn : Bool) (key : List ℕ) → IsRun items start keys gone words → drop start items ≡ told → (HasBits words key → ⊥) → false ≡ list_any (is_sought withdrawn key) told
-run_lacks items told start keys gone words withdrawn key is view unknown = sym (sym (ap (list_any (is_sought withdrawn key)) view) ∙ any_none (is_sought withdrawn key) (drop start items) (each_weaker (λ v. HasBits words v.key) _ (λ v h. false_from_ne_true _ (λ sought.
+pub run_lacks : (items told : List Use) (start : ℕ) (keyed : Bool) (keys : List Until) (gone : Option ℕ) (words : List ℕ) (withdrawn : Bool) (key : List ℕ) → IsRun items start keyed keys gone words → drop start items ≡ told → (HasBits words key → ⊥) → false ≡ list_any (is_sought withdrawn key) told
+run_lacks items told start keyed keys gone words withdrawn key is view unknown = sym (sym (ap (list_any (is_sought withdrawn key)) view) ∙ any_none (is_sought withdrawn key) (drop start items) (each_weaker (λ v. HasBits words v.key) _ (λ v h. false_from_ne_true _ (λ sought.
     unknown (subst (HasBits words) (same_key key v.key (sought_key withdrawn key v sought)) h))) (drop start items) is.known))
 
--- the keys of two runs in one
-pub record AreMergedKeys (keys : List Until) (us : List Use) : Type 0 where
+-- the keys of two runs in one, where both are keyed
+pub record AreMergedKeys (keyed : Bool) (keys : List Until) (us : List Use) : Type 0 where
   pub sorted : AreKeys keys
-  pub told : TellUses keys us
+  pub told : keyed ≡ true → TellUses keys us
 
-pub keys_merged : (items told others told' : List Use) (start start' : ℕ) (keys keys' : List Until) (gone gone' : Option ℕ) (words words' : List ℕ) (merged : List Until) (uses : List Use) → IsRun items start keys gone words → IsRun others start' keys' gone' words' → drop start items ≡ told → drop start' others ≡ told' → merged ≡ merge until_cmp (left_of gone keys) (left_of gone' keys') → uses ≡ merge use_cmp told told' → AreMergedKeys merged uses
-keys_merged items told others told' start start' keys keys' gone gone' words words' merged uses is is' view view' e f = record {
+pub keys_merged : (items told others told' : List Use) (start start' : ℕ) (keyed keyed' : Bool) (keys keys' : List Until) (gone gone' : Option ℕ) (words words' : List ℕ) (merged : List Until) (uses : List Use) → IsRun items start keyed keys gone words → IsRun others start' keyed' keys' gone' words' → drop start items ≡ told → drop start' others ≡ told' → merged ≡ merge until_cmp (left_of gone keys) (left_of gone' keys') → uses ≡ merge use_cmp told told' → AreMergedKeys (keyed && keyed') merged uses
+keys_merged items told others told' start start' keyed keyed' keys keys' gone gone' words words' merged uses is is' view view' e f = record {
   sorted = subst AreKeys (sym e) (merge_rises until_total until_exact _ _ (IsStrictlySortedBy-filter until_cmp (λ k. is_left gone k.exp) keys is.sorted) (IsStrictlySortedBy-filter until_cmp (λ k. is_left gone' k.exp) keys' is'.sorted));
-  told = subst (TellUses merged) (sym f) (subst (λ ks. TellUses ks (merge use_cmp told told')) (sym e) (tell_merged (left_of gone keys) (left_of gone' keys') told told' (subst (TellUses (left_of gone keys)) view is.told) (subst (TellUses (left_of gone' keys')) view' is'.told)));
+  told = λ both.
+      subst (TellUses merged) (sym f) (subst (λ ks. TellUses ks (merge use_cmp told told')) (sym e) (tell_merged (left_of gone keys) (left_of gone' keys') told told' (run_tells items told start keyed keys gone words is view (first_true keyed keyed' both)) (run_tells others told' start' keyed' keys' gone' words' is' view' (first_true keyed' keyed (and-comm keyed' keyed ∙ both)))));
 }
 
 -- ---- the front

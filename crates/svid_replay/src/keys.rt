@@ -1,9 +1,11 @@
 //! The keys of uses, sorted, each with its kind and with when it expires.
-ghost use Rattle.std.specs.Prelude.{◌≡◌, ◌++◌, true, IfOk};
+ghost use Rattle.std.specs.Prelude.{◌≡◌, ◌++◌, List, true, IfOk};
 ghost use Rattle.std.specs.List.{dedup, list_any};
-ghost use Rattle.std.specs.Ordering.{eq_by_cmp};
+ghost use Rattle.std.specs.Ordering.{eq_by_cmp, is_eq};
 ghost use Rattle.std.specs.Set.{sorted_merge};
-ghost use Rattle.svid_replay.specs.Keys.{AreKeys, TellUses, gone_by, is_held, left_of, until_cmp};
+ghost use Rattle.svid_replay.specs.Indexed.{is_sought};
+ghost use Rattle.svid_replay.specs.Keys.{AreKeys, TellUses, gone_by, is_held, left_of, mark_cmp, mark_of, until_cmp, until_of};
+ghost use Rattle.svid_replay.specs.declared.token_use.Use.{Use};
 
 use crate::Use;
 use crate::until::{Mark, Until};
@@ -102,7 +104,7 @@ pub(crate) fn sweep(keys: &mut Vec<Until>, gone: Option<u64>)
 }
 
 // Whether one of the mark is left.
-pub(crate) fn has_left(keys: &[Until], mark: &Mark, gone: Option<u64>) -> bool
+fn has_left(keys: &[Until], mark: &Mark, gone: Option<u64>) -> bool
     requires { AreKeys keys.now }
     ensures { result ≡ list_any (is_held mark.now gone) keys.now }
 {
@@ -111,4 +113,27 @@ pub(crate) fn has_left(keys: &[Until], mark: &Mark, gone: Option<u64>) -> bool
         None => false,
         Some(found) => found.has_mark(mark),
     }
+}
+
+// Whether there is one of this key and kind, where those that are left tell of uses.
+fn has_mark(keys: &[Until], key: &[u8; 32], withdrawn: bool, gone: Option<u64>) -> bool
+    requires { AreKeys keys.now }
+    ensures { (us : List Use) → TellUses (left_of gone keys.now) us → result ≡ list_any (λ u. is_eq (mark_cmp (mark_of key.now withdrawn) (until_of u).mark)) us }
+{
+    let mark = Mark {
+        key: *key,
+        withdrawn,
+    };
+    has_left(keys, &mark, gone)
+}
+
+// Whether there is a use of this key, or a withdrawal of it, where those that are left tell of uses.
+pub(crate) fn tell_key(keys: &[Until], key: &[u8; 32], withdrawn: bool, gone: Option<u64>) -> bool
+    requires { AreKeys keys.now }
+    ensures { (us : List Use) → TellUses (left_of gone keys.now) us → result ≡ list_any (is_sought withdrawn key.now) us }
+{
+    if withdrawn {
+        return has_mark(keys, key, true, gone);
+    }
+    has_mark(keys, key, false, gone) || has_mark(keys, key, true, gone)
 }

@@ -20,11 +20,7 @@ fn number_of(used: &Use) -> u64
 
 // Puts the key of a use into a filter of the keys before it, and its number behind the others where the key may
 // have been there already. Passes over a withdrawal.
-pub(crate) fn note(
-    words: &mut [u64],
-    numbers: &mut Vec<u64>,
-    used: &Use,
-) -> Result<(), AllocError>
+pub(crate) fn note(words: &mut [u64], numbers: &mut Vec<u64>, used: &Use) -> Result<(), AllocError>
     requires { 0 < length words.old }
     ensures long { length words.new ≡ length words.old }
     ensures noted { OnOk result ((before : List Use) → IsNoted before words.old numbers.old.items → IsNoted (before ++ used.now ∷ []) words.new numbers.new.items) }

@@ -1,29 +1,29 @@
 //! Uses that rise, as a run of a larger set.
-ghost use Rattle.std.specs.Prelude.{◌≡◌, ◌+◌, false, length, drop, filter, nat_lt, true, IfOk};
+ghost use Rattle.std.specs.Prelude.{◌≡◌, ◌+◌, false, length, drop, filter, nat_lt, true, IsTrue, IfOk};
 ghost use Rattle.std.specs.List.{list_any};
-ghost use Rattle.std.specs.Ordering.{eq_by_cmp, is_eq};
+ghost use Rattle.std.specs.Ordering.{eq_by_cmp};
 ghost use Rattle.std.specs.Set.{sorted_merge};
 ghost use Rattle.svid_replay.specs.Indexed.{is_sought};
-ghost use Rattle.svid_replay.specs.Keys.{mark_cmp, mark_of, until_of};
 ghost use Rattle.svid_replay.specs.Use.{IsRising, use_cmp};
 ghost use Rattle.svid_replay.specs.Uses.{next_above, uses_in};
 ghost use Rattle.svid_replay.specs.declared.token_use.Use.{Use};
 
 use crate::Use;
 use crate::filter::{filter_of, may_have};
-use crate::keys::{gone_by, has_left, keys_of, merge_keys, sweep};
-use crate::sorted::{count_expired, drop_front, first_after};
-use crate::until::{Mark, Until};
+use crate::keys::{gone_by, keys_of, merge_keys, sweep, tell_key};
+use crate::sorted::{count_expired, drop_front, first_after, has_sought};
+use crate::until::Until;
 use std::alloc::{AllocError, Global};
 use std::cmp::Ordering;
 use std::marker::Model;
 
-// Uses that rise, and their keys. The uses in front of `start` are gone: they expired by the moment `gone`. Their keys
-// may still be there. `words` is a filter of the keys.
+// Uses that rise, with a filter of their keys, `words`; where it is `keyed`, `by_key` has the keys, sorted, and else
+// nothing. The uses in front of `start` are gone: they expired by the moment `gone`. Their keys may still be there.
 #[derive(Debug, Drop)]
 pub(crate) struct Run {
     by_use: Vec<Use>,
     start: usize,
+    keyed: bool,
     by_key: Vec<Until>,
     gone: Option<u64>,
     words: Vec<u64>,
@@ -40,7 +40,7 @@ impl Model for Run {
 
     ghost view = { λ r. drop r.start r.by_use.items };
 
-    ghost invariant = { λ r. IsRun r.by_use.items r.start r.by_key.items r.gone r.words.items };
+    ghost invariant = { λ r. IsRun r.by_use.items r.start r.keyed r.by_key.items r.gone r.words.items };
 }
 
 // Both lists in one, rising; a use that both have comes once.
@@ -82,17 +82,25 @@ pub(crate) fn holds_use(uses: &[Use], used: &Use) -> bool
     }
 }
 
+// The uses whose keys a run has.
+fn to_key(keyed: bool, uses: &[Use]) -> &[Use]
+    ensures { IsTrue keyed → result.now ≡ uses.now }
+{
+    if keyed { uses } else { &[] }
+}
+
 impl Run {
-    pub(crate) fn of(alloc: Global, uses: &[Use]) -> Result<Run, AllocError>
+    pub(crate) fn of(alloc: Global, keyed: bool, uses: &[Use]) -> Result<Run, AllocError>
         requires { IsRising uses.now }
         ensures { IfOk result (λ run. run ≡ uses.now) }
     {
         let by_use = Vec::from_slice(alloc, uses)?;
-        let by_key = keys_of(alloc, uses)?;
+        let by_key = keys_of(alloc, to_key(keyed, uses))?;
         let words = filter_of(alloc, uses)?;
         Ok(Run {
             by_use,
             start: 0,
+            keyed,
             by_key,
             gone: None,
             words,
@@ -108,6 +116,7 @@ impl Run {
         Ok(Run {
             by_use,
             start: 0,
+            keyed: a.keyed & b.keyed,
             by_key,
             gone: None,
             words,
@@ -132,16 +141,6 @@ impl Run {
         holds_use(self.uses(), &used)
     }
 
-    fn has_mark(&self, key: &[u8; 32], withdrawn: bool) -> bool
-        ensures { result ≡ list_any (λ u. is_eq (mark_cmp (mark_of key.now withdrawn) (until_of u).mark)) self.now }
-    {
-        let mark = Mark {
-            key: *key,
-            withdrawn,
-        };
-        has_left(&self.by_key, &mark, self.gone)
-    }
-
     // Whether there is a use of this key, or a withdrawal of it.
     pub(crate) fn has(&self, key: &[u8; 32], withdrawn: bool) -> bool
         ensures { result ≡ list_any (is_sought withdrawn key.now) self.now }
@@ -149,10 +148,11 @@ impl Run {
         if !may_have(&self.words, key) {
             return false;
         }
-        if withdrawn {
-            return self.has_mark(key, true);
+        if self.keyed {
+            tell_key(&self.by_key, key, withdrawn, self.gone)
+        } else {
+            has_sought(self.uses(), key, withdrawn)
         }
-        self.has_mark(key, false) || self.has_mark(key, true)
     }
 
     pub(crate) fn next_after(&self, after: Option<Use>) -> Option<Use>

@@ -25,13 +25,19 @@ const FRONT: usize = 256;
 // A run is merged with the one behind it while it is shorter than so many times that.
 const FACTOR: usize = 2;
 
-/// A set of uses as a short sorted vector, and runs: sorted vectors, each with its keys. Most inserts are
+/// A set of uses as a short sorted vector, and runs: sorted vectors, each with a filter of its keys, and mostly with the
+/// keys themselves, sorted. Most inserts are
 /// short, but one that fills the short vector makes it a run and may merge runs, at worst all of them. Where
 /// that is refused memory it is left undone, and the use is in the set all the same. Many uses at once
 /// (`insert_all`) are a run by themselves, which is merged in the same way.
+///
+/// A set that is made by `without_keys` keeps no keys: it takes less time and memory to put uses in, and its
+/// `has` and `is_withdrawn` look at each use. It is for records that are joined and walked, and asked for no
+/// key, as those of a report are.
 #[derive(Debug, Drop)]
 pub struct RunUses {
     alloc: Global,
+    keyed: bool,
     front: Front,
     runs: Vec<Run>,
     total: usize,
@@ -161,12 +167,17 @@ fn push_run(alloc: Global, runs: &mut Vec<Run>, run: Run) -> Result<(), AllocErr
 }
 
 // Makes the front a run, as far as memory is given.
-fn settle(alloc: Global, front: &mut Front, runs: &mut Vec<Run>) -> Result<(), AllocError>
+fn settle(
+    alloc: Global,
+    keyed: bool,
+    front: &mut Front,
+    runs: &mut Vec<Run>,
+) -> Result<(), AllocError>
     ensures rising { IsRising front.new }
     ensures same { HasSame (front.old ++ all_of runs.old.items) (front.new ++ all_of runs.new.items) }
     ensures less { length front.new + length (all_of runs.new.items) ≤ length front.old + length (all_of runs.old.items) }
 {
-    let run = Run::of(alloc, front.uses())?;
+    let run = Run::of(alloc, keyed, front.uses())?;
     push_run(alloc, runs, run)?;
     front.clear();
     Ok(())
@@ -213,6 +224,7 @@ fn new_uses(
 // A run of those of the uses that neither the front nor a run has; none, and no memory taken, where they all are there.
 fn new_run(
     alloc: Global,
+    keyed: bool,
     front: &[Use],
     runs: &[Run],
     uses: &[Use],
@@ -226,21 +238,35 @@ fn new_run(
     if new.is_empty() {
         return Ok(None);
     }
-    let run = Run::of(alloc, &new)?;
+    let run = Run::of(alloc, keyed, &new)?;
     Ok(Some(run))
 }
 
 impl RunUses {
-    /// The empty set. Takes no memory.
-    pub fn new(alloc: Global) -> RunUses
+    fn empty(alloc: Global, keyed: bool) -> RunUses
         ensures { result ≡ no_uses }
     {
         RunUses {
             alloc,
+            keyed,
             front: Front::new(alloc),
             runs: Vec::new(alloc),
             total: 0,
         }
+    }
+
+    /// The empty set. Takes no memory.
+    pub fn new(alloc: Global) -> RunUses
+        ensures { result ≡ no_uses }
+    {
+        RunUses::empty(alloc, true)
+    }
+
+    /// The empty set, which keeps no keys: `has` and `is_withdrawn` look at each use. Takes no memory.
+    pub fn without_keys(alloc: Global) -> RunUses
+        ensures { result ≡ no_uses }
+    {
+        RunUses::empty(alloc, false)
     }
 
     // Puts in a run of uses that are not there, if memory is given for it.
@@ -282,7 +308,7 @@ impl UseStore for RunUses {
             self.total = total;
             if self.front.len() % FRONT == 0 {
                 // (where memory is refused, the front stays as it is)
-                let _ = settle(self.alloc, &mut self.front, &mut self.runs);
+                let _ = settle(self.alloc, self.keyed, &mut self.front, &mut self.runs);
             }
         }
         Ok(())
@@ -293,7 +319,7 @@ impl UseStore for RunUses {
         if uses.len() < FRONT {
             return false;
         }
-        match new_run(self.alloc, self.front.uses(), &self.runs, uses) {
+        match new_run(self.alloc, self.keyed, self.front.uses(), &self.runs, uses) {
             Err(_) => false,
             Ok(None) => true,
             Ok(Some(run)) => self.take_run(run),

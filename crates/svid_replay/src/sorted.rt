@@ -1,6 +1,7 @@
 ghost use Rattle.std.specs.Prelude.{◌≡◌, ◌≤◌, ℕ, List, length, Some, drop, filter, find, not, nat_lt, IsTrue, IsOk, OnOk, OnErr};
 ghost use Rattle.std.specs.List.{AllByRecursion, list_any, prefix_len};
 ghost use Rattle.svid_replay.specs.Batches.{is_after};
+ghost use Rattle.svid_replay.specs.Indexed.{is_sought};
 ghost use Rattle.svid_replay.specs.Runs.{HasBits};
 ghost use Rattle.svid_replay.specs.Sets.{holds, with};
 ghost use Rattle.svid_replay.specs.Twice.{has_key, withdraws};
@@ -107,6 +108,17 @@ pub(crate) fn has_withdrawal_of(uses: &[Use], key: &[u8; 32]) -> bool
     ensures { result ≡ list_any (withdraws key.now) uses.now }
 {
     uses.iter().any(|used| withdraws(key, used))
+}
+
+// Whether one of the uses has the key, or a withdrawal among them.
+pub(crate) fn has_sought(uses: &[Use], key: &[u8; 32], withdrawn: bool) -> bool
+    ensures { result ≡ list_any (is_sought withdrawn key.now) uses.now }
+{
+    if withdrawn {
+        has_withdrawal_of(uses, key)
+    } else {
+        has_use_of(uses, key)
+    }
 }
 
 impl SortedUses {

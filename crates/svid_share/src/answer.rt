@@ -39,7 +39,7 @@ fn join_all<S: Source>(alloc: Global, inputs: &mut [S]) -> Result<Record<RunUses
     ensures ok { IfOk result (λ r. (asked : SummaryData) → IsDue (answer_due asked) (inputs_of (sources S.left S.stops inputs.old inputs.new)) (flat_map batch_text (answer_to r asked))) }
     ensures fault { IfErr result (IsJoinFault (sources S.left S.stops inputs.old inputs.new)) }
 {
-    let mut record = Record::new(RunUses::new(alloc));
+    let mut record = Record::new(RunUses::without_keys(alloc));
     join_inputs(alloc, inputs, &mut record)?;
     Ok(record)
 }

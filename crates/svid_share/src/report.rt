@@ -117,7 +117,7 @@ fn join_all<S: Source>(
     ensures ok { IfOk result (λ r. IsDue (report_due now) (inputs_of (sources S.left S.stops inputs.old inputs.new)) (report_text r.0.moment (rising r.0.uses) r.1.items)) }
     ensures fault { IfErr result (IsJoinFault (sources S.left S.stops inputs.old inputs.new)) }
 {
-    let mut record = Record::new(RunUses::new(alloc));
+    let mut record = Record::new(RunUses::without_keys(alloc));
     join_inputs(alloc, inputs, &mut record)?;
     raise_to(&mut record, now);
     let twice = record.report(alloc)?;

@@ -16,7 +16,7 @@ fn summary_of_inputs<S: Source>(alloc: Global, inputs: &mut [S]) -> Result<Summa
     ensures ok { IfOk result (λ summary. IsDue summary_due (inputs_of (sources S.left S.stops inputs.old inputs.new)) (summary_text summary)) }
     ensures fault { IfErr result (IsJoinFault (sources S.left S.stops inputs.old inputs.new)) }
 {
-    let mut record = Record::new(RunUses::new(alloc));
+    let mut record = Record::new(RunUses::without_keys(alloc));
     join_inputs(alloc, inputs, &mut record)?;
     Ok(record.summary())
 }

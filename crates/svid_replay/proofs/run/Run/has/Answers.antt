@@ -1,19 +1,16 @@
 use Rattle.std.proofs.Common.{◌∙◌, ap, rules, subst, sym}
 use Rattle.std.specs.List.{list_any}
 use Rattle.svid_replay.specs.Indexed.{is_sought}
+use Rattle.svid_replay.specs.Keys.{TellUses, left_of}
 use Rattle.svid_replay.specs.Runs.{HasBits}
-use Rattle.svid_replay.proofs.KeysLemmas.{tell_first, tell_second, tell_withdrawal}
-use Rattle.svid_replay.proofs.RunsLemmas.{run_lacks}
+use Rattle.svid_replay.proofs.RunsLemmas.{run_lacks, run_tells}
 use Rattle.svid_replay.proofs.run.Run.has.Goals as goal
 
 pub returns-then-not-may_have : goal.returns-then-not-may_have
-returns-then-not-may_have c = run_lacks _ _ _ _ _ _ _ _ c.self.invariant c.self.view_is (λ h. c.may_have.ensures (search rules) (subst (λ ws. HasBits ws c.args.key.now) (sym c.deref.ensures.value) h))
+returns-then-not-may_have c = run_lacks _ _ _ _ _ _ _ _ _ c.self.invariant c.self.view_is (λ h. c.may_have.ensures (search rules) (subst (λ ws. HasBits ws c.args.key.now) (sym c.deref.ensures.value) h))
 
-pub returns-then-withdrawn : goal.returns-then-withdrawn
-returns-then-withdrawn c = c.has_mark.ensures ∙ tell_withdrawal c.args.key.now c.args.self.now ∙ ap (λ w. list_any (is_sought w c.args.key.now) c.args.self.now) (sym c.if-withdrawn.true)
+pub returns-then-self : goal.returns-then-self
+returns-then-self c = c.tell_key.ensures c.args.self.now (subst (λ ks. TellUses (left_of c.self.inside.gone ks) c.args.self.now) (sym c.deref-then-self.ensures.value) (run_tells _ _ _ _ _ _ _ c.self.invariant c.self.view_is c.if-self.true))
 
-pub returns-then-has_mark : goal.returns-then-has_mark
-returns-then-has_mark c = tell_first c.args.key.now c.args.self.now c.args.withdrawn _ c.if-withdrawn.false c.has_mark-2.ensures c.if-has_mark.true
-
-pub returns-else-has_mark : goal.returns-else-has_mark
-returns-else-has_mark c = tell_second c.args.key.now c.args.self.now c.args.withdrawn _ _ c.if-withdrawn.false c.has_mark-2.ensures c.if-has_mark.false c.has_mark-else-has_mark.ensures
+pub returns-else-self : goal.returns-else-self
+returns-else-self c = c.has_sought.ensures ∙ ap (list_any (is_sought c.args.withdrawn c.args.key.now)) c.uses.ensures.value
