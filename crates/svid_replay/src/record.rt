@@ -250,9 +250,9 @@ impl<S: UseStore> Record<S> {
     /// The keys that two or more of the record's uses have, rising, each with all its uses. A withdrawal
     /// is none of them.
     ///
-    /// Looks at each use twice, and takes about n log n steps for n uses. Beside what it answers it holds
-    /// 8 bytes a use, and then one copy of the uses whose keys begin with 8 bytes that another key of the
-    /// record begins with too, or that two of its uses have.
+    /// Looks at each use twice. Beside what it answers it holds two bytes a use, and then one copy of the
+    /// uses whose keys two of them have, or may have: a filter tells which, and is wrong of about one key in
+    /// two hundred where keys are digests. At worst it takes n log n steps for n uses, and a copy of all.
     pub fn report(&self, alloc: Global) -> Result<Vec<Twice>, AllocError>
         ensures value { IfOk result (λ listed. listed.items ≡ twice_of (used (rising self.now.uses))) }
         ensures relation { IfOk result (λ listed. IsTwice (used (rising self.now.uses)) listed.items) }

@@ -25,15 +25,14 @@ const FRONT: usize = 256;
 // A run is merged with the one behind it while it is shorter than so many times that.
 const FACTOR: usize = 2;
 
-/// A set of uses as a short sorted vector, and runs: sorted vectors, each with a filter of its keys, and mostly with the
-/// keys themselves, sorted. Most inserts are
+/// A set of uses as a short sorted vector, and runs: sorted vectors, each with its keys. Most inserts are
 /// short, but one that fills the short vector makes it a run and may merge runs, at worst all of them. Where
 /// that is refused memory it is left undone, and the use is in the set all the same. Many uses at once
 /// (`insert_all`) are a run by themselves, which is merged in the same way.
 ///
-/// A set that is made by `without_keys` keeps no keys: it takes less time and memory to put uses in, and its
-/// `has` and `is_withdrawn` look at each use. It is for records that are joined and walked, and asked for no
-/// key, as those of a report are.
+/// A set that [`RunUses::without_keys`] makes has runs without keys: less time and memory for each use that
+/// is put in, but `has` and `is_withdrawn` may look at all uses. It is for a record that is joined and walked,
+/// and asked for few keys.
 #[derive(Debug, Drop)]
 pub struct RunUses {
     alloc: Global,
@@ -262,7 +261,8 @@ impl RunUses {
         RunUses::empty(alloc, true)
     }
 
-    /// The empty set, which keeps no keys: `has` and `is_withdrawn` look at each use. Takes no memory.
+    /// The empty set, whose runs will have no keys: `has` and `is_withdrawn` may look at all uses. Takes no
+    /// memory.
     pub fn without_keys(alloc: Global) -> RunUses
         ensures { result ≡ no_uses }
     {

@@ -6,8 +6,8 @@
 //! [`run_report`] writes a record for people to read, and [`run_merge`] for validators, as the texts of
 //! its parts. [`run_summary`] writes the summary of a record, and [`run_answer`] answers one with the uses
 //! of all buckets whose digests differ from the summary's: whole buckets, so also uses that both records
-//! have. [`join_input`] and [`join_inputs`] serve the engines of the crates above, as [`read_summary`],
-//! [`read_input`], [`put_text`], [`put_record`], [`put_answer`] and [`put_report`] do.
+//! have. [`join_inputs`] joins the inputs of an engine. [`join_input`] serves the engines of the crates
+//! above, as [`read_summary`], [`read_input`], [`put_text`], [`put_record`], [`put_answer`] and [`put_report`] do.
 //!
 //! ```rust
 //! use svid_share::run_report;

@@ -233,7 +233,8 @@ fn stores_hold_sets_of_uses(rt: HostRuntime) -> Result<(), Fail> {
     let alloc = rt.alloc();
     stores_a_set_of_uses(&rt, &mut SortedUses::new(alloc))?;
     stores_a_set_of_uses(&rt, &mut IndexedUses::new(alloc))?;
-    stores_a_set_of_uses(&rt, &mut RunUses::new(alloc))
+    stores_a_set_of_uses(&rt, &mut RunUses::new(alloc))?;
+    stores_a_set_of_uses(&rt, &mut RunUses::without_keys(alloc))
 }
 
 #[test]

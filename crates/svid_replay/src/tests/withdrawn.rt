@@ -97,6 +97,7 @@ fn all_tell(
     store_tells(rt, &mut SortedUses::new(alloc), uses, has, gone)?;
     store_tells(rt, &mut IndexedUses::new(alloc), uses, has, gone)?;
     store_tells(rt, &mut RunUses::new(alloc), uses, has, gone)?;
+    store_tells(rt, &mut RunUses::without_keys(alloc), uses, has, gone)?;
     record_tells(rt, alloc, &mut sorted(alloc), uses, has, gone)?;
     record_tells(rt, alloc, &mut indexed(alloc), uses, has, gone)?;
     record_tells(rt, alloc, &mut in_runs(alloc), uses, has, gone)
@@ -140,6 +141,7 @@ fn the_least_and_the_greatest_withdrawal_are_found(rt: HostRuntime) -> Result<()
         store_tells(&rt, &mut SortedUses::new(alloc), &uses, true, gone)?;
         store_tells(&rt, &mut IndexedUses::new(alloc), &uses, true, gone)?;
         store_tells(&rt, &mut RunUses::new(alloc), &uses, true, gone)?;
+        store_tells(&rt, &mut RunUses::without_keys(alloc), &uses, true, gone)?;
     }
     Ok(())
 }

@@ -65,35 +65,40 @@ fn assert_alike(
     Ok(())
 }
 
-#[test]
-fn runs_tell_what_two_orders_do(rt: HostRuntime) -> Result<(), Fail> {
-    let alloc = rt.alloc();
-    let mut runs = RunUses::new(alloc);
+// Uses go into runs and two orders, and expire.
+fn tells_what_two_orders_do(
+    rt: &impl Abort,
+    alloc: Global,
+    runs: &mut RunUses,
+) -> Result<(), Fail> {
     let mut other = IndexedUses::new(alloc);
     for number in 0..1500u64 {
         let used = mixed(number);
         runs.insert(used)?;
         other.insert(used)?;
         if number % 500 == 499 {
-            assert_alike(&rt, alloc, &runs, &other)?;
+            assert_alike(rt, alloc, runs, &other)?;
             let moment = 5001 + number / 100;
             assert_eq!(rt; runs.drop_expired(moment), other.drop_expired(moment));
-            assert_alike(&rt, alloc, &runs, &other)?;
+            assert_alike(rt, alloc, runs, &other)?;
         }
     }
     for moment in [5040, 5060, 5080, 5097, 5098u64] {
         assert_eq!(rt; runs.drop_expired(moment), other.drop_expired(moment));
-        assert_alike(&rt, alloc, &runs, &other)?;
+        assert_alike(rt, alloc, runs, &other)?;
     }
     assert!(rt; runs.is_empty());
     Ok(())
 }
 
-// A use that expired may be put in again: it is there until the next moment.
 #[test]
-fn an_expired_use_comes_back(rt: HostRuntime) -> Result<(), Fail> {
+fn runs_tell_what_two_orders_do(rt: HostRuntime) -> Result<(), Fail> {
     let alloc = rt.alloc();
-    let mut runs = RunUses::new(alloc);
+    tells_what_two_orders_do(&rt, alloc, &mut RunUses::new(alloc))?;
+    tells_what_two_orders_do(&rt, alloc, &mut RunUses::without_keys(alloc))
+}
+
+fn has_again_what_expired(rt: &impl Abort, alloc: Global, runs: &mut RunUses) -> Result<(), Fail> {
     let mut other = IndexedUses::new(alloc);
     for number in 0..1000u64 {
         runs.insert(mixed(number))?;
@@ -102,20 +107,25 @@ fn an_expired_use_comes_back(rt: HostRuntime) -> Result<(), Fail> {
     for _ in 0..3 {
         assert_eq!(rt; runs.drop_expired(5040), other.drop_expired(5040));
         assert_eq!(rt; runs.drop_expired(5020), other.drop_expired(5020));
-        assert_alike(&rt, alloc, &runs, &other)?;
+        assert_alike(rt, alloc, runs, &other)?;
         for number in 0..1000u64 {
             runs.insert(mixed(number))?;
             other.insert(mixed(number))?;
         }
-        assert_alike(&rt, alloc, &runs, &other)?;
+        assert_alike(rt, alloc, runs, &other)?;
     }
     Ok(())
 }
 
+// A use that expired may be put in again: it is there until the next moment.
 #[test]
-fn keys_that_begin_alike_are_told_apart(rt: HostRuntime) -> Result<(), Fail> {
+fn an_expired_use_comes_back(rt: HostRuntime) -> Result<(), Fail> {
     let alloc = rt.alloc();
-    let mut runs = RunUses::new(alloc);
+    has_again_what_expired(&rt, alloc, &mut RunUses::new(alloc))?;
+    has_again_what_expired(&rt, alloc, &mut RunUses::without_keys(alloc))
+}
+
+fn tells_keys_apart(rt: &impl Abort, runs: &mut RunUses) -> Result<(), Fail> {
     for number in 0..600u64 {
         runs.insert(alike(number * 2))?;
     }
@@ -129,6 +139,13 @@ fn keys_that_begin_alike_are_told_apart(rt: HostRuntime) -> Result<(), Fail> {
     assert_eq!(rt; runs.drop_expired(70_000).dropped, 600);
     assert!(rt; !runs.has(&alike(0).key));
     Ok(())
+}
+
+#[test]
+fn keys_that_begin_alike_are_told_apart(rt: HostRuntime) -> Result<(), Fail> {
+    let alloc = rt.alloc();
+    tells_keys_apart(&rt, &mut RunUses::new(alloc))?;
+    tells_keys_apart(&rt, &mut RunUses::without_keys(alloc))
 }
 
 // Of keys that begin alike a report lists only the one that two uses have: a withdrawal is none of them.
@@ -168,36 +185,44 @@ fn insert_in_front(rt: &impl Abort, alloc: Global, runs: &mut RunUses, new: Use)
     asked
 }
 
-#[test]
-fn the_front_grows_while_memory_for_runs_is_refused(rt: HostRuntime) -> Result<(), Fail> {
-    let alloc = rt.alloc();
-    let mut runs = RunUses::new(alloc);
+fn grows_in_front(rt: &impl Abort, alloc: Global, runs: &mut RunUses) -> Result<(), Fail> {
     let mut other = IndexedUses::new(alloc);
     let mut asked = 0u64;
     for number in 0..1200u64 {
-        if insert_in_front(&rt, alloc, &mut runs, mixed(number)) {
+        if insert_in_front(rt, alloc, runs, mixed(number)) {
             asked = asked.saturating_add(1);
         }
         other.insert(mixed(number))?;
     }
     // a run is tried four times, and the front grows ten times at most
     assert!(rt; asked <= 14);
-    assert_alike(&rt, alloc, &runs, &other)?;
+    assert_alike(rt, alloc, runs, &other)?;
     assert_eq!(rt; runs.drop_expired(5040), other.drop_expired(5040));
-    assert_alike(&rt, alloc, &runs, &other)?;
+    assert_alike(rt, alloc, runs, &other)?;
     for number in 1200..2400u64 {
         runs.insert(mixed(number))?;
         other.insert(mixed(number))?;
     }
-    assert_alike(&rt, alloc, &runs, &other)
+    assert_alike(rt, alloc, runs, &other)
+}
+
+#[test]
+fn the_front_grows_while_memory_for_runs_is_refused(rt: HostRuntime) -> Result<(), Fail> {
+    let alloc = rt.alloc();
+    grows_in_front(&rt, alloc, &mut RunUses::new(alloc))?;
+    grows_in_front(&rt, alloc, &mut RunUses::without_keys(alloc))
 }
 
 // The use that makes the front a run, and merges all runs, with the nth allocation refused: it is in all the same, or
 // the store stays.
-fn settles_as_far_as_memory_goes(rt: &impl Abort, alloc: Global, nth: usize) -> Result<(), Fail>
+fn settles_as_far_as_memory_goes(
+    rt: &impl Abort,
+    alloc: Global,
+    nth: usize,
+    runs: &mut RunUses,
+) -> Result<(), Fail>
     requires { nth < 4294967296 }
 {
-    let mut runs = RunUses::new(alloc);
     let mut other = IndexedUses::new(alloc);
     for number in 0..1023u64 {
         runs.insert(mixed(number))?;
@@ -209,19 +234,20 @@ fn settles_as_far_as_memory_goes(rt: &impl Abort, alloc: Global, nth: usize) -> 
     if answer.is_ok() {
         other.insert(mixed(1023))?;
     }
-    assert_alike(rt, alloc, &runs, &other)?;
+    assert_alike(rt, alloc, runs, &other)?;
     for number in 1023..1600u64 {
         runs.insert(mixed(number))?;
         other.insert(mixed(number))?;
     }
-    assert_alike(rt, alloc, &runs, &other)
+    assert_alike(rt, alloc, runs, &other)
 }
 
 #[test]
 fn a_refused_run_or_merge_is_left_undone(rt: HostRuntime) -> Result<(), Fail> {
     let alloc = rt.alloc();
     for nth in 1..12usize {
-        settles_as_far_as_memory_goes(&rt, alloc, nth)?;
+        settles_as_far_as_memory_goes(&rt, alloc, nth, &mut RunUses::new(alloc))?;
+        settles_as_far_as_memory_goes(&rt, alloc, nth, &mut RunUses::without_keys(alloc))?;
     }
     Ok(())
 }
@@ -384,6 +410,38 @@ fn many_uses_at_once_lose_none_where_memory_is_refused(rt: HostRuntime) -> Resul
         }
     }
     assert!(rt; !refused);
+    Ok(())
+}
+
+// How many growths are asked for when so many uses are put in at once, the first refused and tried again.
+fn growths(rt: &impl Abort, alloc: Global, batch: &Batch, keyed: bool) -> Result<usize, Fail> {
+    for nth in 1..100usize {
+        let mut runs = if keyed {
+            RunUses::new(alloc)
+        } else {
+            RunUses::without_keys(alloc)
+        };
+        refuse(alloc, nth);
+        let all = runs.insert_all(batch.uses());
+        let refused = was_refused(alloc);
+        refuse(alloc, 0);
+        assert_eq!(rt; all, !refused);
+        if !refused {
+            return Ok(nth.saturating_sub(1));
+        }
+    }
+    Ok(100)
+}
+
+// A run has its uses, its keys and its filter, and one that keeps no keys has no memory for them.
+#[test]
+fn a_run_without_keys_takes_no_memory_for_them(rt: HostRuntime) -> Result<(), Fail> {
+    let alloc = rt.alloc();
+    let batch = part(&rt, alloc, 200, 900)?;
+    let with = growths(&rt, alloc, &batch, true)?;
+    let without = growths(&rt, alloc, &batch, false)?;
+    // (where no library refuses memory, nothing is seen)
+    assert!(rt; with == 0 && without == 0 || with == without.saturating_add(1));
     Ok(())
 }
 

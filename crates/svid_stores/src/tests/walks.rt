@@ -106,6 +106,9 @@ fn a_room_takes_the_next_uses(rt: HostRuntime) -> Result<(), Fail> {
         let mut runs = RunUses::new(alloc);
         fill(&mut runs, count)?;
         assert_rooms(&rt, alloc, &runs, count as usize)?;
+        let mut walked = RunUses::without_keys(alloc);
+        fill(&mut walked, count)?;
+        assert_rooms(&rt, alloc, &walked, count as usize)?;
         let mut indexed = IndexedUses::new(alloc);
         fill(&mut indexed, count)?;
         assert_rooms(&rt, alloc, &indexed, count as usize)?;

@@ -186,7 +186,8 @@ fn a_use_is_put_in_or_the_store_stays(rt: HostRuntime) -> Result<(), Fail> {
     let alloc = rt.alloc();
     puts_a_use_in_or_stays(&rt, alloc, &mut SortedUses::new(alloc))?;
     puts_a_use_in_or_stays(&rt, alloc, &mut IndexedUses::new(alloc))?;
-    puts_a_use_in_or_stays(&rt, alloc, &mut RunUses::new(alloc))
+    puts_a_use_in_or_stays(&rt, alloc, &mut RunUses::new(alloc))?;
+    puts_a_use_in_or_stays(&rt, alloc, &mut RunUses::without_keys(alloc))
 }
 
 // Adds one use after the other while each growth is refused in turn: a refusal leaves all as it was.
@@ -248,7 +249,8 @@ fn loses_none_of_100000<S: UseStore>(
 fn stores_of_100000_uses_lose_none(rt: HostRuntime) -> Result<(), Fail> {
     let alloc = rt.alloc();
     loses_none_of_100000(&rt, alloc, &mut IndexedUses::new(alloc))?;
-    loses_none_of_100000(&rt, alloc, &mut RunUses::new(alloc))
+    loses_none_of_100000(&rt, alloc, &mut RunUses::new(alloc))?;
+    loses_none_of_100000(&rt, alloc, &mut RunUses::without_keys(alloc))
 }
 
 #[test]
