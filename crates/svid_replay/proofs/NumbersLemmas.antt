@@ -24,15 +24,6 @@ use Rattle.svid_replay.proofs.TwiceLemmas.{key_exact, same-twice_of}
 use Rattle.svid_replay.proofs.UsesLemmas.{IsWalked, walk_none, walk_more, walk_end}
 
 -- ---- what is noted of a use more
-pub noted_withdrawal : (us : List Use) (u : Use) (words numbers : List ℕ) → u.withdrawn ≡ true → IsNoted us words numbers → IsNoted (us ++ u ∷ []) words numbers
-noted_withdrawal us u words numbers e noted =
-    let same : used (us ++ u ∷ []) ≡ used us = filter-out (λ v. not v.withdrawn) us u (ap not e) in
-    record {
-      some = noted.some;
-      known = subst (AllByRecursion (λ v. HasBits words v.key)) (sym same) noted.known;
-      twice = λ key many. noted.twice key (ap (λ vs. nat_lt 1 (length (uses_of key vs))) (sym same) ∙ many);
-    }
-
 -- where the numbers have all that they had, and that of the key where a use before has it
 noted_kept : (us : List Use) (u : Use) (words now numbers new : List ℕ) → u.withdrawn ≡ false → IsNoted us words numbers → 0 < length now → ((other : List ℕ) → HasBits words other → HasBits now other) → HasBits now u.key → ((key : List ℕ) → has_number numbers key ≡ true → has_number new key ≡ true) → (list_any (has_key u.key) (used us) ≡ true → has_number new u.key ≡ true) → IsNoted (us ++ u ∷ []) now new
 noted_kept us u words now numbers new e noted some others added kept again = record {

@@ -252,7 +252,7 @@ impl<S: UseStore> Record<S> {
     ///
     /// Looks at each use twice. Beside what it answers it holds two bytes a use, and then one copy of the
     /// uses whose keys two of them have, or may have: a filter tells which, and is wrong of about one key in
-    /// two hundred where keys are digests. At worst it takes n log n steps for n uses, and a copy of all.
+    /// 250 where keys are digests. At worst it takes n log n steps for n uses, and a copy of all.
     pub fn report(&self, alloc: Global) -> Result<Vec<Twice>, AllocError>
         ensures value { IfOk result (λ listed. listed.items ≡ twice_of (used (rising self.now.uses))) }
         ensures relation { IfOk result (λ listed. IsTwice (used (rising self.now.uses)) listed.items) }
