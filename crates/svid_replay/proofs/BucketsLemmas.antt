@@ -24,7 +24,7 @@ use Rattle.svid_replay.proofs.TestsLemmas.{and-comm}
 use Rattle.svid_replay.proofs.UseLemmas.{use_exact, use_total}
 use Rattle.svid_replay.proofs.UsesLemmas.{IsWalked, rising-keep, walk_none, walk_more, walk_end}
 
--- ---- the digests of all buckets
+-- the digests of all buckets
 pub digests_are : (digests : List (List ℕ)) (us : List Use) → length digests ≡ 256 → ((b : ℕ) (d : List ℕ) → b < 256 → get_or digests b d ≡ sha256 (text_in b us)) → digests ≡ digests_in us
 unfolding digests_in
 digests_are digests us full each = same_lists digests _ (full ∙ sym (length-map-range_with_len (λ b. sha256 (text_in b us)) 0 256)) (λ b d within. let below : b < 256 = omega (arith, full) in each b d below ∙ sym (get_or-map-range_with_len (λ c. sha256 (text_in c us)) 0 256 b b d below (omega arith)))
@@ -41,7 +41,7 @@ digests_in-rising uses = same_map_all (λ b. sha256 (text_in b (rising uses))) (
     same_map_all f g [] h = refl
     same_map_all f g (n ∷ ns) h = ap (λ d. d ∷ map f ns) (h n) ∙ ap (λ ds. g n ∷ ds) (same_map_all f g ns h)
 
--- ---- the uses that pass a test, by a walk over a set
+-- the uses that pass a test, by a walk over a set
 pub record HasPicked (test : Use → Bool) (s : Uses) (after : Option Use) (picked : List Use) : Type 0 where
   pub front : List Use
   pub walked : IsWalked (rising s) after front
@@ -74,7 +74,7 @@ picked test s after list so_far none = so_far.value ∙ ap (filter test) (walk_e
 pub picked_stale : (summary : SummaryData) (s : Uses) (after : Option Use) (picked : List Use) → HasPicked (differs summary s) s after picked → find (is_after after) (rising s) ≡ None → picked ≡ rising (stale summary s)
 picked_stale summary s after list so_far none = picked (differs summary s) s after list so_far none ∙ sym (rising-stale summary s)
 
--- ---- answers
+-- answers
 pub stale_is_held : (s : SummaryData) (r : State) → IsRecord r → AllByRecursion (IsHeldAt r.moment) (rising (stale s r.uses))
 unfolding stale
 stale_is_held s r is = each_held (record { moment = r.moment; uses = keep (differs s r.uses) r.uses }) (kept_is_record (differs s r.uses) r is)
@@ -83,7 +83,7 @@ pub answered : (old r : State) (s : SummaryData) (us : List Use) → r ≡ raise
 unfolding answer_to
 answered old r s us raised are = ap (cut r.moment) are ∙ ap (λ (q : State). cut q.moment (rising (stale s q.uses))) raised
 
--- ---- the laws of buckets and answers
+-- the laws of buckets and answers
 pub bucket_holds_its_uses : BucketHoldsItsUses
 bucket_holds_its_uses b s u = holds-keep use_total use_exact (λ v. bucket_of v == b) s u ∙ and-comm (bucket_of u == b) (holds s u)
 

@@ -42,13 +42,13 @@ key_first_exact : (u v : Use) → key_first_cmp (key_first u) (key_first v) ≡ 
 key_first_exact u v h =
     ap use_of (exact_pairs (slice_cmp nat_cmp) _ exact_bytes (exact_pairs bool_cmp _ exact_kinds (exact_pairs nat_cmp _ exact_unsigned (exact_pairs (slice_cmp nat_cmp) nat_cmp exact_bytes exact_unsigned))) (row (key_first u)) (row (key_first v)) h)
 
--- ---- the two orders tell the same uses apart
+-- the two orders tell the same uses apart
 key_first_same : (u q : Use) → eq_by_cmp key_first_cmp (key_first u) (key_first q) ≡ eq_by_cmp use_cmp u q
 key_first_same u q = one_test _ _
     (λ e. let is : u ≡ q = key_first_exact u q (equal _ e) in subst (λ v. eq_by_cmp use_cmp u v ≡ true) is (ap is_eq (tied_itself use_total u)))
     (λ e. let is : u ≡ q = use_exact u q (equal _ e) in subst (λ v. eq_by_cmp key_first_cmp (key_first u) (key_first v) ≡ true) is (ap is_eq (tied_itself key_first_total (key_first u))))
 
--- ---- a use comes into both orders, or goes out of the first again
+-- a use comes into both orders, or goes out of the first again
 -- each list has a use where the old one had it, but for one use, which it has or hasn't
 abbrev pub Changes : List Use → Use → Bool → List Use → Type 0
 Changes us u has vs = (q : Use) → has_use vs q ≡ cond (eq_by_cmp use_cmp u q) has (has_use us q)
@@ -98,7 +98,7 @@ indexed_same us vs ws ks js u is up absent gained lost no_change = record {
 pub not_held : {G : Type 0} (us : List Use) (u : Use) → has_use us u ≡ false → holds (uses_in us) u ≡ true → G
 not_held us u absent held = absurd (true≢false (sym held ∙ holds-uses_in us u ∙ absent))
 
--- ---- the least use goes
+-- the least use goes
 below_absent : (u : Use) (us : List Use) → AllByRecursion (λ v. use_cmp u v ≡ Less) us → has_use us u ≡ false
 below_absent u [] all = refl
 below_absent u (v ∷ us) all = ap (λ o. is_eq o || has_use us u) all.0 ∙ below_absent u us all.1
@@ -178,7 +178,7 @@ dropped_all moment old us ks so_far none = ap uses_in (sym (none_expired moment 
 pub dropped_count : (moment dropped : ℕ) (old us : List Use) (js ks : List KeyFirst) → IsIndexed old js → HasDropped moment old us ks → dropped + length us ≡ length old → dropped + count (uses_in us) ≡ count (uses_in old)
 dropped_count moment dropped old us js ks was so_far sum = omega (arith, sum, ap length (rising-uses_in us so_far.indexed.rising), ap length (rising-uses_in old was.rising))
 
--- ---- the next use
+-- the next use
 head_found : (p : Use → Bool) (us : List Use) (u : Use) (rest : List Use) → filter p us ≡ u ∷ rest → find p us ≡ Some u
 head_found p [] u rest e = cc
 head_found p (v ∷ us) u rest e =
@@ -211,7 +211,7 @@ pub all_pass : (us : List Use) → us ≡ filter (λ u. true) us
 all_pass [] = refl
 all_pass (u ∷ us) = ap (λ vs. u ∷ vs) (all_pass us)
 
--- ---- a look by key
+-- a look by key
 abbrev pub least_of : Bool → List ℕ → KeyFirst
 least_of withdrawn key = record { key = key; withdrawn = withdrawn; exp = 0; place = replicate 16 0; at = 0 }
 

@@ -18,14 +18,14 @@ use Rattle.svid_replay.specs.declared.token_use.Use.{Use}
 use Rattle.svid_replay.specs.declared.until.Mark.{Mark}
 use Rattle.svid_replay.specs.declared.until.Until.{Until}
 use Rattle.svid_replay.specs.Indexed.{is_sought}
-use Rattle.svid_replay.specs.Keys.{AreKeys, TellUses, behind_by, gone_by, is_behind, is_held, is_left, left_of, mark_cmp, mark_of, until_cmp, until_of}
+use Rattle.svid_replay.specs.Keys.{AreKeys, TellUses, in_front_by, gone_by, is_in_front_of, is_held, is_left, left_of, mark_cmp, mark_of, until_cmp, until_of}
 use Rattle.svid_replay.specs.Use.{bytes_cmp, use_cmp}
 use Rattle.svid_replay.proofs.ListLemmas.{all_same, any_none, drop-parted, each_true, each_weaker, parted_by}
 use Rattle.svid_replay.proofs.MergeLemmas.{merge, merge_has}
 use Rattle.svid_replay.proofs.TestsLemmas.{and-false, equal}
 use Rattle.svid_replay.proofs.UseLemmas.{both_equal, exact_kinds, use_exact, use_total}
 
--- ---- the order
+-- the order
 pub mark_total : IsTotalOrder mark_cmp
 mark_total = then_total (on_total (λ (m : Mark). m.key) nat_list_cmp_total) (on_total (λ (m : Mark). m.withdrawn) bool_cmp_total)
 
@@ -46,7 +46,7 @@ until_exact a b e =
     let exp = nat_cmp-IsAntisymmetric a.exp b.exp one.1 in
     λ i. record { mark = mark i; exp = exp i }
 
--- ---- tests of lists
+-- tests of lists
 -- what is kept and passes
 any_kept : {X : Type 0} (p q : X → Bool) (xs : List X) → list_any p (filter q xs) ≡ list_any (λ x. p x && q x) xs
 any_kept p q [] = refl
@@ -98,31 +98,31 @@ any_until p (u ∷ us) = ap (λ b. p (until_of u) || b) (any_until p us)
 pub until_tied : (x y : Until) → eq_by_cmp until_cmp x y ≡ true → x ≡ y
 until_tied x y e = until_exact x y (equal _ e)
 
--- ---- a look by mark
+-- a look by mark
 gone_stays : (gone : Option ℕ) (m n : ℕ) → nat_cmp m n ≡ Less → not (is_left gone n) ≡ true → not (is_left gone m) ≡ true
 gone_stays None m n less e = e
 gone_stays (Some moment) m n less e = grind (arith, nat_tests, less, e)
 
-behind_equal : (o : Ordering) (gone : Option ℕ) (m n : ℕ) → nat_cmp m n ≡ Less → behind_by o (is_left gone n) ≡ true → behind_by o (is_left gone m) ≡ true
+behind_equal : (o : Ordering) (gone : Option ℕ) (m n : ℕ) → nat_cmp m n ≡ Less → in_front_by o (is_left gone n) ≡ true → in_front_by o (is_left gone m) ≡ true
 behind_equal Less gone m n less e = e
 behind_equal Equal gone m n less e = gone_stays gone m n less e
 behind_equal Greater gone m n less e = e
 
 -- a mark that is not less than one is greater than those below that one
-above_lesser : (o : Ordering) (mark m n : Mark) (left : Bool) → mark_cmp mark n ≡ o → behind_by o left ≡ true → mark_cmp m n ≡ Less → mark_cmp mark m ≡ Greater
+above_lesser : (o : Ordering) (mark m n : Mark) (left : Bool) → mark_cmp mark n ≡ o → in_front_by o left ≡ true → mark_cmp m n ≡ Less → mark_cmp mark m ≡ Greater
 above_lesser Less mark m n left is e less = absurd (false≢true e)
 above_lesser Equal mark m n left is e less = mark_total.antisymm mark m ∙ ap ordering_reverse (subst (λ k. mark_cmp m k ≡ Less) (sym (mark_exact mark n is)) less)
 above_lesser Greater mark m n left is e less = mark_total.antisymm mark m ∙ ap ordering_reverse (mark_total.trans m n mark less (mark_total.antisymm n mark ∙ ap ordering_reverse is))
 
-behind_falls : (o : Ordering) (mark : Mark) (gone : Option ℕ) (e f : Until) → mark_cmp e.mark f.mark ≡ o → ordering_then o (nat_cmp e.exp f.exp) ≡ Less → is_behind mark gone f ≡ true → is_behind mark gone e ≡ true
-behind_falls Less mark gone e f is less b = ap (λ r. behind_by r (is_left gone e.exp)) (above_lesser (mark_cmp mark f.mark) mark e.mark f.mark (is_left gone f.exp) refl b is)
-behind_falls Equal mark gone e f is less b = subst (λ m. behind_by (mark_cmp mark m) (is_left gone e.exp) ≡ true) (sym (mark_exact e.mark f.mark is)) (behind_equal (mark_cmp mark f.mark) gone e.exp f.exp less b)
+behind_falls : (o : Ordering) (mark : Mark) (gone : Option ℕ) (e f : Until) → mark_cmp e.mark f.mark ≡ o → ordering_then o (nat_cmp e.exp f.exp) ≡ Less → is_in_front_of mark gone f ≡ true → is_in_front_of mark gone e ≡ true
+behind_falls Less mark gone e f is less b = ap (λ r. in_front_by r (is_left gone e.exp)) (above_lesser (mark_cmp mark f.mark) mark e.mark f.mark (is_left gone f.exp) refl b is)
+behind_falls Equal mark gone e f is less b = subst (λ m. in_front_by (mark_cmp mark m) (is_left gone e.exp) ≡ true) (sym (mark_exact e.mark f.mark is)) (behind_equal (mark_cmp mark f.mark) gone e.exp f.exp less b)
 behind_falls Greater mark gone e f is less b = let none : Greater ≡ Less = less in cc
 
-pub behind_parted : (mark : Mark) (gone : Option ℕ) (keys : List Until) → AreKeys keys → IsPartitionedBy (is_behind mark gone) keys
-behind_parted mark gone keys up = parted_by until_cmp (is_behind mark gone) (λ e f less b. behind_falls (mark_cmp e.mark f.mark) mark gone e f refl less b) keys up
+pub behind_parted : (mark : Mark) (gone : Option ℕ) (keys : List Until) → AreKeys keys → IsPartitionedBy (is_in_front_of mark gone) keys
+behind_parted mark gone keys up = parted_by until_cmp (is_in_front_of mark gone) (λ e f less b. behind_falls (mark_cmp e.mark f.mark) mark gone e f refl less b) keys up
 
-held_not_behind : (o : Ordering) (left : Bool) → (is_eq o && left) ≡ true → not (behind_by o left) ≡ true
+held_not_behind : (o : Ordering) (left : Bool) → (is_eq o && left) ≡ true → not (in_front_by o left) ≡ true
 held_not_behind Less left e = refl
 held_not_behind Equal true e = refl
 held_not_behind Equal false e = e
@@ -141,7 +141,7 @@ later_mark Greater mark e f is less below = let none : Greater ≡ Less = less i
 not_held : (mark : Mark) (gone : Option ℕ) (f : Until) → mark_cmp mark f.mark ≡ Less → is_held mark gone f ≡ false
 not_held mark gone f below = ap (λ o. is_eq o && is_left gone f.exp) below
 
-head_decides : (o : Ordering) (mark : Mark) (gone : Option ℕ) (e : Until) (es : List Until) → mark_cmp mark e.mark ≡ o → not (behind_by o (is_left gone e.exp)) ≡ true → AllByRecursion (λ f. until_cmp e f ≡ Less) es → is_eq o ≡ ((is_eq o && is_left gone e.exp) || list_any (is_held mark gone) es)
+head_decides : (o : Ordering) (mark : Mark) (gone : Option ℕ) (e : Until) (es : List Until) → mark_cmp mark e.mark ≡ o → not (in_front_by o (is_left gone e.exp)) ≡ true → AllByRecursion (λ f. until_cmp e f ≡ Less) es → is_eq o ≡ ((is_eq o && is_left gone e.exp) || list_any (is_held mark gone) es)
 head_decides Less mark gone e es is ahead above = sym (any_none (is_held mark gone) es (each_weaker (λ f. until_cmp e f ≡ Less) _ (λ f less. not_held mark gone f (later_mark (mark_cmp e.mark f.mark) mark e f refl less is)) es above))
 head_decides Equal mark gone e es is ahead above = left_first (is_left gone e.exp) (list_any (is_held mark gone) es) ahead
   where
@@ -150,15 +150,15 @@ head_decides Equal mark gone e es is ahead above = left_first (is_left gone e.ex
     left_first false rest e = absurd (false≢true e)
 head_decides Greater mark gone e es is ahead above = absurd (false≢true ahead)
 
-first_decides : (mark : Mark) (gone : Option ℕ) (es : List Until) → AreKeys es → AllByRecursion (λ e. not (is_behind mark gone e) ≡ true) es → head_has mark es ≡ list_any (is_held mark gone) es
+first_decides : (mark : Mark) (gone : Option ℕ) (es : List Until) → AreKeys es → AllByRecursion (λ e. not (is_in_front_of mark gone e) ≡ true) es → head_has mark es ≡ list_any (is_held mark gone) es
 unfolding IsStrictlySortedBy head_has
 first_decides mark gone [] up ahead = refl
 first_decides mark gone (e ∷ es) up ahead = head_decides (mark_cmp mark e.mark) mark gone e es refl ahead.0 up.0
 
-found_left : (mark : Mark) (gone : Option ℕ) (keys : List Until) (i : ℕ) → AreKeys keys → i ≡ prefix_len (is_behind mark gone) keys → head_has mark (drop i keys) ≡ list_any (is_held mark gone) keys
+found_left : (mark : Mark) (gone : Option ℕ) (keys : List Until) (i : ℕ) → AreKeys keys → i ≡ prefix_len (is_in_front_of mark gone) keys → head_has mark (drop i keys) ≡ list_any (is_held mark gone) keys
 found_left mark gone keys i up at =
-    let ahead = λ (e : Until). not (is_behind mark gone e) in
-    let rest : drop i keys ≡ filter ahead keys = ap (λ n. drop n keys) at ∙ drop-parted (is_behind mark gone) keys (behind_parted mark gone keys up) in
+    let ahead = λ (e : Until). not (is_in_front_of mark gone e) in
+    let rest : drop i keys ≡ filter ahead keys = ap (λ n. drop n keys) at ∙ drop-parted (is_in_front_of mark gone) keys (behind_parted mark gone keys up) in
     ap (head_has mark) rest ∙ first_decides mark gone (filter ahead keys) (IsStrictlySortedBy-filter until_cmp ahead keys up) (each_kept ahead keys)
     ∙ any-filter_same (is_held mark gone) ahead true (λ e held. held_not_behind (mark_cmp mark e.mark) (is_left gone e.exp) held) keys
 
@@ -172,13 +172,13 @@ unfolding head_has
 head_some mark [] f e = let no_such : ◌≡◌ {A = Option Until} None (Some f) = e in cc
 head_some mark (x ∷ es) f e = let it : ◌≡◌ {A = Option Until} (Some x) (Some f) = e in let x_is : x ≡ f = cc in ap (λ (g : Until). is_eq (mark_cmp mark g.mark)) (sym x_is)
 
-pub none_left : (mark : Mark) (gone : Option ℕ) (keys : List Until) (i : ℕ) → AreKeys keys → i ≡ prefix_len (is_behind mark gone) keys → slice_get (drop i keys) 0 ≡ None → false ≡ list_any (is_held mark gone) keys
+pub none_left : (mark : Mark) (gone : Option ℕ) (keys : List Until) (i : ℕ) → AreKeys keys → i ≡ prefix_len (is_in_front_of mark gone) keys → slice_get (drop i keys) 0 ≡ None → false ≡ list_any (is_held mark gone) keys
 none_left mark gone keys i up at none = head_none mark (drop i keys) none ∙ found_left mark gone keys i up at
 
-pub some_left : (mark : Mark) (gone : Option ℕ) (keys : List Until) (i : ℕ) (f : Until) → AreKeys keys → i ≡ prefix_len (is_behind mark gone) keys → slice_get (drop i keys) 0 ≡ Some f → is_eq (mark_cmp mark f.mark) ≡ list_any (is_held mark gone) keys
+pub some_left : (mark : Mark) (gone : Option ℕ) (keys : List Until) (i : ℕ) (f : Until) → AreKeys keys → i ≡ prefix_len (is_in_front_of mark gone) keys → slice_get (drop i keys) 0 ≡ Some f → is_eq (mark_cmp mark f.mark) ≡ list_any (is_held mark gone) keys
 some_left mark gone keys i f up at some = head_some mark (drop i keys) f some ∙ found_left mark gone keys i up at
 
--- ---- marks tell of uses
+-- marks tell of uses
 -- the marks that are left tell what a look by mark is for
 pub tell_mark : (mark : Mark) (gone : Option ℕ) (keys : List Until) (us : List Use) → TellUses (left_of gone keys) us → list_any (is_held mark gone) keys ≡ list_any (λ u. is_eq (mark_cmp mark (until_of u).mark)) us
 tell_mark mark gone keys us tell = sym (any_kept (λ e. is_eq (mark_cmp mark e.mark)) (λ e. is_left gone e.exp) keys) ∙ tell (λ e. is_eq (mark_cmp mark e.mark))
@@ -217,7 +217,7 @@ pub tell_merged : (ks js : List Until) (us vs : List Use) → TellUses ks us →
 tell_merged ks js us vs one other p =
     merge_has until_total until_exact p ks js ∙ (λ i. one p i || other p i) ∙ sym (merge_has use_total use_exact (λ u. p (until_of u)) us vs)
 
--- ---- what expires
+-- what expires
 left_then : (gone : Option ℕ) (moment exp : ℕ) → (is_left gone exp && nat_lt moment exp) ≡ is_left (gone_by gone moment) exp
 left_then None moment exp = refl
 left_then (Some before) moment exp = grind (arith, nat_tests)
@@ -249,6 +249,6 @@ live_left gone moment (u ∷ us) live = elim (nat_lt moment u.exp) as (λ b. nat
   | false ↦ λ _. live_left gone moment us live.1
 ] refl
 
--- ---- the merge of what is left
+-- the merge of what is left
 pub left_at_end : (gone : Option ℕ) (keys : List Until) (i : ℕ) → length keys ≤ i → left_of gone (drop i keys) ≡ []
 left_at_end gone keys i done = ap (left_of gone) (drop_all i keys done)

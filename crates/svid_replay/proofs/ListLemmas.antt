@@ -11,7 +11,7 @@ use Rattle.std.specs.declared.cmp.Ordering.{Ordering}
 use Rattle.std.specs.declared.cmp.Ordering.TheVariants.{Less}
 use Rattle.svid_replay.proofs.TestsLemmas.{or-true}
 
--- ---- lists and tests
+-- lists and tests
 pub all_same : {X : Type 0} (p : X → Bool) (xs : List X) → AllByRecursion (λ x. p x ≡ true) xs → filter p xs ≡ xs
 all_same p [] h = refl
 all_same p (x ∷ xs) h = rw h.0 (ap (λ ys. x ∷ ys) (all_same p xs h.1))
@@ -69,7 +69,7 @@ pub each_true : {X : Type 0} (P : X → Type 0) → ((x : X) → P x) → (xs : 
 each_true P f [] = tt
 each_true P f (x ∷ xs) = (f x, each_true P f xs)
 
--- ---- what a list has
+-- what a list has
 pub has_cases : {X : Type 0} (x : X) (xs : List X) (y : X) → Contains (x ∷ xs) y → (x ≡ y) ⊎ Contains xs y
 has_cases x xs y (zero, within, at) = inl at
 has_cases x xs y (suc k, within, at) = inr (k, omega arith, at)
@@ -122,7 +122,7 @@ pub any_none : {X : Type 0} (p : X → Bool) (xs : List X) → AllByRecursion (�
 any_none p [] h = refl
 any_none p (x ∷ xs) h = rw h.0 (any_none p xs h.1)
 
--- ---- where a search has cut a list
+-- where a search has cut a list
 pub each_before : {X : Type 0} (P : X → Type 0) (xs : List X) (i : ℕ) → AllWithin P xs 0 i → AllByRecursion P (take i xs)
 each_before P xs i all = recursion_from_All P (take i xs) (λ k d h. let below : k < i = omega (arith, length-take i xs) in subst P (sym (get_or-take i xs k d below)) (all k d (omega arith) below))
 

@@ -23,7 +23,7 @@ use Rattle.svid_replay.proofs.TestsLemmas.{and-false, equal, or-true}
 use Rattle.svid_replay.proofs.TwiceLemmas.{key_exact, same-twice_of}
 use Rattle.svid_replay.proofs.UsesLemmas.{IsWalked, walk_none, walk_more, walk_end}
 
--- ---- what is noted of a use more
+-- what is noted of a use more
 -- where the numbers have all that they had, and that of the key where a use before has it
 noted_kept : (us : List Use) (u : Use) (words now numbers new : List ℕ) → u.withdrawn ≡ false → IsNoted us words numbers → 0 < length now → ((other : List ℕ) → HasBits words other → HasBits now other) → HasBits now u.key → ((key : List ℕ) → has_number numbers key ≡ true → has_number new key ≡ true) → (list_any (has_key u.key) (used us) ≡ true → has_number new u.key ≡ true) → IsNoted (us ++ u ∷ []) now new
 noted_kept us u words now numbers new e noted some others added kept again = record {
@@ -64,7 +64,7 @@ noted_again us u words now numbers new e pushed noted some others added =
         let one : list_any (λ m. m == number_of u.key) (number_of u.key ∷ []) ≡ true = grind (arith, nat_tests) in
         ap (λ b. has_number numbers u.key || b) one ∙ or-true (has_number numbers u.key)
 
--- ---- what is noted of the uses of a set, by a walk over it
+-- what is noted of the uses of a set, by a walk over it
 pub record HasNoted (s : Uses) (after : Option Use) (words numbers : List ℕ) : Type 0 where
   pub front : List Use
   pub walked : IsWalked (rising s) after front
@@ -79,13 +79,13 @@ noted_more s after u words now numbers new so_far found step = record { front = 
 pub noted_end : (s : Uses) (after : Option Use) (words numbers : List ℕ) → HasNoted s after words numbers → find (is_after after) (rising s) ≡ None → IsNoted (rising s) words numbers
 noted_end s after words numbers so_far none = subst (λ us. IsNoted us words numbers) (walk_end (rising s) after so_far.front so_far.walked none) so_far.noted
 
--- ---- the same numbers in another order
+-- the same numbers in another order
 pub same_numbers : (ns sorted : List ℕ) → IsPermutation ns sorted → (key : List ℕ) → has_number sorted key ≡ has_number ns key
 same_numbers ns sorted same key =
     let p : ℕ → Bool = λ m. m == number_of key in
     any-filter p sorted ∙ ap (nat_lt 0) (length-filter p sorted ∙ sum_by-IsPermutation (λ m. cond (p m) 1 0) ns sorted same ∙ sym (length-filter p ns)) ∙ sym (any-filter p ns)
 
--- ---- a search in numbers that rise
+-- a search in numbers that rise
 none_is : (x : ℕ) (xs : List ℕ) → ((k : ℕ) → k < length xs → (get_or xs k 0 == x) ≡ false) → list_any (λ m. m == x) xs ≡ false
 none_is x [] h = refl
 none_is x (y ∷ ys) h = let first : (y == x) ≡ false = h 0 (omega arith) in rw first (none_is x ys (λ k within. h (suc k) (omega (arith, within))))
@@ -95,7 +95,7 @@ absent xs x i h up =
     let parts = searched xs x (Err i) h (λ a b le within. up a b 0 le within) in
     none_is x xs (λ k within. ⊎_elim (λ below. let less = parts.1 k below in grind (arith, nat_tests, less)) (λ above. let greater = parts.2 k above within in grind (arith, nat_tests, greater)) (cases_lt k i))
 
--- ---- the uses whose keys have one of the numbers
+-- the uses whose keys have one of the numbers
 filter_cond : {X : Type 0} (p : X → Bool) (x : X) (b : Bool) (ys : List X) → filter p (cond b (x ∷ ys) ys) ≡ cond (b && p x) (x ∷ filter p ys) (filter p ys)
 filter_cond p x true ys = refl
 filter_cond p x false ys = refl

@@ -18,7 +18,7 @@ use Rattle.svid_replay.proofs.UsesLemmas.{held_in_rising, uses_in-rising}
 use Rattle.svid_replay.proofs.RecordsLemmas.{join_lists, join_new}
 use Rattle.svid_replay.proofs.SetsLemmas.{rising_rises}
 
--- ---- rising uses that a record may hold are a batch
+-- rising uses that a record may hold are a batch
 rises_take : (n : ℕ) (us : List Use) → IsRising us → IsRising (take n us)
 unfolding IsStrictlySortedBy
 rises_take zero us up = tt
@@ -51,7 +51,7 @@ good m (u ∷ us) up held = (no_flaw_held m None u held.0 refl, good_behind m u 
 pub held_is_batch : (m : ℕ) (us : List Use) → m < 2 ^ 64 → length us ≤ 65536 → IsRising us → AllByRecursion (IsHeldAt m) us → IsBatch (record { moment = m; uses = us })
 held_is_batch m us fits few up held = record { few = few; moment = fits; fields = each_weaker (IsHeldAt m) IsUse (λ u h. h.fields) us held; good = good m us up held }
 
--- ---- how uses are cut
+-- how uses are cut
 pub cut_few : (m : ℕ) (us : List Use) → length us ≤ 65536 → cut m us ≡ record { moment = m; uses = us } ∷ []
 unfolding cut full_batches
 cut_few m us few = let none : (length us - 1) / 65536 ≡ 0 = omega arith in ap (λ n. full_batches 65536 n m us) none
@@ -94,7 +94,7 @@ pub cuts_last : (m : ℕ) (us rest last : List Use) (batches items : List BatchD
 cuts_last m us rest last batches items b so_far few e is pushed =
     rw (pushed, is, e) (ap (λ bs. batches ++ bs) (sym (cut_few m rest few)) ∙ so_far.value)
 
--- ---- the sizes of what is cut
+-- the sizes of what is cut
 full_cut : (n m : ℕ) (us : List Use) → length us ≤ 65536 * suc n → (0 < n → 65536 * n < length us) → AreParts m us (full_batches 65536 n m us)
 unfolding full_batches
 full_cut zero m us few many = record {
@@ -127,7 +127,7 @@ pub cut_gives_parts : CutGivesParts
 unfolding cut
 cut_gives_parts m us = full_cut ((length us - 1) / 65536) m us (omega arith) (λ some. omega arith)
 
--- ---- a record's uses
+-- a record's uses
 pub each_held : (r : State) → IsRecord r → AllByRecursion (IsHeldAt r.moment) (rising r.uses)
 each_held r is = recursion_from_All (IsHeldAt r.moment) (rising r.uses) (λ k d h. is.each (get_or (rising r.uses) k d) (held_in_rising r.uses k d h))
 
@@ -163,7 +163,7 @@ same_parts_same_record a b e =
     let uses = sym (uses_in-rising a.uses) ∙ ap uses_in (uses_told a.moment b.moment (rising a.uses) (rising b.uses) e) ∙ uses_in-rising b.uses in
     λ i. record { moment = moment i; uses = uses i }
 
--- ---- a record joined with batches of one moment
+-- a record joined with batches of one moment
 pub join_all-lists : (old : State) (m : ℕ) (front : List Use) (bs : List BatchData) → AllByRecursion (λ b. b.moment ≡ m) bs → join_all (join old (state_of m front)) bs ≡ join old (state_of m (front ++ flat_map (λ b. b.uses) bs))
 join_all-lists old m front [] all = ap (λ us. join old (state_of m us)) (sym (append-nil front))
 join_all-lists old m front (b ∷ bs) all =

@@ -28,7 +28,7 @@ use Rattle.svid_replay.proofs.TestsLemmas.{equal, is_less, or-true, or-false, or
 same_state : (a b : State) → a.moment ≡ b.moment → a.uses ≡ b.uses → a ≡ b
 same_state a b m u = λ i. record { moment = m i; uses = u i }
 
--- ---- tests
+-- tests
 lt-max : (m n e : ℕ) → nat_lt (max m n) e ≡ (nat_lt m e && nat_lt n e)
 lt-max m n e = grind (arith, nat_tests)
 
@@ -43,7 +43,7 @@ three true true false ha hb hc = refl
 three true true true ha hb true = refl
 three true true true ha hb false = refl
 
--- ---- the join by what it holds
+-- the join by what it holds
 pub moment-join : (a b : State) → (join a b).moment ≡ max a.moment b.moment
 unfolding join
 moment-join a b = refl
@@ -89,7 +89,7 @@ join_assoc a b c =
     ∙ ap (λ h. (la && (lb && lc)) && (h || ha)) (holds-join b c u ∙ ap (λ l. l && (hc || hb)) (lt-max b.moment c.moment e)) in
     left ∙ three la lb lc ha hb hc ∙ sym right)
 
--- ---- records
+-- records
 live_if_held : (r : State) (u : Use) → IsRecord r → (h : Bool) → holds r.uses u ≡ h → (nat_lt r.moment u.exp && (h || h)) ≡ h
 live_if_held r u is true e = let later : r.moment < u.exp = (is.each u e).live in let test : nat_lt r.moment u.exp ≡ true = grind (arith, nat_tests) in ap (λ l. l && true) test
 live_if_held r u is false e = and-false (nat_lt r.moment u.exp)
@@ -114,7 +114,7 @@ join_closed a b is_a is_b = record {
       subst (λ n. IsHeldAt n u) (sym (moment-join a b)) (of_either a b u (max a.moment b.moment) is_a is_b (omega arith) (omega arith) later (holds b.uses u) refl parts.1);
 }
 
--- ---- what the calls of a record join
+-- what the calls of a record join
 holds-state_of : (moment : ℕ) (us : List Use) (u : Use) → holds (state_of moment us).uses u ≡ list_any (eq_by_cmp use_cmp u) us
 holds-state_of moment us u = holds-uses_in us u
 
@@ -187,7 +187,7 @@ taken_is_record r u s is fields made later grown =
     let after : r.moment < u.exp = grind (arith, nat_tests) in
     subst IsRecord (sym (taken r u s is later grown)) (join_closed r (state_of r.moment (u ∷ [])) is (only_one r.moment u is.moment (record { fields = fields; made = made; live = after })))
 
--- ---- one use after the other
+-- one use after the other
 pushed : (l front t h : Bool) → (l && ((t || false) || (l && (front || h)))) ≡ (l && ((front || (t || false)) || h))
 pushed false front t h = refl
 pushed true true true h = refl
@@ -233,7 +233,7 @@ pub on_err : {X Y : Type 0} (r : Result X Y) (P : Type 0) → P → OnErr r P
 on_err (Ok x) P p = tt
 on_err (Err y) P p = p
 
--- ---- the loop over a batch
+-- the loop over a batch
 pub absorbs_more : (old self new : State) (moment : ℕ) (us : List Use) (i : ℕ) (d : Use) → i < length us → self ≡ join old (state_of moment (take i us)) → new ≡ join self (state_of self.moment (get_or us i d ∷ [])) → new ≡ join old (state_of moment (take (i + 1) us))
 absorbs_more old self new moment us i d within so_far e =
     joined_push old self new moment (take i us) (get_or us i d) so_far e ∙ ap (λ front. join old (state_of moment front)) (sym (take_more us i d within))
@@ -242,7 +242,7 @@ pub absorb_refused : (old self new : State) (b : BatchData) (us : List Use) (i :
 absorb_refused old self new b us i d e within so_far same refused =
     partly old self new b.moment b.uses (take i us) (drop (suc i) us) (get_or us i d) (sym e ∙ sym (take-append-drop i us) ∙ ap (λ r. take i us ++ r) (drop-cons us i d within)) so_far same refused
 
--- ---- the walk over another record
+-- the walk over another record
 pub record HasMerged (old self : State) (moment : ℕ) (us : List Use) (after : Option Use) : Type 0 where
   pub front : List Use
   pub walked : IsWalked us after front
@@ -279,7 +279,7 @@ made_in_batch old self b us i d is e within so_far =
     let made : (get_or us i d).at ≤ b.moment = made_at b.moment None us i d (subst (AllGood b.moment None) (sym e) is.good) within in
     omega (arith, ap (λ (s : State). s.moment) so_far, moment-join old (state_of b.moment (take i us)))
 
--- ---- lists of uses, one behind the other
+-- lists of uses, one behind the other
 behind : (l front t h : Bool) → (l && (t || (l && (front || h)))) ≡ (l && ((front || t) || h))
 behind false front t h = refl
 behind true true true h = refl
@@ -312,7 +312,7 @@ join_new r is =
     let same : r.moment ≡ max 0 r.moment = omega arith in
     sym (is_join (state_of 0 []) r r same (λ u. none_before r u is (holds r.uses u) refl ∙ ap (λ n. nat_lt n u.exp && (holds r.uses u || false)) same ∙ ap (λ h. nat_lt (max 0 r.moment) u.exp && (holds r.uses u || h)) (sym (holds-state_of 0 [] u))))
 
--- ---- the uses of a batch at once
+-- the uses of a batch at once
 no_flaw_after : (live future after : Bool) → cond live (Some Expired) (cond future (Some Future) (cond after None (Some Order))) ≡ None → after ≡ true
 no_flaw_after true future after e = cc
 no_flaw_after false true after e = cc

@@ -1,4 +1,4 @@
--- Runs: merges, and how many uses there are.
+-- Runs, their filters and their front, and the store of them.
 use Rattle.std.proofs.Common.{◌≡◌, ℕ, ◌<◌, ◌≤◌, ◌+◌, zero, suc, Bool, true, false, ◌||◌, ◌&&◌, List, [], ◌∷◌, ◌++◌, length, drop, take, get_or, cond, ◌-◌, nat_lt, not, filter, append_assoc, refl, sym, ◌∙◌, ap, subst, arith}
 use Rattle.std.proofs.lemmas.List.{append-nil, drop_all, take_more, length-drop, take-append-drop, length-append}
 use Rattle.std.proofs.Math.Seq.{drop-cons, take-suc, take-suc-set}
@@ -97,7 +97,7 @@ run_moved items now start keyed keys swept gone words is e clean = record {
   known = subst (AllByRecursion (λ u. HasBits words u.key)) (sym e) is.known;
 }
 
--- ---- the uses of all runs
+-- the uses of all runs
 pub all_append : (rs ss : List (List Use)) → all_of (rs ++ ss) ≡ all_of rs ++ all_of ss
 all_append [] ss = refl
 all_append (r ∷ rs) ss = ap (λ us. r ++ us) (all_append rs ss) ∙ sym (append_assoc r (all_of rs) (all_of ss))
@@ -184,7 +184,7 @@ drops_more now old i moment dropped before went run left is within at kept count
       counted = omega (arith, set_length now i run left within at, counted, is.counted);
     })
 
--- ---- how many uses there are
+-- how many uses there are
 length-keys : (s : Uses) → count s ≡ finmap.len s
 unfolding rising
 length-keys s = length-map (finmap.entries s) (λ e. e.0) ∙ sym (finmap.len-entries s)
@@ -222,7 +222,7 @@ once_filter p us once =
     let left = ap count (uses_in-filter q us) ∙ ap length (rising-keep q (uses_in us)) in
     omega (arith, kept, left, both_parts p us, both_parts p (rising (uses_in us)), once, count_le (filter p us), count_le (filter q us))
 
--- ---- the whole store
+-- the whole store
 pub runs_none : IsRuns [] [] 0
 unfolding IsStrictlySortedBy
 runs_none = record { rising = tt; long = refl; once = sym count_none }
@@ -279,6 +279,13 @@ runs_settled front now runs rest total s was up same less =
       view = sets ∙ was.view;
     }
 
+-- the runs merged
+pub runs_merged : (front : List Use) (runs rest : List (List Use)) (total : ℕ) (s : Uses) → IsSettled front runs total s → HasSame (all_of runs) (all_of rest) → length (all_of rest) ≤ length (all_of runs) → IsSettled front rest total s
+runs_merged front runs rest total s was same less =
+    runs_settled front front runs rest total s was was.is.rising
+    (λ q. let tie = eq_by_cmp use_cmp q in list_any-append tie front (all_of rest) ∙ ap (λ b. list_any tie front || b) (same q) ∙ sym (list_any-append tie front (all_of runs)))
+    (omega (arith, less))
+
 -- one use more in the front
 pub runs_more : (front now : List Use) (runs : List (List Use)) (total : ℕ) (s : Uses) (new : Use) → IsSettled front runs total s → IsRising now → uses_in now ≡ with (uses_in front) new → length front < length now → list_any (eq_by_cmp use_cmp new) (all_of runs) ≡ false → IsSettled now runs (total + 1) (with s new)
 runs_more front now runs total s new was up is longer absent =
@@ -330,7 +337,7 @@ rising_none us e = subst IsRising (sym e) tt
 pub front_is : (moment n : ℕ) (us vs : List Use) → n ≡ prefix_len (λ u. not (nat_lt moment u.exp)) us → us ≡ vs → n ≡ prefix_len (λ u. not (nat_lt moment u.exp)) vs
 front_is moment n us vs e same = e ∙ ap (prefix_len (λ u. not (nat_lt moment u.exp))) same
 
--- ---- a look-up by key
+-- a look-up by key
 any_within : (p : Use → Bool) (us vs : List Use) → ((q : Use) → list_any (eq_by_cmp use_cmp q) us ≡ true → list_any (eq_by_cmp use_cmp q) vs ≡ true) → list_any p us ≡ true → list_any p vs ≡ true
 any_within p [] vs sub any = absurd (false≢true any)
 any_within p (u ∷ us) vs sub any = elim (p u) as (λ b. p u ≡ b → (b || list_any p us) ≡ true → list_any p vs ≡ true) [
@@ -352,7 +359,7 @@ has_in_front p front runs s found view is e = e ∙ ap (λ b. b || list_any p (a
 pub has_in_runs : (p : Use → Bool) (front : List Use) (runs : List (List Use)) (s : Uses) (found later : Bool) → uses_in (front ++ all_of runs) ≡ s → found ≡ list_any p front → found ≡ false → later ≡ list_any p (all_of runs) → later ≡ list_any p (rising s)
 has_in_runs p front runs s found later view is none here = here ∙ ap (λ b. b || list_any p (all_of runs)) (sym none ∙ is) ∙ runs_has p front runs s view
 
--- ---- the next use
+-- the next use
 least_none : (o : Option Use) → least_of o None ≡ o
 least_none None = refl
 least_none (Some u) = refl
@@ -435,7 +442,7 @@ held_in_front front runs s u view none = store_holds front runs s u view ∙ ap 
 pub run_next : (us vs : List Use) (after found : Option Use) → IsRising us → us ≡ vs → found ≡ find (is_after after) us → found ≡ next_above (uses_in vs) after
 run_next us vs after found up e is = is ∙ ap (find (is_after after)) (sym (rising-uses_in us up)) ∙ (λ i. next_above (uses_in (e i)) after)
 
--- ---- filters
+-- filters
 pub bits_stay : (a m n : ℕ) → bit_and a n ≡ n → bit_and (bit_or a m) n ≡ n
 bits_stay a m n e = same_from_bits _ _ (λ i.
     let had : min (bit_at a i) (bit_at n i) ≡ bit_at n i = sym (bit_at_and a n i) ∙ ap (λ x. bit_at x i) e in
@@ -501,7 +508,7 @@ keys_merged items told others told' start start' keyed keyed' keys keys' gone go
       subst (TellUses merged) (sym f) (subst (λ ks. TellUses ks (merge use_cmp told told')) (sym e) (tell_merged (left_of gone keys) (left_of gone' keys') told told' (run_tells items told start keyed keys gone words is view (first_true keyed keyed' both)) (run_tells others told' start' keyed' keys' gone' words' is' view' (first_true keyed' keyed (and-comm keyed' keyed ∙ both)))));
 }
 
--- ---- the front
+-- the front
 pub front_none : (us : List Use) (words : List ℕ) → us ≡ [] → length words ≡ 64 → IsFront us words
 front_none us words none long = record { long = long; rising = rising_none us none; known = subst (AllByRecursion (λ u. HasBits words u.key)) (sym none) tt }
 
@@ -517,7 +524,7 @@ front_unknown words (u ∷ us) key p known unknown finds = elim (p u) as (λ b. 
   | false ↦ λ e. front_unknown words us key p known.1 unknown finds
 ] refl
 
--- ---- many uses at once
+-- many uses at once
 greater_differs : (u v : Use) → use_cmp u v ≡ Less → eq_by_cmp use_cmp v u ≡ false
 greater_differs u v less = ap is_eq (use_total.antisymm v u ∙ ap ordering_reverse less)
 

@@ -14,7 +14,7 @@ use Rattle.svid_replay.proofs.ListLemmas.{filter-in, filter-out}
 use Rattle.svid_replay.proofs.SetsLemmas.{rising_rises}
 use Rattle.svid_replay.proofs.UsesLemmas.{IsWalked, walk_none, walk_more, walk_end, find_kept, next_is, none_left, rising-keep, walk_falls}
 
--- ---- the least use that passes a test, by a walk over a set
+-- the least use that passes a test, by a walk over a set
 
 two_tests : (p q : Use → Bool) (us : List Use) → filter p (filter q us) ≡ filter q (filter p us)
 two_tests p q [] = refl
@@ -52,11 +52,11 @@ next_fails test s after u found fails =
 pub next_none : (test : Use → Bool) (s : Uses) (after : Option Use) → next_above s after ≡ None → next_above (keep test s) after ≡ None
 next_none test s after none = next_kept test s after ∙ ap (λ us. slice_get (filter test us) 0) (none_left (is_after after) (rising s) none)
 
--- ---- what is stale is answered
+-- what is stale is answered
 pub stale_answers : (old raised part : State) (s : SummaryData) → raised ≡ raised_to old s.moment → part ≡ stale_part s raised → parts_of part ≡ answer_to old s
 stale_answers old raised part s is part_is = ap parts_of part_is ∙ answered old raised s (rising (stale s raised.uses)) is refl
 
--- ---- how many pass a test, by a walk over a set
+-- how many pass a test, by a walk over a set
 
 -- so many are those that passed, and all that are left
 pub record HasCounted (test : Use → Bool) (s : Uses) (after : Option Use) (counted : ℕ) : Type 0 where
@@ -90,7 +90,7 @@ counts_kept test s after counted so_far none =
     let passed : length (filter test so_far.front) ≡ count (keep test s) = ap (λ us. length (filter test us)) (walk_end (rising s) after so_far.front so_far.walked none) ∙ ap length (sym (rising-keep test s)) in
     omega (arith, so_far.value, passed, ap length (none_left (is_after after) (rising s) none))
 
--- ---- a walk over what is stale, which stands on a walk over the whole
+-- a walk over what is stale, which stands on a walk over the whole
 pub record IsStaleWalk (s : SummaryData) (digests : List (List ℕ)) (walk part : State) : Type 0 where
   pub view : stale_part s walk ≡ part
   pub told : digests ≡ digests_of walk.uses

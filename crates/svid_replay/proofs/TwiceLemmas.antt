@@ -39,7 +39,7 @@ key_total = nat_list_cmp_total
 pub key_exact : IsAntisymmetric bytes_cmp
 key_exact = slice_cmp-IsAntisymmetric nat_cmp-IsAntisymmetric
 
--- ---- what a sort by key gives
+-- what a sort by key gives
 ahead : (u : Use) (us : List Use) → IsSortedByKey (λ u. u.key) bytes_cmp (u ∷ us) → AllByRecursion (λ v. is_lt (bytes_cmp v.key u.key) ≡ false) us
 ahead u us up = recursion_from_All _ us (λ k d h. sorted_far _ (ranks_by key_total (λ u. u.key)) (u ∷ us) up 0 (suc k) d (omega arith) (omega arith))
 
@@ -67,7 +67,7 @@ ties-has_key key u = ap (λ r. not (is_lt (bytes_cmp key u.key)) && not (is_lt r
 pub uses_of-stable : (key : List ℕ) (us vs : List Use) → IsStableByKey (λ u. u.key) bytes_cmp us vs → uses_of key vs ≡ uses_of key us
 uses_of-stable key us vs stable = sym (filter_agree _ _ (ties-has_key key) vs) ∙ stable (used_by key) ∙ filter_agree _ _ (ties-has_key key) us
 
--- ---- the keys of uses
+-- the keys of uses
 any-keys_of : (us : List Use) (q : List ℕ) → list_any (eq_by_cmp bytes_cmp q) (keys_of us) ≡ list_any (has_key q) us
 unfolding keys_of
 any-keys_of us q =
@@ -90,7 +90,7 @@ from_any P (k ∷ ks) f =
 each_key : (P : List ℕ → Type 0) (us : List Use) → AllByRecursion (λ u. P u.key) us → AllByRecursion P (keys_of us)
 each_key P us h = from_any P (keys_of us) (λ q any. found (λ u. P u.key) (has_key q) (P q) us h (sym (any-keys_of us q) ∙ any) (λ u k e. subst P (sym (key_exact q u.key (equal _ e))) k))
 
--- ---- the uses of the least key of sorted uses stand in front
+-- the uses of the least key of sorted uses stand in front
 first_is_less : (r : Ordering) → is_lt (ordering_reverse r) ≡ false → is_eq r ≡ false → r ≡ Less
 first_is_less Less h e = refl
 first_is_less Equal h e = cc
@@ -129,7 +129,7 @@ splits key (u ∷ us) low up =
           }
     ] refl
 
--- ---- one group more
+-- one group more
 abbrev two : Twice → Bool
 two t = nat_lt 1 (length t.uses)
 
@@ -172,7 +172,7 @@ twice_of-group front key g gs is =
     ∙ ap (λ ts. filter two ts ++ filter two (entry (front ++ group) key ∷ [])) (same_map (entry (front ++ group)) (entry front) (keys_of front) (each_key (λ q. entry (front ++ group) q ≡ entry front q) front (each_weaker _ _ (λ u less. uses_of-lesser front key group is u.key less) front is.below)))
     ∙ ap (λ us. filter two (map (entry front) (keys_of front)) ++ filter two (record { key = key; uses = us } ∷ [])) (uses_of-group front key group is)
 
--- ---- the loop
+-- the loop
 none_listed : twice_of [] ≡ []
 unfolding twice_of IsStrictlySortedBy
 none_listed = ap (λ ks. filter two (map (entry []) ks)) (same-keys_of [] [] tt (λ q. refl))
@@ -243,7 +243,7 @@ lists_nothing sorted left listed first group others h is few =
     let more = lists_more sorted left listed first group others h is in
     subst (HasListed sorted others) (append-nil listed) (rw few at more)
 
--- ---- the lists that two lists of uses give
+-- the lists that two lists of uses give
 abbrev is_twice_in : List Use → List ℕ → Bool
 is_twice_in us key = nat_lt 1 (length (uses_of key us))
 
@@ -298,7 +298,7 @@ has_two key us (a ∷ b ∷ vs) up in_us more =
       other_key = sym (key_exact key b.key (equal _ second.1));
     }
 
--- ---- what is listed
+-- what is listed
 keys_that : (us : List Use) (ks : List (List ℕ)) → map (λ t. t.key) (filter two (map (entry us) ks)) ≡ filter (λ key. nat_lt 1 (length (uses_of key us))) ks
 keys_that us [] = refl
 keys_that us (k ∷ ks) =

@@ -26,7 +26,7 @@ use Rattle.svid_replay.proofs.SetsLemmas.{holds-union as of_union}
 use Rattle.svid_replay.proofs.TestsLemmas.{equal, is_less, same_some, or-comm, and-comm}
 use Rattle.svid_replay.proofs.UseLemmas.{use_total, use_exact}
 
--- ---- the words on sets, each by the uses that it holds
+-- the words on sets, each by the uses that it holds
 pub holds-uses_in : (us : List Use) (u : Use) → holds (uses_in us) u ≡ list_any (eq_by_cmp use_cmp u) us
 holds-uses_in us u = holds-set_of use_total use_exact us u
 
@@ -45,7 +45,7 @@ rising-uses_in us up = same_rising use_total use_exact (rising (uses_in us)) us 
 pub uses_in-rising : (s : Uses) → uses_in (rising s) ≡ s
 uses_in-rising s = same_uses (uses_in (rising s)) s (λ u. holds-uses_in (rising s) u ∙ sym (holds-rising use_cmp s u))
 
--- ---- the laws of the words on sets
+-- the laws of the words on sets
 pub no_uses_hold_none : NoUsesHoldNone
 no_uses_hold_none u = holds-empty use_cmp u
 
@@ -77,7 +77,7 @@ counts_none s n e = (
   λ same. eq-eqb n 0 (e ∙ ap count same ∙ ap length (rising-uses_in [] tt)),
 )
 
--- ---- lists of uses as sets
+-- lists of uses as sets
 kept : (tie test any : Bool) → (tie ≡ true → test ≡ true) → (tie || (test && any)) ≡ (test && (tie || any))
 kept true true any h = refl
 kept true false any h = sym (h refl)
@@ -125,7 +125,7 @@ uses_in-insert us i new = same_uses (uses_in (insert us i new)) (with (uses_in u
 pub with-held : (s : Uses) (u : Use) → holds s u ≡ true → s ≡ with s u
 with-held s u has = same_uses s (with s u) (λ v. held_already (eq_by_cmp use_cmp v u) (holds s v) (λ e. ap (holds s) (use_exact v u (equal _ e)) ∙ has) ∙ sym (holds-with use_total use_exact s u v))
 
--- ---- rising uses
+-- rising uses
 pub rising_insert : (us : List Use) (i : ℕ) (new : Use) → IsRising us → AllByRecursion (λ u. use_cmp u new ≡ Less) (take i us) → AllByRecursion (λ u. use_cmp new u ≡ Less) (drop i us) → IsRising (insert us i new)
 unfolding IsStrictlySortedBy
 rising_insert us zero new up below above = (above, up)
@@ -163,7 +163,7 @@ place_is_free us new i is =
     ∙ ap (λ b. b || list_any tied (drop i us)) (any_none tied (take i us) (each_weaker (λ u. use_cmp u new ≡ Less) _ (λ u e. ap is_eq (use_total.antisymm new u ∙ ap ordering_reverse e)) (take i us) (each_before _ us i is.point.0)))
     ∙ any_none tied (drop i us) (each_weaker (λ u. use_cmp u new ≡ Greater) _ (λ u e. ap is_eq (greater u new e)) (drop i us) (each_behind _ us i is.point.1))
 
--- ---- tests that a front of rising uses alone passes
+-- tests that a front of rising uses alone passes
 pub less_exp : (u v : Use) → use_cmp u v ≡ Less → u.exp ≤ v.exp
 less_exp u v less = by_ranked (u.exp < v.exp) (u.exp ≡ v.exp) (v.exp < u.exp) (nat_cmp u.exp v.exp) (ranked u.exp v.exp (nat_cmp u.exp v.exp) refl) (λ _ h. omega arith) (λ _ h. omega arith) (λ e h. absurd (subst T (ap is_lt (sym less ∙ ap (λ (r : Ordering). ordering_then r (ordering_then (slice_cmp nat_cmp u.key v.key) (ordering_then (slice_cmp nat_cmp u.place v.place) (ordering_then (nat_cmp u.at v.at) (bool_cmp u.withdrawn v.withdrawn))))) e)) tt))
 
@@ -189,7 +189,7 @@ filter_is_rest last us up = drop-parted (λ u. not (is_after (Some last) u)) us 
 pub drop-expired : (moment : ℕ) (us : List Use) → IsRising us → drop (prefix_len (λ u. not (nat_lt moment u.exp)) us) us ≡ filter (λ u. nat_lt moment u.exp) us
 drop-expired moment us up = drop-parted (λ u. not (nat_lt moment u.exp)) us (expired_parted moment us up) ∙ filter_agree _ _ (λ u. not_not (nat_lt moment u.exp)) us
 
--- ---- the list in a sorted vector, and the set that it stands for
+-- the list in a sorted vector, and the set that it stands for
 pub stored : (us : List Use) (s : Uses) → IsRising us → uses_in us ≡ s → rising s ≡ us
 stored us s up e = ap rising (sym e) ∙ rising-uses_in us up
 
@@ -220,7 +220,7 @@ pub find_kept : (p : Use → Bool) (us : List Use) → slice_get (filter p us) 0
 find_kept p [] = refl
 find_kept p (u ∷ us) = elim (p u) as (λ b. slice_get (cond b (u ∷ filter p us) (filter p us)) 0 ≡ cond b (Some u) (find p us)) [ true ↦ refl | false ↦ find_kept p us ]
 
--- ---- a walk from each use to the next
+-- a walk from each use to the next
 -- the uses in front are those that a walk has passed, and the rest are after the last of them
 pub record IsWalked (us : List Use) (after : Option Use) (front : List Use) : Type 0 where
   pub parts : us ≡ front ++ filter (is_after after) us

@@ -31,7 +31,7 @@ use Rattle.svid_replay.proofs.TestsLemmas.{equal, is_less, or-comm}
 use Rattle.svid_replay.proofs.UseLemmas.{use_exact, use_total}
 use Rattle.svid_replay.proofs.UsesLemmas.{any-filter, filter_is_rest, find_kept, holds-uses_in, same_uses, next_is, rising-uses_in}
 
--- ---- the first of a list, as many as fit
+-- the first of a list, as many as fit
 -- a part that is cut, and more behind it, cut
 pub take_cut : {X : Type 0} (n : ℕ) (xs ys : List X) → take n (take n xs ++ ys) ≡ take n (xs ++ ys)
 take_cut zero xs ys = refl
@@ -62,29 +62,36 @@ merge_before : {K : Type 0} (R : K → K → Ordering) (xs : List K) (y : K) (ys
 merge_before R [] y ys below = refl
 merge_before R (x ∷ xs) y ys below = ap (λ o. match_ordering o (x ∷ merge R xs (y ∷ ys)) (x ∷ merge R xs ys) (y ∷ merge R (x ∷ xs) ys)) below.0 ∙ ap (λ zs. x ∷ zs) (merge_before R xs y ys below.1)
 
--- where the last of a full room comes before the first of other uses
-pub room_in_front : (room uses self : List Use) (k : ℕ) (d e : Use) → room ≡ self → IsRising self → length room ≡ suc k → is_lt (use_cmp (get_or room k d) (get_or uses 0 e)) ≡ true → 1 ≤ length uses → take (suc k) (merge use_cmp self uses) ≡ self
-room_in_front room uses self k d e same rises full less some =
-    let y = get_or uses 0 e in
-    let ys = drop 1 uses in
-    let up : IsRising room = subst IsRising (sym same) rises in
-    let before : use_cmp (get_or room k d) y ≡ Less = is_less _ less in
-    let all : AllByRecursion (λ x. use_cmp x y ≡ Less) room = recursion_from_All (λ x. use_cmp x y ≡ Less) room (λ i c within.
-    ⊎_elim (λ lt. use_total.trans (get_or room i c) (get_or room k c) y (Less-from_sorted use_cmp room i k c up lt (omega (arith, full))) (subst (λ (u : Use). use_cmp u y ≡ Less) (get_or_any room k d c (omega (arith, full))) before))
-    (λ ge. let same : i ≡ k = omega (arith, full) in subst (λ (u : Use). use_cmp u y ≡ Less) (get_or_any room k d c (omega (arith, full)) ∙ ap (λ n. get_or room n c) (sym same)) before) (cases_lt i k)) in
-    (λ i. take (suc k) (merge use_cmp (sym same i) (drop-cons uses 0 e some i))) ∙ ap (take (suc k)) (merge_before use_cmp room y ys all) ∙ take-append-le (suc k) room (y ∷ ys) (omega (arith, full)) ∙ take_all (suc k) room (omega (arith, full)) ∙ same
+-- where the last of the one comes before the first of the other
+pub apart_merged : (us vs : List Use) (k : ℕ) (d e : Use) → IsRising us → length us ≡ suc k → is_lt (use_cmp (get_or us k d) (get_or vs 0 e)) ≡ true → 1 ≤ length vs → merge use_cmp us vs ≡ us ++ vs
+apart_merged us vs k d e rises long less some =
+    let y = get_or vs 0 e in
+    let ys = drop 1 vs in
+    let first : vs ≡ y ∷ ys = drop-cons vs 0 e some in
+    let before : use_cmp (get_or us k d) y ≡ Less = is_less _ less in
+    let all : AllByRecursion (λ x. use_cmp x y ≡ Less) us = recursion_from_All (λ x. use_cmp x y ≡ Less) us (λ i c within.
+    ⊎_elim (λ lt. use_total.trans (get_or us i c) (get_or us k c) y (Less-from_sorted use_cmp us i k c rises lt (omega (arith, long))) (subst (λ (u : Use). use_cmp u y ≡ Less) (get_or_any us k d c (omega (arith, long))) before))
+    (λ ge. let same : i ≡ k = omega (arith, long) in subst (λ (u : Use). use_cmp u y ≡ Less) (get_or_any us k d c (omega (arith, long)) ∙ ap (λ n. get_or us n c) (sym same)) before) (cases_lt i k)) in
+    ap (merge use_cmp us) first ∙ merge_before use_cmp us y ys all ∙ ap (λ zs. us ++ zs) (sym first)
   where
     get_or_any : (us : List Use) (i : ℕ) (d e : Use) → i < length us → get_or us i d ≡ get_or us i e
     get_or_any [] i d e within = absurd (omega arith)
     get_or_any (u ∷ us) zero d e within = refl
     get_or_any (u ∷ us) (suc i) d e within = get_or_any us i d e (omega arith)
 
+-- where the last of a full room comes before the first of other uses
+pub room_in_front : (room uses self : List Use) (k : ℕ) (d e : Use) → room ≡ self → IsRising self → length room ≡ suc k → is_lt (use_cmp (get_or room k d) (get_or uses 0 e)) ≡ true → 1 ≤ length uses → take (suc k) (merge use_cmp self uses) ≡ self
+room_in_front room uses self k d e same rises full less some =
+    ap (λ us. take (suc k) (merge use_cmp us uses)) (sym same)
+    ∙ ap (take (suc k)) (apart_merged room uses k d e (subst IsRising (sym same) rises) full less some)
+    ∙ take-append-le (suc k) room uses (omega (arith, full)) ∙ take_all (suc k) room (omega (arith, full)) ∙ same
+
 pub room_alone : (room uses self : List Use) → room ≡ self → length room ≤ 64 → length uses < 1 → take 64 (merge use_cmp self uses) ≡ self
 room_alone room uses self same few none =
     let nothing = nil_from_length uses (omega arith) in
     ap (take 64) (merge_second_done use_cmp self uses nothing ∙ ap (λ us. self ++ us) nothing ∙ append-nil self) ∙ take_all 64 self (omega (arith, ap length same))
 
--- ---- what comes next in a list and in a run beside it
+-- what comes next in a list and in a run beside it
 and-or : (p a b : Bool) → (p && (a || b)) ≡ ((p && a) || (p && b))
 and-or true a b = refl
 and-or false a b = refl
@@ -126,14 +133,14 @@ uses_in-turned us vs = same_uses (uses_in (us ++ vs)) (uses_in (vs ++ us)) (λ q
     let tie = eq_by_cmp use_cmp q in
     holds-uses_in (us ++ vs) q ∙ list_any-append tie us vs ∙ or-comm (list_any tie us) (list_any tie vs) ∙ sym (holds-uses_in (vs ++ us) q ∙ list_any-append tie vs us))
 
--- ---- what a room has of a walk from each use to the next
+-- what a room has of a walk from each use to the next
 pub room_full : (n : ℕ) (room rest whole : List Use) → room ++ rest ≡ whole → length room ≡ n → room ≡ take n whole
 room_full n room rest whole e full = sym (take_all n room (omega arith)) ∙ sym (take-append-le n room rest (omega arith)) ∙ ap (take n) e
 
 pub room_done : (n : ℕ) (room rest whole : List Use) → room ++ rest ≡ whole → rest ≡ [] → length room ≤ n → room ≡ take n whole
 room_done n room rest whole e none few = sym (take_all n room few) ∙ ap (take n) (sym (append-nil room) ∙ ap (λ ws. room ++ ws) (sym none) ∙ e)
 
--- ---- stretches
+-- stretches
 pub next_in : (us : List Use) (a b : Use) (vs : List Use) → IsRising (us ++ (a ∷ (b ∷ vs))) → find (is_after (Some a)) (us ++ (a ∷ (b ∷ vs))) ≡ Some b
 unfolding IsStrictlySortedBy
 next_in [] a b vs up =
@@ -188,7 +195,7 @@ first_taken (u ∷ us) = refl
 pub few_first : (s : Uses) (after : Option Use) (room : List Use) → room ≡ next_few s after → slice_get room 0 ≡ next_above s after
 few_first s after room is = ap (λ us. slice_get us 0) is ∙ first_taken (filter (is_after after) (rising s)) ∙ find_kept (is_after after) (rising s)
 
--- ---- a room with more uses behind those that it has
+-- a room with more uses behind those that it has
 pub room_extended : (uses mid more now : List Use) (len count gap : ℕ) → length uses ≡ 64 → len ≤ 64 → take len uses ≡ now → count ≡ min (length more) (64 - len) → mid ≡ take count more → take (len + count) (put_mid len gap uses mid) ≡ take 64 (now ++ more)
 room_extended uses mid more now len count gap full few view least is =
     let long : length now ≡ len = ap length (sym view) ∙ length-take len uses ∙ omega (arith, full) in

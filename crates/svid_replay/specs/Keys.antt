@@ -36,15 +36,15 @@ abbrev pub gone_by : Option ℕ → ℕ → Option ℕ
 gone_by None moment = Some moment
 gone_by (Some before) moment = Some (max before moment)
 
--- a mark in an order of its own is behind what stands so to it
-abbrev pub behind_by : Ordering → Bool → Bool
-behind_by Less left = false
-behind_by Equal left = not left
-behind_by Greater left = true
+-- by how a mark compares to that of an entry, and whether the entry is left: it stands in front of those of the mark that are left
+abbrev pub in_front_by : Ordering → Bool → Bool
+in_front_by Less left = false
+in_front_by Equal left = not left
+in_front_by Greater left = true
 
--- a mark that is left stands behind this one
-abbrev pub is_behind : Mark → Option ℕ → Until → Bool
-is_behind mark gone e = behind_by (mark_cmp mark e.mark) (is_left gone e.exp)
+-- the entry stands in front of those of the mark that are left
+abbrev pub is_in_front_of : Mark → Option ℕ → Until → Bool
+is_in_front_of mark gone e = in_front_by (mark_cmp mark e.mark) (is_left gone e.exp)
 
 -- it has the mark, and is left
 abbrev pub is_held : Mark → Option ℕ → Until → Bool

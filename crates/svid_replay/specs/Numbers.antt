@@ -14,7 +14,7 @@ number_of key = from_be_bytes w64 (take 8 key)
 abbrev pub has_number : List ℕ → List ℕ → Bool
 has_number ns key = list_any (λ m. m == number_of key) ns
 
--- a use that is no withdrawal has a key with one of these numbers
+-- the use is no withdrawal, and its key has one of these numbers
 abbrev pub is_among : List ℕ → Use → Bool
 is_among ns u = not u.withdrawn && has_number ns u.key
 

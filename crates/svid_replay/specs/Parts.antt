@@ -46,6 +46,6 @@ SamePartsSameRecord = (a b : State) → parts_of a ≡ parts_of b → a ≡ b
 abbrev pub PartsGiveRecord : Type 0
 PartsGiveRecord = (r : State) → IsRecord r → join_all (state_of 0 []) (parts_of r) ≡ r
 
--- uses are cut so
+-- what `cut` gives are parts of the uses
 abbrev pub CutGivesParts : Type 0
 CutGivesParts = (moment : ℕ) (us : List Use) → AreParts moment us (cut moment us)

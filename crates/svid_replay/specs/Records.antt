@@ -52,7 +52,7 @@ pub record IsPartlyJoined (old new : State) (moment : ℕ) (us : List Use) : Typ
 abbrev pub HasNoNew : State → ℕ → List Use → Type 0
 HasNoNew r moment us = (u : Use) → Contains us u → max r.moment moment < u.exp → IsTrue (holds r.uses u)
 
--- a join holds what the one record or the other holds, and what expires after the greater moment
+-- of what the one record or the other holds, a join holds what expires after the greater moment
 abbrev pub JoinHoldsUnexpired : Type 0
 JoinHoldsUnexpired = (a b : State) (u : Use) → holds (join a b).uses u ≡ ((holds a.uses u || holds b.uses u) && nat_lt (max a.moment b.moment) u.exp)
 

@@ -22,7 +22,7 @@ pub record IsUse (u : Use) : Type 0 where
 unfoldable pub front_text : Use → List ℕ
 front_text u = to_be_bytes w64 u.exp ++ u.key ++ u.place ++ to_be_bytes w64 u.at
 
--- the 65 bytes of a use: these, and 1 for a withdrawal or else 0
+-- the 65 bytes of a use: its first 64, and then 1 for a withdrawal or else 0
 unfoldable pub text_of : Use → List ℕ
 text_of u = front_text u ++ from_bool u.withdrawn ∷ []
 

@@ -7,7 +7,7 @@ use crate::flaw::{Flaw, flaw_of};
 use crate::{BatchFault, MOST_USES, Use};
 use std::marker::Model;
 
-/// A moment, and up to 65,536 uses that are live at it, in strictly rising order.
+/// A moment, and up to 65,536 uses that were made by then and expire later, in strictly rising order.
 #[derive(Debug, Drop)]
 pub struct Batch {
     moment: u64,

@@ -24,7 +24,8 @@ fn is_after(before: &Option<Use>, used: &Use) -> bool
     }
 }
 
-/// What is wrong with a use in a batch of this moment (in seconds), where `before` is the use before it.
+/// What is wrong, if anything, with a use in a batch of this moment (in seconds), behind the use `before`, where
+/// there is one.
 #[tactic(auto, unfolding(crate::specs::Batches::flaw))]
 pub fn flaw_of(moment: u64, before: Option<Use>, used: Use) -> Option<Flaw>
     ensures flaw { result ≡ flaw moment before used }

@@ -12,8 +12,9 @@ use crate::sorted::{count_expired, drop_front, has_use_of, has_withdrawal_of, in
 use std::alloc::{AllocError, Global};
 use std::marker::Model;
 
-/// Uses that rise, few enough to be moved about quickly. `words` is a filter of their keys, so that a key which is
-/// not among them is mostly told without a look at each.
+/// Uses that rise, few enough to be moved about quickly. `words` is a filter of the keys that were put in since the
+/// front was last made a run: a key that is not among them is mostly told without a look at each, until many have
+/// expired here.
 #[derive(Debug, Drop)]
 pub(crate) struct Front {
     uses: Vec<Use>,

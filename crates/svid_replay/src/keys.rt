@@ -108,7 +108,7 @@ fn has_left(keys: &[Until], mark: &Mark, gone: Option<u64>) -> bool
     requires { AreKeys keys.now }
     ensures { result ≡ list_any (is_held mark.now gone) keys.now }
 {
-    let place = keys.partition_point(|until| until.is_behind(mark, gone));
+    let place = keys.partition_point(|until| until.is_in_front_of(mark, gone));
     match keys[place..].first() {
         None => false,
         Some(found) => found.has_mark(mark),

@@ -7,10 +7,10 @@
 //! both sides those that expire after it. So records may be merged in any order, any number of times,
 //! and come out the same ([`laws`]). Where memory is refused on the way, the record is the join with
 //! a part that the contract names. Of the stores [`SortedUses`] is for few uses, or uses that come in
-//! their order, [`IndexedUses`] for many where no insert may be long, and [`RunUses`] for many that are
-//! all to be taken in soon: a few of its inserts move most of them; and [`RunUses::without_keys`] for those of
-//! which few keys are asked. A [`Walk`] goes over the uses of a record in their order, a [`Room`] of them at a
-//! time, and takes no memory.
+//! their order and are only walked, since a look for a key goes over all; [`IndexedUses`] is for many where no
+//! insert may be long, and [`RunUses`] for many that are all to be taken in soon: a few of its inserts move most
+//! of them; and [`RunUses::without_keys`] for those of which few keys are asked. A [`Walk`] goes over the uses of
+//! a record in their order, a [`Room`] of them at a time, and takes no memory.
 //!
 //! Two records that mostly agree need not tell each other all: a [`Summary`] has a digest for each of
 //! 256 buckets, one for each first byte of a key, and a record answers one with all uses of the buckets

@@ -103,8 +103,8 @@ impl<S: UseStore> Record<S> {
         self.store.next_uses(after, room);
     }
 
-    /// The record, to be walked: `next_after` of what is answered takes few steps for the use behind the one that it
-    /// answered before. Takes no memory.
+    /// The record, to be walked: from the use that the walk answered last, its `next_after` mostly takes few steps
+    /// to the next. Takes no memory.
     pub fn walk(&self) -> Walk<'_, S>
         ensures { result ≡ self.now }
     {
@@ -119,6 +119,14 @@ impl<S: UseStore> Record<S> {
     {
         self.moment = self.moment.max(now);
         self.store.drop_expired(self.moment)
+    }
+
+    /// Makes walks over the record quicker, if its store has a way to do that and is given the memory for it. The
+    /// record stays the same.
+    pub fn compact(&mut self)
+        ensures { self.new ≡ self.old }
+    {
+        self.store.compact();
     }
 
     // joins one use that was made by the record's moment
@@ -250,9 +258,10 @@ impl<S: UseStore> Record<S> {
     /// The keys that two or more of the record's uses have, rising, each with all its uses. A withdrawal
     /// is none of them.
     ///
-    /// Looks at each use twice. Beside what it answers it holds two bytes a use, and then one copy of the
-    /// uses whose keys two of them have, or may have: a filter tells which, and is wrong of about one key in
-    /// 250 where keys are digests. At worst it takes n log n steps for n uses, and a copy of all.
+    /// Looks at each use twice. Beside what it answers it holds two bytes a use, and eight for each use whose
+    /// key came before, or may have: a filter tells which, and is wrong of about one key in 250 where keys are
+    /// digests. Then it holds the uses of these keys twice, since sorting them takes room for as many. At worst
+    /// it takes n log n steps for n uses, and two copies of all.
     pub fn report(&self, alloc: Global) -> Result<Vec<Twice>, AllocError>
         ensures value { IfOk result (λ listed. listed.items ≡ twice_of (used (rising self.now.uses))) }
         ensures relation { IfOk result (λ listed. IsTwice (used (rising self.now.uses)) listed.items) }
@@ -263,7 +272,8 @@ impl<S: UseStore> Record<S> {
     }
 
     /// The record as batches of its moment, which hold its uses in rising order: 65,536 in each but the
-    /// last, which has 1 to 65,536. One batch with no use where the record has none.
+    /// last, which has 1 to 65,536. One batch with no use where the record has none. Holds the uses twice while
+    /// it makes them.
     pub fn parts(&self, alloc: Global) -> Result<Vec<Batch>, AllocError>
         ensures { IfOk result (λ parts. parts.items ≡ cut self.now.moment (rising self.now.uses)) }
     {
@@ -294,7 +304,8 @@ impl<S: UseStore> Record<S> {
     /// differs from the summary's, as batches of the record's moment: 65,536 uses in rising order in each
     /// but the last. One batch with no use where there are no such uses.
     ///
-    /// Where memory is refused only the raise stands. Looks at each use twice.
+    /// Where memory is refused only the raise stands. Looks at each use twice, and holds those that it answers
+    /// twice while it makes the batches.
     pub fn answer(&mut self, alloc: Global, summary: &Summary) -> Result<Vec<Batch>, AllocError>
         ensures raised { self.new ≡ raised_to self.old summary.now.moment }
         ensures answer { IfOk result (λ batches. batches.items ≡ answer_to self.old summary.now) }

@@ -1,5 +1,5 @@
 //! Uses that rise, as a run of a larger set.
-ghost use Rattle.std.specs.Prelude.{◌≡◌, ◌+◌, false, length, drop, filter, nat_lt, true, IsTrue, IfOk};
+ghost use Rattle.std.specs.Prelude.{◌≡◌, ◌+◌, ◌++◌, false, length, drop, filter, nat_lt, true, IsTrue, IfOk};
 ghost use Rattle.std.specs.List.{list_any};
 ghost use Rattle.std.specs.Ordering.{eq_by_cmp};
 ghost use Rattle.std.specs.Set.{sorted_merge};
@@ -43,11 +43,30 @@ impl Model for Run {
     ghost invariant = { λ r. IsRun r.by_use.items r.start r.keyed r.by_key.items r.gone r.words.items };
 }
 
+// Whether the last of the one list is less than the first of the other.
+fn are_apart(a: &[Use], b: &[Use]) -> bool
+    ensures { IsTrue result → IsRising a.now → sorted_merge use_cmp true a.now b.now ≡ a.now ++ b.now }
+{
+    match a {
+        [] => false,
+        [.., last] => match b {
+            [] => false,
+            [first, ..] => last.cmp(first).is_lt(),
+        },
+    }
+}
+
 // Both lists in one, rising; a use that both have comes once.
 fn merge_uses(alloc: Global, a: &[Use], b: &[Use]) -> Result<Vec<Use>, AllocError>
+    requires { IsRising a.now }
     ensures { IfOk result (λ merged. merged.items ≡ sorted_merge use_cmp true a.now b.now) }
 {
     let mut merged = Vec::with_capacity(alloc, a.len() + b.len())?;
+    if are_apart(a, b) {
+        merged.extend_from_slice(a)?;
+        merged.extend_from_slice(b)?;
+        return Ok(merged);
+    }
     let mut i = 0;
     let mut j = 0;
     while i < a.len() && j < b.len() {

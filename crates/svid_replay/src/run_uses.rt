@@ -18,17 +18,22 @@ use crate::store::{Raised, UseStore};
 use std::alloc::{AllocError, Global};
 use std::marker::Model;
 
-// The front becomes a run when it is so long. Where memory was refused for that, it is tried again when so many more
-// uses are there.
+// The front becomes a run when it is so long. Where memory was refused for that, it is tried again when its length
+// next comes to a multiple of that.
 const FRONT: usize = 256;
 
 // A run is merged with the one behind it while it is shorter than so many times that.
 const FACTOR: usize = 2;
 
+// So many runs are left when all are merged for walks. The first is mostly half of the set, so the merge takes half of
+// the set's memory once more.
+const WALKED: usize = 2;
+
 /// A set of uses as a short sorted vector, and runs: sorted vectors, each with its keys. Most inserts are
 /// short, but one that fills the short vector makes it a run and may merge runs, at worst all of them. Where
-/// that is refused memory it is left undone, and the use is in the set all the same. Many uses at once
-/// (`insert_all`) are a run by themselves, which is merged in the same way.
+/// that is refused memory it is left undone, and the use is in the set all the same. Of 256 uses and more at
+/// once (`insert_all`) the new ones are a run by themselves, which is merged in the same way; fewer are not
+/// taken at once. `compact` merges all runs but the first, so that a walk has two to look at.
 ///
 /// A set that [`RunUses::without_keys`] makes has runs without keys: less time and memory for each use that
 /// is put in, but `has` and `is_withdrawn` may look at all uses. It is for a record that is joined and walked,
@@ -128,9 +133,8 @@ fn drop_all_expired(runs: &mut [Run], moment: u64, dropped_before: usize) -> usi
     dropped
 }
 
-// Merges the last two runs if the last is no longer small beside the one in front of it. Where
-// memory is refused they stay two.
-fn merge_last(alloc: Global, runs: &mut Vec<Run>) -> bool
+// Merges the last two runs, if there are two. Where memory is refused they stay two.
+fn merge_two(alloc: Global, runs: &mut Vec<Run>) -> bool
     ensures same { HasSame (all_of runs.old.items) (all_of runs.new.items) }
     ensures less { length (all_of runs.new.items) ≤ length (all_of runs.old.items) }
     ensures fewer { IsTrue result → length runs.new.items < length runs.old.items }
@@ -141,15 +145,38 @@ fn merge_last(alloc: Global, runs: &mut Vec<Run>) -> bool
     }
     let older = &runs[count - 2];
     let newer = &runs[count - 1];
-    if older.uses().len() / FACTOR >= newer.uses().len() {
-        return false;
-    }
     match Run::merged(alloc, older, newer) {
         Err(_) => false,
         Ok(merged) => {
             runs[count - 2] = merged;
             runs.truncate(count - 1);
             true
+        }
+    }
+}
+
+// Merges the last two runs if the last is no longer small beside the one in front of it. Where
+// memory is refused they stay two.
+fn merge_last(alloc: Global, runs: &mut Vec<Run>) -> bool
+    ensures same { HasSame (all_of runs.old.items) (all_of runs.new.items) }
+    ensures less { length (all_of runs.new.items) ≤ length (all_of runs.old.items) }
+    ensures fewer { IsTrue result → length runs.new.items < length runs.old.items }
+{
+    let count = runs.len();
+    if count < 2 || runs[count - 2].uses().len() / FACTOR >= runs[count - 1].uses().len() {
+        return false;
+    }
+    merge_two(alloc, runs)
+}
+
+// Merges the last runs until few are left, as far as memory is given.
+fn merge_most(alloc: Global, runs: &mut Vec<Run>)
+    ensures same { HasSame (all_of runs.old.items) (all_of runs.new.items) }
+    ensures less { length (all_of runs.new.items) ≤ length (all_of runs.old.items) }
+{
+    while runs.len() > WALKED {
+        if !merge_two(alloc, runs) {
+            return;
         }
     }
 }
@@ -324,6 +351,10 @@ impl UseStore for RunUses {
             Ok(None) => true,
             Ok(Some(run)) => self.take_run(run),
         }
+    }
+
+    fn compact(&mut self) {
+        merge_most(self.alloc, &mut self.runs);
     }
 
     fn drop_expired(&mut self, moment: u64) -> Raised {

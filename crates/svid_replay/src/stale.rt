@@ -7,8 +7,8 @@ use crate::store::UseStore;
 use crate::{Record, Summary, Use, Walk};
 use std::marker::Model;
 
-/// Of a record, the uses of all buckets whose digest differs from a summary's: what it answers to the summary,
-/// to be walked. No step takes memory.
+/// Of a record, the uses of all buckets whose digest differs from a summary's, to be walked: what `Record::answer`
+/// gives where the summary's moment is not later than the record's. No step takes memory.
 #[derive(Debug, Drop)]
 pub struct Stale<'a, S: UseStore> {
     walk: Walk<'a, S>,
@@ -69,8 +69,9 @@ impl<'a, S: UseStore> Stale<'a, S> {
         stale
     }
 
-    /// The least of these uses, or the least that is greater than the one given. Quick where that is the use which
-    /// the call before answered, and else a search.
+    /// The least of these uses, or the least that is greater than the one given. From the use which the call before
+    /// answered it goes on, and else it searches; it passes over the uses of buckets that agree, at worst all that
+    /// are left.
     pub fn next_after(&mut self, after: Option<Use>) -> Option<Use>
         ensures next { result ≡ next_above self.old.uses after }
         ensures same { self.new ≡ self.old }

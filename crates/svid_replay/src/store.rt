@@ -19,8 +19,8 @@ pub struct Raised {
 pub trait UseStore {
     ghost content: { Self → Uses };
 
-    /// Puts a use into the set. This and `insert_all` are the only calls that take memory; where it is
-    /// refused the set stays as it was. A use that is in the set already always succeeds.
+    /// Puts a use into the set. This, `insert_all` and `compact` are the only calls that take memory; where it
+    /// is refused the set stays as it was. A use that is in the set already always succeeds.
     fn insert(&mut self, new: Use) -> Result<(), AllocError>
         ensures ok { OnOk result (content self.new ≡ with (content self.old) new) }
         ensures err { OnErr result (content self.new ≡ content self.old) }
@@ -36,6 +36,12 @@ pub trait UseStore {
         let _ = uses;
         false
     }
+
+    /// Makes walks over the set quicker, if the set has a way to do that and is given the memory for it. The set
+    /// stays the same.
+    fn compact(&mut self)
+        ensures { content self.new ≡ content self.old }
+    {}
 
     /// Takes out the uses that expire at the moment (in seconds) or before it.
     fn drop_expired(&mut self, moment: u64) -> Raised

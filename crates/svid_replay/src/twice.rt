@@ -5,7 +5,7 @@ ghost use Rattle.svid_replay.specs.Twice.{IsKeySorted, has_key, twice_of, uses_o
 use crate::{Use, UseList};
 use std::alloc::{AllocError, Global};
 
-/// A key that two or more different uses have that are no withdrawals, with all such in rising order.
+/// A key that two or more different uses have, withdrawals aside, with all of these uses in rising order.
 #[derive(Debug, Drop)]
 pub struct Twice {
     /// The key that the uses have.

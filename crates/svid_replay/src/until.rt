@@ -1,6 +1,6 @@
 ghost use Rattle.std.specs.Prelude.{◌≡◌};
 ghost use Rattle.std.specs.Ordering.{is_eq};
-ghost use Rattle.svid_replay.specs.Keys.{is_behind, is_left, mark_cmp, until_of};
+ghost use Rattle.svid_replay.specs.Keys.{is_in_front_of, is_left, mark_cmp, until_of};
 
 use crate::Use;
 use std::cmp::Ordering;
@@ -47,8 +47,8 @@ impl Until {
     }
 
     // Whether it stands in front of those of a mark that are left.
-    pub(crate) fn is_behind(&self, mark: &Mark, gone: Option<u64>) -> bool
-        ensures { result ≡ is_behind mark.now gone self.now }
+    pub(crate) fn is_in_front_of(&self, mark: &Mark, gone: Option<u64>) -> bool
+        ensures { result ≡ is_in_front_of mark.now gone self.now }
     {
         match mark.cmp(&self.mark) {
             Ordering::Less => false,

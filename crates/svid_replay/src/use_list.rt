@@ -3,7 +3,7 @@ ghost use Rattle.std.specs.Prelude.{◌≡◌, ◌↔◌, [], length, IsTrue};
 use crate::Use;
 use std::marker::Model;
 
-/// A list of uses, which contracts see as one.
+/// A list of uses; contracts see it as a plain list.
 #[derive(Debug, Drop)]
 pub struct UseList {
     uses: Vec<Use>,

@@ -11,8 +11,8 @@ use crate::store::UseStore;
 use crate::{Record, Use};
 use std::marker::Model;
 
-/// A record, to be walked. The walk takes its uses from the store by the dozen and has them at hand, so that the
-/// step from one use to the next is short. No step takes memory.
+/// A record, to be walked. The walk takes its uses from the store 64 at a time and has them at hand, so that most
+/// steps from one use to the next are short. No step takes memory.
 #[derive(Debug, Drop)]
 pub struct Walk<'a, S: UseStore> {
     whole: &'a Record<S>,
@@ -87,7 +87,7 @@ impl<'a, S: UseStore> Walk<'a, S> {
     }
 
     /// The least use of the record, or the least that is greater than the one given. Quick where that is the use
-    /// which the call before answered, and else a search.
+    /// which the call before answered, though each 64th such step asks the store again; and else a search.
     pub fn next_after(&mut self, after: Option<Use>) -> Option<Use>
         ensures next { result ≡ next_above self.old.uses after }
         ensures same { self.new ≡ self.old }

@@ -17,38 +17,38 @@ use Rattle.svid_share.specs.Summary.{summary_due}
 use Rattle.svid_share.specs.Written.{IsDue}
 use Rattle.svid_share.proofs.JoinedLemmas.{joined_from_nothing}
 
--- a new record is what all inputs tell, after they were joined to it
-all_joined : (inputs : List Drawn) (first second : State) → first ≡ state_of 0 [] → (joins : JoinsAll inputs first second) → second ≡ joined (all_of joins.told)
-all_joined inputs first second new joins = joins.joins ∙ ap (λ r. join_all r (all_of joins.told)) new ∙ joined_from_nothing (all_of joins.told)
+-- what all inputs are joined to, if it was new, is what they come to
+all_joined : (inputs : List Drawn) (second : State) → (joins : JoinsAll inputs (state_of 0 []) second) → second ≡ joined (all_of joins.told)
+all_joined inputs second joins = joins.joins ∙ joined_from_nothing (all_of joins.told)
 
 -- what a new record is after all inputs were joined, and it was raised, is reported
-pub reported : (inputs : List Drawn) (now : Option ℕ) (text : List ℕ) (first second third : State) → first ≡ state_of 0 [] → JoinsAll inputs first second → third ≡ raised_to now second → text ≡ report_of third → IsDue (report_due now) inputs text
-reported inputs now text first second third new joins raises tells = record {
+pub reported : (inputs : List Drawn) (now : Option ℕ) (text : List ℕ) (second third : State) → JoinsAll inputs (state_of 0 []) second → third ≡ raised_to now second → text ≡ report_of third → IsDue (report_due now) inputs text
+reported inputs now text second third joins raises tells = record {
   told = joins.told;
   whole = joins.whole;
-  is = tells ∙ ap report_of (raises ∙ ap (raised_to now) (all_joined inputs first second new joins));
+  is = tells ∙ ap report_of (raises ∙ ap (raised_to now) (all_joined inputs second joins));
 }
 
 -- the parts of what a new record is after all inputs were joined are the merge
-pub merged : (inputs : List Drawn) (parts : List BatchData) (first second : State) → first ≡ state_of 0 [] → JoinsAll inputs first second → parts ≡ parts_of second → IsDue merge_due inputs (flat_map batch_text parts)
-merged inputs parts first second new joins is = record {
+pub merged : (inputs : List Drawn) (parts : List BatchData) (second : State) → JoinsAll inputs (state_of 0 []) second → parts ≡ parts_of second → IsDue merge_due inputs (flat_map batch_text parts)
+merged inputs parts second joins is = record {
   told = joins.told;
   whole = joins.whole;
-  is = ap (flat_map batch_text) (is ∙ ap parts_of (all_joined inputs first second new joins));
+  is = ap (flat_map batch_text) (is ∙ ap parts_of (all_joined inputs second joins));
 }
 
 -- the summary of what a new record is after all inputs were joined
-pub summarized : (inputs : List Drawn) (summary : SummaryData) (first second : State) → first ≡ state_of 0 [] → JoinsAll inputs first second → summary ≡ summary_of second → IsDue summary_due inputs (summary_text summary)
-summarized inputs summary first second new joins is = record {
+pub summarized : (inputs : List Drawn) (summary : SummaryData) (second : State) → JoinsAll inputs (state_of 0 []) second → summary ≡ summary_of second → IsDue summary_due inputs (summary_text summary)
+summarized inputs summary second joins is = record {
   told = joins.told;
   whole = joins.whole;
-  is = ap summary_text (is ∙ ap summary_of (all_joined inputs first second new joins));
+  is = ap summary_text (is ∙ ap summary_of (all_joined inputs second joins));
 }
 
 -- the answer of what a new record is after all inputs were joined
-pub answered : (inputs : List Drawn) (asked : SummaryData) (first second : State) → first ≡ state_of 0 [] → JoinsAll inputs first second → IsDue (answer_due asked) inputs (flat_map batch_text (answer_to second asked))
-answered inputs asked first second new joins = record {
+pub answered : (inputs : List Drawn) (asked : SummaryData) (second : State) → JoinsAll inputs (state_of 0 []) second → IsDue (answer_due asked) inputs (flat_map batch_text (answer_to second asked))
+answered inputs asked second joins = record {
   told = joins.told;
   whole = joins.whole;
-  is = ap (λ r. flat_map batch_text (answer_to r asked)) (all_joined inputs first second new joins);
+  is = ap (λ r. flat_map batch_text (answer_to r asked)) (all_joined inputs second joins);
 }

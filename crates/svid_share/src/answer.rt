@@ -10,7 +10,7 @@ ghost use Rattle.svid_share.specs.Written.{IsDue};
 ghost use Rattle.svid_share.specs.declared.tool_fault.ToolFault.TheVariants.{Write};
 
 use crate::ToolFault;
-use crate::inputs::join_inputs;
+use crate::inputs::record_of;
 use crate::one_summary::read_summary;
 use crate::parts::put_walked;
 use std::alloc::Global;
@@ -39,9 +39,7 @@ fn join_all<S: Source>(alloc: Global, inputs: &mut [S]) -> Result<Record<RunUses
     ensures ok { IfOk result (λ r. (asked : SummaryData) → IsDue (answer_due asked) (inputs_of (sources S.left S.stops inputs.old inputs.new)) (flat_map batch_text (answer_to r asked))) }
     ensures fault { IfErr result (IsJoinFault (sources S.left S.stops inputs.old inputs.new)) }
 {
-    let mut record = Record::new(RunUses::without_keys(alloc));
-    join_inputs(alloc, inputs, &mut record)?;
-    Ok(record)
+    record_of(alloc, inputs)
 }
 
 // The fault of inputs before which one more stands.

@@ -1,5 +1,6 @@
 ghost use Rattle.std.specs.Prelude.{◌≡◌, ◌∷◌, [], OnOk, IfOk, IfErr};
 ghost use Rattle.svid_replay.specs.Parts.{join_all};
+ghost use Rattle.svid_replay.specs.Records.{state_of};
 ghost use Rattle.svid_wire.specs.Messages.{batches_of};
 ghost use Rattle.svid_wire.specs.Streams.{IsRead, drawn};
 ghost use Rattle.svid_share.specs.Inputs.{IsInputFault, IsRefused, IsUnread, inputs_of, most_bytes, read_fault_of, sources};
@@ -8,7 +9,7 @@ ghost use Rattle.svid_share.specs.Joined.{Joins, JoinsAll};
 use crate::ToolFault;
 use crate::reader::Reader;
 use std::alloc::{AllocError, Global};
-use svid_replay::{Record, UseStore};
+use svid_replay::{Record, RunUses, UseStore};
 use svid_wire::{Message, ReadFault, Source, read_up_to};
 
 /// How many bytes an input has at the most.
@@ -105,4 +106,18 @@ pub fn join_inputs<S: Source, T: UseStore>(
         join_input(alloc, &mut inputs[index], index + 1, &mut messages, target)?;
     }
     Ok(())
+}
+
+// The record that the batches of all inputs come to, made quick to walk.
+pub(crate) fn record_of<S: Source>(
+    alloc: Global,
+    inputs: &mut [S],
+) -> Result<Record<RunUses>, ToolFault>
+    ensures ok { IfOk result (JoinsAll (inputs_of (sources S.left S.stops inputs.old inputs.new)) (state_of 0 [])) }
+    ensures fault { IfErr result (IsRefused (sources S.left S.stops inputs.old inputs.new)) }
+{
+    let mut record = Record::new(RunUses::without_keys(alloc));
+    join_inputs(alloc, inputs, &mut record)?;
+    record.compact();
+    Ok(record)
 }

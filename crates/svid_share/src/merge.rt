@@ -6,7 +6,7 @@ ghost use Rattle.svid_share.specs.Merge.{merge_due};
 ghost use Rattle.svid_share.specs.Written.{IsDue, IsEngineFault, IsWritten};
 
 use crate::ToolFault;
-use crate::inputs::join_inputs;
+use crate::inputs::record_of;
 use crate::parts::put_record;
 use std::alloc::Global;
 use svid_replay::{Record, RunUses};
@@ -17,9 +17,7 @@ fn join_all<S: Source>(alloc: Global, inputs: &mut [S]) -> Result<Record<RunUses
     ensures ok { IfOk result (λ r. IsDue merge_due (inputs_of (sources S.left S.stops inputs.old inputs.new)) (record_text r)) }
     ensures fault { IfErr result (IsJoinFault (sources S.left S.stops inputs.old inputs.new)) }
 {
-    let mut record = Record::new(RunUses::without_keys(alloc));
-    join_inputs(alloc, inputs, &mut record)?;
-    Ok(record)
+    record_of(alloc, inputs)
 }
 
 /// Joins the batches of all inputs, and writes the record that they come to as the texts of its parts:

@@ -10,7 +10,7 @@ ghost use Rattle.svid_share.specs.Written.{IsDue, IsEngineFault, IsWritten};
 ghost use Rattle.svid_share.specs.declared.tool_fault.ToolFault.TheVariants.{OutOfMemory, Write};
 
 use crate::ToolFault;
-use crate::inputs::join_inputs;
+use crate::inputs::record_of;
 use crate::line::{number_line, twice_line, use_line};
 use crate::page::Page;
 use std::alloc::Global;
@@ -117,8 +117,7 @@ fn join_all<S: Source>(
     ensures ok { IfOk result (λ r. IsDue (report_due now) (inputs_of (sources S.left S.stops inputs.old inputs.new)) (report_text r.0.moment (rising r.0.uses) r.1.items)) }
     ensures fault { IfErr result (IsJoinFault (sources S.left S.stops inputs.old inputs.new)) }
 {
-    let mut record = Record::new(RunUses::without_keys(alloc));
-    join_inputs(alloc, inputs, &mut record)?;
+    let mut record = record_of(alloc, inputs)?;
     raise_to(&mut record, now);
     let twice = record.report(alloc)?;
     Ok((record, twice))

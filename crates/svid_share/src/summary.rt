@@ -6,9 +6,9 @@ ghost use Rattle.svid_share.specs.Summary.{summary_due};
 ghost use Rattle.svid_share.specs.Written.{IsDue, IsEngineFault, IsWritten};
 
 use crate::ToolFault;
-use crate::inputs::join_inputs;
+use crate::inputs::record_of;
 use std::alloc::Global;
-use svid_replay::{Record, RunUses, Summary};
+use svid_replay::Summary;
 use svid_wire::{Sink, Source, write_summary};
 
 // The summary of what all inputs tell.
@@ -16,8 +16,7 @@ fn summary_of_inputs<S: Source>(alloc: Global, inputs: &mut [S]) -> Result<Summa
     ensures ok { IfOk result (λ summary. IsDue summary_due (inputs_of (sources S.left S.stops inputs.old inputs.new)) (summary_text summary)) }
     ensures fault { IfErr result (IsJoinFault (sources S.left S.stops inputs.old inputs.new)) }
 {
-    let mut record = Record::new(RunUses::without_keys(alloc));
-    join_inputs(alloc, inputs, &mut record)?;
+    let record = record_of(alloc, inputs)?;
     Ok(record.summary())
 }
 

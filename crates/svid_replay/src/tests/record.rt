@@ -246,6 +246,8 @@ fn records_merge_over_any_two_stores(rt: HostRuntime) -> Result<(), Fail> {
     merges_any_number_of_times(&rt, alloc, &mut sorted(alloc), &mut indexed(alloc))?;
     merges_any_number_of_times(&rt, alloc, &mut in_runs(alloc), &mut in_runs(alloc))?;
     merges_any_number_of_times(&rt, alloc, &mut in_runs(alloc), &mut sorted(alloc))?;
+    merges_any_number_of_times(&rt, alloc, &mut sorted(alloc), &mut in_runs(alloc))?;
+    merges_any_number_of_times(&rt, alloc, &mut in_runs(alloc), &mut indexed(alloc))?;
     merges_any_number_of_times(&rt, alloc, &mut indexed(alloc), &mut in_runs(alloc))
 }
 

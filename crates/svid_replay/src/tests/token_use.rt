@@ -1,8 +1,8 @@
 use super::{FIRST, GONE};
 use crate::Use;
 
-// Rising uses: each differs from the one before it in a field, and those of lesser weight fall. A
-// withdrawal stands behind the use that agrees in all else.
+// Rising uses: where a field rises, the one of the next lesser weight falls. A withdrawal stands behind the use that
+// agrees in all else.
 const RISING: [Use; 10] = [
     FIRST,
     GONE,

@@ -128,7 +128,7 @@ fn a_key_is_withdrawn_where_a_withdrawal_has_it(rt: HostRuntime) -> Result<(), F
     Ok(())
 }
 
-// Stores hold what no record does: what was made after it expired.
+// Stores hold what no record does: what was made when it expired.
 #[test]
 fn the_least_and_the_greatest_withdrawal_are_found(rt: HostRuntime) -> Result<(), Fail> {
     let alloc = rt.alloc();

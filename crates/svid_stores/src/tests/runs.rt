@@ -482,3 +482,101 @@ fn a_store_that_does_not_take_uses_at_once_stays(rt: HostRuntime) -> Result<(), 
     assert!(rt; runs.insert_all(many.uses()) && runs.len() == 256);
     Ok(())
 }
+
+// Puts uses into both stores, enough for three runs and a front.
+fn put_in_three_runs(runs: &mut RunUses, other: &mut IndexedUses) -> Result<(), AllocError> {
+    for number in 0..1900u64 {
+        runs.insert(mixed(number))?;
+        other.insert(mixed(number))?;
+    }
+    Ok(())
+}
+
+// Compacts while the nth allocation is refused: the uses are those that were there. Answers whether it was refused.
+fn compacts_as_far_as_memory_goes(rt: &impl Abort, alloc: Global, nth: usize) -> Result<bool, Fail>
+    requires { nth < 4294967296 }
+{
+    let mut runs = RunUses::new(alloc);
+    let mut other = IndexedUses::new(alloc);
+    put_in_three_runs(&mut runs, &mut other)?;
+    refuse(alloc, nth);
+    runs.compact();
+    let refused = was_refused(alloc);
+    refuse(alloc, 0);
+    assert_alike(rt, alloc, &runs, &other)?;
+    Ok(refused)
+}
+
+#[test]
+fn compacting_loses_none_where_memory_is_refused(rt: HostRuntime) -> Result<(), Fail> {
+    let alloc = rt.alloc();
+    let mut refused = true;
+    for nth in 1..100usize {
+        refused = compacts_as_far_as_memory_goes(&rt, alloc, nth)?;
+        if !refused {
+            break;
+        }
+    }
+    assert!(rt; !refused);
+    Ok(())
+}
+
+// Three runs become two, which takes memory; then nothing is left to be done, as in the other stores.
+fn compacts_once(rt: &impl Abort, alloc: Global, runs: &mut RunUses) -> Result<(), Fail> {
+    let mut other = IndexedUses::new(alloc);
+    let mut sorted = SortedUses::new(alloc);
+    put_in_three_runs(runs, &mut other)?;
+    sorted.insert(mixed(1))?;
+    refuse(alloc, 1);
+    runs.compact();
+    let took = was_refused(alloc);
+    refuse(alloc, 0);
+    runs.compact();
+    refuse(alloc, 1);
+    runs.compact();
+    other.compact();
+    sorted.compact();
+    let again = was_refused(alloc);
+    refuse(alloc, 0);
+    assert!(rt; !again);
+    // (where no library refuses memory, nothing is seen)
+    assert_eq!(rt; took, refuses_memory(alloc));
+    assert_alike(rt, alloc, runs, &other)?;
+    assert_eq!(rt; sorted.len(), 1);
+    Ok(())
+}
+
+// Whether a library refuses memory, as the sweep has one do.
+fn refuses_memory(alloc: Global) -> bool {
+    refuse(alloc, 1);
+    let mut uses = Vec::new(alloc);
+    let taken = uses.push(mixed(1)).is_ok();
+    refuse(alloc, 0);
+    !taken
+}
+
+#[test]
+fn three_runs_are_compacted_once(rt: HostRuntime) -> Result<(), Fail> {
+    let alloc = rt.alloc();
+    compacts_once(&rt, alloc, &mut RunUses::new(alloc))?;
+    compacts_once(&rt, alloc, &mut RunUses::without_keys(alloc))
+}
+
+#[test]
+fn a_compacted_record_is_as_it_was_and_goes_on(rt: HostRuntime) -> Result<(), Fail> {
+    let alloc = rt.alloc();
+    let (mut runs, mut other) = first_uses(&rt, alloc, 1900)?;
+    runs.compact();
+    other.compact();
+    assert_records_alike(&rt, alloc, &runs, &other)?;
+    assert_eq!(rt; runs.raise(5030), other.raise(5030));
+    let late = part(&rt, alloc, 1000, 3000)?;
+    runs.absorb(&late)?;
+    other.absorb(&late)?;
+    runs.compact();
+    assert_records_alike(&rt, alloc, &runs, &other)?;
+    assert_eq!(rt; runs.raise(5098), other.raise(5098));
+    runs.compact();
+    assert!(rt; runs.is_empty());
+    Ok(())
+}

@@ -12,8 +12,8 @@ returns c =
     let i = c.loop-i.i in
     let j = c.loop-i.j in
     let m = c.loop-i.merged.items in
-    let whole : c.extend_from_slice-2.new.self.items ≡ m ++ (drop i a ++ drop j b) =
-    c.in_ok-extend_from_slice-2.ensures.items ∙ (λ k. c.in_ok-extend_from_slice.ensures.items k ++ take_rest b j k) ∙ ap (λ xs. (m ++ xs) ++ drop j b) (take_rest a i) ∙ append_assoc m (drop i a) (drop j b) in
+    let whole : c.extend_from_slice-3.new.self.items ≡ m ++ (drop i a ++ drop j b) =
+    c.in_ok-extend_from_slice-4.ensures.items ∙ (λ k. c.in_ok-extend_from_slice-3.ensures.items k ++ take_rest b j k) ∙ ap (λ xs. (m ++ xs) ++ drop j b) (take_rest a i) ∙ append_assoc m (drop i a) (drop j b) in
     elim c.loop-i-test.branch [
       | then-loop-i-test+else-j-b w ↦ whole ∙ ap (λ xs. m ++ xs) (sym (merge_second_done use_cmp (drop i a) (drop j b) (drop_all j b (omega (arith, w.if-j-b))))) ∙ c.loop-i.invariant.left
       | else-loop-i-test w ↦ whole ∙ ap (λ xs. m ++ xs) (sym (merge_first_done use_cmp (drop i a) (drop j b) (drop_all i a (omega (arith, w.loop-i-test))))) ∙ c.loop-i.invariant.left

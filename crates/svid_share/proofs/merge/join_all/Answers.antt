@@ -3,4 +3,4 @@ use Rattle.svid_share.proofs.WrittenLemmas.{merged}
 use Rattle.svid_share.proofs.merge.join_all.Goals as goal
 
 pub returns-clause-ok : goal.returns-clause-ok
-returns-clause-ok g c = merged _ _ _ _ c.new-record.ensures c.in_ok-join_inputs.ensures.ok refl
+returns-clause-ok g c = merged _ _ _ c.record_of.ensures.ok refl

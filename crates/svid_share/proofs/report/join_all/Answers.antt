@@ -5,4 +5,4 @@ use Rattle.svid_share.proofs.WrittenLemmas.{reported}
 use Rattle.svid_share.proofs.report.join_all.Goals as goal
 
 pub returns-clause-ok : goal.returns-clause-ok
-returns-clause-ok g c = reported _ _ _ _ _ _ c.new-record.ensures c.in_ok-join_inputs.ensures.ok c.raise_to.ensures (ap (report_text c.raise_to.new.target.moment (rising c.raise_to.new.target.uses)) c.in_ok-twice.ensures.value)
+returns-clause-ok g c = reported _ _ _ _ _ c.in_ok-record.ensures.ok c.raise_to.ensures (ap (report_text c.raise_to.new.target.moment (rising c.raise_to.new.target.uses)) c.in_ok-twice.ensures.value)

@@ -1,6 +1,6 @@
 use Rattle.std.proofs.Common.{rules, arith}
 use Rattle.svid_replay.proofs.RunsLemmas.{merged_two}
-use Rattle.svid_replay.proofs.run_uses.merge_last.Goals as goal
+use Rattle.svid_replay.proofs.run_uses.merge_two.Goals as goal
 
 pub returns-in-Ok-clause-same : goal.returns-in-Ok-clause-same
 returns-in-Ok-clause-same c =
