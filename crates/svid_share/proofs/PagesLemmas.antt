@@ -19,7 +19,7 @@ use Rattle.svid_wire.specs.Streams.{StoppedAfter, Taken, TookAll, TookPart, take
 use Rattle.svid_wire.proofs.BatchTextLemmas.{StoppedAfter-item}
 use Rattle.svid_share.specs.Pages.{Passes, PassesBatch, behind, next_batch, next_texts}
 
--- ---- one text after another
+-- one text after another
 
 -- a sink took two texts whole, one after the other
 pub both_went : {K : Type 0} (told : K → Option (List ℕ)) (stops : K → ℕ) (a b c : K) (front text : List ℕ) → TookAll (taken told stops a b) front → TookAll (taken told stops b c) text → TookAll (taken told stops a c) (front ++ text)
@@ -36,7 +36,7 @@ part_went told stops a b c front piece rest text parts first second = record {
       (StoppedAfter-item (λ x. x) (told a) (told b) (told c) (stops a) (stops b) (stops c) front piece (piece ∷ rest ∷ []) (piece ∷ rest ∷ []) 0 [] (length front) second.count refl (omega arith) refl (ap length (append-nil front)) (subst (Appends (told a) (told b)) (sym (append-nil front)) first.gained) first.unstopped second.part);
 }
 
--- ---- through a room
+-- through a room
 
 -- the room was full: what stood in it went out, and then the text
 pub passed_full : {K : Type 0} (told : K → Option (List ℕ)) (stops : K → ℕ) (a b c : K) (before text after : List ℕ) → TookAll (taken told stops a b) before → TookAll (taken told stops b c) text → after ≡ [] → Passes (taken told stops a c) before text after
@@ -84,7 +84,7 @@ pub passed_in_part : {K : Type 0} (told : K → Option (List ℕ)) (stops : K �
 passed_in_part told stops a b c before text mid whole first second none same =
     part_went told stops a b c first.went mid [] whole (same ∙ ap (λ x. x ++ text) (sym none) ∙ sym first.is ∙ ap (λ x. first.went ++ x) (sym (append-nil mid))) first.all second
 
--- ---- a loop over things, of each of which a text passes
+-- a loop over things, of each of which a text passes
 
 pub item_passes : {X : Type 0} (line : X → List ℕ) (xs : List X) (i : ℕ) (d : X) {K : Type 0} (told : K → Option (List ℕ)) (stops : K → ℕ) (a b c : K) (before mid piece now : List ℕ) → i < length xs → piece ≡ line (get_or xs i d) → Passes (taken told stops a b) before (flat_map line (take i xs)) mid → Passes (taken told stops b c) mid piece now → Passes (taken told stops a c) before (flat_map line (take (i + 1) xs)) now
 item_passes line xs i d told stops a b c before mid piece now within is so_far next =
@@ -98,7 +98,7 @@ item_stops line xs i d told stops a b c before mid piece within is so_far part =
     (ap (flat_map line) (sym (take-append-drop i xs) ∙ ap (λ ys. take i xs ++ ys) (rw (add-one, drop-cons xs i d within))) ∙ flat_map-append line (take i xs) (get_or xs i d ∷ drop (i + 1) xs) ∙ ap (λ x. flat_map line (take i xs) ++ (x ++ flat_map line (drop (i + 1) xs))) (sym is))
     so_far part
 
--- ---- a walk over uses, of each of which a text passes
+-- a walk over uses, of each of which a text passes
 
 pub record HasPassed (line : Use → List ℕ) (us : List Use) (after : Option Use) (sink : Taken) (before now : List ℕ) : Type 0 where
   pub front : List Use
@@ -124,7 +124,7 @@ walk_stops line us after u told stops a b c before mid piece is up so_far found 
 pub walk_ends : (line : Use → List ℕ) (us : List Use) (after : Option Use) (sink : Taken) (before now : List ℕ) → HasPassed line us after sink before now → find (is_after after) us ≡ None → Passes sink before (flat_map line us) now
 walk_ends line us after sink before now so_far none = subst (λ x. Passes sink before (flat_map line x) now) (walk_end us after so_far.front so_far.walked none) so_far.passes
 
--- ---- the next uses, so many
+-- the next uses, so many
 
 -- from a place on, a list is what stands there, and then the rest
 at_place : (us : List Use) (i : ℕ) (d : Use) → i < length us → drop i us ≡ get_or us i d ∷ drop (i + 1) us
@@ -167,7 +167,7 @@ pub next_batch_text : (moment : ℕ) (us : List Use) (after : Option Use) (count
 next_batch_text moment us after count head there is =
     ap (λ n. head_text Two moment n ++ next_texts us after count) (length-take-le count (behind after us) there) ∙ ap (λ x. x ++ next_texts us after count) (sym is)
 
--- ---- the parts of a record
+-- the parts of a record
 
 -- so many of the parts passed, and those that are left are the parts of the uses behind one of them
 pub record HasCut (sink : Taken) (before now : List ℕ) (moment : ℕ) (us : List Use) (after : Option Use) : Type 0 where
@@ -215,7 +215,7 @@ cut_stops_last moment us after count told stops a b c before mid all few so_far 
     passed_part told stops a b c before so_far.text mid (batch_text (next_batch moment us after count)) [] (flat_map batch_text (cut moment us))
     (last_part moment us after count so_far.text all few so_far.parts ∙ ap (λ x. so_far.text ++ x) (sym (append-nil (batch_text (next_batch moment us after count))))) so_far.passes part
 
--- ---- what went out of a walk went out of what is walked
+-- what went out of a walk went out of what is walked
 pub batch_of_same : (r s : State) (sink : Taken) (before now : List ℕ) (after last : Option Use) (count : ℕ) → r ≡ s → PassesBatch sink before now r.moment (rising r.uses) after count last → PassesBatch sink before now s.moment (rising s.uses) after count last
 batch_of_same r s sink before now after last count e is = subst (λ (t : State). PassesBatch sink before now t.moment (rising t.uses) after count last) e is
 

@@ -2,7 +2,7 @@ use Rattle.std.proofs.Common.{◌≡◌, List, [], ℕ, Option, ◌∙◌, ap}
 use Rattle.std.specs.List.{flat_map}
 use Rattle.svid_replay.specs.Batches.{BatchData}
 use Rattle.svid_replay.specs.Buckets.{answer_to, summary_of}
-use Rattle.svid_replay.specs.Parts.{join_all, parts_of}
+use Rattle.svid_replay.specs.Parts.{parts_of}
 use Rattle.svid_replay.specs.Records.{State, state_of}
 use Rattle.svid_wire.specs.BatchText.{batch_text}
 use Rattle.svid_replay.specs.Summary.{SummaryData}

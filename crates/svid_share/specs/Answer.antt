@@ -63,7 +63,7 @@ pub record IsSummaryRefused {S : Type 0} (summary : Drawn) (s : Sources S) (give
   pub why : IsSummaryFault 1 summary given
   pub untouched : s.new ≡ s.old
 
--- the first input is one summary, and the others were not made a text of
+-- the first input is one summary, and no text was made of the others
 pub record AreOthersRefused {S : Type 0} (summary : Drawn) (s : Sources S) (given : ToolFault) : Type 0 where
   pub asked : SummaryData
   pub one : IsOneSummary summary asked

@@ -17,7 +17,7 @@ abbrev pub table_fault_of : TableFault → ToolFault
 table_fault_of (table.Line line) = tool.Table line
 table_fault_of table.OutOfMemory = tool.OutOfMemory
 
--- 2 where a file, a write or memory failed, and 1 where an input was refused
+-- of a fault that an engine answers: 2 where a file, a write or memory failed, and 1 where an input was refused
 abbrev pub status_of : ToolFault → ℕ
 status_of (tool.Read input) = 2
 status_of (tool.TooMuch input) = 2

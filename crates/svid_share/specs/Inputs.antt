@@ -24,7 +24,7 @@ read_fault_of number reading.Stopped = fault.Read number
 read_fault_of number reading.TooMuch = fault.TooMuch number
 read_fault_of number reading.OutOfMemory = fault.OutOfMemory
 
--- the input with this number, which is to be no messages, could not be read, and this is its fault
+-- the input with this number, which is not read as messages, could not be read, and this is its fault
 pub record IsUnread (number : ℕ) (input : Drawn) (fault : ToolFault) : Type 0 where
   pub why : ReadFault
   pub due : IsReadFault input most_bytes why
@@ -165,6 +165,6 @@ pub record IsRefused {S : Type 0} (s : Sources S) (fault : ToolFault) : Type 0 w
   pub why : IsInputFault (length before + 1) refused fault
   pub untouched : drop (length before + 1) s.new ≡ drop (length before + 1) s.old
 
--- why inputs were not made one text of: one of them was refused, or all are whole, and memory was refused for what they come to
+-- why no text was made of inputs: one of them was refused, or all are whole, and memory was refused for what they come to
 abbrev pub IsJoinFault : {S : Type 0} → Sources S → ToolFault → Type 0
 IsJoinFault s given = IsRefused s given ⊎ ((given ≡ fault.OutOfMemory) × AreAllWhole (inputs_of s))

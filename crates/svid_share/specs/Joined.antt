@@ -61,6 +61,6 @@ JoinedIsRecord = (batches : List BatchData) → AllByRecursion IsBatch batches �
 abbrev pub PartsComeToRecord : Type 0
 PartsComeToRecord = (r : State) → IsRecord r → joined (parts_of r) ≡ r
 
--- the parts of what each group of batches comes to come to what the batches of all groups come to
+-- the parts of the records that the groups come to, one by one, come to the same as the batches of all groups
 abbrev pub PartsStandForBatches : Type 0
 PartsStandForBatches = (groups : List (List BatchData)) → AllByRecursion (AllByRecursion IsBatch) groups → joined (flat_map (λ batches. parts_of (joined batches)) groups) ≡ joined (flat_map (λ batches. batches) groups)

@@ -18,8 +18,8 @@ use svid_replay::{Record, RunUses, Summary, UseStore};
 use svid_wire::{Sink, Source};
 
 /// Raises a record to the summary's moment, and writes its answer: the uses of all buckets whose digest then
-/// differs from the summary's, as batches; as [`run_answer`] does. Answers `Write` where the sink stopped, and
-/// then a part of them went out. Takes no memory.
+/// differs from the summary's, as batches; as [`run_answer`] does. Answers `Write` where the sink stopped: then a
+/// part of them went out, and the record stays raised. Takes no memory.
 pub fn put_answer<T: UseStore, K: Sink>(
     state: &mut Record<T>,
     asked: &Summary,
@@ -70,13 +70,15 @@ fn behind_one(fault: ToolFault) -> ToolFault
 
 /// Reads the one summary that the input `summary` is, joins the batches of all other inputs, and writes the
 /// answer of the record that they come to: raised to the summary's moment, the uses of all buckets whose
-/// digest differs from the summary's, as batches; one with no use where there are no such uses.
+/// digest differs from the summary's, as batches; one with no use where there are no such uses. Summaries among
+/// the others are passed over.
 ///
 /// The input `summary` has the number 1, and the others follow it. They are read and judged in this order,
 /// before anything is written. Refused for the first that is not a row of whole messages (`Wire`), could not
 /// be read (`Read`) or has more than 67,108,864 bytes (`TooMuch`), where the first is not exactly one summary
 /// (`NotSummary`), for want of memory, and where the sink stopped (`Write`): then a part of the texts went
-/// out, and else nothing did. The inputs behind a refused one are as they were. Numbers are held at 2^64-1.
+/// out, and else nothing did. A bad field in what came before a failed read or the limit is answered before
+/// these. The inputs behind a refused one are as they were. The numbers of inputs are held at 2^64-1.
 pub fn run_answer<Z: Source, S: Source, K: Sink>(
     alloc: Global,
     summary: &mut Z,

@@ -26,7 +26,8 @@ fn read_fault(fault: ReadFault, input: usize) -> ToolFault
     }
 }
 
-/// All bytes of the input with this number.
+/// All bytes of the input with this number. Refused where the source stopped (`Read`), where it gives more than
+/// 67,108,864 bytes (`TooMuch`), and for want of memory for what came.
 pub fn read_input<S: Source>(
     alloc: Global,
     source: &mut S,
@@ -63,15 +64,16 @@ fn join_messages<T: UseStore>(
 }
 
 /// Reads the messages of the input with this number piece by piece, and joins their batches; summaries
-/// are passed over. `messages` is room that is used anew for each piece: beside it and the record, the
+/// are passed over. `messages` is room that is used anew for each piece of at most 4,096 bytes, which ends at
+/// most 241 messages, of about eight thousand bytes each beside their uses. Beside it and the record, the
 /// memory that is taken is that of one message, and for a moment what the store takes to join a batch:
 /// `RunUses` has room for the uses of a long batch once more while it makes a run of the new ones
 /// (`insert_all`), and for those of two runs once more while it merges these.
 ///
-/// Refused for the first field that is bad, in the bytes that come before a call of the source stops,
-/// and before the limit; then for a source that stopped, for one that gives more than 67,108,864
-/// bytes, and for one that ends within a message; and for want of memory. After a refusal the record is of
-/// no use: nothing is said of it.
+/// Refused for the first field that is bad (`Wire`), in the bytes that come before a call of the source stops,
+/// and before the limit; then for a source that stopped (`Read`), for one that gives more than 67,108,864
+/// bytes (`TooMuch`), and for one that ends within a message (`Wire`); and for want of memory (`OutOfMemory`).
+/// After a refusal the record is of no use: nothing is said of it.
 pub fn join_input<S: Source, T: UseStore>(
     alloc: Global,
     source: &mut S,

@@ -11,8 +11,8 @@ pub fn batches_join_in_any_order()
     ensures { JoinedByWhich }
 {}
 
-/// What batches come to is what a new record is to which they were joined one after the other; and it is a record. Where
-/// others were joined before, it is what all of them come to.
+/// Batches joined to a new record, one after the other, make it what they come to, and that is a record. Joined to
+/// what others came to, they make it what all of them come to.
 pub fn batches_join_one_by_one()
     ensures joined { JoinedFromNothing }
     ensures goes_on { JoinedOneByOne }
@@ -20,7 +20,7 @@ pub fn batches_join_one_by_one()
 {}
 
 /// The parts of a record stand for whatever batches it came of: what they come to is that record, and records that
-/// are merged by their parts are what all batches come to that they came of.
+/// are merged by their parts come to what all the batches behind them come to.
 pub fn parts_stand_for_batches()
     ensures whole { PartsComeToRecord }
     ensures merged { PartsStandForBatches }

@@ -1,6 +1,6 @@
-ghost use Rattle.std.specs.Prelude.{◌≡◌, ◌++◌, ◌+◌, ◌*◌, ◌≤◌, [], length};
+ghost use Rattle.std.specs.Prelude.{◌≡◌, ◌++◌, ◌+◌, ◌*◌, ◌<◌, ◌≤◌, [], length, slice_index};
 ghost use Rattle.std.specs.Fmt.{decimal};
-ghost use Rattle.hex.specs.Hex.{encode_lower};
+ghost use Rattle.hex.specs.Hex.{encode_lower, lower_digits};
 ghost use Rattle.svid_share.specs.Report.{mark, number_line, twice_line, use_line};
 
 use arrayvec::ArrayVec;
@@ -22,6 +22,30 @@ impl Model for Line {
     ghost Value = { List ℕ };
 
     ghost view = { λ l. l.room.items };
+}
+
+// The digit of a number below 16: by arithmetic, which the compiler does for many numbers at once.
+fn digit(value: u8) -> u8
+    requires { value < 16 }
+    ensures { result ≡ slice_index lower_digits value }
+{
+    if value < 10 {
+        b'0' + value
+    } else {
+        b'a' - 10 + value
+    }
+}
+
+// Writes bytes in hexadecimal.
+fn write_digits(bytes: &[u8], digits: &mut [u8])
+    requires { length digits.old ≡ 2 * length bytes.now }
+    ensures { digits.new ≡ encode_lower bytes.now }
+{
+    for i in 0..bytes.len() {
+        let byte = bytes[i];
+        digits[2 * i] = digit(byte >> 4);
+        digits[2 * i + 1] = digit(byte & 0x0f);
+    }
 }
 
 impl Line {
@@ -57,7 +81,7 @@ impl Line {
     {
         let mut room = [0; 64];
         let digits = &mut room[..2 * bytes.len()];
-        let _ = hex::encode_to_slice(bytes, digits);
+        write_digits(bytes, digits);
         self.push(digits);
     }
 

@@ -22,7 +22,7 @@ fn join_all<S: Source>(alloc: Global, inputs: &mut [S]) -> Result<Record<RunUses
 
 /// Joins the batches of all inputs, and writes the record that they come to as the texts of its parts:
 /// batches of its moment that hold its uses in rising order, 65,536 in each but the last; one with no use
-/// where the record has none.
+/// where the record has none. Summaries among the inputs are passed over.
 ///
 /// What is written depends on nothing but which batches there are. The inputs are read and judged in their
 /// order, before anything is written. Refused for the first that is not a row of whole messages (`Wire`),

@@ -123,8 +123,9 @@ fn join_all<S: Source>(
     Ok((record, twice))
 }
 
-/// Joins the batches of all inputs, raises what they come to to the moment `now` (in seconds) where one is
-/// given, and writes its moment, its uses, and the keys that are used more than once.
+/// Joins the batches of all inputs, raises the record that they come to up to the moment `now` (in seconds)
+/// where one is given, and writes its moment, its uses, and the keys that are used more than once. Summaries
+/// among the inputs are passed over.
 ///
 /// The inputs are read and judged in their order, before anything is written. Refused for the first
 /// that is not a row of whole messages (`Wire`), could not be read (`Read`) or has more than 67,108,864

@@ -26,7 +26,7 @@ pub enum ToolFault {
     NotSummary,
     /// The bundles are refused.
     Bundles(BundleFault),
-    /// The line with this number, counted from 1, is the first of the table that is no question.
+    /// The line with this number, counted from 1, is the first of the table that is neither empty nor a question.
     Table(usize),
     /// An input could not be read.
     Read {
@@ -45,7 +45,8 @@ pub enum ToolFault {
 }
 
 impl ToolFault {
-    /// The exit status of the program: 1 where an input was refused, 2 where something else went wrong.
+    /// The exit status of the program after a fault that an engine answers: 1 where an input was refused, 2 where
+    /// something else went wrong.
     pub fn status(&self) -> u8
         ensures { result ≡ status_of self.now }
     {
