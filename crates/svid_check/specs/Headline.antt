@@ -203,7 +203,7 @@ TwoPlacesAreReported = (group : ℕ → Terms) (events : List Event) (v : ℕ) (
 abbrev pub RestartsAbsorb : Type 0
 RestartsAbsorb = (group : ℕ → Terms) (events : List Event) (k : ℕ) (s : Saved) → slice_get (happen group start events).saves k ≡ Some s → join_all (state_of 0 []) (parts_of s.was.held) ≡ s.was.held
 
--- so a restart is to absorb them: it leaves the validator with that record, and with what it had been told and its log at the save
+-- so a restart may absorb them: it leaves the validator with the record that they give, and with what it had been told and its log at the save
 abbrev pub RestartsPutBack : Type 0
 RestartsPutBack = (group : ℕ → Terms) (events : List Event) (v k : ℕ) (s : Saved)
     → let w = happen group start events in
