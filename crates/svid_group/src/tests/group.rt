@@ -209,7 +209,7 @@ impl Common {
     }
 }
 
-// ---- what may happen, each in a word
+// What may happen, each in a word.
 
 fn checks<S: UseStore>(
     rt: &impl Abort,
@@ -467,7 +467,7 @@ fn happens<S: UseStore + Drop>(
     }
 }
 
-// ---- what a validator then is
+// What a validator then is.
 
 // The uses that have this key.
 fn uses_of(alloc: Global, key: &[u8; 32], uses: &[Use]) -> Result<Vec<Use>, AllocError> {
