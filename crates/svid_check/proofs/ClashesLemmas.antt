@@ -23,7 +23,8 @@ use Rattle.svid_wire.specs.declared.version.Version.TheVariants.{Two}
 use Rattle.svid_wire.proofs.FirstMessage.{length-use_text}
 use Rattle.svid_check.specs.Headline.{IsClash}
 
--- ---- a use is known by its text, and a list of uses by its texts
+-- A use is known by its text, and a list of uses by its texts.
+
 head_and_tail : (a b : ℕ) (x y : List ℕ) → a ∷ x ≡ b ∷ y → (a ≡ b) × (x ≡ y)
 head_and_tail a b x y e = (cc, cc)
 
@@ -80,7 +81,8 @@ same_bucket a t u fa ft e held =
 bucket_below : (u : Use) → IsUse u → bucket_of u < 256
 bucket_below u fields = All-get_or (λ n. n < 256) u.key 0 0 (omega (arith, fields.key.size)) fields.key.each
 
--- ---- a search for a clash
+-- A search for a clash.
+
 abbrev is_same : List ℕ → List ℕ → Bool
 is_same a b = is_eq (bytes_cmp a b)
 
@@ -152,7 +154,6 @@ unless_clash a t fa ft =
       | inr none ↦ inr (λ u held same. let below = bucket_below u (ft u held) in same_bucket a.uses t u fa ft (one_text a t u below (none (bucket_of u) below) same) held)
     ]
 
--- ---- the parts of an answer
 -- the uses that an answer is of: those whose bucket differs
 pub stale_in : (s : SummaryData) (uses : Uses) (u : Use) → holds (uses_in (rising (stale s uses))) u ≡ (holds uses u && differs s uses u)
 stale_in s uses u = ap (λ (t : Uses). holds t u) (uses_in-rising (stale s uses)) ∙ stale_holds_differing s uses u

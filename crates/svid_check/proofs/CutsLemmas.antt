@@ -31,7 +31,8 @@ dropped n us u h =
     ap (list_any (eq_by_cmp use_cmp u)) (sym (take-append-drop n us)) ∙ list_any-append (eq_by_cmp use_cmp u) (take n us) (drop n us)
     ∙ or_right (list_any (eq_by_cmp use_cmp u) (take n us)) (list_any (eq_by_cmp use_cmp u) (drop n us)) h
 
--- ---- so many full batches, and one of the rest
+-- So many full batches, and one of the rest.
+
 each_within : (size n m : ℕ) (us : List Use) (p : ℕ) (b : BatchData) → slice_get (full_batches size n m us) p ≡ Some b → (u : Use) → Listed b.uses u → Listed us u
 unfolding full_batches
 each_within size zero m us zero b e u h = subst (λ (x : BatchData). Listed x.uses u) (sym (same_Some (record { moment = m; uses = us }) b e)) h
@@ -63,8 +64,7 @@ in_one size (suc n) m us u h =
       | inr r ↦ later b (full_batches size n m (drop size us)) u (in_one size n m (drop size us) u r)
     ]
 
--- ---- what uses are cut into
--- the batches are such, of some size and as many as may be
+-- the batches are those that uses are cut into: some full ones of one size, and one of the rest
 pub record AreCut (m : ℕ) (us : List Use) (batches : List BatchData) : Type 0 where
   pub size : ℕ
   pub full : ℕ
@@ -99,7 +99,6 @@ first_part m us batches are =
     let f = first_one are.size are.full m us in
     (f.0, ap (λ (bs : List BatchData). slice_get bs 0) are.is ∙ f.1, f.2)
 
--- ---- what a batch tells
 -- the first uses of a batch are of its uses
 pub front_within : (n : ℕ) (b : BatchData) (u : Use) → IsTrue (holds (uses_in (front n b).uses) u) → IsTrue (holds (uses_in b.uses) u)
 front_within n b u h = holds-uses_in b.uses u ∙ taken n b.uses u (sym (holds-uses_in (take n b.uses) u) ∙ h)

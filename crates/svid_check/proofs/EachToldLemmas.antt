@@ -202,7 +202,8 @@ each_told group events P is gone =
     let kept = each_is_kept P in
     happen_everywhere (λ n. Unit {0}) P I kept group start events (each_true (IsAt (λ n. Unit {0})) any_moment events) is gone (start_everywhere (λ n. Unit {0}) P I kept)
 
--- ---- accepted uses are no withdrawals
+-- Accepted uses are no withdrawals.
+
 at_most_one : (added : Option Use) (u : Use) → Contains (one_or_none added) u → added ≡ Some u
 at_most_one (Some v) u has = elim (has_cases v [] u has) [ inl same ↦ ap Some same | inr later ↦ has_none u later ]
 at_most_one None u has = has_none u has

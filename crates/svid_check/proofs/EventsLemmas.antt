@@ -30,7 +30,8 @@ use Rattle.svid_check.specs.World.{Answer, Answered, Content, Entry, Made, Membe
 use Rattle.svid_check.proofs.PlacesLemmas.{put_own}
 use Rattle.svid_check.proofs.RowsLemmas.{told}
 
--- ---- checks
+-- Checks.
+
 for_memory : (found : Option Refusal) (answer : Result Accepted Refusal) → answer ≡ Err refusal.OutOfMemory → ((r : Refusal) → found ≡ Some r → answer ≡ Err r) → Err (form_or_memory found) ≡ answer
 for_memory None answer is form = sym is
 for_memory (Some r) answer is form = sym (form r refl)
@@ -51,7 +52,8 @@ checks_are_events group w v now token answer due form =
     let g = check_gives (group v).setting x token answer due form in
     (g.0, g.1, ap (λ (m : Member). m.held) (put_own w v (checked (ticked (w.members v) now) (answer_at group w v now token g.0))) ∙ ap (settled x) g.1)
 
--- ---- withdrawals
+-- Withdrawals.
+
 withdraw_gives : (place : List ℕ) (x : State) (key : List ℕ) (exp : ℕ) (answer : Result Use WithdrawFault) → IsWithdrawal place x.moment key exp answer → (refused : Bool) × (withdraw_answer place x key exp refused ≡ answer)
 withdraw_gives place x key exp (Ok used) h =
     let due = withdrawal place x.moment key exp in
@@ -67,11 +69,13 @@ withdrawals_are_events group w v now key exp answer h =
     let g = withdraw_gives (group v).setting.place x key exp answer h in
     (g.0, g.1, ap (λ (m : Member). m.held) (put_own w v (withdrew (ticked (w.members v) now) (withdrawal_at group w v now key exp g.0))) ∙ ap (λ (a : Result Use WithdrawFault). gains x (withdrawn_in a)) g.1)
 
--- ---- ticks
+-- Ticks.
+
 pub ticks_are_events : TicksAreEvents
 ticks_are_events group w v now = ap (λ (m : Member). m.held) (put_own w v (ticked (w.members v) now))
 
--- ---- takes
+-- Takes.
+
 take_gives : (x : Member) (last : ℕ) (entry : Entry) (sender : Uses) (b : BatchData) (answer : Result (Unit {0}) TakeFault) (y : State) → Takes x.held last b answer y
     → (refused : Option ℕ) × ((took last x entry sender b refused).held ≡ y) × ((took last x entry sender b refused).log ≡ x.log ++ entries entry answer)
 take_gives x last entry sender b (Ok taken) y h =
@@ -100,7 +104,8 @@ takes_are_events group w v now k p q b answer y at_k at_p h =
     ∙ put_own w v (took (far group v now) x (Took k p) q.was.told.uses b g.0) in
     (g.0, (ap (λ (m : Member). m.held) is ∙ g.1, ap (λ (m : Member). m.log) is ∙ g.2))
 
--- ---- answers
+-- Answers.
+
 -- what an answer leaves, and posts
 record Leaves (w : World) (v k : ℕ) (answer : Result (Vec BatchData Global) TakeFault) (y : State) (after : World) : Type 0 where
   held : (after.members v).held ≡ y
@@ -140,7 +145,8 @@ answers_are_events group w v now k q s answer y at_k is_summary h =
     let leaves : Leaves w v k answer y (happens group w (Answer v now k g.0)) = subst (Leaves w v k answer y) (sym is) g.1 in
     (g.0, (leaves.held, leaves.pool))
 
--- ---- what is posted as it is
+-- What is posted as it is.
+
 pub sends_are_events : SendsAreEvents
 sends_are_events group w v parts is = (refl, ap (λ (ps : List BatchData). w.pool ++ record { maker = v; was = w.members v; content = Sent ps } ∷ []) (sym is))
 
@@ -152,7 +158,8 @@ sums_are_events group w v summary same =
       ap (λ (s : SummaryData). w.pool ++ record { maker = v; was = w.members v; content = Summed s } ∷ []) (sym same),
     )
 
--- ---- one validator by itself
+-- One validator by itself.
+
 pub checks_are_calls : ChecksAreCalls
 checks_are_calls t w now token answer due form =
     let x = raised w.held now in

@@ -32,7 +32,8 @@ use Rattle.svid_check.specs.World.{Answer, Answered, Entry, Made, Member, Postin
 use Rattle.svid_check.proofs.AnswersLemmas.{accepted_is}
 use Rattle.svid_check.proofs.LawfulLemmas.{alive, in_range, made_now}
 
--- ---- a record of one use
+-- A record of one use.
+
 only_use : (u v : Use) → holds (uses_in (u ∷ [])) v ≡ true → v ≡ u
 only_use u v held =
     let tied : eq_by_cmp use_cmp v u ≡ true = sym (or-false (eq_by_cmp use_cmp v u)) ∙ sym (holds-uses_in (u ∷ []) v) ∙ held in
@@ -67,7 +68,8 @@ one_rising u = (tt, tt)
 one_part : (now : ℕ) (u : Use) → parts_of (state_of now (u ∷ [])) ≡ record { moment = now; uses = u ∷ [] } ∷ []
 one_part now u = ap (cut now) (rising-uses_in (u ∷ []) (one_rising u)) ∙ cut_few now (u ∷ []) (omega arith)
 
--- ---- tests and lists
+-- Tests and lists.
+
 on_time : (now ahead : ℕ) → now < 2 ^ 64 → nat_lt (horizon now ahead) now ≡ false
 on_time now ahead fits = false_from_ne_true (nat_lt (horizon now ahead) now) (λ e. let lt : horizon now ahead < now = ltb-true (horizon now ahead) now e in omega arith)
 
@@ -156,7 +158,8 @@ module _ (t : Terms) (now : ℕ) (first : Accepted) (fits : now < 2 ^ 64) (later
         forgotten = holds-uses_in [] u;
       })
 
-  -- ---- the summary and its answer
+  -- The summary and its answer.
+
   abbrev summing : Posting
   summing = record { maker = 1; was = taker; content = Summed (summary_of taker.held) }
 
@@ -233,7 +236,8 @@ module _ (t : Terms) (now : ℕ) (first : Accepted) (fits : now < 2 ^ 64) (later
         (subst (λ (w : World). IsAnswerForgotten (happens_forgetful group w (Take 1 now 2 0 None)) 1 2 1 u) (sym answers)
         (subst (λ (w : World). IsAnswerForgotten w 1 2 1 u) (sym taken_back) last_forgotten))
 
--- ---- from the acceptance
+-- From the acceptance.
+
 module _ (t : Terms) (now : ℕ) (token : List ℕ) (first : Accepted) (is : AcceptsNew t now token first) where
   accepts : Accepts t.setting (raised new_member.held now).moment (raised new_member.held now).uses token first.used
   accepts = accepted_is t.setting (raised new_member.held now) token false first is

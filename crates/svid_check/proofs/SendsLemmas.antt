@@ -148,7 +148,8 @@ acceptance_tells group w v now token refused accepted e =
     subst (λ (y : Member). IsTrue (holds y.told.uses accepted.used)) (sym (put_own w v (checked x (answer_at group w v now token refused))))
     (subst (λ (a : Result Accepted Refusal). IsTrue (holds (checked x a).told.uses accepted.used)) (sym e) (accepted_told x accepted))
 
--- ---- a send taken whole, with nothing between
+-- A send taken whole, with nothing between.
+
 put_other : (w : World) (v n : ℕ) (x : Member) → n ≢ v → (put w n x).members v ≡ w.members v
 put_other w v n x d = cond-false (v == n) x (w.members v) (ne_eqb v n (λ e. d (sym e)))
 
@@ -253,7 +254,7 @@ sends_make_equal group events takes v k q send told only taken =
     same_uses (after.members v).told.uses q.was.told.uses (λ u.
     both_ways (holds (after.members v).told.uses u) (holds q.was.told.uses u) (under.told u) (send_told after (after.members v) k q sound (sound.members v) (under.place, send.1) taken u))
 
--- ---- a restart puts back a save of its own
+-- a restart puts back a save of its own
 restarted : (w : World) (v : ℕ) (s : Saved) → s.owner ≡ v → (restart w v (Some s)).members v ≡ s.was
 restarted w v s own = ap (λ (x : World). x.members v) (cond-true (s.owner == v) (put w v s.was) w (eq-eqb s.owner v own)) ∙ put_own w v s.was
 

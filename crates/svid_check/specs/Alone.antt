@@ -78,23 +78,23 @@ ChecksAreCalls = (t : Terms) (w : Alone) (now : ℕ) (token : List ℕ) (answer 
     Answers Some answer (verdict t.setting x.moment x.uses token) → RefusesForm token answer
     → (refused : Bool) × (answer_alone t w now token refused ≡ answer) × ((called t w (Check now token refused)).held ≡ settled x answer)
 
--- so do a withdrawal
+-- so it is with a withdrawal
 abbrev pub WithdrawalsAreCalls : Type 0
 WithdrawalsAreCalls = (t : Terms) (w : Alone) (now : ℕ) (key : List ℕ) (exp : ℕ) (answer : Result Use WithdrawFault)
     → let x = raised w.held now in
     IsWithdrawal t.setting.place x.moment key exp answer
     → (refused : Bool) × (withdrawal_alone t w now key exp refused ≡ answer) × ((called t w (Withdraw now key exp refused)).held ≡ gains x (withdrawn_in answer))
 
--- a tick
+-- with a tick
 abbrev pub TicksAreCalls : Type 0
 TicksAreCalls = (t : Terms) (w : Alone) (now : ℕ) → (called t w (Tick now)).held ≡ raised w.held now
 
--- a take
+-- with a take
 abbrev pub TakesAreCalls : Type 0
 TakesAreCalls = (t : Terms) (w : Alone) (now : ℕ) (b : BatchData) (answer : Result (Unit {0}) TakeFault) (y : State)
     → Takes (raised w.held now) (horizon now t.ahead) b answer y → (refused : Option ℕ) × ((called t w (Take now b refused)).held ≡ y)
 
--- and an answer to a summary
+-- and with an answer to a summary
 abbrev pub AnswersAreCalls : Type 0
 AnswersAreCalls = (t : Terms) (w : Alone) (now : ℕ) (s : SummaryData) (answer : Result (Vec BatchData Global) TakeFault) (y : State)
     → Replies (raised w.held now) (horizon now t.ahead) s answer y → (called t w (Answer now s)).held ≡ y

@@ -33,7 +33,7 @@ abbrev pub latest : List Event → ℕ
 latest [] = 0
 latest (event ∷ events) = max (now_of event) (latest events)
 
--- each event has a moment
+-- the moment of each event is below 2^64
 abbrev pub AreMoments : List Event → Type 0
 AreMoments events = AllByRecursion (λ event. now_of event < 2 ^ 64) events
 

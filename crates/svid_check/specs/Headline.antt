@@ -31,7 +31,7 @@ IsWithin s t = (u : Use) → IsTrue (holds s u) → IsTrue (holds t u)
 abbrev pub member_after : (ℕ → Terms) → List Event → ℕ → Member
 member_after group events v = (happen group start events).members v
 
--- ---- records and verdicts
+-- Records and verdicts.
 
 -- each validator's record is what was told: the greatest moment, and the uses that are live at it
 abbrev pub RecordsAreTold : Type 0
@@ -48,7 +48,7 @@ WithMemoryVerdicts = (group : ℕ → Terms) (events : List Event) (v now : ℕ)
     → let x = tell_now (member_after group events v).told now in
     seen Some (answer_at group (happen group start events) v now token false) ≡ verdict (group v).setting x.greatest (live x.uses x.greatest) token
 
--- ---- equal tellings
+-- Equal tellings.
 
 -- validators that were told the same, in whatever groups and by whatever events, have the same record, with the same parts and the same texts
 abbrev pub EqualTellings : Type 0
@@ -86,7 +86,7 @@ SendsMakeEqual = (group : ℕ → Terms) (events takes : List Event) (v k : ℕ)
     IsSend before k q → IsWithin (before.members v).told.uses q.was.told.uses → AllByRecursion (TakesOnly v k) takes → HasTaken (after.members v).log k q
     → (after.members v).told.uses ≡ q.was.told.uses
 
--- ---- what a send tells
+-- What a send tells.
 
 -- a validator that took a send whole was told all uses that its sender had been told by then, what had expired too
 abbrev pub SendsTellAll : Type 0
@@ -136,7 +136,7 @@ AcceptanceGoesAlong = (group : ℕ → Terms) (events : List Event) (v k moment 
     → let w = happen group start events in
     Accepts s moment uses token u → input_of token ≡ Some input → IsSend w k q → HasTaken (w.members v).log k q → WentAlong w u k chain → IsRefusedBy (group v) (w.members v) input
 
--- ---- withdrawals
+-- Withdrawals.
 
 -- a check accepts no token of whose key a withdrawal was told that is live
 abbrev pub WithdrawnAreRefused : Type 0
@@ -144,7 +144,7 @@ WithdrawnAreRefused = (group : ℕ → Terms) (events : List Event) (v now : ℕ
     → let x = tell_now (member_after group events v).told now in
     IsTrue (holds x.uses u) → u.withdrawn ≡ true → x.greatest < u.exp → answer_at group (happen group start events) v now token refused ≡ Ok accepted → u.key ≢ accepted.used.key
 
--- ---- reports
+-- Reports.
 
 -- a use of this key was told that is no withdrawal, and is live
 abbrev pub IsLiveUse : Told → List ℕ → Use → Type 0
@@ -197,20 +197,20 @@ TwoPlacesAreReported = (group : ℕ → Terms) (events : List Event) (v : ℕ) (
     → IsTrue (holds x.told.uses a) → IsTrue (holds x.told.uses b) → x.told.greatest < a.exp
     → (listed : Twice) × Contains (report_of x) listed × (listed.key ≡ a.key) × Contains listed.uses a × Contains listed.uses b
 
--- ---- restarts
+-- Restarts.
 
 -- a new record that absorbs all parts of a saved record is that record
 abbrev pub RestartsAbsorb : Type 0
 RestartsAbsorb = (group : ℕ → Terms) (events : List Event) (k : ℕ) (s : Saved) → slice_get (happen group start events).saves k ≡ Some s → join_all (state_of 0 []) (parts_of s.was.held) ≡ s.was.held
 
--- so a restart is to absorb them: it leaves the validator with that record, and with what it had been told and its log at the save
+-- so a restart may absorb them: it leaves the validator with the record that they give, and with what it had been told and its log at the save
 abbrev pub RestartsPutBack : Type 0
 RestartsPutBack = (group : ℕ → Terms) (events : List Event) (v k : ℕ) (s : Saved)
     → let w = happen group start events in
     let x = (happens group w (Restart v k)).members v in
     slice_get w.saves k ≡ Some s → s.owner ≡ v → (x.held ≡ join_all (state_of 0 []) (parts_of s.was.held)) × (x.told ≡ s.was.told) × (x.log ≡ s.was.log)
 
--- ---- summaries and answers
+-- Summaries and answers.
 
 -- the places of a group have 16 bytes
 abbrev pub HasPlaces : (ℕ → Terms) → Type 0

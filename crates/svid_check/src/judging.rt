@@ -45,8 +45,8 @@ fn is_early(moment: u64, nbf: Option<u64>) -> bool
     }
 }
 
-// Whether a token expires later than any may at this moment. The sum has no limit, so that a long time
-// is never taken for a short one.
+// Whether a token expires later than any may at this moment. The difference is compared, since the sum
+// of the moment and the longest life may be past 2^64-1.
 fn lasts_too_long(moment: u64, longest: Option<u64>, exp: u64) -> bool
     ensures { result ≡ holds_of longest (λ longest. nat_lt (moment + longest) exp) }
 {

@@ -36,8 +36,8 @@ pub fn validators_begin_as_given()
     ensures { BeginsAsGiven }
 {}
 
-/// Each call of a validator, answered and leaving its record as the call's contract says, is a run of
-/// one event.
+/// Each check, tick, take and withdrawal, answered and leaving the record as the call's contract says, is
+/// a run of one event.
 pub fn calls_are_steps()
     ensures checks { ChecksAreSteps }
     ensures ticks { TicksAreSteps }
@@ -129,8 +129,8 @@ pub fn reports_are_exact()
     ensures places { TwoPlacesAreReported }
 {}
 
-/// A new record that absorbs all parts of a saved record is that record; so that is to restart, which
-/// puts back what had been told and the log too.
+/// A new record that absorbs all parts of a saved record is that record; and a restart puts back that
+/// record, what had been told, and the log.
 pub fn restarts_absorb()
     ensures parts { RestartsAbsorb }
     ensures put_back { RestartsPutBack }

@@ -9,7 +9,7 @@
 //! their own record, which [`Validator::answer`] answers with the uses of all buckets whose digests differ
 //! from the summary's: whole buckets, so also uses that both records have.
 //! [`Validator::withdraw`] withdraws a token before it expires, so that it is refused as `Withdrawn`.
-//! [`Validator::run`] makes a list of checks, withdrawals, ticks and takes.
+//! [`Validator::run`] makes the calls of a list: checks, withdrawals, ticks and takes.
 //!
 //! ```rust
 //! use svid_check::Validator;

@@ -16,8 +16,9 @@ use svid_keys::{Bundles, Verifier};
 use svid_replay::{Record, Use, UseStore};
 use svid_token::{Claims, Refusal};
 
-/// What checks tokens: its own audiences, its place, trust bundles, a verifier of signatures, and the
-/// record of the tokens that it knows to have been used or withdrawn.
+/// What checks tokens: its own audiences, its place, how far ahead a message may lie, trust bundles, a
+/// verifier of signatures, how long a token may last, and the record of the tokens that it knows to have
+/// been used or withdrawn.
 ///
 /// Contracts see it as these, with the record's moment and uses.
 #[derive(Drop)]

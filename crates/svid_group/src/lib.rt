@@ -1,4 +1,4 @@
-//! Nothing but tests: validators that share their record, as the services that they stand in use them.
+//! Nothing but tests: validators that share their record, used as services use them.
 //!
 //! They call what `svid_check` and the crates below it give out, and no more. A simulation takes four
 //! validators through thousands of random events, each beside a list of what it was told, and each law of

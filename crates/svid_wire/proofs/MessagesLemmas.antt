@@ -85,7 +85,8 @@ parses_one_way bytes ms ns x y p q =
     let (written, rest) = one_way p.splits.written q.splits.written x y p.splits.good q.splits.good p.ends q.ends (sym p.splits.parts ∙ q.splits.parts) in
     (p.splits.told ∙ ap (map read_as) written ∙ sym q.splits.told, rest)
 
--- ---- what is written is read
+-- What is written is read.
+
 -- version 2 has a text for each use
 two_tells : (us : List Use) → AllByRecursion (CanTell Two) us
 two_tells [] = tt

@@ -1,6 +1,6 @@
 //! Where the fields of a message's text stand, and how long they are.
 
-/// What every message begins with: `JSR`, and 2 for the version.
+/// What every message that is written begins with: `JSR`, and 2 for the version.
 pub(crate) const MAGIC: [u8; 4] = [b'J', b'S', b'R', 2];
 
 /// The next byte of a batch.
@@ -9,7 +9,7 @@ pub(crate) const BATCH_KIND: u8 = 1;
 /// The next byte of a summary.
 pub(crate) const SUMMARY_KIND: u8 = 2;
 
-/// How many bytes that has which every message begins with.
+/// How many bytes `JSR` and the version have, in either version.
 pub(crate) const MAGIC_LEN: usize = 4;
 
 /// How many bytes the kind has.
@@ -18,7 +18,7 @@ pub(crate) const KIND_LEN: usize = 1;
 /// How many bytes the moment and the number of uses have.
 pub(crate) const NUMBERS_LEN: usize = 12;
 
-/// How many bytes a use has.
+/// How many bytes a use has in version 2.
 pub(crate) const USE_LEN: usize = 65;
 
 /// How many bytes stand before the first use.

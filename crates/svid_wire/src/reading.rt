@@ -10,8 +10,8 @@ const ROOM: usize = 65536;
 /// All bytes of a source to its end, where they are at most `limit`.
 ///
 /// Refused where a call of the source stopped (`Stopped`), where more than `limit` bytes came
-/// (`TooMuch`), or for want of memory for bytes that came. It keeps at most `limit` bytes and one
-/// buffer of 64 KiB.
+/// (`TooMuch`), or for want of memory for bytes that came. What came is dropped then, and the source
+/// stands behind it. It keeps at most `limit` bytes and one buffer of 64 KiB.
 pub fn read_up_to<S: Source>(
     alloc: Global,
     source: &mut S,

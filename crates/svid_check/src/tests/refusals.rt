@@ -114,13 +114,16 @@ fn assert_rows(
     Ok(())
 }
 
+// Each token has one fault; what follows from it holds too, as that an unknown domain has no key. `TooLong`,
+// `TooLongLived` and `Withdrawn` have tests of their own, and `Replayed` is the last row of the next table.
 #[test]
-fn names_each_refusal_that_holds_alone(rt: HostRuntime) -> Result<(), Fail> {
+fn names_a_refusal_that_holds_alone(rt: HostRuntime) -> Result<(), Fail> {
     assert_rows(&rt, rt.alloc(), &ALONE, 0)
 }
 
 // Of two refusals that hold, the earlier is answered. Where no token can meet two neighbours of the
-// table, as a misspelled header is never read, the next that can be met stands in place of the later.
+// table, as a misspelled header is never read, the next that can be met stands in place of the later. In the
+// last row `Replayed` holds alone.
 const FIRST_OF_TWO: [(&str, &str, &str, Refusal); 23] = [
     (MISSPELLED, PAYLOAD, "c2ln.c2ln", Refusal::NotThreeParts),
     (MISSPELLED, MISSPELLED, SIG, Refusal::HeaderSpelling),
@@ -222,7 +225,7 @@ const FIRST_OF_TWO: [(&str, &str, &str, Refusal); 23] = [
     (HEADER, PAYLOAD, SIG, Refusal::Replayed),
 ];
 
-// The record has a use of the key of each token with a good `jti`.
+// The record has a use of the key of each token of trust domain `a` with a good `jti`.
 #[test]
 fn answers_the_first_of_two_refusals(rt: HostRuntime) -> Result<(), Fail> {
     assert_rows(&rt, rt.alloc(), &FIRST_OF_TWO, 1)

@@ -209,7 +209,7 @@ impl Common {
     }
 }
 
-// ---- what may happen, each in a word
+// What may happen, each in a word.
 
 fn checks<S: UseStore>(
     rt: &impl Abort,
@@ -357,30 +357,44 @@ fn answers<S: UseStore>(
     Ok("answered")
 }
 
-// A validator that took a posting whole was told all that its maker had been told, if the posting tells that.
-fn assert_told_all(rt: &impl Abort, step: usize, told: &Told, number: usize, posting: &Posting) {
-    if posting.tells_all(told) && told.took_all(number, posting.parts().len()) {
-        assert!(rt; told.has_all(&posting.was), "step {step}");
+// The word for a part that was taken. A validator that took a posting whole was told all that its maker had
+// been told, if the posting tells that.
+fn taken(
+    rt: &impl Abort,
+    step: usize,
+    told: &Told,
+    number: usize,
+    posting: &Posting,
+) -> &'static str {
+    if !posting.tells_all(told) || !told.took_all(number, posting.parts().len()) {
+        return "taken";
+    }
+    assert!(rt; told.has_all(&posting.was), "step {step}");
+    match &posting.content {
+        Content::Sent(_) => "taken",
+        Content::Summed(_) => "taken",
+        Content::Answered(_, _) => "answer taken whole",
     }
 }
 
+// Says whether the batch was taken: one that is too far ahead is left.
 fn take_batch<S: UseStore>(
     rt: &impl Abort,
     step: usize,
     member: &mut Member<S>,
     sender: &Told,
     batch: &Batch,
-) -> Result<&'static str, Fail> {
+) -> Result<bool, Fail> {
     let found = member.validator.take(member.clock, batch).err();
     let due = member
         .is_too_far(batch.moment())
         .then_some(TakeFault::TooFarAhead);
     assert_eq!(rt; found, due, "step {step}");
     if due.is_some() {
-        return Ok("left");
+        return Ok(false);
     }
     member.told.tell_batch(sender, batch)?;
-    Ok("taken")
+    Ok(true)
 }
 
 fn takes<S: UseStore>(
@@ -401,12 +415,11 @@ fn takes<S: UseStore>(
     };
     let batch = batch_of(alloc, text, length)?;
     member.goes_on(seconds);
-    let word = take_batch(rt, common.step, member, &posting.was, &batch)?;
-    if word == "taken" {
-        member.told.write_down(Entry::Took(number, part))?;
-        assert_told_all(rt, common.step, &member.told, number, posting);
+    if !take_batch(rt, common.step, member, &posting.was, &batch)? {
+        return Ok("left");
     }
-    Ok(word)
+    member.told.write_down(Entry::Took(number, part))?;
+    Ok(taken(rt, common.step, &member.told, number, posting))
 }
 
 fn saves<S: UseStore>(
@@ -467,7 +480,7 @@ fn happens<S: UseStore + Drop>(
     }
 }
 
-// ---- what a validator then is
+// What a validator then is.
 
 // The uses that have this key.
 fn uses_of(alloc: Global, key: &[u8; 32], uses: &[Use]) -> Result<Vec<Use>, AllocError> {
@@ -591,6 +604,7 @@ fn assert_happened(rt: &impl Abort, words: &[&'static str]) {
     assert_at_least(rt, words, 100, "answered");
     assert_at_least(rt, words, 20, "not answered");
     assert_at_least(rt, words, 200, "taken");
+    assert_at_least(rt, words, 5, "answer taken whole");
     assert_at_least(rt, words, 40, "left");
     assert_at_least(rt, words, 100, "saved");
     assert_at_least(rt, words, 25, "restarted");

@@ -66,8 +66,12 @@ fn a_batch_of_the_last_moment_has_no_uses(rt: HostRuntime) -> Result<(), Fail> {
             at: made,
             withdrawn,
         };
-        let found = Batch::make(u64::MAX, [last].to_vec(alloc)?).err();
-        assert_eq!(rt; found, Some(BatchFault::Expired(0)));
+        let uses = [last].to_vec(alloc)?;
+        refuse(alloc, 1);
+        let found = Batch::make(u64::MAX, uses).err();
+        let refused = was_refused(alloc);
+        refuse(alloc, 0);
+        assert_eq!(rt; (refused, found), (false, Some(BatchFault::Expired(0))));
     }
     Ok(())
 }

@@ -6,8 +6,8 @@ use super::refusing::{refuse, was_refused};
 use super::summaries::text_of_numbered;
 use super::{NO_USES, OLD_NO_USES, OLD_TWO_USES, TWO_USES, joined, told_of, write_each};
 use crate::{
-    Counted, Feed, MemSink, MemSource, Message, ReadFault, Reason, Sink, Source, Stopped,
-    WireFault, WriteFault, put_all, read_all, read_up_to,
+    Counted, Feed, MemSink, MemSource, Message, Reason, Sink, Source, Stopped, WireFault,
+    WriteFault, put_all, read_all,
 };
 use std::alloc::Global;
 use std::process::Abort;
@@ -179,37 +179,6 @@ fn the_messages_that_were_there_stay_without_memory(rt: HostRuntime) -> Result<(
         if !refused {
             break;
         }
-    }
-    assert!(rt; !refused);
-    Ok(())
-}
-
-// 200,000 bytes, read in more than one growth.
-fn long_bytes(alloc: Global) -> Result<Vec<u8>, Fail> {
-    let mut bytes = Vec::new(alloc);
-    for number in 0..25000u64 {
-        bytes.extend_from_slice(&number.to_be_bytes())?;
-    }
-    Ok(bytes)
-}
-
-#[test]
-fn a_long_source_is_read_or_wants_memory(rt: HostRuntime) -> Result<(), Fail> {
-    let alloc = rt.alloc();
-    let bytes = long_bytes(alloc)?;
-    let mut refused = true;
-    for nth in 1..1000usize {
-        let mut source = MemSource::new(bytes.to_vec(alloc)?, 1000, None);
-        refuse(alloc, nth);
-        let read = read_up_to(alloc, &mut source, 200000);
-        refused = was_refused(alloc);
-        refuse(alloc, 0);
-        assert_eq!(rt; source.faults(), 0);
-        if !refused {
-            assert!(rt; read? == bytes);
-            break;
-        }
-        assert_eq!(rt; read.err(), Some(ReadFault::OutOfMemory), "growth {nth}");
     }
     assert!(rt; !refused);
     Ok(())

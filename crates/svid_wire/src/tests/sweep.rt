@@ -7,8 +7,8 @@ use super::refusing::{refuse, was_refused};
 use super::summaries::text_of_numbered;
 use super::{A_SUMMARY, OLD_TWO_USES, TWO_USES, many_old_uses, many_uses, told, write_each};
 use crate::{
-    Counted, Feed, MemSink, MemSource, Message, ReadFault, Reason, Sink, WireFault, batch_head,
-    read_all, read_up_to,
+    Counted, Feed, MemSink, MemSource, Message, ReadFault, Reason, Sink, Source, WireFault,
+    batch_head, read_all, read_up_to,
 };
 use std::alloc::{AllocError, Global};
 use std::process::Abort;
@@ -138,6 +138,36 @@ fn reading_answers_want_of_memory(rt: HostRuntime) -> Result<(), Fail> {
             read_up_to(rt.alloc(), &mut again, 147)?.as_slice(),
             TWO_USES.as_slice()
         );
+    }
+    assert!(rt; false, "more than {MOST_GROWTHS} growths");
+    Ok(())
+}
+
+// 200,000 bytes, read in more than one growth.
+fn long_bytes(alloc: Global) -> Result<Vec<u8>, Fail> {
+    let mut bytes = Vec::new(alloc);
+    for number in 0..25000u64 {
+        bytes.extend_from_slice(&number.to_be_bytes())?;
+    }
+    Ok(bytes)
+}
+
+#[test]
+fn a_long_source_is_read_or_wants_memory(rt: HostRuntime) -> Result<(), Fail> {
+    let alloc = rt.alloc();
+    let bytes = long_bytes(alloc)?;
+    for nth in 1..MOST_GROWTHS {
+        let mut source = MemSource::new(bytes.to_vec(alloc)?, 1000, None);
+        refuse(alloc, nth);
+        let read = read_up_to(alloc, &mut source, 200000);
+        let refused = was_refused(alloc);
+        refuse(alloc, 0);
+        assert_eq!(rt; source.faults(), 0);
+        if !refused {
+            assert!(rt; read? == bytes);
+            return Ok(());
+        }
+        assert_eq!(rt; read.err(), Some(ReadFault::OutOfMemory), "growth {nth}");
     }
     assert!(rt; false, "more than {MOST_GROWTHS} growths");
     Ok(())
