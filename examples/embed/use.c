@@ -8,14 +8,33 @@
 
 typedef struct { uint8_t *bytes; size_t len; } text;
 
+/* As many bytes, with those that were there. */
+static uint8_t *room(uint8_t *old, size_t len) {
+    uint8_t *bytes = realloc(old, len);
+    if (!bytes) { fprintf(stderr, "out of memory\n"); exit(2); }
+    return bytes;
+}
+
 static text read_file(const char *name) {
     FILE *file = fopen(name, "rb");
-    text t = { malloc(1), 0 };
+    text t = { NULL, 0 };
     size_t more;
     if (!file) { perror(name); exit(2); }
-    while (t.bytes && (more = fread((t.bytes = realloc(t.bytes, t.len + 65536)) + t.len, 1, 65536, file)) > 0) t.len += more;
+    do {
+        t.bytes = room(t.bytes, t.len + 65536);
+        more = fread(t.bytes + t.len, 1, 65536, file);
+        t.len += more;
+    } while (more > 0);
+    if (ferror(file)) { perror(name); exit(2); }
     fclose(file);
     return t;
+}
+
+/* The status of this program: 0 where all of its output was written. */
+static int end_output(void) {
+    if (fflush(stdout) == 0 && !ferror(stdout)) return 0;
+    perror("standard output");
+    return 2;
 }
 
 static uint32_t call(const char *what, uint64_t now, text a, text b, text out, svid_told *told) {
@@ -41,7 +60,7 @@ static int check(char **args) {
     printf("accepted %.*s %llu\n", (int)told.len, (char *)id, (unsigned long long)used.exp);
     for (size_t i = 0; i < sizeof used.key; i++) printf("%02x", used.key[i]);
     printf(" at %llu\n", (unsigned long long)used.at);
-    return 0;
+    return end_output();
 }
 
 int main(int n, char **args) {
@@ -51,19 +70,19 @@ int main(int n, char **args) {
         uint32_t status = svid_id_parse(t, strlen(args[2]), &id);
         if (status) { fprintf(stderr, "refused: %u at %zu\n", status, id.place); return 1; }
         printf("domain %.*s\npath %.*s\n", (int)id.domain_len, args[2] + 9, (int)id.path_len, args[2] + 9 + id.domain_len);
-        return 0;
+        return end_output();
     }
     if (n == 8 && !strcmp(args[1], "check")) return check(args);
     if (n < 4) { fprintf(stderr, "usage: see the first lines of use.c\n"); return 2; }
-    text a = read_file(args[3]), b = n > 4 ? read_file(args[4]) : (text){ malloc(1), 0 }, out = { malloc(1), 0 };
+    text a = read_file(args[3]), b = n > 4 ? read_file(args[4]) : (text){ room(NULL, 1), 0 }, out = { room(NULL, 1), 0 };
     svid_told told;
     uint32_t status = call(args[1], strtoull(args[2], NULL, 10), a, b, out, &told);
     if (status == SVID_TOO_SHORT) {
-        out.bytes = realloc(out.bytes, out.len = told.len);
+        out.bytes = room(out.bytes, out.len = told.len);
         status = call(args[1], strtoull(args[2], NULL, 10), a, b, out, &told);
     }
     if (status) { fprintf(stderr, "refused: %u input %zu message %zu place %zu\n", status, told.input, told.message, told.place); return 1; }
     fwrite(out.bytes, 1, told.len, stdout);
     free(a.bytes); free(b.bytes); free(out.bytes);
-    return 0;
+    return end_output();
 }

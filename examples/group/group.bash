@@ -7,6 +7,7 @@
 #                      its status is 1 where there is none
 #   send BOX FILE      gives the file to whoever looks into the box
 #   receive BOX FILE   gets what is in the box
+# What one of them cannot do ends the script, by fail.
 # A validator is a folder in the room: its place (by which the program tells it from others), the record
 # that it kept, its mark (that of the last message that it heard), and the messages that it put aside.
 # SVID names another program than ../../svid.
@@ -118,7 +119,7 @@ hear() {
   for who; do
     while next "$who"; do
       take "$who"
-      echo "$id" >"$who/mark"
+      echo "$id" >"$who/mark" || fail "$who cannot keep its mark"
     done
   done
 }

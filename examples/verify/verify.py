@@ -1,6 +1,6 @@
 """Asks `svid candidates` about tokens of real keys, and verifies their signatures by openssl.
 
-Usage: verify.py SVID FOLDER. Leaves bundles.json, tokens.txt and table.txt in FOLDER, and exits
+Usage: verify.py SVID FOLDER. Leaves bundles.json, tokens.txt, table.txt and record in FOLDER, and exits
 with 1 where an answer is not the one that is due. The keys are new in each run, and are not kept.
 """
 
