@@ -27,8 +27,8 @@ table_of input text table read good same = record { questions = questions_in tex
 pub begins_with : (input : Drawn) (old new : State) → old ≡ state_of 0 [] → Joins input old new → IsEarlier (Some input) new
 begins_with input old new begun joins = (joins.told, joins.whole, joins.joins ∙ ap (λ r. join_all r (batches_of joins.told)) begun ∙ joined_from_nothing (batches_of joins.told))
 
--- tables of the same questions say the same
-same_says : (table questions : List (List ℕ)) → ((question : List ℕ) → is_among question table ≡ is_among question questions) → table_says table ≡ table_says questions
+-- tables with the same questions, in whatever order and however often, say the same
+pub same_says : (table questions : List (List ℕ)) → ((question : List ℕ) → is_among question table ≡ is_among question questions) → table_says table ≡ table_says questions
 same_says table questions same = λ i key alg input signature. same (question_of key alg input signature) i
 
 -- what the checks come to is what is due to the inputs

@@ -27,7 +27,7 @@ first_full lines = unwrap_or (find (λ line. nat_lt 0 (length line)) lines) []
 abbrev pub first_token : List ℕ → List ℕ
 first_token text = first_full (lines_of text)
 
--- all refusals of a token: those by itself, and then those for its keys
+-- the refusals for which a token has no candidates: those of the token by itself, and then those for its keys
 abbrev pub candidates_rows : List Bundle → List ℕ → List Row
 candidates_rows bundles token = token_rows token ++ rows_if_said (keys_rows bundles) (said_of token)
 

@@ -48,7 +48,7 @@ pub record IsTableRead (input : Drawn) (questions : List (List ℕ)) : Type 0 wh
   pub good : table_fault text ≡ None
   pub are : questions_in text ≡ questions
 
--- the input was read, and the line with this number is the first that is no question and not empty
+-- the input was read, and the line with this number, counted from 1, is the first that is neither empty nor a question
 pub record IsTableRefused (input : Drawn) (line : ℕ) : Type 0 where
   pub text : List ℕ
   pub read : IsRead input most_bytes text
@@ -149,7 +149,7 @@ pub record AreCheckedInPart (given : CheckSetting) (inputs : CheckInputs) (outpu
   pub due : IsOutcome given inputs outcome
   pub part : IsWrittenInPart outputs outcome
 
--- why the table is refused: a line is no question, it could not be read, or memory was wanted
+-- why the table is refused: a line is neither empty nor a question, it could not be read, or memory was wanted
 abbrev pub IsTableFault : Drawn → ToolFault → Type 0
 IsTableFault input (tool.Table line) = IsTableRefused input line
 IsTableFault input tool.OutOfMemory = Unit {0}

@@ -46,7 +46,7 @@ answer_of None None = []
 unfoldable pub id_answer : List ℕ → List ℕ
 id_answer text = answer_of (id_parts text) (id_fault text)
 
--- the engine gives up for its sink alone, which took a part of the answer, or for want of memory
+-- the engine gives up since its sink stopped, which took a part of the answer, or for want of memory; for nothing else
 abbrev pub IsIdEngineFault : Taken → List ℕ → ToolFault → Type 0
 IsIdEngineFault out answer tool.Write = TookPart out answer
 IsIdEngineFault out answer tool.OutOfMemory = Unit {0}

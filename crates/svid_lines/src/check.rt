@@ -23,7 +23,7 @@ pub struct CheckSetting {
     pub own: Vec<String>,
     /// What tells the validator from every other one.
     pub place: [u8; 16],
-    /// The moment at which the tokens are checked, in seconds.
+    /// The moment of the checks, in seconds; where the record's is greater, the tokens are judged at that.
     pub now: u64,
     /// How many seconds past `now`, or past the record's moment where that is greater, a token may expire; any
     /// number where there is none.
@@ -147,9 +147,9 @@ fn put_kept<T: UseStore, P: Sink>(kept: &mut Option<P>, state: &Record<T>) -> Re
     }
 }
 
-/// Checks each token of the lines of `tokens` that are not empty, at the moment that `given` tells, and
-/// writes a line for each: `accepted`, the ID of its subject and its expiry, or `refused` and the first
-/// refusal that holds. Says whether all are accepted.
+/// Checks each token of the lines of `tokens` that are not empty, at the moment that `given` tells, or at
+/// the record's where that is greater, and writes a line for each: `accepted`, the ID of its subject and its
+/// expiry, or `refused` and the first refusal that holds. Says whether all are accepted.
 ///
 /// The verifier says yes to the questions of the table. The record of used tokens begins with what the
 /// batches of `earlier` come to, where it is there, and else new; each acceptance adds its use, so a
@@ -160,7 +160,9 @@ fn put_kept<T: UseStore, P: Sink>(kept: &mut Option<P>, state: &Record<T>) -> Re
 /// tokens, the earlier record. Refused for the first that could not be read (`Read`), has more than
 /// 67,108,864 bytes (`TooMuch`) or is not what it is to be (`Bundles`, `Table`, `Wire`), for want of
 /// memory, a check's among them, and where a sink stopped (`Write`): then a part went out, and else
-/// nothing did.
+/// nothing did. A bad field of the earlier record in what came before a failed read or the limit is
+/// answered before these. The inputs behind a refused one are as they were; where memory was wanted,
+/// nothing is said of them.
 #[tactic(auto, using(crate::proofs::CheckLemmas::inputs_refused))]
 pub fn run_check<B: Source, T: Source, L: Source, R: Source, P: Sink, K: Sink>(
     alloc: Global,
