@@ -101,7 +101,7 @@ typedef struct {
 
 /* What a check is told, beside its inputs. */
 typedef struct {
-    uint64_t moment;    /* of the check, in seconds */
+    uint64_t moment;    /* of the check, in seconds; where the record's is greater, the token is judged at that */
     uint64_t longest;   /* how many seconds past it, or past the record's moment where that is greater, a
                          * token may expire; UINT64_MAX for any */
     uint8_t place[16];  /* tells the validator from every other one that shares its record */
@@ -110,7 +110,7 @@ typedef struct {
 /* The use that an acceptance adds to the record. */
 typedef struct {
     uint64_t exp;       /* when the token expires, in seconds */
-    uint64_t at;        /* when it was accepted, in seconds */
+    uint64_t at;        /* the record's moment when the token was accepted, in seconds */
     uint8_t key[32];    /* by which the uses of the token are told */
     uint8_t place[16];  /* of the validator */
 } svid_use;
@@ -144,10 +144,11 @@ uint32_t svid_answer(const uint8_t *summary, size_t summary_len, const uint8_t *
 uint32_t svid_questions(const uint8_t *bundles, size_t bundles_len, const uint8_t *token, size_t token_len,
                         uint8_t *out, size_t out_len, svid_told *told);
 
-/* Checks a token over what the messages tell, and puts the ID of its subject into the room, of which 2,048
- * bytes are enough. `own` are the names that the validator answers to, in lines, and `questions` those that are
- * answered yes, a line each. With SVID_OK, `used` is the use that the acceptance adds; nothing is kept of it, so
- * that the caller joins it to its record: a batch of the moment `at` with that use (docs/FORMATS.md). */
+/* Checks a token over the record that the messages come to, at its moment or that of the setting, whichever is
+ * greater, and puts the ID of the token's subject into the room, of which 2,048 bytes are enough. `own` are the
+ * names that the validator answers to, in lines, and `questions` those that are answered yes, a line each. With
+ * SVID_OK, `used` is the use that the acceptance adds; nothing is kept of it, so that the caller joins it to its
+ * record: a batch of the moment `at` with that use (docs/FORMATS.md). */
 uint32_t svid_check(const svid_setting *setting, const uint8_t *own, size_t own_len,
                     const uint8_t *bundles, size_t bundles_len, const uint8_t *questions, size_t questions_len,
                     const uint8_t *messages, size_t messages_len, const uint8_t *token, size_t token_len,
