@@ -148,7 +148,8 @@ uint32_t svid_questions(const uint8_t *bundles, size_t bundles_len, const uint8_
  * greater, and puts the ID of the token's subject into the room, of which 2,048 bytes are enough. `own` are the
  * names that the validator answers to, in lines, and `questions` those that are answered yes, a line each. With
  * SVID_OK, `used` is the use that the acceptance adds; nothing is kept of it, so that the caller joins it to its
- * record: a batch of the moment `at` with that use (docs/FORMATS.md). */
+ * record: a batch of the moment `at` with that use (docs/FORMATS.md). With any other status, SVID_TOO_SHORT
+ * too, `used` is as it was. */
 uint32_t svid_check(const svid_setting *setting, const uint8_t *own, size_t own_len,
                     const uint8_t *bundles, size_t bundles_len, const uint8_t *questions, size_t questions_len,
                     const uint8_t *messages, size_t messages_len, const uint8_t *token, size_t token_len,
