@@ -25,7 +25,7 @@ enum svid_status {
     SVID_TOO_SHORT = 1,      /* the text is longer than the room */
     SVID_NO_MEMORY = 2,
     SVID_TOO_MUCH = 3,       /* an input of messages has more than 67,108,864 bytes; told: input */
-    SVID_NOT_SUMMARY = 4,    /* the input is messages, but not one summary */
+    SVID_NOT_SUMMARY = 4,    /* the first input is messages, but not one summary; nothing is told beside it */
 
     /* why an input is no row of messages; told: input, message, place */
     SVID_MAGIC = 11,         /* the first four bytes are those of no version */
@@ -37,7 +37,7 @@ enum svid_status {
     SVID_USE_ORDER = 17,     /* a use is not greater than the one before it */
     SVID_TRUNCATED = 18,     /* the bytes end before the message does */
 
-    /* why a text is no SPIFFE ID; svid_id: place */
+    /* why a text is no SPIFFE ID; svid_id: place, for 24 and 26 to 28; else 0 */
     SVID_ID_TOO_LONG = 21,   /* more than 2,048 bytes */
     SVID_ID_SCHEME = 22,     /* does not begin with spiffe:// */
     SVID_ID_DOMAIN_EMPTY = 23,
@@ -51,7 +51,8 @@ enum svid_status {
     SVID_BUNDLES_NOT_OBJECT = 31, /* no JSON object */
     SVID_BUNDLES_DOMAIN = 32, /* a name is no trust domain name; told: place */
     SVID_BUNDLES_KEYS = 33,  /* a name has no list of keys; told: place */
-    SVID_TABLE_LINE = 34,    /* a line is no question; told: place */
+    SVID_TABLE_LINE = 34,    /* the line with this number, counted from 1, is the first of the table that is
+                                neither empty nor a question; told: place */
     SVID_OWN_NOT_UTF8 = 35,  /* a name of the validator's own is not UTF-8 */
 
     /* why a token is refused: the first that holds, in this order */
@@ -93,10 +94,12 @@ typedef struct {
 /* What a call tells beside its status; 0 where there is nothing to tell. */
 typedef struct {
     size_t len;      /* how many bytes the text has that was written, or that has no room */
-    size_t input;    /* the number of the refused input, from 1 in the order of the call's inputs */
+    size_t input;    /* the number of the refused input of messages, counted from 1 in the order of the call's
+                        inputs; 0 for any other fault */
     size_t message;  /* the number of its refused message, from 1 */
-    size_t place;    /* the place in that message, from its first byte; of bundles, the place of the name among
-                        the names in their order; of a table, the number of the line, from 1 */
+    size_t place;    /* the place in that message, from its first byte; of bundles, the place of the refused name
+                        among all names in rising order of their bytes, from 0; of a table, the number of the
+                        line, counted from 1 */
 } svid_told;
 
 /* What a check is told, beside its inputs. */

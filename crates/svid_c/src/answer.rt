@@ -44,7 +44,7 @@ fn answer(alloc: Global, summary: &[u8], messages: &[u8], now: u64) -> Result<Me
 /// the moment `now`, in seconds, first into `out`, as batches: the uses of all buckets whose digests differ.
 ///
 /// What it answers is as of [`svid_join`](crate::join::svid_join), and 4 where the first input is messages, but
-/// not one summary.
+/// not one summary: then nothing is told beside it.
 #[unsafe(no_mangle)]
 pub extern "C" fn svid_answer(
     alloc: Global,
