@@ -137,8 +137,8 @@ uint32_t svid_report(const uint8_t *messages, size_t messages_len, uint64_t now,
 uint32_t svid_summary(const uint8_t *messages, size_t messages_len, uint64_t now,
                       uint8_t *out, size_t out_len, svid_told *told);
 
-/* The answer to a summary, of what the messages tell, raised to the summary's moment: the uses of all buckets
- * whose digests differ. */
+/* The answer to a summary, of what the messages tell, raised up to `now` and then to the summary's moment: the
+ * uses of all buckets whose digests differ, as batches; one batch with no use where there are no such uses. */
 uint32_t svid_answer(const uint8_t *summary, size_t summary_len, const uint8_t *messages, size_t messages_len,
                      uint64_t now, uint8_t *out, size_t out_len, svid_told *told);
 
