@@ -47,13 +47,13 @@ enum svid_status {
     SVID_ID_SEGMENT_DOTS = 27, /* a segment that is . or .. */
     SVID_ID_PATH_BYTE = 28,  /* a byte that may not stand in a path segment */
 
-    /* why bundles, a table of questions or names are refused */
+    /* why bundles, a table of questions or audiences are refused */
     SVID_BUNDLES_NOT_OBJECT = 31, /* no JSON object */
     SVID_BUNDLES_DOMAIN = 32, /* a name is no trust domain name; told: place */
     SVID_BUNDLES_KEYS = 33,  /* a name has no list of keys; told: place */
-    SVID_TABLE_LINE = 34,    /* the line with this number, counted from 1, is the first of the table that is
-                                neither empty nor a question; told: place */
-    SVID_OWN_NOT_UTF8 = 35,  /* a name of the validator's own is not UTF-8 */
+    SVID_TABLE_LINE = 34,    /* a line is neither empty nor a question; told: place, the number of the first such
+                                line, counted from 1 */
+    SVID_OWN_NOT_UTF8 = 35,  /* an audience of the validator's own is not UTF-8 */
 
     /* why a token is refused: the first that holds, in this order */
     SVID_TOO_LONG = 101,
@@ -149,10 +149,10 @@ uint32_t svid_questions(const uint8_t *bundles, size_t bundles_len, const uint8_
 
 /* Checks a token over the record that the messages come to, at its moment or that of the setting, whichever is
  * greater, and puts the ID of the token's subject into the room, of which 2,048 bytes are enough. `own` are the
- * names that the validator answers to, in lines, and `questions` those that are answered yes, a line each. With
- * SVID_OK, `used` is the use that the acceptance adds; nothing is kept of it, so that the caller joins it to its
- * record: a batch of the moment `at` with that use (docs/FORMATS.md). With any other status, SVID_TOO_SHORT
- * too, `used` is as it was. */
+ * validator's own audiences, in lines, and `questions` those that are answered yes, a line each. With SVID_OK,
+ * `used` is the use that the acceptance adds; nothing is kept of it, so that the caller joins it to its record: a
+ * batch of the moment `at` with that use (docs/FORMATS.md). With any other status, SVID_TOO_SHORT too, `used` is
+ * as it was. */
 uint32_t svid_check(const svid_setting *setting, const uint8_t *own, size_t own_len,
                     const uint8_t *bundles, size_t bundles_len, const uint8_t *questions, size_t questions_len,
                     const uint8_t *messages, size_t messages_len, const uint8_t *token, size_t token_len,

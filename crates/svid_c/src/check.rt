@@ -110,11 +110,12 @@ fn validator_of(
 /// greater, and puts the ID of the token's subject first into `out`: 0, and `used` is the use that the acceptance
 /// adds. Nothing is kept of it: the caller joins the use to its record, as a batch.
 ///
-/// `own` are the names that the validator answers to, in lines; `bundles` are trust bundles, and `questions` the
-/// table of those that are answered yes, as the program reads them. 1 where the ID is longer than `out`, of which
-/// 2,048 bytes are enough. 101 to 125 where the token is refused, the first of the table. Else the first
-/// input is told that is refused, in this order: a name that is not UTF-8 (35), the bundles (31 to 33), the table
-/// (34, with its line), the messages (3, 11 to 18); or 2 for want of memory. Where it is not 0, `used` is as it was.
+/// `own` are the validator's own audiences, in lines; `bundles` are trust bundles, and `questions` the table of those
+/// that are answered yes, as the program reads them. 1 where the ID is longer than `out`, of which 2,048 bytes are
+/// enough. 101 to 125 where the token is refused: the number of the first refusal that holds, in the order of
+/// `Refusal`. Else the first input is told that is refused, in this order: an audience that is not UTF-8 (35), the
+/// bundles (31 to 33), the table (34, with its line), the messages (3, 11 to 18); or 2 for want of memory. Where it is
+/// not 0, `used` is as it was.
 #[unsafe(no_mangle)]
 pub extern "C" fn svid_check(
     alloc: Global,
