@@ -25,7 +25,7 @@ enum svid_status {
     SVID_TOO_SHORT = 1,      /* the text is longer than the room */
     SVID_NO_MEMORY = 2,
     SVID_TOO_MUCH = 3,       /* an input of messages has more than 67,108,864 bytes; told: input */
-    SVID_NOT_SUMMARY = 4,    /* the input is messages, but not one summary */
+    SVID_NOT_SUMMARY = 4,    /* the first input is messages, but not one summary; nothing is told beside it */
 
     /* why an input is no row of messages; told: input, message, place */
     SVID_MAGIC = 11,         /* the first four bytes are those of no version */
@@ -37,7 +37,7 @@ enum svid_status {
     SVID_USE_ORDER = 17,     /* a use is not greater than the one before it */
     SVID_TRUNCATED = 18,     /* the bytes end before the message does */
 
-    /* why a text is no SPIFFE ID; svid_id: place */
+    /* why a text is no SPIFFE ID; svid_id: place, for 24 and 26 to 28; else 0 */
     SVID_ID_TOO_LONG = 21,   /* more than 2,048 bytes */
     SVID_ID_SCHEME = 22,     /* does not begin with spiffe:// */
     SVID_ID_DOMAIN_EMPTY = 23,
@@ -47,12 +47,13 @@ enum svid_status {
     SVID_ID_SEGMENT_DOTS = 27, /* a segment that is . or .. */
     SVID_ID_PATH_BYTE = 28,  /* a byte that may not stand in a path segment */
 
-    /* why bundles, a table of questions or names are refused */
+    /* why bundles, a table of questions or audiences are refused */
     SVID_BUNDLES_NOT_OBJECT = 31, /* no JSON object */
     SVID_BUNDLES_DOMAIN = 32, /* a name is no trust domain name; told: place */
     SVID_BUNDLES_KEYS = 33,  /* a name has no list of keys; told: place */
-    SVID_TABLE_LINE = 34,    /* a line is no question; told: place */
-    SVID_OWN_NOT_UTF8 = 35,  /* a name of the validator's own is not UTF-8 */
+    SVID_TABLE_LINE = 34,    /* a line is neither empty nor a question; told: place, the number of the first such
+                                line, counted from 1 */
+    SVID_OWN_NOT_UTF8 = 35,  /* an audience of the validator's own is not UTF-8 */
 
     /* why a token is refused: the first that holds, in this order */
     SVID_TOO_LONG = 101,
@@ -93,15 +94,17 @@ typedef struct {
 /* What a call tells beside its status; 0 where there is nothing to tell. */
 typedef struct {
     size_t len;      /* how many bytes the text has that was written, or that has no room */
-    size_t input;    /* the number of the refused input, from 1 in the order of the call's inputs */
+    size_t input;    /* the number of the refused input of messages, counted from 1 in the order of the call's
+                        inputs; 0 for any other fault */
     size_t message;  /* the number of its refused message, from 1 */
-    size_t place;    /* the place in that message, from its first byte; of bundles, the place of the name among
-                        the names in their order; of a table, the number of the line, from 1 */
+    size_t place;    /* the place in that message, from its first byte; of bundles, the place of the refused name
+                        among all names in rising order of their bytes, from 0; of a table, the number of the
+                        line, counted from 1 */
 } svid_told;
 
 /* What a check is told, beside its inputs. */
 typedef struct {
-    uint64_t moment;    /* of the check, in seconds */
+    uint64_t moment;    /* of the check, in seconds; where the record's is greater, the token is judged at that */
     uint64_t longest;   /* how many seconds past it, or past the record's moment where that is greater, a
                          * token may expire; UINT64_MAX for any */
     uint8_t place[16];  /* tells the validator from every other one that shares its record */
@@ -110,7 +113,7 @@ typedef struct {
 /* The use that an acceptance adds to the record. */
 typedef struct {
     uint64_t exp;       /* when the token expires, in seconds */
-    uint64_t at;        /* when it was accepted, in seconds */
+    uint64_t at;        /* the record's moment when the token was accepted, in seconds */
     uint8_t key[32];    /* by which the uses of the token are told */
     uint8_t place[16];  /* of the validator */
 } svid_use;
@@ -134,8 +137,8 @@ uint32_t svid_report(const uint8_t *messages, size_t messages_len, uint64_t now,
 uint32_t svid_summary(const uint8_t *messages, size_t messages_len, uint64_t now,
                       uint8_t *out, size_t out_len, svid_told *told);
 
-/* The answer to a summary, of what the messages tell, raised to the summary's moment: the uses of all buckets
- * whose digests differ. */
+/* The answer to a summary, of what the messages tell, raised up to `now` and then to the summary's moment: the
+ * uses of all buckets whose digests differ, as batches; one batch with no use where there are no such uses. */
 uint32_t svid_answer(const uint8_t *summary, size_t summary_len, const uint8_t *messages, size_t messages_len,
                      uint64_t now, uint8_t *out, size_t out_len, svid_told *told);
 
@@ -144,10 +147,12 @@ uint32_t svid_answer(const uint8_t *summary, size_t summary_len, const uint8_t *
 uint32_t svid_questions(const uint8_t *bundles, size_t bundles_len, const uint8_t *token, size_t token_len,
                         uint8_t *out, size_t out_len, svid_told *told);
 
-/* Checks a token over what the messages tell, and puts the ID of its subject into the room, of which 2,048
- * bytes are enough. `own` are the names that the validator answers to, in lines, and `questions` those that are
- * answered yes, a line each. With SVID_OK, `used` is the use that the acceptance adds; nothing is kept of it, so
- * that the caller joins it to its record: a batch of the moment `at` with that use (docs/FORMATS.md). */
+/* Checks a token over the record that the messages come to, at its moment or that of the setting, whichever is
+ * greater, and puts the ID of the token's subject into the room, of which 2,048 bytes are enough. `own` are the
+ * validator's own audiences, in lines, and `questions` those that are answered yes, a line each. With SVID_OK,
+ * `used` is the use that the acceptance adds; nothing is kept of it, so that the caller joins it to its record: a
+ * batch of the moment `at` with that use (docs/FORMATS.md). With any other status, SVID_TOO_SHORT too, `used` is
+ * as it was. */
 uint32_t svid_check(const svid_setting *setting, const uint8_t *own, size_t own_len,
                     const uint8_t *bundles, size_t bundles_len, const uint8_t *questions, size_t questions_len,
                     const uint8_t *messages, size_t messages_len, const uint8_t *token, size_t token_len,

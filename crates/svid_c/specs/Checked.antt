@@ -26,7 +26,7 @@ use Rattle.svid_c.specs.declared.check_fault.CheckFault.{CheckFault}
 use Rattle.svid_c.specs.declared.check_fault.CheckFault.TheVariants as fault
 use Rattle.svid_c.specs.declared.told.SvidTold.{SvidTold}
 
--- why a token is refused, in the order of the table
+-- why a token is refused: 101 for the first of `Refusal`, and so on; 2 for want of memory
 abbrev pub refusal_number : Refusal → ℕ
 refusal_number refusal.OutOfMemory = 2
 refusal_number refusal.TooLong = 101
@@ -73,7 +73,7 @@ use_seen used = record { exp = used.exp; at = used.at; key = used.key; place = u
 abbrev pub full_lines : List (List ℕ) → List (List ℕ)
 full_lines lines = filter (λ line. nat_lt 0 (length line)) lines
 
--- the names that a text has in lines
+-- the names that a text has in lines: the validator's own audiences
 abbrev pub names_of : List ℕ → List (List ℕ)
 names_of text = full_lines (lines_of text)
 

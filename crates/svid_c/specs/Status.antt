@@ -65,13 +65,13 @@ fault_number tool.OutOfMemory = 2
 abbrev pub told_length : ℕ → SvidTold
 told_length len = record { len = len; input = 0; message = 0; place = 0 }
 
--- the place of a fault of bundles: the place of the name among the names
+-- the place of a fault of bundles: that of the name among all names in rising order of their bytes, from 0
 abbrev pub bundles_place : BundleFault → ℕ
 bundles_place (bundles.Domain place) = place
 bundles_place (bundles.Keys place) = place
 bundles_place _ = 0
 
--- what is told of a fault: the number of the input and of the message in it, and the place in that
+-- what is told of a fault: of messages, the number of the input and of the message in it, and the place in that; else a place
 abbrev pub told_fault : ToolFault → SvidTold
 told_fault (tool.Wire input message place reason) = record { len = 0; input = input; message = message; place = place }
 told_fault (tool.Bundles fault) = record { len = 0; input = 0; message = 0; place = bundles_place fault }

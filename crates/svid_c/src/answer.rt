@@ -40,11 +40,13 @@ fn answer(alloc: Global, summary: &[u8], messages: &[u8], now: u64) -> Result<Me
     answer_to(alloc, &asked, messages, now)
 }
 
-/// Puts the answer to the one summary that the first input is, of what the messages of the second one tell at
-/// the moment `now`, in seconds, first into `out`, as batches: the uses of all buckets whose digests differ.
+/// Puts the answer to the one summary that the first input is first into `out`. The record that the messages of
+/// the second input come to is raised up to the moment `now`, in seconds, and then to that of the summary; its
+/// answer is the uses of all buckets whose digests differ, as batches, or one batch with no use where there are no
+/// such uses.
 ///
 /// What it answers is as of [`svid_join`](crate::join::svid_join), and 4 where the first input is messages, but
-/// not one summary.
+/// not one summary: then nothing is told beside it.
 #[unsafe(no_mangle)]
 pub extern "C" fn svid_answer(
     alloc: Global,

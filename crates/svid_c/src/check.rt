@@ -21,7 +21,7 @@ use svid_replay::{RunUses, Use};
 #[repr(C)]
 #[derive(Drop)]
 pub struct SvidSetting {
-    /// The moment of the check, in seconds.
+    /// The moment of the check, in seconds; where the record's is greater, the token is judged at that.
     pub moment: u64,
     /// How many seconds past `moment`, or past the record's moment where that is greater, a token may expire; with
     /// 2^64-1 it may at any moment.
@@ -36,7 +36,7 @@ pub struct SvidSetting {
 pub struct SvidUse {
     /// When the token expires, in seconds.
     pub exp: u64,
-    /// When it was accepted, in seconds.
+    /// The record's moment when the token was accepted, in seconds.
     pub at: u64,
     /// The key by which the uses of the token are told.
     pub key: [u8; 32],
@@ -106,15 +106,16 @@ fn validator_of(
     ))
 }
 
-/// Checks a token at the moment of the setting, over what the messages tell, and puts the ID of its subject first
-/// into `out`: 0, and `used` is the use that the acceptance adds. Nothing is kept of it: the caller joins the use to
-/// its record, as a batch.
+/// Checks a token over the record that the messages come to, at its moment or that of the setting, whichever is
+/// greater, and puts the ID of the token's subject first into `out`: 0, and `used` is the use that the acceptance
+/// adds. Nothing is kept of it: the caller joins the use to its record, as a batch.
 ///
-/// `own` are the names that the validator answers to, in lines; `bundles` are trust bundles, and `questions` the
-/// table of those that are answered yes, as the program reads them. 1 where the ID is longer than `out`, of which
-/// 2,048 bytes are enough. 101 to 125 where the token is refused, the first of the table. Else the first
-/// input is told that is refused, in this order: a name that is not UTF-8 (35), the bundles (31 to 33), the table
-/// (34, with its line), the messages (3, 11 to 18); or 2 for want of memory. Where it is not 0, `used` is as it was.
+/// `own` are the validator's own audiences, in lines; `bundles` are trust bundles, and `questions` the table of those
+/// that are answered yes, as the program reads them. 1 where the ID is longer than `out`, of which 2,048 bytes are
+/// enough. 101 to 125 where the token is refused: the number of the first refusal that holds, in the order of
+/// `Refusal`. Else the first input is told that is refused, in this order: an audience that is not UTF-8 (35), the
+/// bundles (31 to 33), the table (34, with its line), the messages (3, 11 to 18); or 2 for want of memory. Where it is
+/// not 0, `used` is as it was.
 #[unsafe(no_mangle)]
 pub extern "C" fn svid_check(
     alloc: Global,

@@ -12,7 +12,7 @@ use svid_share::ToolFault;
 /// Why a check is not made.
 #[derive(Clone, Copy)]
 pub enum CheckFault {
-    /// A name of the validator's own is not UTF-8.
+    /// An audience of the validator's own is not UTF-8.
     Own,
     /// Another input is refused, or memory was.
     Input(ToolFault),

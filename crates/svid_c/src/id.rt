@@ -9,7 +9,7 @@ use svid_id::{IdFault, SpiffeId};
 #[repr(C)]
 #[derive(Drop)]
 pub struct SvidId {
-    /// The place of the fault, from the first byte of the text.
+    /// The place of the fault, from the first byte of the text; 0 for a fault that is told without one.
     pub place: usize,
     /// How long the trust domain name is, which stands behind `spiffe://`.
     pub domain_len: usize,
@@ -50,7 +50,8 @@ fn place_of(fault: IdFault) -> usize
 }
 
 /// Reads a SPIFFE ID (SPIFFE-ID, section 2): 0 where the text is one, and `out` has the lengths of its
-/// parts; else the number of the first fault that holds, and its place, or 2 for want of memory.
+/// parts; else the number of the first fault that holds, and for 24 and 26 to 28 its place, or 2 for want of
+/// memory.
 #[unsafe(no_mangle)]
 pub extern "C" fn svid_id_parse(alloc: Global, text: &[u8], out: &mut SvidId) -> u32
     ensures accepted { result ≡ 0 → (id : IdParts) × IsId text.now id × (out.new.domain_len ≡ length id.domain) × (out.new.path_len ≡ length id.path) × (out.new.place ≡ 0) }

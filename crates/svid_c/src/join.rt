@@ -35,8 +35,8 @@ fn joined(alloc: Global, a: &[u8], b: &[u8], now: u64) -> Result<MemSink, ToolFa
     Ok(text_of(alloc, &record)?)
 }
 
-/// Joins the batches of both inputs, raises what they come to to the moment `now`, in seconds, and puts its
-/// text first into `out`; summaries are passed over.
+/// Joins the batches of both inputs, raises the record that they come to up to the moment `now`, in seconds, and
+/// puts its text first into `out`; summaries are passed over.
 ///
 /// 0, and `told.len` is the text's length; 1 where the text is longer than `out`: then `told.len` is its
 /// length, and `out` is as it was. Else `out` is as it was too, and the number tells why: 3 where an input has

@@ -29,7 +29,7 @@ fn push_line(alloc: Global, names: &mut Vec<String>, line: &[u8]) -> Result<(), 
     }
 }
 
-// The names of the lines that are not empty.
+// The names of a validator, its own audiences: the lines that are not empty.
 pub(crate) fn names_in(alloc: Global, text: &[u8]) -> Result<Vec<String>, CheckFault>
     ensures names { IfOk result (λ names. map string_bytes names.items ≡ names_of text.now) }
     ensures are { OnOk result (AreNames text.now) }

@@ -11,12 +11,13 @@ use svid_wire::Reason;
 pub struct SvidTold {
     /// How many bytes the text has that was written, or that has no room.
     pub len: usize,
-    /// The number of the input that is refused, counted from 1 in the order of the call's inputs.
+    /// The number of the refused input of messages, counted from 1 in the order of the call's inputs; 0 for any
+    /// other fault.
     pub input: usize,
     /// The number of its message that is refused, counted from 1.
     pub message: usize,
-    /// The place in that message, in bytes from its first; of bundles, the place of the refused name among the
-    /// names in their order; of a table, the number of the line, counted from 1.
+    /// The place in that message, in bytes from its first; of bundles, the place of the refused name among all
+    /// names in rising order of their bytes, from 0; of a table, the number of the line, counted from 1.
     pub place: usize,
 }
 
