@@ -1,4 +1,4 @@
-ghost use Rattle.std.specs.Prelude.{◌≡◌, ◌≢◌, IfOk, IfErr, OnOk, OnErr, Some};
+ghost use Rattle.std.specs.Prelude.{◌≡◌, ◌≢◌, IfOk, IfErr, OnOk, OnErr, Some, is_some};
 ghost use Rattle.svid_keys.specs.Lines.{lines_of};
 ghost use Rattle.svid_keys.specs.Table.{table_says};
 ghost use Rattle.svid_wire.specs.RecordText.{record_text};
@@ -68,6 +68,7 @@ fn read_earlier<S: Source>(
 ) -> Result<Record<RunUses>, ToolFault>
     ensures ok { IfOk result (IsEarlier (drawn_if S.left S.stops earlier.old earlier.new)) }
     ensures fault { IfErr result (IsEarlierFault (drawn_if S.left S.stops earlier.old earlier.new)) }
+    ensures there { is_some earlier.new ≡ is_some earlier.old }
 {
     match earlier {
         Some(source) => join_earlier(alloc, source),
@@ -127,6 +128,7 @@ fn outcome_of_inputs<B: Source, T: Source, L: Source, R: Source>(
     ensures behind_bundles { IfErr result (λ fault. IsOfInput 1 fault → (table.new ≡ table.old) × (tokens.new ≡ tokens.old) × (earlier.new ≡ earlier.old)) }
     ensures behind_table { IfErr result (λ fault. IsOfInput 2 fault → (tokens.new ≡ tokens.old) × (earlier.new ≡ earlier.old)) }
     ensures behind_tokens { IfErr result (λ fault. IsOfInput 3 fault → earlier.new ≡ earlier.old) }
+    ensures earlier_there { is_some earlier.new ≡ is_some earlier.old }
 {
     let bundles = read_bundles(alloc, bundles)?;
     let table = read_table(alloc, table)?;
@@ -140,6 +142,7 @@ fn put_kept<T: UseStore, P: Sink>(kept: &mut Option<P>, state: &Record<T>) -> Re
     ensures ok { OnOk result (TookAllIf (taken_if P.told P.stops kept.old kept.new) (record_text state.now)) }
     ensures fault { IfErr result (λ e. e ≡ ToolFault.Write) }
     ensures part { OnErr result (TookPartIf (taken_if P.told P.stops kept.old kept.new) (record_text state.now)) }
+    ensures there { is_some kept.new ≡ is_some kept.old }
 {
     match kept {
         Some(sink) => put_record(state, sink),
@@ -190,6 +193,8 @@ pub fn run_check<B: Source, T: Source, L: Source, R: Source, P: Sink, K: Sink>(
     ensures behind_table { IfErr result (λ fault. IsOfInput 2 fault → (tokens.new ≡ tokens.old) × (earlier.new ≡ earlier.old)) }
     ensures behind_tokens { IfErr result (λ fault. IsOfInput 3 fault → earlier.new ≡ earlier.old) }
     ensures unwritten { IfErr result (λ fault. fault ≢ ToolFault.Write → (kept.new ≡ kept.old) × (out.new ≡ out.old)) }
+    ensures earlier_there { is_some earlier.new ≡ is_some earlier.old }
+    ensures kept_there { is_some kept.new ≡ is_some kept.old }
 {
     let outcome = outcome_of_inputs(alloc, given, bundles, table, tokens, earlier)?;
     put_kept(kept, outcome.validator.replay())?;
