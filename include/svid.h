@@ -24,7 +24,8 @@ enum svid_status {
     SVID_OK = 0,
     SVID_TOO_SHORT = 1,      /* the text is longer than the room */
     SVID_NO_MEMORY = 2,
-    SVID_TOO_MUCH = 3,       /* an input of messages has more than 67,108,864 bytes; told: input */
+    SVID_TOO_MUCH = 3,       /* an input of messages has more than 67,108,864 bytes, and no field among the first
+                                67,108,864 bytes is bad; told: input */
     SVID_NOT_SUMMARY = 4,    /* the first input is messages, but not one summary; nothing is told beside it */
 
     /* why an input is no row of messages; told: input, message, place */

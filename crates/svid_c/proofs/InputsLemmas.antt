@@ -1,21 +1,19 @@
-use Rattle.std.proofs.Common.{◌≡◌, ℕ, ◌+◌, ◌<◌, List, [], ◌∷◌, ◌++◌, length, Some, sym, ◌∙◌, ap, subst, arith, append-nil, length-append}
+use Rattle.std.proofs.Common.{◌≡◌, ℕ, List, [], ◌∷◌, ◌++◌, Some, sym, ◌∙◌, ap, subst, arith, append-nil, length-append}
 use Rattle.std.proofs.lemmas.List.{append_assoc}
 use Rattle.svid_replay.specs.Records.{State}
 use Rattle.svid_replay.specs.Summary.{SummaryData}
 use Rattle.svid_wire.specs.Faults.{raised}
-use Rattle.svid_wire.specs.Messages.{Splits}
 use Rattle.svid_wire.specs.Streams.{Drawn}
 use Rattle.svid_wire.specs.declared.message.Message.{Message}
 use Rattle.svid_wire.specs.declared.message.Message.TheVariants as message
 use Rattle.svid_wire.specs.declared.reason.Reason.{Reason}
 use Rattle.svid_wire.specs.declared.reason.Reason.TheVariants as wire
-use Rattle.svid_wire.proofs.WireFaultLemmas.{IsFieldFault-append}
 use Rattle.svid_share.specs.declared.tool_fault.ToolFault.{ToolFault}
 use Rattle.svid_share.specs.declared.tool_fault.ToolFault.TheVariants as tool
 use Rattle.svid_share.specs.Answer.{IsOneSummary, IsSummaryFault}
-use Rattle.svid_share.specs.Inputs.{EndsWithin, HasBadField, IsBroken, IsInputFault, IsTooLong, IsWhole, StopsWithin, most_bytes}
+use Rattle.svid_share.specs.Inputs.{EndsWithin, HasBadField, IsBroken, IsInputFault, IsTooLong, IsWhole, StopsWithin}
 use Rattle.svid_share.specs.Joined.{Joins}
-use Rattle.svid_c.specs.Inputs.{AreMessages, IsBadMessage, IsRefused, Tells}
+use Rattle.svid_c.specs.Inputs.{AreMessages, IsBadMessage, IsRefused, IsTooMuch, Tells}
 use Rattle.svid_c.specs.Joined.{IsSummaryRefused}
 
 -- what was done to a source of bytes that a caller lent
@@ -28,32 +26,36 @@ all_given old new bytes given ended = given ∙ ap (λ n. bytes ++ n) ended ∙ 
 whole : (old new : List ℕ) (told : List Message) → IsWhole (lent old new) told → AreMessages old told
 whole old new told w = subst (λ b. AreMessages b told) (sym (all_given old new w.bytes w.read.given w.read.ended)) (w.splits, w.read.within)
 
-Splits-more : (bytes more rest : List ℕ) (messages : List Message) → Splits bytes messages rest → Splits (bytes ++ more) messages (rest ++ more)
-Splits-more bytes more rest messages s =
-    record { written = s.written; good = s.good; told = s.told; parts = ap (λ b. b ++ more) s.parts ∙ append_assoc _ rest more }
-
 -- the bytes of an input whose joining succeeded tell of what was joined
 pub tells : (old new : List ℕ) (a b : State) → Joins (lent old new) a b → Tells old a b
 tells old new a b j = record { told = j.told; are = whole old new j.told j.whole; joins = j.joins }
 
 field : (old new : List ℕ) (message place : ℕ) (reason : Reason) → HasBadField (lent old new) message place reason → IsBadMessage old message place reason
 field old new message place reason h =
-    let more = h.others ++ new in
-    let all : old ≡ h.bytes ++ more = h.given ∙ append_assoc h.bytes h.others new in
     record {
+      front = h.bytes;
+      others = h.others ++ new;
+      parts = h.given ∙ append_assoc h.bytes h.others new;
+      within = h.within;
+      ended = λ is_cut. absurd (h.why.1 is_cut);
       messages = h.messages;
-      rest = h.rest ++ more;
-      splits = subst (λ b. Splits b h.messages (h.rest ++ more)) (sym all) (Splits-more h.bytes more h.rest h.messages h.splits);
+      rest = h.rest;
+      splits = h.splits;
       number = h.number;
-      why = (IsFieldFault-append h.rest more (record { place = place; reason = reason }) h.why).0;
+      why = h.why.0;
     }
 
 cut : (old new : List ℕ) (message place : ℕ) → EndsWithin (lent old new) message place → IsBadMessage old message place wire.Truncated
 cut old new message place e =
     record {
+      front = e.bytes;
+      others = new;
+      parts = e.read.given;
+      within = e.read.within;
+      ended = λ _. e.read.ended;
       messages = e.messages;
       rest = e.rest;
-      splits = subst (λ b. Splits b e.messages e.rest) (sym (all_given old new e.bytes e.read.given e.read.ended)) e.good.splits;
+      splits = e.good.splits;
       number = e.number;
       why = (e.at, e.some, e.good.unfinished);
     }
@@ -62,10 +64,18 @@ bad : (old new : List ℕ) (message place : ℕ) (reason : Reason) → IsBroken 
 bad old new message place wire.Truncated b = cut old new message place b
 bad old new message place _ b = field old new message place _ b
 
-too_long : (old new : List ℕ) → IsTooLong (lent old new) → most_bytes < length old
+too_long : (old new : List ℕ) → IsTooLong (lent old new) → IsTooMuch old
 too_long old new l =
-    let long : length old ≡ length ((l.bytes ++ l.others) ++ new) = ap length l.given in
-    omega (arith, long, length-append (l.bytes ++ l.others) new, length-append l.bytes l.others, l.full, l.some)
+    record {
+      front = l.bytes;
+      others = l.others ++ new;
+      parts = l.given ∙ append_assoc l.bytes l.others new;
+      full = l.full;
+      some = omega (arith, length-append l.others new, l.some);
+      messages = l.messages;
+      rest = l.rest;
+      good = l.good;
+    }
 
 never_stops : (old new : List ℕ) → StopsWithin (lent old new) → ⊥
 never_stops old new s = let no : 0 ≡ raised 0 = s.stopped in cc

@@ -30,13 +30,9 @@ both a b now text r0 r1 r2 r3 begun s t raise is =
 pub text_is : (due : State → List ℕ) (bytes : List ℕ) (now : ℕ) (r : State) (text : List ℕ) → IsRecordOf bytes now r → text ≡ due r → IsTextOf due bytes now text
 text_is due bytes now r text comes is = record { r = r; comes = comes; is = is }
 
--- why the first of some inputs, or the only one, is refused
-pub refused_first : (bytes : List ℕ) (fault : ToolFault) → IsRefused 1 bytes fault → AreRefused 1 (bytes ∷ []) fault
-refused_first bytes fault why = inl why
-
--- the same, where it is the second one of a call
-pub refused_second : (bytes : List ℕ) (fault : ToolFault) → IsRefused 2 bytes fault → AreRefused 2 (bytes ∷ []) fault
-refused_second bytes fault why = inl why
+-- why the only one of some inputs is refused
+pub refused_alone : (number : ℕ) (bytes : List ℕ) (fault : ToolFault) → IsRefused number bytes fault → AreRefused number (bytes ∷ []) fault
+refused_alone number bytes fault why = inl why
 
 -- the answer to a summary that was read
 pub answers : (summary bytes : List ℕ) (now : ℕ) (asked : SummaryData) (text : List ℕ) → AreMessages summary (Summary asked ∷ []) → IsTextOf (answer_text asked) bytes now text → IsAnswer summary bytes now text

@@ -12,7 +12,7 @@ use svid_share::{ToolFault, put_answer};
 use svid_wire::MemSink;
 
 // The answer to a summary, of what an input tells at a moment.
-#[tactic(auto, using(crate::proofs::JoinedLemmas::text_is, crate::proofs::JoinedLemmas::refused_second))]
+#[tactic(auto, using(crate::proofs::JoinedLemmas::text_is, crate::proofs::JoinedLemmas::refused_alone))]
 fn answer_to(
     alloc: Global,
     asked: &Summary,

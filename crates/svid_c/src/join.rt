@@ -40,8 +40,8 @@ fn joined(alloc: Global, a: &[u8], b: &[u8], now: u64) -> Result<MemSink, ToolFa
 ///
 /// 0, and `told.len` is the text's length; 1 where the text is longer than `out`: then `told.len` is its
 /// length, and `out` is as it was. Else `out` is as it was too, and the number tells why: 3 where an input has
-/// more than 67,108,864 bytes, 11 to 18 where it is no row of messages, and `told` tells which, in which
-/// message and where; 2 for want of memory.
+/// more than 67,108,864 bytes, and no field among the first 67,108,864 bytes is bad; 11 to 18 where it is no row of
+/// messages, and `told` tells which, in which message and where; 2 for want of memory.
 #[unsafe(no_mangle)]
 pub extern "C" fn svid_join(
     alloc: Global,

@@ -12,7 +12,7 @@ use svid_share::{ToolFault, put_report};
 use svid_wire::MemSink;
 
 // The report of what an input tells at a moment.
-#[tactic(auto, using(crate::proofs::JoinedLemmas::text_is, crate::proofs::JoinedLemmas::refused_first))]
+#[tactic(auto, using(crate::proofs::JoinedLemmas::text_is, crate::proofs::JoinedLemmas::refused_alone))]
 fn report(alloc: Global, messages: &[u8], now: u64) -> Result<MemSink, ToolFault>
     ensures ok { IfOk result (λ sink. IsTextOf report_of messages.now now sink.bytes) }
     ensures fault { IfErr result (AreRefused 1 (messages.now ∷ [])) }

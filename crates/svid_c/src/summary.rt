@@ -11,7 +11,7 @@ use svid_share::ToolFault;
 use svid_wire::{MemSink, write_summary};
 
 // The summary of what an input tells at a moment.
-#[tactic(auto, using(crate::proofs::JoinedLemmas::text_is, crate::proofs::JoinedLemmas::refused_first))]
+#[tactic(auto, using(crate::proofs::JoinedLemmas::text_is, crate::proofs::JoinedLemmas::refused_alone))]
 fn summary(alloc: Global, messages: &[u8], now: u64) -> Result<MemSink, ToolFault>
     ensures ok { IfOk result (λ sink. IsTextOf summary_text_of messages.now now sink.bytes) }
     ensures fault { IfErr result (AreRefused 1 (messages.now ∷ [])) }
