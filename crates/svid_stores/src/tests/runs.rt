@@ -413,7 +413,7 @@ fn many_uses_at_once_lose_none_where_memory_is_refused(rt: HostRuntime) -> Resul
     Ok(())
 }
 
-// How many growths are asked for when so many uses are put in at once, the first refused and tried again.
+// How many growths are asked for when so many uses are put in at once: each is refused in turn, of a new store.
 fn growths(rt: &impl Abort, alloc: Global, batch: &Batch, keyed: bool) -> Result<usize, Fail> {
     for nth in 1..100usize {
         let mut runs = if keyed {
@@ -566,6 +566,10 @@ fn three_runs_are_compacted_once(rt: HostRuntime) -> Result<(), Fail> {
 fn a_compacted_record_is_as_it_was_and_goes_on(rt: HostRuntime) -> Result<(), Fail> {
     let alloc = rt.alloc();
     let (mut runs, mut other) = first_uses(&rt, alloc, 1900)?;
+    refuse(alloc, 1);
+    runs.compact();
+    refuse(alloc, 0);
+    assert_records_alike(&rt, alloc, &runs, &other)?;
     runs.compact();
     other.compact();
     assert_records_alike(&rt, alloc, &runs, &other)?;

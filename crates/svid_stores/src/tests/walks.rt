@@ -79,7 +79,7 @@ fn assert_rooms<S: UseStore>(
         let behind = rest.len().min(ROOM_USES + 1);
         assert!(rt; room.as_slice() == &rest[..behind][1..]);
     }
-    // (less than all of them, and greater, is no use of the store)
+    // (these two are no uses of the store: one is less than all of them, one greater)
     store.next_uses(
         Some(Use {
             exp: 60_000,
@@ -137,7 +137,7 @@ fn a_room_takes_from_runs_in_a_row(rt: HostRuntime) -> Result<(), Fail> {
     assert_rooms(&rt, alloc, &runs, 1)
 }
 
-// A use that stands in two lists of a set comes once.
+// A room takes uses one by one or many at once, 64 in all; what comes behind them is left out.
 #[test]
 fn a_room_gathers_uses(rt: HostRuntime) -> Result<(), Fail> {
     let alloc = rt.alloc();
