@@ -24,8 +24,7 @@ pub(crate) fn join_lent<T: UseStore>(
     join_input(alloc, &mut source, number, &mut messages, target)
 }
 
-// The record that the batches of the input with this number come to, raised to a moment.
-#[tactic(auto, using(crate::proofs::JoinedLemmas::one))]
+// The record that the batches of the input with this number come to, raised to a moment, and made quick to walk.
 pub(crate) fn record_of(
     alloc: Global,
     bytes: &[u8],
@@ -38,6 +37,7 @@ pub(crate) fn record_of(
     let mut record = Record::new(RunUses::without_keys(alloc));
     join_lent(alloc, bytes, number, &mut record)?;
     record.raise(now);
+    record.compact();
     Ok(record)
 }
 

@@ -32,6 +32,7 @@ fn joined(alloc: Global, a: &[u8], b: &[u8], now: u64) -> Result<MemSink, ToolFa
     join_lent(alloc, a, 1, &mut record)?;
     join_lent(alloc, b, 2, &mut record)?;
     record.raise(now);
+    record.compact();
     Ok(text_of(alloc, &record)?)
 }
 
