@@ -12,12 +12,12 @@ _svid() {
     before=${COMP_WORDS[COMP_CWORD - 2]}
   fi
   case $COMP_CWORD,${COMP_WORDS[1]} in
-    1,-*) options='-h --help' ;;
+    1,-*) options='-h --help -V --version' ;;
     1,* | 2,help) COMPREPLY=($(compgen -W "$commands" -- "$current")) ;;
     *,check) options='--bundles --table --now --place --record --out --longest -h --help' ;;
     *,id) options='-h --help' ;;
     *,report) options='--now -h --help' files=yes ;;
-    *,merge) options='-h --help' files=yes ;;
+    *,merge) options='--now -h --help' files=yes ;;
     *,summary) options='-h --help' files=yes ;;
     *,answer) options='--summary -h --help' files=yes ;;
     *,candidates) options='--bundles -h --help' ;;

@@ -14,6 +14,7 @@ set -l commands check id report merge summary answer candidates help
 
 complete -c svid -f
 complete -c svid -s h -l help -d 'Print help'
+complete -c svid -n __svid_begins -s V -l version -d 'Print the version'
 
 complete -c svid -n __svid_begins -a check -d 'Check each token of standard input'
 complete -c svid -n __svid_begins -a id -d 'Print the parts of a SPIFFE ID, or why a text is none'
@@ -34,6 +35,7 @@ complete -c svid -n '__svid_is check' -l longest -x -d 'How many seconds past th
 
 complete -c svid -n '__svid_is report' -l now -x -d 'A moment in seconds, to which the record is raised'
 complete -c svid -n '__svid_is report' -F
+complete -c svid -n '__svid_is merge' -l now -x -d 'Drop what has expired by then: a time in seconds'
 complete -c svid -n '__svid_is merge' -F
 complete -c svid -n '__svid_is summary' -F
 complete -c svid -n '__svid_is answer' -l summary -r -F -d 'A file of one summary'

@@ -1,17 +1,32 @@
-/* svid.h: the libraries of `svid` as functions from bytes to bytes. Link with libsvid.a and the C library.
+/* svid.h: check JWT-SVIDs and share the record of used tokens, from C. Link with libsvid.a (or -lsvid) and the C library.
  *
- * Each call answers a status: SVID_OK where it did what it is for, and else the number of a fault. Bytes go in
- * as a pointer and a length. A pointer points to as many bytes as the length says, and is not null, even where
- * there are none; what is only read is not changed while the call runs.
+ * There are two ways to use it:
+ * - A service keeps a `svid_validator`: open it once, check tokens, renew its bundles, exchange messages with other validators, and
+ *   close it. See "A validator that you keep" below.
+ * - The other calls are stateless. They read all inputs anew each time, so use them for records of up to a few thousand uses.
  *
- * Text goes out first into the room of `out_len` bytes that `out` points to, and `told->len` says how long it
- * is. Where it is longer than the room, the status is SVID_TOO_SHORT, `told->len` is its length, and the room is
- * as it was: call again with that much. With any other status the room is as it was too.
+ * Words: a *record* is what a validator remembers: the time that it has seen (its *moment*) and the *uses* of tokens that have not yet
+ * expired. A *message* tells a record or a part of it to other validators (docs/FORMATS.md). All times are whole seconds since 1970.
  *
- * Where several inputs are refused, the first is told, in the order of the call's parameters.
+ * Results: a call returns a status: SVID_OK, or the number of what went wrong. `svid_strstatus` names it. `told` says more: how long the
+ * text is, or which input is at fault and where.
  *
- * Nothing that a call allocates outlives it, and two calls share nothing: threads may call at once. Where malloc
- * gives nothing, the status is SVID_NO_MEMORY. */
+ * Inputs are a pointer and a length in bytes. Where the length is 0, the pointer may be NULL. The library reads inputs only during the
+ * call, and you keep them. They must not change while it runs. Inputs may overlap each other, but no output may overlap an input or
+ * another output.
+ *
+ * Output: text goes into your room `out` of `out_len` bytes, and `told->len` is its length. If the text is longer than the room, the
+ * status is SVID_TOO_SHORT, and `told->len` says how much the text needs. Unless the status is SVID_OK, `out` stays as it was. Outputs
+ * may be uninitialised. If several inputs are at fault, `told` is about the first one in the order of the parameters.
+ *
+ * Limits: messages, bundles and a table of questions have at most SVID_INPUT_MOST bytes each, and a token at most 65,536. Your own audiences
+ * and the questions that you answer have no limit.
+ *
+ * Stack, as measured: no call takes more than 112 KiB, hostile tokens among them. So a thread of musl, which has 128 KiB unless you ask for
+ * more, can make every call. Summaries and answers take the most; a check takes up to 64 KiB.
+ *
+ * Memory comes from malloc. If malloc returns NULL, the status is SVID_NO_MEMORY. No call keeps anything, except that a validator keeps its
+ * own record and bundles until you close it. Stateless calls share nothing, so threads may make them at the same time. */
 #ifndef SVID_H
 #define SVID_H
 #include <stddef.h>
@@ -20,13 +35,31 @@
 extern "C" {
 #endif
 
+/* The version of this header; svid_version() is that of the library: 10,000 times the major, 100 times the minor number, and the patch. */
+#define SVID_VERSION_MAJOR 1
+#define SVID_VERSION_MINOR 0
+#define SVID_VERSION_PATCH 0
+#define SVID_VERSION 10000
+
+#define SVID_ID_ROOM 2048            /* enough room for any SPIFFE ID */
+#define SVID_SUMMARY_LEN 8205        /* the length of each summary */
+#define SVID_BATCH_OF_LEN 82         /* the length of a batch of one use */
+#define SVID_INPUT_MOST 67108864     /* the most bytes that an input of messages may have */
+
 enum svid_status {
     SVID_OK = 0,
     SVID_TOO_SHORT = 1,      /* the text is longer than the room */
     SVID_NO_MEMORY = 2,
-    SVID_TOO_MUCH = 3,       /* an input of messages has more than 67,108,864 bytes, and no field among the first
+    SVID_TOO_MUCH = 3,       /* bundles, a table or messages have more than 67,108,864 bytes; of messages, no field among the first
                                 67,108,864 bytes is bad; told: input */
     SVID_NOT_SUMMARY = 4,    /* the first input is messages, but not one summary; nothing is told beside it */
+
+    /* what a call on a validator that you keep answers beside these */
+    SVID_CLOSED = 5,         /* the validator is closed; nothing happened */
+    SVID_IS_OPEN = 6,        /* svid_validator_open: the validator is open already, and stays as it was */
+    SVID_GONE = 7,           /* svid_validator_withdraw: the token has expired, so that there is nothing to withdraw */
+    SVID_TOO_FAR = 8,        /* a message's moment is more than `ahead` seconds past `now`; it was not taken */
+    SVID_JUMP = 9,           /* `now` is more than `step` seconds past the record's moment; nothing happened */
 
     /* why an input is no row of messages; told: input, message, place */
     SVID_MAGIC = 11,         /* the first four bytes are those of no version */
@@ -55,6 +88,7 @@ enum svid_status {
     SVID_TABLE_LINE = 34,    /* a line is neither empty nor a question; told: place, the number of the first such
                                 line, counted from 1 */
     SVID_OWN_NOT_UTF8 = 35,  /* an audience of the validator's own is not UTF-8 */
+    SVID_OWN_LENGTHS = 36,   /* the lengths of the audiences do not add up to the length of `own` */
 
     /* why a token is refused: the first that holds, in this order */
     SVID_TOO_LONG = 101,
@@ -92,15 +126,16 @@ typedef struct {
     size_t path_len;
 } svid_id;
 
-/* What a call tells beside its status; 0 where there is nothing to tell. */
+/* What a call tells beside its status; 0 where there is nothing to tell. `place` is always where in the input the fault is:
+ *   SVID_MAGIC to SVID_TRUNCATED    the number of the byte in the message `message` of the input `input`, counted from 0
+ *   SVID_BUNDLES_DOMAIN and _KEYS   the number of the trust domain among all names in rising order of their bytes, counted from 0
+ *   SVID_TABLE_LINE                 the number of the line, counted from 1 */
 typedef struct {
-    size_t len;      /* how many bytes the text has that was written, or that has no room */
-    size_t input;    /* the number of the refused input of messages, counted from 1 in the order of the call's
-                        inputs; 0 for any other fault */
-    size_t message;  /* the number of its refused message, from 1 */
-    size_t place;    /* the place in that message, from its first byte; of bundles, the place of the refused name
-                        among all names in rising order of their bytes, from 0; of a table, the number of the
-                        line, counted from 1 */
+    size_t len;      /* the length of the text that was written, or that has no room */
+    size_t input;    /* which input of messages is at fault, counted from 1 over the call's inputs: 1 or 2 of svid_join and svid_answer,
+                        4 of svid_check, and 1 of any other call. SVID_TOO_MUCH also: 1 for bundles, 2 for a table of questions */
+    size_t message;  /* which of its messages, counted from 1 */
+    size_t place;
 } svid_told;
 
 /* What a check is told, beside its inputs. */
@@ -108,7 +143,7 @@ typedef struct {
     uint64_t moment;    /* of the check, in seconds; where the record's is greater, the token is judged at that */
     uint64_t longest;   /* how many seconds past it, or past the record's moment where that is greater, a
                          * token may expire; UINT64_MAX for any */
-    uint8_t place[16];  /* tells the validator from every other one that shares its record */
+    uint8_t place[16];  /* 16 bytes that name this validator among all that share its record */
 } svid_setting;
 
 /* The use that an acceptance adds to the record. */
@@ -118,6 +153,143 @@ typedef struct {
     uint8_t key[32];    /* by which the uses of the token are told */
     uint8_t place[16];  /* of the validator */
 } svid_use;
+
+/* ---- A validator that you keep ----
+ *
+ * A `svid_validator` lives in your memory and begins as SVID_VALIDATOR_CLOSED, all bytes 0. Three rules:
+ * - Only the calls below write it. Do not copy it while it is open: a copy that is closed too frees the same memory twice.
+ * - Give it to one call at a time, from any thread. Order the calls of several threads by a lock.
+ * - After fork, only one of the two processes may go on with it. The other process opens its own with another `place`: two validators of
+ *   one place accept a token twice.
+ * All calls answer SVID_CLOSED on a closed validator, and then do nothing.
+ *
+ * To check a token:
+ *   1. svid_validator_ask lists the keys that may have signed it, each with a question.
+ *   2. Your crypto library verifies the signature with each of these keys.
+ *   3. svid_validator_check gets the questions of the keys for which the signature was good, and accepts or refuses the token.
+ * The question is a SHA-256 digest over the key, the algorithm, the signed bytes and the signature. So an answer can't be taken for that of
+ * another token or key, even if you renew the bundles in between: the token is then refused as SVID_BAD_SIGNATURE. */
+typedef struct { uint64_t word; void *held; } svid_validator;
+#define SVID_VALIDATOR_CLOSED { 0, NULL }
+
+/* What a validator is given for its whole life. */
+typedef struct {
+    uint64_t longest;   /* a token that expires more than so many seconds past the record's moment is refused; UINT64_MAX for no limit */
+    uint64_t ahead;     /* how many seconds a message's moment may lie past `now`; 10 is a good value where clocks are synchronised */
+    uint64_t step;      /* a `now` more than so many seconds past the record's moment is answered SVID_JUMP, so that a wrong clock
+                           (milliseconds, say) does not expire all that the record knows; UINT64_MAX for no limit. A record that has seen
+                           no time yet, whose moment is 0, takes any `now`: so the first one must be right */
+    uint8_t place[16];  /* 16 bytes that name this validator among all that share its record; take random ones for each process */
+} svid_terms;
+
+/* The key by which the uses of a token are told: `key` of svid_use. */
+typedef struct {
+    uint8_t bytes[32];
+} svid_key;
+
+/* A question of svid_validator_ask. */
+typedef struct {
+    uint8_t bytes[32];
+} svid_question;
+
+/* Opens a closed validator with an empty record. `own` are its own audiences, one a line; empty lines are passed over. `bundles` are the
+ * trust bundles as JSON, an object from trust domain names to JWK sets. SVID_IS_OPEN; SVID_OWN_NOT_UTF8; SVID_TOO_MUCH and
+ * SVID_BUNDLES_NOT_OBJECT to SVID_BUNDLES_KEYS. Unless the status is SVID_OK, the validator stays as it was. To go on with a saved record,
+ * take it by svid_validator_take. */
+uint32_t svid_validator_open(svid_validator *v, const svid_terms *terms, const uint8_t *own, size_t own_len,
+                             const uint8_t *bundles, size_t bundles_len, svid_told *told);
+
+/* The same, for audiences that may have line feeds: `own` has them one directly after the other, and `lens` has the length of each of the
+ * `lens_len` audiences, in bytes. An audience of length 0 is the empty text. SVID_OWN_LENGTHS if the lengths do not add up to `own_len`. */
+uint32_t svid_validator_open_by_lengths(svid_validator *v, const svid_terms *terms, const uint8_t *own, size_t own_len,
+                                        const size_t *lens, size_t lens_len,
+                                        const uint8_t *bundles, size_t bundles_len, svid_told *told);
+
+/* Closes a validator and frees all that it holds. Does nothing to a closed one. */
+void svid_validator_close(svid_validator *v);
+
+/* Replaces the trust bundles. The record stays, so a token that was accepted before is still SVID_REPLAYED. If the new bundles are
+ * refused (SVID_TOO_MUCH, SVID_BUNDLES_NOT_OBJECT to SVID_BUNDLES_KEYS), the old ones stay. */
+uint32_t svid_validator_bundles(svid_validator *v, const uint8_t *bundles, size_t bundles_len, svid_told *told);
+
+/* Writes a row for each key that may have signed the token:
+ *     the question          32 bytes
+ *     the algorithm's name  its length in 4 bytes, the greatest first, and then the name, as "ES256"
+ *     the key               its length in 4 bytes, the greatest first, and then the key as JSON (RFC 7517)
+ * Keep parsed keys by that JSON text, not by `kid`, which is not unique. SVID_TOO_LONG to SVID_JTI, SVID_UNKNOWN_DOMAIN and SVID_NO_KEY if the
+ * token is refused already. Changes nothing, but wants the lock too; a second validator with the same bundles can answer it without. */
+uint32_t svid_validator_ask(svid_validator *v, const uint8_t *token, size_t token_len,
+                            uint8_t *out, size_t out_len, svid_told *told);
+
+/* Checks a token at the time `now`. `yes` are `yes_len` questions of this token whose answer is yes, in any order.
+ *
+ * First the call advances the record to `now`; it judges the token at the record's moment, which may be later. If it accepts the token, the
+ * status is SVID_OK: the record has gained the use, `used` is that use, and `out` has the SPIFFE ID of the subject. If it refuses the token,
+ * the status is the first of SVID_TOO_LONG to SVID_REPLAYED that holds.
+ *
+ * If `out_len` is less than SVID_ID_ROOM, the status is SVID_TOO_SHORT, and nothing happened. SVID_NO_MEMORY: the token was not accepted, and
+ * you can check it again. SVID_JUMP. Unless the status is SVID_OK, `used` stays as it was. */
+uint32_t svid_validator_check(svid_validator *v, uint64_t now, const svid_question *yes, size_t yes_len,
+                              const uint8_t *token, size_t token_len, uint8_t *out, size_t out_len,
+                              svid_use *used, svid_told *told);
+
+/* Answers what svid_validator_check would answer, but the record gains no use: a later check may still accept the token. `used` is the
+ * use that a check would add. */
+uint32_t svid_validator_judge(svid_validator *v, uint64_t now, const svid_question *yes, size_t yes_len,
+                              const uint8_t *token, size_t token_len, uint8_t *out, size_t out_len,
+                              svid_use *used, svid_told *told);
+
+/* Withdraws the token with this key, which expires at `exp`: it is refused as SVID_WITHDRAWN from now on, also by the validators that are told of
+ * it. `used` is what the record gained. SVID_GONE if the token has expired; SVID_JUMP; SVID_NO_MEMORY. */
+uint32_t svid_validator_withdraw(svid_validator *v, uint64_t now, const svid_key *key, uint64_t exp,
+                                 svid_use *used, svid_told *told);
+
+/* Advances the record to `now`, and drops what has expired by then. SVID_JUMP. */
+uint32_t svid_validator_tick(svid_validator *v, uint64_t now, svid_told *told);
+
+/* Takes messages of other validators, or a record that was saved: advances the record to `now`, and joins it with what all the messages
+ * tell. Taking a message twice, or in another order, makes no difference. Summaries are passed over.
+ *
+ * SVID_TOO_FAR: the messages tell of a time more than `ahead` seconds past `now`; the record was advanced to `now`, and nothing was joined.
+ * SVID_TOO_MUCH and SVID_MAGIC to SVID_TRUNCATED: the input is no row of messages, and nothing happened. SVID_NO_MEMORY: a part may be
+ * joined, and you can take the same messages again. SVID_JUMP. */
+uint32_t svid_validator_take(svid_validator *v, uint64_t now, const uint8_t *messages, size_t messages_len,
+                             svid_told *told);
+
+/* Writes the whole record as messages, for other validators or to save it. */
+uint32_t svid_validator_tell(svid_validator *v, uint8_t *out, size_t out_len, svid_told *told);
+
+/* How far svid_validator_parts has written a record. Begin with SVID_PART_FIRST; only svid_validator_parts writes it. */
+typedef struct {
+    uint64_t begun;
+    uint64_t done;      /* 1 once the whole record is written */
+    uint64_t withdrawn;
+    uint64_t exp;
+    uint64_t at;
+    uint8_t key[32];
+    uint8_t place[16];
+} svid_part;
+#define SVID_PART_FIRST { 0, 0, 0, 0, 0, { 0 }, { 0 } }
+
+/* Writes the record piece by piece, so that a large one does not keep the lock for long. Each call writes one batch, with as many uses as have
+ * room in `out`, and at most 65,536. A batch has 17 bytes, and 65 for each use. Call it until `part->done` is 1, and append what each call
+ * writes. You may make other calls in between. The pieces together hold each use that the record had at the first of these calls and that
+ * is still live at the last.
+ * SVID_TOO_SHORT if `out_len` is less than SVID_BATCH_OF_LEN. Unless the status is SVID_OK, `part` stays as it was. */
+uint32_t svid_validator_parts(svid_validator *v, svid_part *part, uint8_t *out, size_t out_len, svid_told *told);
+
+/* Writes the summary of the record: SVID_SUMMARY_LEN bytes, for a validator that is to answer what is missing here. */
+uint32_t svid_validator_summary(svid_validator *v, uint8_t *out, size_t out_len, svid_told *told);
+
+/* Writes the answer to the summary of another validator: messages with the uses that it may lack. Advances the record to `now`, and to the
+ * summary's moment. SVID_NOT_SUMMARY; SVID_TOO_FAR; SVID_TOO_MUCH and SVID_MAGIC to SVID_TRUNCATED; SVID_JUMP. */
+uint32_t svid_validator_answer(svid_validator *v, uint64_t now, const uint8_t *summary, size_t summary_len,
+                               uint8_t *out, size_t out_len, svid_told *told);
+
+/* ---- Stateless calls ---- */
+
+/* The version of the library: SVID_VERSION of the header that it was built with. */
+uint32_t svid_version(void);
 
 /* Reads a SPIFFE ID. */
 uint32_t svid_id_parse(const uint8_t *text, size_t text_len, svid_id *out);
@@ -138,26 +310,144 @@ uint32_t svid_report(const uint8_t *messages, size_t messages_len, uint64_t now,
 uint32_t svid_summary(const uint8_t *messages, size_t messages_len, uint64_t now,
                       uint8_t *out, size_t out_len, svid_told *told);
 
-/* The answer to a summary, of what the messages tell, raised up to `now` and then to the summary's moment: the
- * uses of all buckets whose digests differ, as batches; one batch with no use where there are no such uses. */
+/* The answer to a summary: the uses of all buckets whose digests differ, as batches, or one batch with no use if there are none. It is
+ * of the record that the messages make, advanced to `now`, and then to the summary's moment. */
 uint32_t svid_answer(const uint8_t *summary, size_t summary_len, const uint8_t *messages, size_t messages_len,
                      uint64_t now, uint8_t *out, size_t out_len, svid_told *told);
 
-/* A line for each key that may have signed the token: the question that a verifier of signatures is to answer,
- * as 64 hexadecimal digits, and the key's name as JSON. `bundles` are trust bundles, as JSON. */
+/* A line for each key that may have signed the token. It has the question that your verifier of signatures answers, as 64 hexadecimal
+ * digits, and the key's name as JSON. `bundles` are trust bundles, as JSON. */
 uint32_t svid_questions(const uint8_t *bundles, size_t bundles_len, const uint8_t *token, size_t token_len,
                         uint8_t *out, size_t out_len, svid_told *told);
 
-/* Checks a token over the record that the messages come to, at its moment or that of the setting, whichever is
- * greater, and puts the ID of the token's subject into the room, of which 2,048 bytes are enough. `own` are the
- * validator's own audiences, in lines, and `questions` those that are answered yes, a line each. With SVID_OK,
- * `used` is the use that the acceptance adds; nothing is kept of it, so that the caller joins it to its record: a
- * batch of the moment `at` with that use (docs/FORMATS.md). With any other status, SVID_TOO_SHORT too, `used` is
- * as it was. */
+/* Checks a token over the record that the messages make, at its moment or that of the setting, whichever is greater. `own` are the
+ * validator's own audiences, one a line; an empty line is passed over. `questions` are those whose answer is yes, a line each. If it
+ * accepts the token, `out` has the SPIFFE ID of its subject, for which SVID_ID_ROOM bytes are enough, and `used` is the use that the
+ * acceptance adds. Nothing is kept of it: write it as a message by svid_batch_of, and join that to your record. Unless the status is
+ * SVID_OK, `used` stays as it was. */
 uint32_t svid_check(const svid_setting *setting, const uint8_t *own, size_t own_len,
                     const uint8_t *bundles, size_t bundles_len, const uint8_t *questions, size_t questions_len,
                     const uint8_t *messages, size_t messages_len, const uint8_t *token, size_t token_len,
                     uint8_t *out, size_t out_len, svid_use *used, svid_told *told);
+
+/* The same, for audiences that may have line feeds: `own` and `lens` as for svid_validator_open_by_lengths. */
+uint32_t svid_check_by_lengths(const svid_setting *setting, const uint8_t *own, size_t own_len, const size_t *lens, size_t lens_len,
+                               const uint8_t *bundles, size_t bundles_len, const uint8_t *questions, size_t questions_len,
+                               const uint8_t *messages, size_t messages_len, const uint8_t *token, size_t token_len,
+                               uint8_t *out, size_t out_len, svid_use *used, svid_told *told);
+
+/* ---- Helpers ---- */
+
+/* The name of a status, as "SVID_REPLAYED"; "SVID_?" for a number that is none. */
+static inline const char *svid_strstatus(uint32_t status) {
+    switch (status) {
+    case SVID_OK: return "SVID_OK";
+    case SVID_TOO_SHORT: return "SVID_TOO_SHORT";
+    case SVID_NO_MEMORY: return "SVID_NO_MEMORY";
+    case SVID_TOO_MUCH: return "SVID_TOO_MUCH";
+    case SVID_NOT_SUMMARY: return "SVID_NOT_SUMMARY";
+    case SVID_CLOSED: return "SVID_CLOSED";
+    case SVID_IS_OPEN: return "SVID_IS_OPEN";
+    case SVID_GONE: return "SVID_GONE";
+    case SVID_TOO_FAR: return "SVID_TOO_FAR";
+    case SVID_JUMP: return "SVID_JUMP";
+    case SVID_MAGIC: return "SVID_MAGIC";
+    case SVID_KIND: return "SVID_KIND";
+    case SVID_COUNT: return "SVID_COUNT";
+    case SVID_USE_KIND: return "SVID_USE_KIND";
+    case SVID_USE_EXPIRED: return "SVID_USE_EXPIRED";
+    case SVID_USE_FUTURE: return "SVID_USE_FUTURE";
+    case SVID_USE_ORDER: return "SVID_USE_ORDER";
+    case SVID_TRUNCATED: return "SVID_TRUNCATED";
+    case SVID_ID_TOO_LONG: return "SVID_ID_TOO_LONG";
+    case SVID_ID_SCHEME: return "SVID_ID_SCHEME";
+    case SVID_ID_DOMAIN_EMPTY: return "SVID_ID_DOMAIN_EMPTY";
+    case SVID_ID_DOMAIN_BYTE: return "SVID_ID_DOMAIN_BYTE";
+    case SVID_ID_DOMAIN_LONG: return "SVID_ID_DOMAIN_LONG";
+    case SVID_ID_SEGMENT_EMPTY: return "SVID_ID_SEGMENT_EMPTY";
+    case SVID_ID_SEGMENT_DOTS: return "SVID_ID_SEGMENT_DOTS";
+    case SVID_ID_PATH_BYTE: return "SVID_ID_PATH_BYTE";
+    case SVID_BUNDLES_NOT_OBJECT: return "SVID_BUNDLES_NOT_OBJECT";
+    case SVID_BUNDLES_DOMAIN: return "SVID_BUNDLES_DOMAIN";
+    case SVID_BUNDLES_KEYS: return "SVID_BUNDLES_KEYS";
+    case SVID_TABLE_LINE: return "SVID_TABLE_LINE";
+    case SVID_OWN_NOT_UTF8: return "SVID_OWN_NOT_UTF8";
+    case SVID_OWN_LENGTHS: return "SVID_OWN_LENGTHS";
+    case SVID_TOO_LONG: return "SVID_TOO_LONG";
+    case SVID_NOT_THREE_PARTS: return "SVID_NOT_THREE_PARTS";
+    case SVID_HEADER_SPELLING: return "SVID_HEADER_SPELLING";
+    case SVID_HEADER_NOT_OBJECT: return "SVID_HEADER_NOT_OBJECT";
+    case SVID_CRIT: return "SVID_CRIT";
+    case SVID_ALG: return "SVID_ALG";
+    case SVID_TYP: return "SVID_TYP";
+    case SVID_KID: return "SVID_KID";
+    case SVID_PAYLOAD_SPELLING: return "SVID_PAYLOAD_SPELLING";
+    case SVID_PAYLOAD_NOT_OBJECT: return "SVID_PAYLOAD_NOT_OBJECT";
+    case SVID_SIGNATURE_SPELLING: return "SVID_SIGNATURE_SPELLING";
+    case SVID_SUB: return "SVID_SUB";
+    case SVID_AUD: return "SVID_AUD";
+    case SVID_EXP: return "SVID_EXP";
+    case SVID_NBF: return "SVID_NBF";
+    case SVID_JTI: return "SVID_JTI";
+    case SVID_NOT_AUDIENCE: return "SVID_NOT_AUDIENCE";
+    case SVID_EXPIRED: return "SVID_EXPIRED";
+    case SVID_NOT_YET: return "SVID_NOT_YET";
+    case SVID_TOO_LONG_LIVED: return "SVID_TOO_LONG_LIVED";
+    case SVID_UNKNOWN_DOMAIN: return "SVID_UNKNOWN_DOMAIN";
+    case SVID_NO_KEY: return "SVID_NO_KEY";
+    case SVID_BAD_SIGNATURE: return "SVID_BAD_SIGNATURE";
+    case SVID_WITHDRAWN: return "SVID_WITHDRAWN";
+    case SVID_REPLAYED: return "SVID_REPLAYED";
+    default: return "SVID_?";
+    }
+}
+
+/* Your verifier of signatures. Not 0 if the key `jwk`, as JSON, made the token's signature with the algorithm of this name. */
+typedef int (*svid_verify)(void *context, const uint8_t *alg, size_t alg_len, const uint8_t *jwk, size_t jwk_len,
+                           const uint8_t *token, size_t token_len);
+
+/* svid_validator_ask and svid_validator_check in one call, with `verify` for each key that may have signed the token; `context` is handed to
+ * it. `rows` is room for what svid_validator_ask writes, and is overwritten: 65,536 bytes do for most bundles. SVID_TOO_SHORT, and `told->len`
+ * is how long it must be, if it is too short; SVID_TOO_SHORT with SVID_ID_ROOM, if `out` is. Then nothing happened. Else as
+ * svid_validator_check. Hold the lock for the whole call. */
+static inline uint32_t svid_validator_verify(svid_validator *v, uint64_t now, const uint8_t *token, size_t token_len,
+                                             svid_verify verify, void *context, uint8_t *rows, size_t rows_len,
+                                             uint8_t *out, size_t out_len, svid_use *used, svid_told *told) {
+    size_t at = 0, end, count = 0, i;
+    uint32_t status = svid_validator_ask(v, token, token_len, rows, rows_len, told);
+    if (status != SVID_OK && status < SVID_TOO_LONG) return status;
+    /* Where no key may have signed the token, the check answers the first refusal that holds, which may be another. */
+    end = status == SVID_OK ? told->len : 0;
+    while (at < end) {
+        const uint8_t *question = rows + at, *field[2];
+        size_t len[2];
+        at += 32;
+        for (i = 0; i < 2; i++) {
+            len[i] = (size_t)rows[at] << 24 | (size_t)rows[at + 1] << 16 | (size_t)rows[at + 2] << 8 | rows[at + 3];
+            field[i] = rows + at + 4;
+            at += 4 + len[i];
+        }
+        if (!verify(context, field[0], len[0], field[1], len[1], token, token_len)) continue;
+        /* A row is longer than its question, so the answers have room in front. */
+        for (i = 0; i < 32; i++) rows[32 * count + i] = question[i];
+        count++;
+    }
+    return svid_validator_check(v, now, (const svid_question *)rows, count, token, token_len, out, out_len, used, told);
+}
+
+/* Writes a use that svid_check or svid_validator_check told as a message: a batch of that one use, of SVID_BATCH_OF_LEN bytes. */
+static inline void svid_batch_of(const svid_use *used, uint8_t out[SVID_BATCH_OF_LEN]) {
+    static const uint8_t head[5] = { 0x4a, 0x53, 0x52, 2, 1 };
+    int i;
+    for (i = 0; i < 5; i++) out[i] = head[i];
+    for (i = 0; i < 8; i++) out[5 + i] = (uint8_t)(used->at >> (56 - 8 * i));
+    for (i = 0; i < 4; i++) out[13 + i] = i == 3;
+    for (i = 0; i < 8; i++) out[17 + i] = (uint8_t)(used->exp >> (56 - 8 * i));
+    for (i = 0; i < 32; i++) out[25 + i] = used->key[i];
+    for (i = 0; i < 16; i++) out[57 + i] = used->place[i];
+    for (i = 0; i < 8; i++) out[73 + i] = (uint8_t)(used->at >> (56 - 8 * i));
+    out[81] = 0;
+}
 
 #ifdef __cplusplus
 }

@@ -106,11 +106,12 @@ static text file(const char *name) {
 static text first(text t, size_t len) { return lent(t.bytes, len); }
 
 /* A call: its name, the inputs, and what it is to answer. */
-enum kind { ID, JOIN, REPORT, SUMMARY, ANSWER, QUESTIONS, CHECK };
+enum kind { ID, JOIN, REPORT, SUMMARY, ANSWER, QUESTIONS, CHECK, CHECK_BY_LENGTHS };
+#define INPUTS 6
 typedef struct {
     const char *name;
     enum kind kind;
-    text in[5];
+    text in[INPUTS];
     uint64_t now, longest;
     uint32_t status;
     size_t input, message, place;
@@ -121,7 +122,7 @@ typedef struct { svid_id id; svid_told told; svid_use used; } answer;
 static const uint8_t PLACE_OF_THIS[16] = { 1, 2, 3, 4, 5, 6, 7, 8, 9, 10, 11, 12, 13, 14, 15, 16 };
 
 /* What a call is lent. */
-typedef struct { text in[5], setting, out, id, told, used; } loan;
+typedef struct { text in[INPUTS], setting, out, id, told, used; } loan;
 
 static uint32_t call(enum kind kind, uint64_t now, const loan *l) {
     const text *in = l->in, out = l->out;
@@ -133,6 +134,9 @@ static uint32_t call(enum kind kind, uint64_t now, const loan *l) {
     case SUMMARY: return svid_summary(in[0].bytes, in[0].len, now, out.bytes, out.len, told);
     case ANSWER: return svid_answer(in[0].bytes, in[0].len, in[1].bytes, in[1].len, now, out.bytes, out.len, told);
     case QUESTIONS: return svid_questions(in[0].bytes, in[0].len, in[1].bytes, in[1].len, out.bytes, out.len, told);
+    case CHECK_BY_LENGTHS: return svid_check_by_lengths((const svid_setting *)l->setting.bytes, in[0].bytes, in[0].len, (const size_t *)(const void *)in[5].bytes, in[5].len / sizeof(size_t),
+                               in[1].bytes, in[1].len, in[2].bytes, in[2].len, in[3].bytes, in[3].len, in[4].bytes, in[4].len,
+                               out.bytes, out.len, (svid_use *)l->used.bytes, told);
     default: return svid_check((const svid_setting *)l->setting.bytes, in[0].bytes, in[0].len, in[1].bytes, in[1].len,
                                in[2].bytes, in[2].len, in[3].bytes, in[3].len, in[4].bytes, in[4].len,
                                out.bytes, out.len, (svid_use *)l->used.bytes, told);
@@ -160,12 +164,12 @@ static text called(const row *r, size_t len, long from, long to, answer *a) {
     loan l = { .setting = lent(&setting, sizeof setting), .out = room(len), .id = lent(&a->id, sizeof a->id),
                .told = lent(&a->told, sizeof a->told), .used = lent(&a->used, sizeof a->used) };
     memset(l.out.bytes, 0x5A, len);
-    for (int i = 0; i < 5; i++) l.in[i] = lent(r->in[i].bytes, r->in[i].len);
+    for (int i = 0; i < INPUTS; i++) l.in[i] = lent(r->in[i].bytes, r->in[i].len);
     asked = 0, refused_from = from, refused_to = to;
     answered = call(r->kind, r->now, &l);
     refused_from = 0;
     holds(standing == 0, "memory was not given back");
-    for (int i = 0; i < 5; i++) unchanged(l.in[i], r->in[i].bytes, "an input was changed");
+    for (int i = 0; i < INPUTS; i++) unchanged(l.in[i], r->in[i].bytes, "an input was changed");
     unchanged(l.setting, &setting, "the setting was changed");
     taken(l.id, &a->id), taken(l.told, &a->told), taken(l.used, &a->used);
     size_t text_len = answered == SVID_OK && r->kind != ID ? a->told.len : 0;
@@ -195,7 +199,7 @@ static void try_row(const row *r) {
     text whole = called(r, len, 0, 0, &a);
     long takes = asked;
     holds(is_answer(r, &a, len), "not what is due");
-    if (r->kind == CHECK && r->status == SVID_OK)
+    if (r->kind >= CHECK && r->status == SVID_OK)
         holds(a.used.at == r->now && a.used.exp == 4102444800 && !memcmp(a.used.place, PLACE_OF_THIS, 16), "the use");
     /* too short by all, by half and by one, as long as the text, and longer */
     size_t lens[] = { 0, len / 2, len ? len - 1 : 0, len, len + 1, len + 4096 };
@@ -242,6 +246,8 @@ int main(void) {
     const uint64_t now = 1767225600;
     text o = said(""), two = file("two-uses.batch"), summary = room(8205), kept;
     text bundles = file("bundles.json"), table = file("table.txt"), token = file("token.txt"), ledger = said("\nledger\n");
+    const size_t lengths[] = { 3, 6 };
+    text lens = lent(lengths, sizeof lengths);
     /* a record with the token's use, and its summary */
     answer a;
     row accepting = { "a check", CHECK, { ledger, bundles, table, o, token }, now, UINT64_MAX, SVID_OK, 0, 0, 0 };
@@ -290,6 +296,10 @@ int main(void) {
         { "a check with bad keys and a bad table", CHECK, { ledger, said("[]"), said("x"), o, token }, now, UINT64_MAX, SVID_BUNDLES_NOT_OBJECT, 0, 0, 0 },
         { "a check with a bad table and cut messages", CHECK, { ledger, bundles, said("x"), first(two, 40), token }, now, UINT64_MAX, SVID_TABLE_LINE, 0, 0, 1 },
         { "a check over cut messages, of no token", CHECK, { ledger, bundles, table, first(two, 40), o }, now, UINT64_MAX, SVID_TRUNCATED, 4, 1, 40 },
+        { "a check by a name with a line feed", CHECK_BY_LENGTHS, { said("a\nbledger"), bundles, table, two, token, lens }, now, UINT64_MAX, SVID_OK, 0, 0, 0 },
+        { "a check by a name that ends with one", CHECK_BY_LENGTHS, { said("abledger\n"), bundles, table, two, token, lens }, now, UINT64_MAX, SVID_NOT_AUDIENCE, 0, 0, 0 },
+        { "a check by names that are too short, with bad keys", CHECK_BY_LENGTHS, { said("ledger"), said("[]"), table, o, token, lens }, now, UINT64_MAX, SVID_OWN_LENGTHS, 0, 0, 0 },
+        { "a check by a cut character", CHECK_BY_LENGTHS, { lent("ab\303\251ledge", 9), bundles, table, o, token, lens }, now, UINT64_MAX, SVID_OWN_NOT_UTF8, 0, 0, 0 },
         { "a check of nothing that is good", CHECK, { lent("\xFF", 1), said("[]"), said("x"), first(two, 40), o }, now, UINT64_MAX, SVID_OWN_NOT_UTF8, 0, 0, 0 },
     };
     size_t count = sizeof rows / sizeof *rows;

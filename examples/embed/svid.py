@@ -22,6 +22,18 @@ class Use(c.Structure):
     _fields_ = [("exp", c.c_uint64), ("at", c.c_uint64), ("key", c.c_uint8 * 32), ("place", c.c_uint8 * 16)]
 
 
+class Terms(c.Structure):
+    _fields_ = [("longest", c.c_uint64), ("ahead", c.c_uint64), ("step", c.c_uint64), ("place", c.c_uint8 * 16)]
+
+
+class Key(c.Structure):
+    _fields_ = [("bytes", c.c_uint8 * 32)]
+
+
+class Part(c.Structure):
+    _fields_ = [("begun", c.c_uint64), ("done", c.c_uint64), ("withdrawn", c.c_uint64), ("exp", c.c_uint64), ("at", c.c_uint64), ("key", c.c_uint8 * 32), ("place", c.c_uint8 * 16)]
+
+
 class Refused(Exception):
     """Why a call gave up: its status, and what it told."""
 

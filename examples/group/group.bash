@@ -49,6 +49,15 @@ trap 'late=129' HUP
 trap 'late=130' INT
 trap 'late=143' TERM
 room=$(mktemp -d) || exit 2
+# A process that reads what the script holds open until the script ends, also by a kill that no trap sees.
+# Then it ends the server, whose number is in the room, and takes the room away.
+# (the server has nothing of it open)
+exec {alive}> >(
+  trap '' HUP INT TERM
+  cat >/dev/null
+  if [ -s "$room/server" ]; then kill "$(<"$room/server")"; fi 2>/dev/null
+  rm -rf "$room"
+)
 trap 'exit 129' HUP
 trap 'exit 130' INT
 trap 'exit 143' TERM

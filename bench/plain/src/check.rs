@@ -1,6 +1,6 @@
 use crate::bundles::{self, Bundles};
 use crate::inputs;
-use crate::record::Record;
+use crate::record::{Known, Record};
 use crate::sha256::Digest;
 use crate::token::{Refusal, Token};
 use crate::token_use::{Told, Use};
@@ -21,12 +21,11 @@ pub struct Setting {
 }
 
 /// A validator that began with no uses, so that it has no withdrawals.
-struct Validator {
-    bundles: Bundles,
-    table: HashSet<Digest>,
-    place: [u8; 16],
-    own: Vec<String>,
-    record: Record,
+pub struct Validator<R> {
+    pub bundles: Bundles,
+    pub place: [u8; 16],
+    pub own: Vec<String>,
+    pub record: R,
 }
 
 /// Checks the tokens of standard input, and says whether all are accepted.
@@ -34,16 +33,16 @@ pub fn run(setting: Setting, out: &mut impl Write) -> Result<bool, Box<dyn Error
     let bundles = inputs::read_bytes(1, inputs::open(&setting.bundles)?)?;
     let table = inputs::read_bytes(2, inputs::open(&setting.table)?)?;
     let tokens = inputs::read_bytes(3, io::stdin().lock())?;
+    let table = read_table(&table)?;
     let mut validator = Validator {
         bundles: bundles::read(&bundles).map_err(|fault| format!("bundles: {fault}"))?,
-        table: read_table(&table)?,
         place: digits(setting.place.as_bytes()).ok_or("bad place")?,
         own: setting.own,
         record: Record::default(),
     };
     let mut all_accepted = true;
     for (_, line) in lines(&tokens) {
-        match validator.check(setting.now, line) {
+        match validator.check(setting.now, line, |question| table.contains(question)) {
             Ok(token) => writeln!(out, "accepted {} {}", token.subject, token.exp)?,
             Err(refusal) => {
                 all_accepted = false;
@@ -81,12 +80,24 @@ fn read_table(text: &[u8]) -> Result<HashSet<Digest>, String> {
         .collect()
 }
 
-impl Validator {
+impl<R: Known> Validator<R> {
+    /// The questions that a verifier of signatures is to answer.
+    pub fn ask(&self, line: &[u8]) -> Result<Vec<Digest>, Refusal> {
+        let token = Token::read(line)?;
+        let questions = self.candidates(&token)?;
+        Ok(questions.map(|key| token.question(key)).collect())
+    }
+
     /// Reads a token and judges it. What is accepted is a use from then on.
-    fn check<'a>(&mut self, now: u64, line: &'a [u8]) -> Result<Token<'a>, Refusal> {
+    pub fn check<'a>(
+        &mut self,
+        now: u64,
+        line: &'a [u8],
+        says: impl Fn(&Digest) -> bool,
+    ) -> Result<Token<'a>, Refusal> {
         self.record.raise(now);
         let token = Token::read(line)?;
-        self.judge(&token)?;
+        self.judge(&token, says)?;
         let key = token.key();
         if self.record.has(&key) {
             return Err(Refusal::Replayed);
@@ -101,8 +112,27 @@ impl Validator {
         Ok(token)
     }
 
+    /// The texts of the keys that may have signed a token, at least one.
+    fn candidates<'a>(
+        &'a self,
+        token: &'a Token,
+    ) -> Result<impl Iterator<Item = &'a str> + 'a, Refusal> {
+        let keys = self
+            .bundles
+            .get(token.domain())
+            .ok_or(Refusal::UnknownDomain)?;
+        let is_named = |kid: &String| token.kid.as_ref().is_none_or(|wanted| wanted == kid);
+        let mut candidates = keys
+            .iter()
+            .filter(move |key| key.kind == token.key_kind && is_named(&key.kid))
+            .map(|key| key.text.as_str())
+            .peekable();
+        candidates.peek().ok_or(Refusal::NoKey)?;
+        Ok(candidates)
+    }
+
     /// The refusals for the audience, the time and the keys.
-    fn judge(&self, token: &Token) -> Result<(), Refusal> {
+    fn judge(&self, token: &Token, says: impl Fn(&Digest) -> bool) -> Result<(), Refusal> {
         if !token.audiences.iter().any(|said| self.own.contains(said)) {
             return Err(Refusal::NotAudience);
         }
@@ -112,17 +142,8 @@ impl Validator {
         if token.nbf.is_some_and(|nbf| nbf > self.record.moment()) {
             return Err(Refusal::NotYet);
         }
-        let keys = self
-            .bundles
-            .get(token.domain())
-            .ok_or(Refusal::UnknownDomain)?;
-        let is_named = |kid: &String| token.kid.as_ref().is_none_or(|wanted| wanted == kid);
-        let mut candidates = keys
-            .iter()
-            .filter(|key| key.kind == token.key_kind && is_named(&key.kid))
-            .peekable();
-        candidates.peek().ok_or(Refusal::NoKey)?;
-        if !candidates.any(|key| self.table.contains(&token.question(&key.text))) {
+        let mut candidates = self.candidates(token)?;
+        if !candidates.any(|key| says(&token.question(key))) {
             return Err(Refusal::BadSignature);
         }
         Ok(())

@@ -11,6 +11,7 @@ mod fault;
 mod hex;
 mod inputs;
 mod json;
+mod live;
 mod message;
 mod record;
 mod report;
@@ -22,7 +23,7 @@ mod token;
 mod token_use;
 
 use check::Setting;
-use record::Record;
+use record::{Known, Record};
 use std::env;
 use std::error::Error;
 use std::io::{self, BufWriter, Write};
@@ -32,7 +33,7 @@ use token_use::Use;
 
 const USAGE: &str = "usage: plain report [--now N] [FILE...] | plain merge [FILE...] \
     | plain summary [FILE...] | plain answer --summary FILE [FILE...] \
-    | plain check --bundles FILE --table FILE --now N --place P AUD...";
+    | plain check --bundles FILE --table FILE --now N --place P AUD... | plain live FOLDER [FILE...]";
 
 /// How many bytes go out at once.
 const ROOM: usize = 65_536;
@@ -100,8 +101,13 @@ fn run_record(command: &str, words: Words, out: &mut impl Write) -> Result<(), B
 /// Runs a command, and says whether its answer is yes.
 fn run(mut words: impl Iterator<Item = String>) -> Result<bool, Box<dyn Error>> {
     let command = words.next().ok_or(USAGE)?;
-    let words = Words::read(words)?;
     let mut out = BufWriter::with_capacity(ROOM, io::stdout().lock());
+    if command == "live" {
+        live::run(&words.collect::<Vec<_>>(), &mut out)?;
+        out.flush()?;
+        return Ok(true);
+    }
+    let words = Words::read(words)?;
     let yes = if command == "check" {
         let setting = Setting {
             bundles: words.bundles.ok_or(USAGE)?,

@@ -3,6 +3,21 @@ use crate::token_use::{Told, Use};
 use std::collections::hash_map::Entry;
 use std::collections::{BTreeSet, HashMap};
 
+/// What a check asks of a record.
+pub trait Known {
+    /// The record's moment, in seconds.
+    fn moment(&self) -> u64;
+
+    /// Raises the moment to this one where it is less, and drops the uses that expired by it.
+    fn raise(&mut self, moment: u64);
+
+    /// Whether a use of the record that is no withdrawal has this key.
+    fn has(&self, key: &[u8; 32]) -> bool;
+
+    /// Puts a live use into the record.
+    fn insert(&mut self, used: Use);
+}
+
 /// A moment, and the uses of all batches that expire after it.
 #[derive(Default)]
 pub struct Record {
@@ -13,11 +28,6 @@ pub struct Record {
 }
 
 impl Record {
-    /// The record's moment, in seconds.
-    pub fn moment(&self) -> u64 {
-        self.moment
-    }
-
     /// The uses, in rising order.
     pub fn uses(&self) -> impl ExactSizeIterator<Item = &Use> {
         self.uses.iter()
@@ -45,30 +55,6 @@ impl Record {
         }
     }
 
-    /// Raises the moment to this one where it is less, and drops the uses that expired by it.
-    pub fn raise(&mut self, moment: u64) {
-        self.moment = self.moment.max(moment);
-        while self
-            .uses
-            .first()
-            .is_some_and(|used| used.exp <= self.moment)
-        {
-            self.drop_first();
-        }
-    }
-
-    /// Whether a use of the record that is no withdrawal has this key.
-    pub fn has(&self, key: &[u8; 32]) -> bool {
-        self.keys.contains_key(key)
-    }
-
-    /// Puts a live use into the record.
-    pub fn insert(&mut self, used: Use) {
-        if self.uses.insert(used) && used.told == Told::Used {
-            *self.keys.entry(used.key).or_insert(0) += 1;
-        }
-    }
-
     fn drop_first(&mut self) {
         let Some(used) = self.uses.pop_first() else {
             return;
@@ -81,6 +67,33 @@ impl Record {
             if *count.get() == 0 {
                 count.remove();
             }
+        }
+    }
+}
+
+impl Known for Record {
+    fn moment(&self) -> u64 {
+        self.moment
+    }
+
+    fn raise(&mut self, moment: u64) {
+        self.moment = self.moment.max(moment);
+        while self
+            .uses
+            .first()
+            .is_some_and(|used| used.exp <= self.moment)
+        {
+            self.drop_first();
+        }
+    }
+
+    fn has(&self, key: &[u8; 32]) -> bool {
+        self.keys.contains_key(key)
+    }
+
+    fn insert(&mut self, used: Use) {
+        if self.uses.insert(used) && used.told == Told::Used {
+            *self.keys.entry(used.key).or_insert(0) += 1;
         }
     }
 }

@@ -1,5 +1,5 @@
 use crate::hex::Hex;
-use crate::record::Record;
+use crate::record::{Known, Record};
 use crate::token_use::Told;
 use std::io::{self, Write};
 

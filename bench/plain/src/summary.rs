@@ -1,5 +1,5 @@
 use crate::message::{self, Kind};
-use crate::record::Record;
+use crate::record::{Known, Record};
 use crate::sha256::{Digest, Sha256};
 use crate::token_use::{take, Use};
 use std::io::{self, Write};

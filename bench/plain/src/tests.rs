@@ -7,7 +7,7 @@ use crate::fault::{Fault, Reason};
 use crate::hex::Hex;
 use crate::json::Json;
 use crate::message::Message;
-use crate::record::Record;
+use crate::record::{Known, Record};
 use crate::report;
 use crate::sha256::Sha256;
 use crate::summary::Summary;

@@ -1,3 +1,6 @@
+pub mod AsBox
 pub mod CheckedLemmas
 pub mod InputsLemmas
 pub mod JoinedLemmas
+pub mod LiveLemmas
+pub mod NamesLemmas

@@ -1,6 +1,13 @@
+pub mod Answered
 pub mod Checked
+pub mod Handle
 pub mod Inputs
 pub mod Joined
+pub mod Live
+pub mod Nobody
+pub mod Offers
+pub mod Own
+pub mod Parts
 pub mod Questions
 pub mod Status
 pub mod Written

@@ -4,10 +4,14 @@ use Rattle.svid_share.specs.declared.tool_fault.ToolFault.{ToolFault}
 use Rattle.svid_c.specs.declared.told.SvidTold.{SvidTold}
 use Rattle.svid_c.specs.Status.{fault_number, told_fault, told_length}
 
+-- the text stands first in the room, and what stands behind it is as it was
+abbrev pub HasFirst : List ℕ → List ℕ → List ℕ → Type 0
+HasFirst text old new = new ≡ text ++ drop (length text) old
+
 -- the text was put first into the room that the caller lent, and what stands behind it is as it was; or it has no room, and
 -- all is as it was
 pub data IsPut (text : List ℕ) (status : ℕ) (old new : List ℕ) : Type 0 where
-  put : status ≡ 0 → length text ≤ length old → new ≡ text ++ drop (length text) old → IsPut text status old new
+  put : status ≡ 0 → length text ≤ length old → HasFirst text old new → IsPut text status old new
   too_short : status ≡ 1 → length old < length text → new ≡ old → IsPut text status old new
 
 -- a text that is due was put, or has no room, and its length is told; or there is none, it is told why, and all is as it was

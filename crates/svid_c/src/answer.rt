@@ -4,11 +4,12 @@ ghost use Rattle.svid_c.specs.Joined.{IsAnswer, IsAnswerRefused, IsTextOf, answe
 ghost use Rattle.svid_c.specs.Written.{Answers};
 
 use crate::inputs::{record_of, summary_in};
+use crate::reply::texts_of;
 use crate::told::SvidTold;
 use crate::writing::{put, refuse};
 use std::alloc::Global;
 use svid_replay::Summary;
-use svid_share::{ToolFault, put_answer};
+use svid_share::ToolFault;
 use svid_wire::MemSink;
 
 // The answer to a summary, of what an input tells at a moment.
@@ -23,9 +24,11 @@ fn answer_to(
     ensures fault { IfErr result (AreRefused 2 (messages.now ∷ [])) }
 {
     let mut record = record_of(alloc, messages, 2, now)?;
-    let mut sink = MemSink::new(alloc, 65_536, None);
-    match put_answer(&mut record, asked, &mut sink) {
-        Ok(()) => Ok(sink),
+    let Ok(batches) = record.answer(alloc, asked) else {
+        return Err(ToolFault::OutOfMemory);
+    };
+    match texts_of(alloc, &batches) {
+        Ok(sink) => Ok(sink),
         Err(_) => Err(ToolFault::OutOfMemory),
     }
 }

@@ -1,21 +1,23 @@
-ghost use Rattle.std.specs.Prelude.{◌≡◌, ◌≢◌, IfOk, IfErr, length};
+ghost use Rattle.std.specs.Prelude.{◌≡◌, ◌≢◌, ◌≤◌, IfOk, IfErr, length, map, string_bytes};
 ghost use Rattle.svid_id.specs.Id.{id_text};
 ghost use Rattle.svid_keys.specs.Table.{table_says};
 ghost use Rattle.svid_check.specs.Setting.{setting_of};
 ghost use Rattle.svid_c.specs.Status.{told_length};
-ghost use Rattle.svid_c.specs.Written.{IsPut};
+ghost use Rattle.svid_c.specs.Written.{HasFirst, IsPut};
 ghost use Rattle.svid_c.specs.Checked.{Checks, IsNotReady, IsReady, use_seen};
+ghost use Rattle.svid_c.specs.Own.{AreCut, AreLines, IsCutFault, IsLineFault, Named};
 
-use crate::check_fault::CheckFault;
-use crate::inputs::record_of;
-use crate::names::names_in;
+use crate::inputs::{bundles_of, record_of, table_of};
+use crate::names::{names_by, names_in};
 use crate::refusal::refusal_number;
 use crate::told::{SvidTold, told_length};
-use crate::writing::put;
+use crate::validator::only;
+use crate::writing::{put, refuse};
 use std::alloc::Global;
 use svid_check::{Accepted, Validator};
-use svid_keys::{Bundles, TableVerifier};
+use svid_keys::TableVerifier;
 use svid_replay::{RunUses, Use};
+use svid_share::ToolFault;
 
 /// What a check is told, beside its inputs.
 #[repr(C)]
@@ -44,7 +46,7 @@ pub struct SvidUse {
     pub place: [u8; 16],
 }
 
-fn use_seen(used: Use) -> SvidUse
+pub(crate) fn use_seen(used: Use) -> SvidUse
     ensures { result ≡ use_seen used }
 {
     let Use {
@@ -63,7 +65,12 @@ fn use_seen(used: Use) -> SvidUse
 }
 
 // Tells an acceptance, where its ID has room.
-fn accept(accepted: Accepted, out: &mut [u8], used: &mut SvidUse, told: &mut SvidTold) -> u32
+pub(crate) fn accept(
+    accepted: Accepted,
+    out: &mut [u8],
+    used: &mut SvidUse,
+    told: &mut SvidTold,
+) -> u32
     ensures put { IsPut (id_text accepted.id) result out.old out.new }
     ensures told { told.new ≡ told_length (length (id_text accepted.id)) }
     ensures used { result ≡ 0 → used.new ≡ use_seen accepted.used }
@@ -76,23 +83,47 @@ fn accept(accepted: Accepted, out: &mut [u8], used: &mut SvidUse, told: &mut Svi
     status
 }
 
-// The validator of a check.
-#[tactic(auto, using(crate::proofs::CheckedLemmas::ready, crate::proofs::CheckedLemmas::no_names, crate::proofs::CheckedLemmas::no_bundles, crate::proofs::CheckedLemmas::no_table, crate::proofs::CheckedLemmas::no_record))]
+// The same in a room that has place for any ID.
+#[tactic(auto, using(crate::proofs::CheckedLemmas::has_room))]
+pub(crate) fn accept_whole(
+    accepted: Accepted,
+    out: &mut [u8],
+    used: &mut SvidUse,
+    told: &mut SvidTold,
+) -> u32
+    requires { 2048 ≤ length out.old }
+    ensures status { result ≡ 0 }
+    ensures put { HasFirst (id_text accepted.id) out.old out.new }
+    ensures told { told.new ≡ told_length (length (id_text accepted.id)) }
+    ensures used { used.new ≡ use_seen accepted.used }
+{
+    let answered = put(accepted.id.as_str().as_bytes(), out, told);
+    *used = use_seen(accepted.used);
+    answered
+}
+
+// The validator of a check, which has these audiences.
+#[tactic(auto, using(crate::proofs::CheckedLemmas::ready, crate::proofs::CheckedLemmas::bundles_refused))]
 fn validator_of(
     alloc: Global,
     setting: &SvidSetting,
-    own: &[u8],
+    own: Vec<String>,
     bundles: &[u8],
     questions: &[u8],
     messages: &[u8],
-) -> Result<Validator<TableVerifier, RunUses>, CheckFault>
-    ensures ok { IfOk result (λ v. IsReady own.now bundles.now questions.now messages.now setting.now (setting_of table_says v) v.state) }
-    ensures fault { IfErr result (IsNotReady own.now bundles.now questions.now messages.now) }
+) -> Result<Validator<TableVerifier, RunUses>, ToolFault>
+    ensures ok { IfOk result (λ v. IsReady (map string_bytes own.items) bundles.now questions.now messages.now setting.now (setting_of table_says v) v.state) }
+    ensures fault { IfErr result (IsNotReady bundles.now questions.now messages.now) }
 {
-    let own = names_in(alloc, own)?;
-    let bundles = Bundles::read(alloc, bundles)?;
-    let table = TableVerifier::read(alloc, questions)?;
-    let record = record_of(alloc, messages, 4, setting.moment)?;
+    let bundles = bundles_of(alloc, bundles)?;
+    let table = match table_of(alloc, questions) {
+        Ok(table) => table,
+        Err(fault) => return Err(fault),
+    };
+    let record = match record_of(alloc, messages, 4, setting.moment) {
+        Ok(record) => record,
+        Err(fault) => return Err(fault),
+    };
     let place = setting.place;
     Ok(Validator::new(
         alloc,
@@ -106,6 +137,35 @@ fn validator_of(
     ))
 }
 
+// Checks a token with these audiences.
+fn check(
+    alloc: Global,
+    setting: &SvidSetting,
+    own: Vec<String>,
+    bundles: &[u8],
+    questions: &[u8],
+    messages: &[u8],
+    token: &[u8],
+    out: &mut [u8],
+    used: &mut SvidUse,
+    told: &mut SvidTold,
+) -> u32
+    ensures { Checks (IsReady (map string_bytes own.items) bundles.now questions.now messages.now setting.now) (IsNotReady bundles.now questions.now messages.now) setting.now.moment token.now
+        result told.new out.old out.new used.old used.new }
+{
+    let mut validator = match validator_of(alloc, setting, own, bundles, questions, messages) {
+        Ok(validator) => validator,
+        Err(fault) => return refuse(fault, told),
+    };
+    match validator.check(setting.moment, token) {
+        Ok(accepted) => accept(accepted, out, used, told),
+        Err(refusal) => {
+            *told = told_length(0);
+            refusal_number(refusal)
+        }
+    }
+}
+
 /// Checks a token over the record that the messages come to, at its moment or that of the setting, whichever is
 /// greater, and puts the ID of the token's subject first into `out`: 0, and `used` is the use that the acceptance
 /// adds. Nothing is kept of it: the caller joins the use to its record, as a batch.
@@ -114,8 +174,8 @@ fn validator_of(
 /// that are answered yes, as the program reads them. 1 where the ID is longer than `out`, of which 2,048 bytes are
 /// enough. 101 to 125 where the token is refused: the number of the first refusal that holds, in the order of
 /// `Refusal`. Else the first input is told that is refused, in this order: an audience that is not UTF-8 (35), the
-/// bundles (31 to 33), the table (34, with its line), the messages (3, 11 to 18); or 2 for want of memory. Where it is
-/// not 0, `used` is as it was.
+/// bundles (31 to 33), the table (34, with its line), the messages (11 to 18); 3 where the bundles, the table or the
+/// messages are too long, with the number 1, 2 or 4; or 2 for want of memory. Where it is not 0, `used` is as it was.
 #[unsafe(no_mangle)]
 pub extern "C" fn svid_check(
     alloc: Global,
@@ -129,21 +189,44 @@ pub extern "C" fn svid_check(
     used: &mut SvidUse,
     told: &mut SvidTold,
 ) -> u32
-    ensures { Checks (IsReady own.now bundles.now questions.now messages.now setting.now) (IsNotReady own.now bundles.now questions.now messages.now) setting.now.moment token.now
-        result told.new out.old out.new used.old used.new }
+    ensures { Named (AreLines own.now) (IsLineFault own.now) ((out.new ≡ out.old) × (used.new ≡ used.old))
+        (λ names. Checks (IsReady names bundles.now questions.now messages.now setting.now) (IsNotReady bundles.now questions.now messages.now) setting.now.moment token.now
+        result told.new out.old out.new used.old used.new)
+        result told.new }
 {
-    let mut validator = match validator_of(alloc, setting, own, bundles, questions, messages) {
-        Ok(validator) => validator,
-        Err(fault) => {
-            *told = fault.told();
-            return fault.number();
-        }
-    };
-    match validator.check(setting.moment, token) {
-        Ok(accepted) => accept(accepted, out, used, told),
-        Err(refusal) => {
-            *told = told_length(0);
-            refusal_number(refusal)
-        }
+    match names_in(alloc, own) {
+        Ok(own) => check(
+            alloc, setting, own, bundles, questions, messages, token, out, used, told,
+        ),
+        Err(fault) => only(fault.number(), told),
+    }
+}
+
+/// As [`svid_check`], but `own` are the audiences one after the other, and `lens` their lengths. 36 where these do not add up
+/// to the length of `own`.
+#[unsafe(no_mangle)]
+pub extern "C" fn svid_check_by_lengths(
+    alloc: Global,
+    setting: &SvidSetting,
+    own: &[u8],
+    lens: &[usize],
+    bundles: &[u8],
+    questions: &[u8],
+    messages: &[u8],
+    token: &[u8],
+    out: &mut [u8],
+    used: &mut SvidUse,
+    told: &mut SvidTold,
+) -> u32
+    ensures { Named (AreCut own.now lens.now) (IsCutFault own.now lens.now) ((out.new ≡ out.old) × (used.new ≡ used.old))
+        (λ names. Checks (IsReady names bundles.now questions.now messages.now setting.now) (IsNotReady bundles.now questions.now messages.now) setting.now.moment token.now
+        result told.new out.old out.new used.old used.new)
+        result told.new }
+{
+    match names_by(alloc, own, lens) {
+        Ok(own) => check(
+            alloc, setting, own, bundles, questions, messages, token, out, used, told,
+        ),
+        Err(fault) => only(fault.number(), told),
     }
 }

@@ -3,20 +3,35 @@
 //! Each answers a status: 0 where it did what it is for, and else a number that tells why not. What else it
 //! answers stands in a structure that the caller lends, and text in room that the caller lends: where that is
 //! too short, the call says how long it must be and leaves it as it was. Nothing that was allocated outlives a
-//! call.
+//! call, but for what a validator holds that C keeps: that is given back when it is closed.
 #![tactic(auto)]
 
 mod answer;
+mod answered;
 mod check;
-mod check_fault;
+mod handle;
 mod id;
 mod inputs;
 mod join;
 mod lent;
+mod live;
+mod live_check;
+mod live_judge;
 mod names;
+mod offer;
+mod open;
+mod own_fault;
+mod parts;
 mod questions;
 mod refusal;
+mod renew;
+mod reply;
 mod report;
 mod summary;
+mod take;
+mod tell;
 mod told;
+mod validator;
+mod version;
+mod withdraw;
 mod writing;

@@ -11,8 +11,8 @@ use svid_wire::Reason;
 pub struct SvidTold {
     /// How many bytes the text has that was written, or that has no room.
     pub len: usize,
-    /// The number of the refused input of messages, counted from 1 in the order of the call's inputs; 0 for any
-    /// other fault.
+    /// The number of the refused input of messages, counted from 1 in the order of the call's inputs; of bundles that are
+    /// too long 1, and of a table that is too long 2; 0 for any other fault.
     pub input: usize,
     /// The number of its message that is refused, counted from 1.
     pub message: usize,

@@ -6,6 +6,7 @@ use Rattle.std.proofs.lemmas.Bool.{and_from, cases_lt, lt-ltb, or_left, or_right
 use Rattle.std.proofs.lemmas.Cmp.{tied_itself}
 use Rattle.std.proofs.lemmas.Option.{none-some, slice_get_past}
 use Rattle.svid_token.specs.declared.refusal.Refusal.{Refusal}
+use Rattle.svid_replay.specs.Buckets.{raised_to}
 use Rattle.svid_replay.specs.declared.token_use.Use.{Use}
 use Rattle.svid_replay.specs.Records.{State, batch_state, join, state_of}
 use Rattle.svid_replay.specs.Sets.{holds}
@@ -16,8 +17,8 @@ use Rattle.svid_replay.proofs.TestsLemmas.{same_some}
 use Rattle.svid_replay.proofs.UseLemmas.{use_total}
 use Rattle.svid_replay.proofs.UsesLemmas.{holds-uses_in}
 use Rattle.svid_check.specs.declared.accepted.Accepted.{Accepted}
-use Rattle.svid_check.specs.Alone.{AcceptsOnce, Alone, Answer, Call, Check, PutsBackFrom, Restart, Save, Take, Tick, Withdraw, answer_alone, called, calls, joined_of, put_back, with_held, withdrawal_alone}
-use Rattle.svid_check.specs.Changes.{accepted_in, gains, horizon, raised, settled, withdrawn_in}
+use Rattle.svid_check.specs.Alone.{AcceptsOnce, Alone, Answer, Call, Check, PutsBackFrom, Restart, Save, Take, Tick, Withdraw, answer_alone, called, calls, joined_of, put_back, with_held, withdrawal_alone, Renew, setting_alone}
+use Rattle.svid_check.specs.Changes.{accepted_in, gains, horizon, settled, withdrawn_in}
 use Rattle.svid_check.specs.Lawful.{Accepts, input_of}
 use Rattle.svid_check.specs.Runs.{Terms}
 use Rattle.svid_check.specs.Setting.{Setting}
@@ -38,7 +39,7 @@ join_spent u a b (inr h) =
     let past : u.exp ≤ max a.moment b.moment = omega arith in
     inr (subst (λ n. u.exp ≤ n) (sym (moment-join a b)) past)
 
-raised_spent : (u : Use) (a : State) (now : ℕ) → Spent u a → Spent u (raised a now)
+raised_spent : (u : Use) (a : State) (now : ℕ) → Spent u a → Spent u (raised_to a now)
 raised_spent u a now h = join_spent u a (state_of now []) h
 
 gains_spent : (u : Use) (a : State) (added : Option Use) → Spent u a → Spent u (gains a added)
@@ -86,32 +87,33 @@ module _ (t : Terms) where
   calls_spent u n (Check now token refused ∷ more) w from h =
       let answer = answer_alone t w now token refused in
       calls_spent u n more (called t w (Check now token refused)) from
-      (with_spent u n w (settled (raised w.held now) answer) h (gains_spent u (raised w.held now) (accepted_in answer) (raised_spent u w.held now h.held)))
+      (with_spent u n w (settled (raised_to w.held now) answer) h (gains_spent u (raised_to w.held now) (accepted_in answer) (raised_spent u w.held now h.held)))
   calls_spent u n (Withdraw now key exp refused ∷ more) w from h =
       let added = withdrawn_in (withdrawal_alone t w now key exp refused) in
       calls_spent u n more (called t w (Withdraw now key exp refused)) from
-      (with_spent u n w (gains (raised w.held now) added) h (gains_spent u (raised w.held now) added (raised_spent u w.held now h.held)))
+      (with_spent u n w (gains (raised_to w.held now) added) h (gains_spent u (raised_to w.held now) added (raised_spent u w.held now h.held)))
   calls_spent u n (Tick now ∷ more) w from h =
-      calls_spent u n more (called t w (Tick now)) from (with_spent u n w (raised w.held now) h (raised_spent u w.held now h.held))
+      calls_spent u n more (called t w (Tick now)) from (with_spent u n w (raised_to w.held now) h (raised_spent u w.held now h.held))
   calls_spent u n (Take now b refused ∷ more) w from h =
-      let a = raised w.held now in
+      let a = raised_to w.held now in
       let spent = raised_spent u w.held now h.held in
       let test = nat_lt (horizon now t.ahead) b.moment in
       let c = join a (batch_state (joined_of b refused)) in
       calls_spent u n more (called t w (Take now b refused)) from
       (with_spent u n w (if test then a else c) h (either_spent u test a c spent (join_spent u a (batch_state (joined_of b refused)) spent)))
   calls_spent u n (Answer now s ∷ more) w from h =
-      let a = raised w.held now in
+      let a = raised_to w.held now in
       let spent = raised_spent u w.held now h.held in
       let test = nat_lt (horizon now t.ahead) s.moment in
       calls_spent u n more (called t w (Answer now s)) from
-      (with_spent u n w (if test then a else raised a s.moment) h (either_spent u test a (raised a s.moment) spent (raised_spent u a s.moment spent)))
+      (with_spent u n w (if test then a else raised_to a s.moment) h (either_spent u test a (raised_to a s.moment) spent (raised_spent u a s.moment spent)))
   calls_spent u n (Save ∷ more) w from h =
       calls_spent u n more (called t w Save) from
       (record {
         held = h.held;
         saves = λ k a le e. elim (place_cases w.saves w.held k a e) [ inl old ↦ h.saves k a le old | inr new ↦ subst (Spent u) new h.held ];
       })
+  calls_spent u n (Renew renewal ∷ more) w from h = calls_spent u n more (called t w (Renew renewal)) from (record { held = h.held; saves = h.saves })
   calls_spent u n (Restart k ∷ more) w from h =
       calls_spent u n more (called t w (Restart k)) from.1 (put_back_spent u n w k (slice_get w.saves k) h from.0 refl)
 
@@ -119,8 +121,9 @@ module _ (t : Terms) where
   check_spent : (w : Alone) (now : ℕ) (token : List ℕ) (first : Accepted) → answer_alone t w now token false ≡ Ok first
       → IsSpentFrom first.used (length w.saves) (called t w (Check now token false))
   check_spent w now token first is =
-      let a = raised w.held now in
-      let later = alive t.setting a.moment a.uses token first.used (accepted_is t.setting a token false first is) in
+      let a = raised_to w.held now in
+      let s = setting_alone t w in
+      let later = alive s a.moment a.uses token first.used (accepted_is s a token false first is) in
       record {
         held = subst (λ (answer : Result Accepted Refusal). Spent first.used (settled a answer)) (sym is) (added_spent a first.used later);
         saves = λ k b le e. absurd (none-some b (sym (slice_get_past w.saves k le) ∙ e));
@@ -136,8 +139,10 @@ spent_refuses s other a b token again u v one two input (inr past) =
 
 pub accepts_once : AcceptsOnce
 accepts_once t w now later token again calls_between refused first second is from input is_second =
-    let a = raised w.held now in
+    let a = raised_to w.held now in
     let x = calls t (called t w (Check now token false)) calls_between in
-    let b = raised x.held later in
+    let b = raised_to x.held later in
     let h = calls_spent t first.used (length w.saves) calls_between (called t w (Check now token false)) from (check_spent t w now token first is) in
-    spent_refuses t.setting t.setting a b token again first.used second.used (accepted_is t.setting a token false first is) (accepted_is t.setting b again refused second is_second) input (raised_spent first.used x.held later h.held)
+    let s = setting_alone t w in
+    let other = setting_alone t x in
+    spent_refuses s other a b token again first.used second.used (accepted_is s a token false first is) (accepted_is other b again refused second is_second) input (raised_spent first.used x.held later h.held)

@@ -2,6 +2,7 @@
 use Rattle.std.proofs.Common.{◌≡◌, ◌<◌, ◌≤◌, ◌^◌, ℕ, max, Bool, true, false, ◌&&◌, nat_lt, [], ◌∷◌, refl, sym, ap, ◌∙◌, subst, arith}
 use Rattle.std.specs.Prelude.{Option, None, Some, Result, Ok, Err}
 use Rattle.std.proofs.lemmas.Bool.{lt-ltb}
+use Rattle.svid_replay.specs.Buckets.{raised_to}
 use Rattle.svid_replay.specs.declared.token_use.Use.{Use}
 use Rattle.svid_replay.specs.Batches.{BatchData}
 use Rattle.svid_replay.specs.Records.{State, batch_state, join, state_of}
@@ -16,7 +17,7 @@ use Rattle.svid_check.specs.declared.event.Event.TheVariants.{Check, Tick, Take,
 use Rattle.svid_check.specs.declared.take_fault.TakeFault.{TakeFault}
 use Rattle.svid_check.specs.declared.take_fault.TakeFault.TheVariants.{TooFarAhead, OutOfMemory}
 use Rattle.svid_check.specs.Bounds.{AnswersAreBounded, ChecksAreBounded, RecordsAreBounded, RunsAreBounded, TakesAreBounded, TicksAreBounded, WithdrawalsAreBounded, latest, now_of, reach}
-use Rattle.svid_check.specs.Changes.{accepted_in, gains, horizon, raised, withdrawn_in}
+use Rattle.svid_check.specs.Changes.{accepted_in, gains, horizon, withdrawn_in}
 use Rattle.svid_check.specs.Runs.{Step, Terms}
 use Rattle.svid_check.specs.Told.{BeginsAsGiven, TellsBatch, Told, begun, tell_now, tell_one}
 
@@ -50,8 +51,8 @@ same_moment : (x : State) (added : Option Use) → (gains x added).moment ≡ x.
 same_moment x (Some u) = moment-join x (state_of x.moment (u ∷ [])) ∙ omega arith
 same_moment x None = refl
 
-gained_is_bounded : (x : State) (now ahead : ℕ) (added : Option Use) → now < 2 ^ 64 → (gains (raised x now) added).moment ≤ reach x.moment now ahead
-gained_is_bounded x now ahead added small = subst (λ n. n ≤ reach x.moment now ahead) (sym (same_moment (raised x now) added)) (ticks_are_bounded x now ahead small)
+gained_is_bounded : (x : State) (now ahead : ℕ) (added : Option Use) → now < 2 ^ 64 → (gains (raised_to x now) added).moment ≤ reach x.moment now ahead
+gained_is_bounded x now ahead added small = subst (λ n. n ≤ reach x.moment now ahead) (sym (same_moment (raised_to x now) added)) (ticks_are_bounded x now ahead small)
 
 pub checks_are_bounded : ChecksAreBounded
 checks_are_bounded x now ahead answer small = gained_is_bounded x now ahead (accepted_in answer) small
@@ -60,10 +61,10 @@ pub withdrawals_are_bounded : WithdrawalsAreBounded
 withdrawals_are_bounded x now ahead answer small = gained_is_bounded x now ahead (withdrawn_in answer) small
 
 -- a join with what lies within the horizon
-within : (x y b : State) (now ahead : ℕ) → now < 2 ^ 64 → b.moment ≤ horizon now ahead → y ≡ join (raised x now) b → y.moment ≤ reach x.moment now ahead
+within : (x y b : State) (now ahead : ℕ) → now < 2 ^ 64 → b.moment ≤ horizon now ahead → y ≡ join (raised_to x now) b → y.moment ≤ reach x.moment now ahead
 within x y b now ahead small far is =
     let moments : y.moment ≡ max (max x.moment now) b.moment =
-    ap (λ (r : State). r.moment) is ∙ moment-join (raised x now) b ∙ ap (λ n. max n b.moment) (moment-join x (state_of now [])) in
+    ap (λ (r : State). r.moment) is ∙ moment-join (raised_to x now) b ∙ ap (λ n. max n b.moment) (moment-join x (state_of now [])) in
     subst (λ n. n ≤ reach x.moment now ahead) (sym moments) (at_batch x.moment now b.moment ahead small far)
 
 pub takes_are_bounded : TakesAreBounded

@@ -9,7 +9,7 @@ use Rattle.std.proofs.lemmas.Option.{none-some, same_Some}
 use Rattle.svid_token.specs.declared.refusal.Refusal.{Refusal}
 use Rattle.svid_replay.specs.declared.token_use.Use.{Use}
 use Rattle.svid_replay.specs.Batches.{BatchData}
-use Rattle.svid_replay.specs.Buckets.{answer_to, summary_of}
+use Rattle.svid_replay.specs.Buckets.{answer_to, raised_to, summary_of}
 use Rattle.svid_replay.specs.Parts.{parts_of}
 use Rattle.svid_replay.specs.Records.{State}
 use Rattle.svid_replay.specs.Sets.{holds, union, with}
@@ -22,12 +22,12 @@ use Rattle.svid_replay.proofs.UseLemmas.{use_exact}
 use Rattle.svid_replay.proofs.UsesLemmas.{holds-union, no_uses_hold_none, with_holds_one_more}
 use Rattle.svid_check.specs.declared.accepted.Accepted.{Accepted}
 use Rattle.svid_check.specs.declared.withdraw_fault.WithdrawFault.TheVariants as withdraw
-use Rattle.svid_check.specs.Changes.{accepted_in, horizon, raised, withdrawal, withdrawn_in}
+use Rattle.svid_check.specs.Changes.{accepted_in, horizon, withdrawal, withdrawn_in}
 use Rattle.svid_check.specs.Headline.{ToldWereAccepted, ToldWereWithdrawn}
 use Rattle.svid_check.specs.Runs.{Terms}
-use Rattle.svid_check.specs.Setting.{Setting}
+use Rattle.svid_check.specs.Setting.{Setting, Renewal}
 use Rattle.svid_check.specs.Told.{tell_one}
-use Rattle.svid_check.specs.World.{Answer, Answered, Check, Content, Entry, Event, Made, Member, OldSend, Posting, Restart, Save, Saved, Send, Sent, Sum, Summed, Take, Tick, Took, Withdraw, World, accepted, accepted_by, answer_at, answer_content, answer_posting, answer_summary, carried, check_answer, front, gained, happen, happens, has_withdrawal, joined, logged, new_member, old_parts_of, one_or_none, parts_in, post, put, restart, save, start, take_part, take_posting, ticked, took, withdraw_answer, withdrawal_at, withdrawn, withdrawn_by}
+use Rattle.svid_check.specs.World.{Answer, Answered, Check, Content, Entry, Event, Made, Member, OldSend, Posting, Restart, Save, Saved, Send, Sent, Sum, Summed, Take, Tick, Took, Withdraw, World, accepted, accepted_by, answer_at, answer_content, answer_posting, answer_summary, carried, check_answer, front, gained, happen, happens, has_withdrawal, joined, logged, new_member, old_parts_of, one_or_none, parts_in, post, put, restart, save, start, take_part, take_posting, ticked, took, withdraw_answer, withdrawal_at, withdrawn, withdrawn_by, Renew, setting_at, with_renewal}
 use Rattle.svid_check.proofs.AnswersLemmas.{accepted_is}
 use Rattle.svid_check.proofs.LawfulLemmas.{is_used}
 use Rattle.svid_check.proofs.MembersLemmas.{carried_within}
@@ -55,6 +55,7 @@ pub record IsKept (N : ℕ → Type 0) (A : Use → Type 0) (I : Member → Type
   pub ticks : (x : Member) (now : ℕ) → N now → I x → I (ticked x now)
   pub adds : (x : Member) (added : Option Use) → ((u : Use) → added ≡ Some u → A u) → I x → I (gained x added)
   pub logs : (x : Member) (entry : Entry) → I x → I (logged x entry)
+  pub renews : (x : Member) (renewal : Option Renewal) → I x → I (with_renewal x renewal)
   pub joins : (x maker : Member) (b : BatchData) → N b.moment → I x → I maker → I (joined x maker.told.uses b)
 
 module _ (N : ℕ → Type 0) (A : Use → Type 0) (I : Member → Type 0) (kept : IsKept N A I) where
@@ -118,7 +119,9 @@ module _ (N : ℕ → Type 0) (A : Use → Type 0) (I : Member → Type 0) (kept
 
   restart_is : (w : World) (v k : ℕ) (s : Option Saved) → Everywhere I w → slice_get w.saves k ≡ s → Everywhere I (restart w v s)
   restart_is w v k None h at = h
-  restart_is w v k (Some s) h at = cond_both (s.owner == v) (put w v s.was) w (Everywhere I) (λ _. put_everywhere w v s.was h (h.saves k s at)) (λ _. h)
+  restart_is w v k (Some s) h at =
+      let x = with_renewal s.was (w.members v).renewal in
+      cond_both (s.owner == v) (put w v x) w (Everywhere I) (λ _. put_everywhere w v x h (kept.renews s.was (w.members v).renewal (h.saves k s at))) (λ _. h)
 
   module _ (group : ℕ → Terms) where
     -- a use is added by an event, if one is
@@ -144,6 +147,7 @@ module _ (N : ℕ → Type 0) (A : Use → Type 0) (I : Member → Type 0) (kept
         take_posting_is w v now (group v).ahead (ticked (w.members v) now) k p refused (slice_get w.pool k) h (kept.ticks (w.members v) now at (h.members v)) refl
     happens_everywhere w (Save v) at uses gone h = save_everywhere w v (w.members v) h (h.members v)
     happens_everywhere w (Restart v k) at uses gone h = restart_is w v k (slice_get w.saves k) h refl
+    happens_everywhere w (Renew v renewal) at uses gone h = put_everywhere w v (with_renewal (w.members v) (Some renewal)) h (kept.renews (w.members v) (Some renewal) (h.members v))
 
     pub happen_everywhere : (w : World) (events : List Event) → AllByRecursion (IsAt N) events → ((u : Use) → Contains (accepted group w events) u → A u) → ((u : Use) → Contains (withdrawn group w events) u → A u)
         → Everywhere I w → Everywhere I (happen group w events)
@@ -186,6 +190,7 @@ module _ (P : Use → Type 0) where
     ticks = λ x now at each. each;
     adds = gained_each;
     logs = λ x entry each. each;
+    renews = λ x renewal each. each;
     joins = λ x maker b at each made. union_each x.told.uses (carried maker.told.uses b) each (λ u has. made u (carried_within maker.told.uses b u has));
   }
 
@@ -229,11 +234,11 @@ module _ (group : ℕ → Terms) where
   used_by : (w : World) (e : Event) (u : Use) → Contains (accepted_by group w e) u → u.withdrawn ≡ false
   used_by w (Check v now token refused) u has =
       let answer = answer_at group w v now token refused in
-      accepted_used (group v).setting (raised (w.members v).held now) token refused answer u refl (at_most_one (accepted_in answer) u has)
+      accepted_used (setting_at group w v) (raised_to (w.members v).held now) token refused answer u refl (at_most_one (accepted_in answer) u has)
   used_by w _ u has = has_none u has
 
   gone_by : (w : World) (e : Event) (u : Use) → Contains (withdrawn_by group w e) u → u.withdrawn ≡ true
-  gone_by w (Withdraw v now key exp refused) u has = ap (λ (v : Use). v.withdrawn) (withdrawal_is (group v).setting.place (raised (w.members v).held now) key exp refused u has)
+  gone_by w (Withdraw v now key exp refused) u has = ap (λ (v : Use). v.withdrawn) (withdrawal_is (group v).setting.place (raised_to (w.members v).held now) key exp refused u has)
   gone_by w _ u has = has_none u has
 
   all_used : (w : World) (events : List Event) (u : Use) → Contains (accepted group w events) u → u.withdrawn ≡ false

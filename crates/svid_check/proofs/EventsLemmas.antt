@@ -11,7 +11,7 @@ use Rattle.svid_token.specs.declared.refusal.Refusal.{Refusal}
 use Rattle.svid_token.specs.declared.refusal.Refusal.TheVariants as refusal
 use Rattle.svid_replay.specs.declared.token_use.Use.{Use}
 use Rattle.svid_replay.specs.Batches.{BatchData}
-use Rattle.svid_replay.specs.Buckets.{answer_to}
+use Rattle.svid_replay.specs.Buckets.{answer_to, raised_to}
 use Rattle.svid_replay.specs.Records.{State, join, state_of}
 use Rattle.svid_replay.specs.Summary.{SummaryData}
 use Rattle.svid_replay.specs.Uses.{Uses}
@@ -20,13 +20,13 @@ use Rattle.svid_check.specs.declared.take_fault.TakeFault.{TakeFault}
 use Rattle.svid_check.specs.declared.take_fault.TakeFault.TheVariants.{OutOfMemory, TooFarAhead}
 use Rattle.svid_check.specs.declared.withdraw_fault.WithdrawFault.{WithdrawFault}
 use Rattle.svid_check.specs.declared.withdraw_fault.WithdrawFault.TheVariants as withdraw
-use Rattle.svid_check.specs.Changes.{IsWithdrawal, Replies, Takes, gains, horizon, raised, settled, withdrawal, withdrawn_in}
-use Rattle.svid_check.specs.Events.{AnswersAreEvents, ChecksAreEvents, SendsAreEvents, SumsAreEvents, TakesAreEvents, TicksAreEvents, WithdrawalsAreEvents, entries, posted}
+use Rattle.svid_check.specs.Changes.{IsWithdrawal, Replies, Takes, gains, horizon, settled, withdrawal, withdrawn_in}
+use Rattle.svid_check.specs.Events.{AnswersAreEvents, ChecksAreEvents, SendsAreEvents, SumsAreEvents, TakesAreEvents, TicksAreEvents, WithdrawalsAreEvents, entries, posted, RenewalsAreEvents, SavesAreEvents, OldSendsAreEvents}
 use Rattle.svid_check.specs.Said.{RefusesForm}
-use Rattle.svid_check.specs.Alone.{AnswersAreCalls, ChecksAreCalls, TakesAreCalls, TicksAreCalls, WithdrawalsAreCalls}
-use Rattle.svid_check.specs.Setting.{Setting}
+use Rattle.svid_check.specs.Alone.{AnswersAreCalls, ChecksAreCalls, TakesAreCalls, TicksAreCalls, WithdrawalsAreCalls, setting_alone}
+use Rattle.svid_check.specs.Setting.{Setting, renewed}
 use Rattle.svid_check.specs.Verdict.{verdict}
-use Rattle.svid_check.specs.World.{Answer, Answered, Content, Entry, Made, Member, Posting, Sent, Summed, Take, Took, World, answer_at, answer_by, answer_content, answer_posting, answer_summary, check_answer, checked, far, form_or_memory, front, happens, joined, logged, post, put, take_part, take_posting, ticked, took, withdraw_answer, withdrawal_at, withdrew}
+use Rattle.svid_check.specs.World.{Answer, Answered, Content, Entry, Made, Member, Posting, Sent, Summed, Take, Took, World, answer_at, answer_by, answer_content, answer_posting, answer_summary, check_answer, checked, far, form_or_memory, front, happens, joined, logged, post, put, take_part, take_posting, ticked, took, withdraw_answer, withdrawal_at, withdrew, OldSend, old_parts_of, setting_at, with_renewal}
 use Rattle.svid_check.proofs.PlacesLemmas.{put_own}
 use Rattle.svid_check.proofs.RowsLemmas.{told}
 
@@ -48,8 +48,8 @@ check_gives s x token (Err r) due form =
 
 pub checks_are_events : ChecksAreEvents
 checks_are_events group w v now token answer due form =
-    let x = raised (w.members v).held now in
-    let g = check_gives (group v).setting x token answer due form in
+    let x = raised_to (w.members v).held now in
+    let g = check_gives (setting_at group w v) x token answer due form in
     (g.0, g.1, ap (λ (m : Member). m.held) (put_own w v (checked (ticked (w.members v) now) (answer_at group w v now token g.0))) ∙ ap (settled x) g.1)
 
 -- Withdrawals.
@@ -65,7 +65,7 @@ withdraw_gives place x key exp (Err withdraw.OutOfMemory) h = (true, ap (λ (tes
 
 pub withdrawals_are_events : WithdrawalsAreEvents
 withdrawals_are_events group w v now key exp answer h =
-    let x = raised (w.members v).held now in
+    let x = raised_to (w.members v).held now in
     let g = withdraw_gives (group v).setting.place x key exp answer h in
     (g.0, g.1, ap (λ (m : Member). m.held) (put_own w v (withdrew (ticked (w.members v) now) (withdrawal_at group w v now key exp g.0))) ∙ ap (λ (a : Result Use WithdrawFault). gains x (withdrawn_in a)) g.1)
 
@@ -158,17 +158,31 @@ sums_are_events group w v summary same =
       ap (λ (s : SummaryData). w.pool ++ record { maker = v; was = w.members v; content = Summed s } ∷ []) (sym same),
     )
 
+pub renewals_are_events : RenewalsAreEvents
+renewals_are_events group w v renewal =
+    let is = put_own w v (with_renewal (w.members v) (Some renewal)) in
+    (ap (λ (m : Member). renewed (group v).setting m.renewal) is, ap (λ (m : Member). m.held) is, ap (λ (m : Member). m.told) is, ap (λ (m : Member). m.log) is)
+
+pub saves_are_events : SavesAreEvents
+saves_are_events group w v = (refl, refl)
+
+pub old_sends_are_events : OldSendsAreEvents
+old_sends_are_events group w v none =
+    let x = w.members v in
+    let is : happens group w (OldSend v) ≡ post w v x (Sent (old_parts_of x.held)) = ap (λ (test : Bool). if test then w else post w v x (Sent (old_parts_of x.held))) none in
+    (ap (λ (after : World). after.members v) is, ap (λ (after : World). after.pool) is)
+
 -- One validator by itself.
 
 pub checks_are_calls : ChecksAreCalls
 checks_are_calls t w now token answer due form =
-    let x = raised w.held now in
-    let g = check_gives t.setting x token answer due form in
+    let x = raised_to w.held now in
+    let g = check_gives (setting_alone t w) x token answer due form in
     (g.0, g.1, ap (settled x) g.1)
 
 pub withdrawals_are_calls : WithdrawalsAreCalls
 withdrawals_are_calls t w now key exp answer h =
-    let x = raised w.held now in
+    let x = raised_to w.held now in
     let g = withdraw_gives t.setting.place x key exp answer h in
     (g.0, g.1, ap (λ (a : Result Use WithdrawFault). gains x (withdrawn_in a)) g.1)
 
@@ -180,13 +194,13 @@ either_way x y test = if test then x else y
 
 pub takes_are_calls : TakesAreCalls
 takes_are_calls t w now b (Ok taken) y h =
-    let x = raised w.held now in
+    let x = raised_to w.held now in
     (None, ap (either_way x (join x (state_of b.moment b.uses))) (le-ltb (horizon now t.ahead) b.moment h.0) ∙ sym h.1)
 takes_are_calls t w now b (Err TooFarAhead) y h =
-    let x = raised w.held now in
+    let x = raised_to w.held now in
     (None, ap (either_way x (join x (state_of b.moment b.uses))) (lt-ltb (horizon now t.ahead) b.moment h.0) ∙ sym h.1)
 takes_are_calls t w now b (Err OutOfMemory) y h =
-    let x = raised w.held now in
+    let x = raised_to w.held now in
     let part = h.1 in
     let n = length part.front in
     let first : take n b.uses ≡ part.front = ap (take n) part.parts ∙ take-append_seam part.front (part.refused ∷ part.rest) in (
@@ -196,6 +210,6 @@ takes_are_calls t w now b (Err OutOfMemory) y h =
     )
 
 pub answers_are_calls : AnswersAreCalls
-answers_are_calls t w now s (Ok batches) y h = let x = raised w.held now in ap (either_way x (raised x s.moment)) (le-ltb (horizon now t.ahead) s.moment h.0) ∙ sym h.2
-answers_are_calls t w now s (Err TooFarAhead) y h = let x = raised w.held now in ap (either_way x (raised x s.moment)) (lt-ltb (horizon now t.ahead) s.moment h.0) ∙ sym h.1
-answers_are_calls t w now s (Err OutOfMemory) y h = let x = raised w.held now in ap (either_way x (raised x s.moment)) (le-ltb (horizon now t.ahead) s.moment h.0) ∙ sym h.1
+answers_are_calls t w now s (Ok batches) y h = let x = raised_to w.held now in ap (either_way x (raised_to x s.moment)) (le-ltb (horizon now t.ahead) s.moment h.0) ∙ sym h.2
+answers_are_calls t w now s (Err TooFarAhead) y h = let x = raised_to w.held now in ap (either_way x (raised_to x s.moment)) (lt-ltb (horizon now t.ahead) s.moment h.0) ∙ sym h.1
+answers_are_calls t w now s (Err OutOfMemory) y h = let x = raised_to w.held now in ap (either_way x (raised_to x s.moment)) (le-ltb (horizon now t.ahead) s.moment h.0) ∙ sym h.1

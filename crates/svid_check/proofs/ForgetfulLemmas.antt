@@ -9,7 +9,7 @@ use Rattle.std.proofs.lemmas.Option.{none-some}
 use Rattle.svid_token.specs.declared.refusal.Refusal.{Refusal}
 use Rattle.svid_replay.specs.declared.token_use.Use.{Use}
 use Rattle.svid_replay.specs.Batches.{BatchData}
-use Rattle.svid_replay.specs.Buckets.{answer_to, bucket_text, summary_of}
+use Rattle.svid_replay.specs.Buckets.{answer_to, bucket_text, raised_to, summary_of}
 use Rattle.svid_replay.specs.Parts.{cut, parts_of}
 use Rattle.svid_replay.specs.Records.{IsHeldAt, IsRecord, State, join, state_of}
 use Rattle.svid_replay.specs.Sets.{holds}
@@ -24,7 +24,7 @@ use Rattle.svid_replay.proofs.TestsLemmas.{and-false, equal, or-false}
 use Rattle.svid_replay.proofs.UseLemmas.{use_exact, use_total}
 use Rattle.svid_replay.proofs.UsesLemmas.{holds-union, holds-uses_in, rising-uses_in, with_holds_one_more}
 use Rattle.svid_check.specs.declared.accepted.Accepted.{Accepted}
-use Rattle.svid_check.specs.Changes.{horizon, raised}
+use Rattle.svid_check.specs.Changes.{horizon}
 use Rattle.svid_check.specs.Forgetful.{AcceptsNew, AnswersAreForgotten, IsAnswerForgotten, IsSendForgotten, SendsAreForgotten, happen_forgetful, happens_forgetful}
 use Rattle.svid_check.specs.Lawful.{Accepts}
 use Rattle.svid_check.specs.Runs.{Terms}
@@ -51,12 +51,12 @@ one_use now m u a is le later none =
     only_live (nat_lt (max a.moment m) v.exp) (holds (uses_in (u ∷ [])) v) (holds a.uses v) (none v) (λ held.
     subst (λ (w : Use). nat_lt (max a.moment m) w.exp ≡ true) (sym (only_use u v held)) (subst (λ n. nat_lt n u.exp ≡ true) same (lt-ltb now u.exp later))))
 
-raised_moment : (now : ℕ) → (raised new_member.held now).moment ≡ now
+raised_moment : (now : ℕ) → (raised_to new_member.held now).moment ≡ now
 raised_moment now =
     let same : max 0 now ≡ now = omega arith in
     moment-join (state_of 0 []) (state_of now []) ∙ same
 
-raised_none : (now : ℕ) (v : Use) → holds (raised new_member.held now).uses v ≡ false
+raised_none : (now : ℕ) (v : Use) → holds (raised_to new_member.held now).uses v ≡ false
 raised_none now v =
     let late = nat_lt (max 0 now) v.exp in
     holds-join (state_of 0 []) (state_of now []) v ∙ ap (λ h. late && (h || h)) (holds-uses_in [] v) ∙ and-false late
@@ -119,7 +119,7 @@ module _ (t : Terms) (now : ℕ) (first : Accepted) (fits : now < 2 ^ 64) (later
 
   is_sender : one ≡ sender.held
   is_sender =
-      let a = raised new_member.held now in
+      let a = raised_to new_member.held now in
       one_use now a.moment u a (raised_moment now) (omega (arith, raised_moment now)) later (raised_none now)
 
   sent_parts : parts_of sender.held ≡ b ∷ []
@@ -136,7 +136,7 @@ module _ (t : Terms) (now : ℕ) (first : Accepted) (fits : now < 2 ^ 64) (later
   taker = logged (joined (ticked new_member now) sender.told.uses b) (Took 0 0)
 
   is_taker : one ≡ taker.held
-  is_taker = one_use now now u (raised new_member.held now) (raised_moment now) (omega arith) later (raised_none now)
+  is_taker = one_use now now u (raised_to new_member.held now) (raised_moment now) (omega arith) later (raised_none now)
 
   taken : happens_forgetful group sent (Take 1 now 0 0 None) ≡ put sent 1 taker
   taken = takes_part sent 1 (horizon now t.ahead) (ticked new_member now) (Took 0 0) sending (parts_of sender.held) b sent_parts (on_time now t.ahead fits)
@@ -165,7 +165,7 @@ module _ (t : Terms) (now : ℕ) (first : Accepted) (fits : now < 2 ^ 64) (later
 
   -- validator 1 after the restart
   abbrev back : Member
-  back = record { held = new_member.held; told = new_member.told; log = Took 0 0 ∷ Made 1 ∷ [] }
+  back = record { held = new_member.held; told = new_member.told; log = Took 0 0 ∷ Made 1 ∷ []; renewal = None }
 
   abbrev summed : World
   summed = happen_forgetful group (put sent 1 taker) (Sum 1 ∷ Restart 1 0 ∷ [])
@@ -197,16 +197,16 @@ module _ (t : Terms) (now : ℕ) (first : Accepted) (fits : now < 2 ^ 64) (later
   module _ (is : IsRecord one) where
     reply_is : reply ≡ empty ∷ []
     reply_is =
-        ap (λ (r : State). answer_to (raised r now) (summary_of taker.held)) (sym is_sender)
-        ∙ ap (λ (r : State). answer_to (raised one now) (summary_of r)) (sym is_taker)
+        ap (λ (r : State). answer_to (raised_to r now) (summary_of taker.held)) (sym is_sender)
+        ∙ ap (λ (r : State). answer_to (raised_to one now) (summary_of r)) (sym is_taker)
         ∙ ap (λ (r : State). answer_to r (summary_of one)) (raised_to_own one is)
         ∙ own_summary_asks_nothing one is
 
     answerer_is : answerer.held ≡ one
     answerer_is =
-        ap (λ (r : State). raised (raised r now) (summary_of taker.held).moment) (sym is_sender)
-        ∙ ap (λ m. raised (raised one now) m) sum_moment
-        ∙ ap (λ (r : State). raised r now) (raised_to_own one is)
+        ap (λ (r : State). raised_to (raised_to r now) (summary_of taker.held).moment) (sym is_sender)
+        ∙ ap (λ m. raised_to (raised_to one now) m) sum_moment
+        ∙ ap (λ (r : State). raised_to r now) (raised_to_own one is)
         ∙ raised_to_own one is
 
     taken_back : happens_forgetful group answered (Take 1 now 2 0 None) ≡ put answered 1 (logged (joined (ticked back now) answerer.told.uses empty) (Took 2 0))
@@ -239,15 +239,15 @@ module _ (t : Terms) (now : ℕ) (first : Accepted) (fits : now < 2 ^ 64) (later
 -- From the acceptance.
 
 module _ (t : Terms) (now : ℕ) (token : List ℕ) (first : Accepted) (is : AcceptsNew t now token first) where
-  accepts : Accepts t.setting (raised new_member.held now).moment (raised new_member.held now).uses token first.used
-  accepts = accepted_is t.setting (raised new_member.held now) token false first is
+  accepts : Accepts t.setting (raised_to new_member.held now).moment (raised_to new_member.held now).uses token first.used
+  accepts = accepted_is t.setting (raised_to new_member.held now) token false first is
 
   lives : now < first.used.exp
-  lives = subst (λ n. n < first.used.exp) (raised_moment now) (alive t.setting (raised new_member.held now).moment (raised new_member.held now).uses token first.used accepts)
+  lives = subst (λ n. n < first.used.exp) (raised_moment now) (alive t.setting (raised_to new_member.held now).moment (raised_to new_member.held now).uses token first.used accepts)
 
   one_is_record : now < 2 ^ 64 → IsBytes 16 t.setting.place → IsRecord (state_of now (first.used ∷ []))
   one_is_record fits place =
-      let a = raised new_member.held now in
+      let a = raised_to new_member.held now in
       let held : IsHeldAt now first.used = record {
         fields = in_range t.setting a.moment a.uses token first.used accepts place (subst (λ n. n < 2 ^ 64) (sym (raised_moment now)) fits);
         made = omega (arith, made_now t.setting a.moment a.uses token first.used accepts, raised_moment now);

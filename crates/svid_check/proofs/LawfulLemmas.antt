@@ -45,11 +45,11 @@ some_same : {A : Type 0} (x y : A) → Some x ≡ Some y → x ≡ y
 some_same x y e = cc
 
 -- what a token of an accepted use says
-record IsAccepted (s : Setting) (moment : ℕ) (uses : Uses) (token : List ℕ) (u : Use) : Type 0 where
-  said : Said
-  is_said : said_of token ≡ Some said
-  unrefused : first_row (setting_rows s moment uses said) ≡ None
-  is_used : use_of s moment said ≡ u
+pub record IsAccepted (s : Setting) (moment : ℕ) (uses : Uses) (token : List ℕ) (u : Use) : Type 0 where
+  pub said : Said
+  pub is_said : said_of token ≡ Some said
+  pub unrefused : first_row (setting_rows s moment uses said) ≡ None
+  pub is_used : use_of s moment said ≡ u
 
 module _ (s : Setting) (moment : ℕ) (uses : Uses) (token : List ℕ) (u : Use) where
   by_said : (o : Option Said) → said_of token ≡ o → first_row (token_rows token ++ rows_if_said (setting_rows s moment uses) o) ≡ None
@@ -58,7 +58,7 @@ module _ (s : Setting) (moment : ℕ) (uses : Uses) (token : List ℕ) (u : Use)
   by_said (Some t) e none used =
       record { said = t; is_said = e; unrefused = (none_of_both (token_rows token) (setting_rows s moment uses t) none).1; is_used = some_same (use_of s moment t) u used }
 
-  is_accepted : Accepts s moment uses token u → IsAccepted s moment uses token u
+  pub is_accepted : Accepts s moment uses token u → IsAccepted s moment uses token u
   unfolding verdict
   is_accepted a =
       let j = judged-Ok (first_row (verdict_rows s moment uses token)) (option_map (acceptance s moment) (said_of token)) (Some a.0) a.1 in
@@ -213,3 +213,14 @@ of_its_input s other moment later uses others token again u v a b e =
       sym (ap (λ (x : Use). x.key) one.is_used) ∙ same.0 ∙ ap (λ (x : Use). x.key) two.is_used,
       sym (ap (λ (x : Use). x.exp) one.is_used) ∙ same.1 ∙ ap (λ (x : Use). x.exp) two.is_used,
     )
+
+-- what a token says gives the key and the expiry of each use that was accepted of its signing input
+pub said_is_of_its_input : (s : Setting) (moment : ℕ) (uses : Uses) (token again : List ℕ) (u : Use) (t : Said) → Accepts s moment uses token u → input_of token ≡ input_of again → said_of again ≡ Some t → (key_of t ≡ u.key) × (t.exp ≡ u.exp)
+said_is_of_its_input s moment uses token again u t a e says =
+    let one = is_accepted s moment uses token u a in
+    let of = is_of token one.said one.is_said in
+    let on = is_of again t says in
+    let input = same_input token again of.parts on.parts of.is_parts on.is_parts e in
+    let payload = same_payload token again of.parts on.parts of.is_parts on.is_parts input in
+    let same = same_said of.parts on.parts one.said t of.says on.says payload input in
+    (sym same.0 ∙ ap (λ (x : Use). x.key) one.is_used, sym same.1 ∙ ap (λ (x : Use). x.exp) one.is_used)

@@ -7,6 +7,7 @@ pub mod CutsLemmas
 pub mod EachToldLemmas
 pub mod EventsLemmas
 pub mod ForgetfulLemmas
+pub mod LaterLemmas
 pub mod LawfulLemmas
 pub mod MembersLemmas
 pub mod PlacesLemmas
@@ -14,8 +15,11 @@ pub mod RangesLemmas
 pub mod ReportsLemmas
 pub mod RestartsLemmas
 pub mod RowsLemmas
+pub mod RunEventsLemmas
 pub mod RunsLemmas
 pub mod SaidLemmas
+pub mod SavesLemmas
 pub mod SendsLemmas
 pub mod SoundLemmas
 pub mod VerdictLemmas
+pub mod VerifiersLemmas

@@ -1,9 +1,10 @@
 -- Places of a list that grows at its end, and of validators.
-use Rattle.std.proofs.Common.{◌≡◌, ◌⊎◌, ℕ, zero, suc, List, [], ◌∷◌, ◌++◌, length, Some, refl, inl, inr}
+use Rattle.std.proofs.Common.{◌≡◌, ◌⊎◌, ℕ, zero, suc, List, [], ◌∷◌, ◌++◌, length, Some, refl, inl, inr, Option, None}
 use Rattle.std.specs.Prelude.{◌==◌, slice_get}
 use Rattle.std.proofs.lemmas.Bool.{cond-true, eq-eqb}
 use Rattle.std.proofs.lemmas.Option.{none-some, same_Some}
 use Rattle.svid_check.specs.World.{Member, World, put}
+use Rattle.svid_check.specs.Setting.{Renewal, Setting, renewed}
 
 -- what stood at a place stands there
 pub later_place : {A : Type 0} (xs : List A) (y : A) (k : ℕ) (x : A) → slice_get xs k ≡ Some x → slice_get (xs ++ y ∷ []) k ≡ Some x
@@ -26,3 +27,8 @@ place_cases (z ∷ xs) y (suc k) x e = place_cases xs y k x e
 -- what is put at a validator's place stands there
 pub put_own : (w : World) (v : ℕ) (x : Member) → (put w v x).members v ≡ x
 put_own w v x = cond-true (v == v) x (w.members v) (eq-eqb v v refl)
+
+-- a validator has one place for good
+pub renewed_place : (s : Setting) (renewal : Option Renewal) → (renewed s renewal).place ≡ s.place
+renewed_place s None = refl
+renewed_place s (Some r) = refl

@@ -3,19 +3,21 @@ use Rattle.std.proofs.Common.{◌≡◌, ◌+◌, ◌-◌, ◌^◌, ◌<◌, ◌
 use Rattle.std.specs.List.{AllByRecursion}
 use Rattle.std.proofs.lemmas.List.Elements.{Contains-append_cases}
 use Rattle.svid_token.specs.declared.refusal.Refusal.{Refusal}
+use Rattle.svid_replay.specs.Buckets.{raised_to}
 use Rattle.svid_replay.specs.declared.token_use.Use.{Use}
 use Rattle.svid_replay.specs.Records.{State, batch_state, state_of}
-use Rattle.svid_replay.specs.Use.{IsUse}
+use Rattle.svid_replay.specs.Use.{IsUse, IsBytes}
 use Rattle.svid_replay.proofs.ListLemmas.{has_cases, has_none}
 use Rattle.svid_replay.proofs.RecordsLemmas.{moment-join}
 use Rattle.svid_check.specs.declared.accepted.Accepted.{Accepted}
-use Rattle.svid_check.specs.Changes.{accepted_in, gains, raised}
-use Rattle.svid_check.specs.Headline.{HasPlaces, IsInRange}
+use Rattle.svid_check.specs.Changes.{accepted_in, gains}
+use Rattle.svid_check.specs.Headline.{HasPlaces, IsEventInRange}
 use Rattle.svid_check.specs.Runs.{Terms}
-use Rattle.svid_check.specs.World.{Answer, Check, Event, Member, OldSend, Restart, Save, Send, Sum, Take, Tick, Withdraw, World, accepted, accepted_by, answer_at, happen, happens, one_or_none, start, withdrawn, withdrawn_by}
+use Rattle.svid_check.specs.World.{Answer, Check, Event, Member, OldSend, Restart, Save, Send, Sum, Take, Tick, Withdraw, World, accepted, accepted_by, answer_at, happen, happens, one_or_none, start, withdrawn, withdrawn_by, Renew, setting_at}
 use Rattle.svid_check.proofs.AnswersLemmas.{accepted_is}
 use Rattle.svid_check.proofs.EachToldLemmas.{AllTold, Everywhere, IsAt, IsKept, each_told, happens_everywhere, start_everywhere, withdrawal_is}
 use Rattle.svid_check.proofs.LawfulLemmas.{in_range}
+use Rattle.svid_check.proofs.PlacesLemmas.{renewed_place}
 
 -- a moment
 abbrev pub IsMoment : ℕ → Type 0
@@ -39,9 +41,10 @@ moments_are_kept : IsKept IsMoment (λ u. Unit {0}) HasMoment
 moments_are_kept = record {
   within = λ now ahead m h. capped (now + ahead) m h;
   new = omega arith;
-  ticks = λ x now at h. greater x.held.moment now (raised x.held now).moment (moment-join x.held (state_of now [])) h at;
+  ticks = λ x now at h. greater x.held.moment now (raised_to x.held now).moment (moment-join x.held (state_of now [])) h at;
   adds = λ x added is h. gained_is x.held added h;
   logs = λ x entry h. h;
+  renews = λ x renewal h. h;
   joins = λ x maker b at h made. greater x.held.moment b.moment _ (moment-join x.held (batch_state b)) h at;
 }
 
@@ -49,7 +52,7 @@ in_answer : (answer : Result Accepted Refusal) (u : Use) → Contains (one_or_no
 in_answer (Ok accepted) u has = elim (has_cases accepted.used [] u has) [ inl same ↦ (accepted, refl, same) | inr later ↦ has_none u later ]
 in_answer (Err refusal) u has = has_none u has
 
-in_moment : (e : Event) → IsInRange e → IsAt IsMoment e
+in_moment : (e : Event) → IsEventInRange e → IsAt IsMoment e
 in_moment (Check v now token refused) h = h
 in_moment (Withdraw v now key exp refused) h = h.0
 in_moment (OldSend v) h = tt
@@ -60,44 +63,47 @@ in_moment (Answer v now posting refused) h = h
 in_moment (Take v now posting part refused) h = h
 in_moment (Save v) h = tt
 in_moment (Restart v s) h = tt
+in_moment (Renew v renewal) h = tt
 
 module _ (group : ℕ → Terms) where
-  next_moments : (w : World) (e : Event) → IsInRange e → Everywhere HasMoment w → Everywhere HasMoment (happens group w e)
+  next_moments : (w : World) (e : Event) → IsEventInRange e → Everywhere HasMoment w → Everywhere HasMoment (happens group w e)
   next_moments w e at h = happens_everywhere IsMoment (λ u. Unit {0}) HasMoment moments_are_kept group w e (in_moment e at) (λ u has. tt) (λ u has. tt) h
 
   module _ (places : HasPlaces group) where
-    use_by : (w : World) (e : Event) → IsInRange e → Everywhere HasMoment w → (u : Use) → Contains (accepted_by group w e) u → IsUse u
+    use_by : (w : World) (e : Event) → IsEventInRange e → Everywhere HasMoment w → (u : Use) → Contains (accepted_by group w e) u → IsUse u
     use_by w (Check v now token refused) at h u has =
         let x = (w.members v).held in
-        let y = raised x now in
+        let y = raised_to x now in
         let found = in_answer (answer_at group w v now token refused) u has in
         let low = greater x.moment now y.moment (moment-join x (state_of now [])) (h.members v) at in
-        subst IsUse found.2 (in_range (group v).setting y.moment y.uses token found.0.used (accepted_is (group v).setting y token refused found.0 found.1) (places v) low)
+        let s = setting_at group w v in
+        let place = subst (IsBytes 16) (sym (renewed_place (group v).setting (w.members v).renewal)) (places v) in
+        subst IsUse found.2 (in_range s y.moment y.uses token found.0.used (accepted_is s y token refused found.0 found.1) place low)
     use_by w _ at h u has = has_none u has
 
-    gone_by : (w : World) (e : Event) → IsInRange e → Everywhere HasMoment w → (u : Use) → Contains (withdrawn_by group w e) u → IsUse u
+    gone_by : (w : World) (e : Event) → IsEventInRange e → Everywhere HasMoment w → (u : Use) → Contains (withdrawn_by group w e) u → IsUse u
     gone_by w (Withdraw v now key exp refused) at h u has =
         let x = (w.members v).held in
-        let y = raised x now in
+        let y = raised_to x now in
         let low = greater x.moment now y.moment (moment-join x (state_of now [])) (h.members v) at.0 in
         subst IsUse (sym (withdrawal_is (group v).setting.place y key exp refused u has)) (record { exp = at.2; key = at.1; place = places v; at = low })
     gone_by w _ at h u has = has_none u has
 
-    withdrawn_are_uses : (w : World) (events : List Event) → AllByRecursion IsInRange events → Everywhere HasMoment w → (u : Use) → Contains (withdrawn group w events) u → IsUse u
+    withdrawn_are_uses : (w : World) (events : List Event) → AllByRecursion IsEventInRange events → Everywhere HasMoment w → (u : Use) → Contains (withdrawn group w events) u → IsUse u
     withdrawn_are_uses w [] at h u has = has_none u has
     withdrawn_are_uses w (e ∷ events) at h u has = elim (Contains-append_cases (withdrawn_by group w e) (withdrawn group (happens group w e) events) u has) [
       | inl now ↦ gone_by w e at.0 h u now
       | inr later ↦ withdrawn_are_uses (happens group w e) events at.1 (next_moments w e at.0 h) u later
     ]
 
-    accepted_are_uses : (w : World) (events : List Event) → AllByRecursion IsInRange events → Everywhere HasMoment w → (u : Use) → Contains (accepted group w events) u → IsUse u
+    accepted_are_uses : (w : World) (events : List Event) → AllByRecursion IsEventInRange events → Everywhere HasMoment w → (u : Use) → Contains (accepted group w events) u → IsUse u
     accepted_are_uses w [] at h u has = has_none u has
     accepted_are_uses w (e ∷ events) at h u has = elim (Contains-append_cases (accepted_by group w e) (accepted group (happens group w e) events) u has) [
       | inl now ↦ use_by w e at.0 h u now
       | inr later ↦ accepted_are_uses (happens group w e) events at.1 (next_moments w e at.0 h) u later
     ]
 
-pub told_are_uses : (group : ℕ → Terms) (events : List Event) → HasPlaces group → AllByRecursion IsInRange events → AllTold IsUse (happen group start events)
+pub told_are_uses : (group : ℕ → Terms) (events : List Event) → HasPlaces group → AllByRecursion IsEventInRange events → AllTold IsUse (happen group start events)
 told_are_uses group events places at =
     let begun = start_everywhere IsMoment (λ u. Unit {0}) HasMoment moments_are_kept in
     each_told group events IsUse (accepted_are_uses group places start events at begun) (withdrawn_are_uses group places start events at begun)

@@ -7,6 +7,7 @@ use Rattle.std.proofs.lemmas.List.{append_assoc, append-nil, take_all, take_more
 use Rattle.std.proofs.Math.Seq.{drop-append_seam, take-append_seam}
 use Rattle.svid_token.specs.Rows.{Answers}
 use Rattle.svid_token.specs.declared.refusal.Refusal.{Refusal}
+use Rattle.svid_replay.specs.Buckets.{raised_to}
 use Rattle.svid_replay.specs.declared.token_use.Use.{Use}
 use Rattle.svid_replay.specs.Batches.{BatchData}
 use Rattle.svid_replay.specs.Records.{State, batch_state, join, state_of}
@@ -24,7 +25,7 @@ use Rattle.svid_check.specs.declared.take_fault.TakeFault.{TakeFault}
 use Rattle.svid_check.specs.declared.take_fault.TakeFault.TheVariants.{TooFarAhead, OutOfMemory}
 use Rattle.svid_check.specs.declared.withdraw_fault.WithdrawFault.{WithdrawFault}
 use Rattle.svid_check.specs.Calls.{AnswersTellMoments, ChecksAreSteps, RecordsGoOn, RunsGoOn, TakesAreSteps, TicksAreSteps, WithdrawalsAreSteps}
-use Rattle.svid_check.specs.Changes.{IsWithdrawal, Takes, accepted_in, gains, horizon, raised, settled, withdrawn_in}
+use Rattle.svid_check.specs.Changes.{IsWithdrawal, Takes, accepted_in, gains, horizon, settled, withdrawn_in}
 use Rattle.svid_check.specs.Runs.{IsAnswered, Runs, RunsFrom, Step, Terms}
 use Rattle.svid_check.specs.Said.{RefusesForm}
 use Rattle.svid_check.specs.Told.{TellsBatch, Told, record_of, tell, tell_now, tell_one, tell_use}
@@ -49,10 +50,10 @@ joined x y b greatest uses =
     ∙ pruned_first (nat_lt (max x.greatest b.moment) u.exp) (nat_lt x.greatest u.exp) (holds b.uses u) (holds x.uses u) (live_before x.greatest b.moment u.exp)
     ∙ ap (λ h. nat_lt (max x.greatest b.moment) u.exp && (holds b.uses u || h)) (sym (holds-live x.uses x.greatest u)))
 
-pub told_now : (x : Told) (a : State) (now : ℕ) → record_of x ≡ a → record_of (tell_now x now) ≡ raised a now
+pub told_now : (x : Told) (a : State) (now : ℕ) → record_of x ≡ a → record_of (tell_now x now) ≡ raised_to a now
 told_now x a now is =
     joined x (tell_now x now) (state_of now []) refl (λ u. ap (λ h. h || holds x.uses u) (sym (holds-uses_in [] u)))
-    ∙ ap (λ (r : State). raised r now) is
+    ∙ ap (λ (r : State). raised_to r now) is
 
 pub told_one : (x : Told) (added : Option Use) → record_of (tell_one x added) ≡ gains (record_of x) added
 told_one x (Some v) =
@@ -68,9 +69,9 @@ told_all x b = joined x (tell x b) b refl (λ u. holds-union x.uses b.uses u)
 
 -- a check of a record is one of what was told
 pub checks : (t : Terms) (a b : State) (now : ℕ) (event : Event) (answer : Result Accepted Refusal) (token : List ℕ)
-    → Answers Some answer (verdict t.setting (raised a now).moment (raised a now).uses token)
+    → Answers Some answer (verdict t.setting (raised_to a now).moment (raised_to a now).uses token)
     → RefusesForm token answer
-    → b ≡ settled (raised a now) answer
+    → b ≡ settled (raised_to a now) answer
     → ((x : Told) → IsAnswered t.setting (tell_now x now) token answer → Step t x event (Checked answer) (tell_use (tell_now x now) answer))
     → RunsFrom t a (event ∷ []) (Checked answer ∷ []) b
 checks t a b now event answer token due form left step x is =
@@ -83,8 +84,8 @@ checks t a b now event answer token due form left step x is =
 
 -- a withdrawal
 pub withdraws : (t : Terms) (a b : State) (now : ℕ) (event : Event) (key : List ℕ) (exp : ℕ) (answer : Result Use WithdrawFault)
-    → IsWithdrawal t.setting.place (raised a now).moment key exp answer
-    → b ≡ gains (raised a now) (withdrawn_in answer)
+    → IsWithdrawal t.setting.place (raised_to a now).moment key exp answer
+    → b ≡ gains (raised_to a now) (withdrawn_in answer)
     → ((x : Told) → IsWithdrawal t.setting.place (tell_now x now).greatest key exp answer → Step t x event (Withdrawn answer) (tell_one (tell_now x now) (withdrawn_in answer)))
     → RunsFrom t a (event ∷ []) (Withdrawn answer ∷ []) b
 withdraws t a b now event key exp answer due left step x is =
@@ -97,7 +98,7 @@ withdraws t a b now event key exp answer due left step x is =
     )
 
 -- a tick
-pub ticks : (t : Terms) (a b : State) (now : ℕ) (event : Event) → b ≡ raised a now
+pub ticks : (t : Terms) (a b : State) (now : ℕ) (event : Event) → b ≡ raised_to a now
     → ((x : Told) → Step t x event Ticked (tell_now x now)) → RunsFrom t a (event ∷ []) (Ticked ∷ []) b
 ticks t a b now event left step x is = (tell_now x now, (tell_now x now, step x, refl), told_now x a now is ∙ sym left)
 
@@ -127,11 +128,11 @@ told_batch x a b far batch (Err OutOfMemory) is h =
     )
 
 pub takes : (t : Terms) (a b : State) (now : ℕ) (event : Event) (batch : BatchData) (answer : Result (Unit {0}) TakeFault)
-    → Takes (raised a now) (horizon now t.ahead) batch answer b
+    → Takes (raised_to a now) (horizon now t.ahead) batch answer b
     → ((x y : Told) → TellsBatch (tell_now x now) (horizon now t.ahead) batch answer y → Step t x event (Taken answer) y)
     → RunsFrom t a (event ∷ []) (Taken answer ∷ []) b
 takes t a b now event batch answer h step x is =
-    let told = told_batch (tell_now x now) (raised a now) b (horizon now t.ahead) batch answer (told_now x a now is) h in
+    let told = told_batch (tell_now x now) (raised_to a now) b (horizon now t.ahead) batch answer (told_now x a now is) h in
     (told.0, (told.0, step x told.0 told.1, refl), told.2)
 
 -- one run after another
@@ -151,21 +152,21 @@ records_go_on t a b c events more answers others h k x is =
     (last.0, runs_on t events more answers others x first.0 last.0 first.1 last.1, last.2)
 
 pub checks_are_steps : ChecksAreSteps
-checks_are_steps t a now token answer due form = checks t a (settled (raised a now) answer) now (Check now token) answer token.now due form refl (λ x answered. (answered, refl))
+checks_are_steps t a now token answer due form = checks t a (settled (raised_to a now) answer) now (Check now token) answer token.now due form refl (λ x answered. (answered, refl))
 
 pub ticks_are_steps : TicksAreSteps
-ticks_are_steps t a now = ticks t a (raised a now) now (Tick now) refl (λ x. refl)
+ticks_are_steps t a now = ticks t a (raised_to a now) now (Tick now) refl (λ x. refl)
 
 pub takes_are_steps : TakesAreSteps
 takes_are_steps t a b now batch answer h = takes t a b now (Take now batch) batch.now answer h (λ x y told. told)
 
 pub withdrawals_are_steps : WithdrawalsAreSteps
-withdrawals_are_steps t a now key exp answer h = withdraws t a (gains (raised a now) (withdrawn_in answer)) now (Withdraw now key exp) key exp answer h refl (λ x due. (due, refl))
+withdrawals_are_steps t a now key exp answer h = withdraws t a (gains (raised_to a now) (withdrawn_in answer)) now (Withdraw now key exp) key exp answer h refl (λ x due. (due, refl))
 
 pub answers_tell_moments : AnswersTellMoments
-answers_tell_moments x b now far s (Ok batches) h = told_now (tell_now x now) (raised (record_of x) now) s.moment (told_now x (record_of x) now refl) ∙ sym h.2
+answers_tell_moments x b now far s (Ok batches) h = told_now (tell_now x now) (raised_to (record_of x) now) s.moment (told_now x (record_of x) now refl) ∙ sym h.2
 answers_tell_moments x b now far s (Err TooFarAhead) h = told_now x (record_of x) now refl ∙ sym h.1
-answers_tell_moments x b now far s (Err OutOfMemory) h = told_now (tell_now x now) (raised (record_of x) now) s.moment (told_now x (record_of x) now refl) ∙ sym h.1
+answers_tell_moments x b now far s (Err OutOfMemory) h = told_now (tell_now x now) (raised_to (record_of x) now) s.moment (told_now x (record_of x) now refl) ∙ sym h.1
 
 -- the answers behind the old ones are those of a run
 pub record HasRun (t : Terms) (a b : State) (events : List Event) (old new : List Answer) : Type 0 where

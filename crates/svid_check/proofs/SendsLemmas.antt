@@ -26,10 +26,10 @@ use Rattle.svid_check.specs.Lawful.{Accepts, input_of}
 use Rattle.svid_check.specs.Runs.{Terms}
 use Rattle.svid_check.specs.Setting.{Setting}
 use Rattle.svid_check.specs.Told.{record_of}
-use Rattle.svid_check.specs.World.{Answer, Answered, Check, Content, Entry, Event, Made, Member, OldSend, Posting, Restart, Save, Saved, Send, Sent, Sum, Summed, Take, Tick, Took, Withdraw, World, answer_at, answer_content, answer_posting, answer_summary, carried, checked, far, front, happen, happens, has_withdrawal, joined, logged, old_parts_of, parts_in, post, put, restart, start, take_part, take_posting, ticked, took, withdrawal_at, withdrew}
+use Rattle.svid_check.specs.World.{Answer, Answered, Check, Content, Entry, Event, Made, Member, OldSend, Posting, Restart, Save, Saved, Send, Sent, Sum, Summed, Take, Tick, Took, Withdraw, World, answer_at, answer_content, answer_posting, answer_summary, carried, checked, far, front, happen, happens, has_withdrawal, joined, logged, old_parts_of, parts_in, post, put, restart, start, take_part, take_posting, ticked, took, withdrawal_at, withdrew, Renew, setting_at, with_renewal}
 use Rattle.svid_check.proofs.AnswersLemmas.{accepted_is}
 use Rattle.svid_check.proofs.CutsLemmas.{AreCut, first_part, in_part}
-use Rattle.svid_check.proofs.LawfulLemmas.{alive, fresh, of_its_input}
+use Rattle.svid_check.proofs.LawfulLemmas.{alive, fresh, is_accepted, said_is_of_its_input}
 use Rattle.svid_check.proofs.MembersLemmas.{IsTold, carried_within, holds-carried, union_within}
 use Rattle.svid_check.proofs.PlacesLemmas.{later_place, put_own}
 use Rattle.svid_check.proofs.RestartsLemmas.{restart_absorbs}
@@ -110,14 +110,16 @@ accepted_told x accepted =
     ∙ or_left (eq_by_cmp use_cmp accepted.used accepted.used) (holds x.told.uses accepted.used) (ap is_eq (tied_itself use_total accepted.used))
 
 -- a use that was told is in the record, unless it has expired, so tokens of its signing input are refused
-pub told_refuses : (t : Terms) (x : Member) (input : List ℕ) (u : Use) → IsTold x → IsTrue (holds x.told.uses u) → IsUseOf u input → IsRefusedBy t x input
-told_refuses t x input u is h of token now refused accepted is_input e =
+pub told_refuses : (x : Member) (input : List ℕ) (u : Use) → IsTold x → IsTrue (holds x.told.uses u) → IsUseOf u input → IsRefusedBy x input
+told_refuses x input u is h of s token now refused accepted is_input e =
     let y = ticked x now in
     let told : y.held ≡ record_of y.told = sym (told_now x.told x.held now (sym is)) in
-    let accepts = accepted_is t.setting y.held token refused accepted e in
-    let same = of t.setting y.held.moment y.held.uses token accepted.used is_input accepts in
-    let lives : y.held.moment < u.exp = subst (λ (n : ℕ). y.held.moment < n) same.1 (alive t.setting y.held.moment y.held.uses token accepted.used accepts) in
-    fresh t.setting y.held.moment y.held.uses token accepted.used u accepts (told_is_held y u told h lives) (sym same.0)
+    let accepts = accepted_is s y.held token refused accepted e in
+    let by = is_accepted s y.held.moment y.held.uses token accepted.used accepts in
+    let due = of token by.said is_input by.is_said in
+    let same : (accepted.used.key ≡ u.key) × (accepted.used.exp ≡ u.exp) = (sym (ap (λ (v : Use). v.key) by.is_used) ∙ due.0, sym (ap (λ (v : Use). v.exp) by.is_used) ∙ due.1) in
+    let lives : y.held.moment < u.exp = subst (λ (n : ℕ). y.held.moment < n) same.1 (alive s y.held.moment y.held.uses token accepted.used accepts) in
+    fresh s y.held.moment y.held.uses token accepted.used u accepts (told_is_held y u told h lives) (sym same.0)
 
 pub withdrawn_are_refused : WithdrawnAreRefused
 withdrawn_are_refused group events v now token refused accepted u h gone lives e same =
@@ -125,15 +127,14 @@ withdrawn_are_refused group events v now token refused accepted u h gone lives e
     let y = ticked x now in
     let told : y.held ≡ record_of y.told = sym (told_now x.told x.held now (sym ((is_sound group events).members v).is_told)) in
     let held = told_is_held y u told h (subst (λ (r : State). r.moment < u.exp) (sym told) lives) in
-    fresh (group v).setting y.held.moment y.held.uses token accepted.used u (accepted_is (group v).setting y.held token refused accepted e) held same
+    let s = setting_at group (happen group start events) v in
+    fresh s y.held.moment y.held.uses token accepted.used u (accepted_is s y.held token refused accepted e) held same
 
 accepted_use_of : (s : Setting) (moment : ℕ) (uses : Uses) (token input : List ℕ) (u : Use) → Accepts s moment uses token u → input_of token ≡ Some input → IsUseOf u input
-accepted_use_of s moment uses token input u first is other later others again added same accepts =
-    let found = of_its_input s other moment later uses others token again u added first accepts (is ∙ sym same) in
-    (sym found.0, sym found.1)
+accepted_use_of s moment uses token input u first is again t same says = said_is_of_its_input s moment uses token again u t first (is ∙ sym same) says
 
 pub told_is_refused : ToldIsRefused
-told_is_refused group events v input u h of = told_refuses (group v) ((happen group start events).members v) input u ((is_sound group events).members v).is_told h of
+told_is_refused group events v input u h of = told_refuses ((happen group start events).members v) input u ((is_sound group events).members v).is_told h of
 
 pub accepted_is_refused : AcceptedIsRefused
 accepted_is_refused group events v moment s uses token input u accepts is h = told_is_refused group events v input u h (accepted_use_of s moment uses token input u accepts is)
@@ -223,7 +224,7 @@ module _ (group : ℕ → Terms) (v k : ℕ) (q : Posting) where
 
   other_restart : (w : World) (n : ℕ) (r : Option Saved) → n ≢ v → Under w → Under (restart w n r)
   other_restart w n None d h = h
-  other_restart w n (Some r) d h = cond_both (r.owner == n) (put w n r.was) w Under (λ _. other_put w n r.was d h) (λ _. h)
+  other_restart w n (Some r) d h = let x = with_renewal r.was (w.members n).renewal in cond_both (r.owner == n) (put w n x) w Under (λ _. other_put w n x d h) (λ _. h)
 
   one_under : (w : World) (e : Event) → TakesOnly v k e → Under w → Under (happens group w e)
   one_under w (Check n now token refused) d h = other_put w n (checked (ticked (w.members n) now) (answer_at group w n now token refused)) d h
@@ -240,6 +241,7 @@ module _ (group : ℕ → Terms) (v k : ℕ) (q : Posting) where
   one_under w (Take n now j p refused) own h = own_take w n now j p refused own h
   one_under w (Save n) d h = record { place = h.place; told = h.told }
   one_under w (Restart n j) d h = other_restart w n (slice_get w.saves j) d h
+  one_under w (Renew n renewal) d h = other_put w n (with_renewal (w.members n) (Some renewal)) d h
 
   all_under : (w : World) (events : List Event) → AllByRecursion (TakesOnly v k) events → Under w → Under (happen group w events)
   all_under w [] a h = h
@@ -255,12 +257,14 @@ sends_make_equal group events takes v k q send told only taken =
     both_ways (holds (after.members v).told.uses u) (holds q.was.told.uses u) (under.told u) (send_told after (after.members v) k q sound (sound.members v) (under.place, send.1) taken u))
 
 -- a restart puts back a save of its own
-restarted : (w : World) (v : ℕ) (s : Saved) → s.owner ≡ v → (restart w v (Some s)).members v ≡ s.was
-restarted w v s own = ap (λ (x : World). x.members v) (cond-true (s.owner == v) (put w v s.was) w (eq-eqb s.owner v own)) ∙ put_own w v s.was
+restarted : (w : World) (v : ℕ) (s : Saved) → s.owner ≡ v → (restart w v (Some s)).members v ≡ with_renewal s.was (w.members v).renewal
+restarted w v s own =
+    let x = with_renewal s.was (w.members v).renewal in
+    ap (λ (after : World). after.members v) (cond-true (s.owner == v) (put w v x) w (eq-eqb s.owner v own)) ∙ put_own w v x
 
 pub put_back : RestartsPutBack
 put_back group events v k s at own =
     let w = happen group start events in
-    let same : (restart w v (slice_get w.saves k)).members v ≡ s.was = ap (λ (r : Option Saved). (restart w v r).members v) at ∙ restarted w v s own in
+    let same : (restart w v (slice_get w.saves k)).members v ≡ with_renewal s.was (w.members v).renewal = ap (λ (r : Option Saved). (restart w v r).members v) at ∙ restarted w v s own in
     let held = restart_absorbs s.was ((is_sound group events).saves k s at).is_told in
-    (ap (λ (x : Member). x.held) same ∙ sym held, ap (λ (x : Member). x.told) same, ap (λ (x : Member). x.log) same)
+    (ap (λ (x : Member). x.held) same ∙ sym held, ap (λ (x : Member). x.told) same, ap (λ (x : Member). x.log) same, ap (λ (x : Member). x.renewal) same)

@@ -20,10 +20,11 @@ use Rattle.svid_replay.proofs.TestsLemmas.{and-false}
 use Rattle.svid_check.specs.Changes.{accepted_in, withdrawn_in}
 use Rattle.svid_check.specs.Headline.{IsWithin}
 use Rattle.svid_check.specs.Runs.{Terms}
-use Rattle.svid_check.specs.World.{Answer, Answered, Check, Content, Entry, Event, Made, Member, OldSend, Posting, Restart, Save, Saved, Send, Sent, Sum, Summed, Take, Tick, Took, Withdraw, World, answer_at, answer_content, answer_posting, answer_summary, carried, far, front, gained, happen, happens, has_withdrawal, joined, logged, new_member, old_parts_of, parts_in, post, put, restart, save, start, take_part, take_posting, ticked, took, withdrawal_at}
+use Rattle.svid_check.specs.World.{Answer, Answered, Check, Content, Entry, Event, Made, Member, OldSend, Posting, Restart, Save, Saved, Send, Sent, Sum, Summed, Take, Tick, Took, Withdraw, World, answer_at, answer_content, answer_posting, answer_summary, carried, far, front, gained, happen, happens, has_withdrawal, joined, logged, new_member, old_parts_of, parts_in, post, put, restart, save, start, take_part, take_posting, ticked, took, withdrawal_at, Renew, with_renewal}
 use Rattle.svid_check.proofs.CutsLemmas.{AreCut, cut_are_cut, front_within, old_are_cut, part_within}
 use Rattle.svid_check.proofs.MembersLemmas.{IsTold, gained_told, joined_told, live_within, ticked_told, told_before, union_tells, within_union}
 use Rattle.svid_check.proofs.PlacesLemmas.{last_place, later_place, place_cases}
+use Rattle.svid_check.specs.Setting.{Renewal}
 
 -- a part of a posting was taken: what it carries is told
 pub record Arrived (pool : List Posting) (k p : ℕ) (told : Uses) : Type 0 where
@@ -72,6 +73,9 @@ stands_logged pool x e s m = record {
 
 pub stands_ticked : (pool : List Posting) (x : Member) (now : ℕ) → Stands pool x → Stands pool (ticked x now)
 stands_ticked pool x now s = stands_more pool x (ticked x now) refl (λ u h. h) s (ticked_told x now s.is_told)
+
+stands_renewed : (pool : List Posting) (x : Member) (renewal : Option Renewal) → Stands pool x → Stands pool (with_renewal x renewal)
+stands_renewed pool x renewal s = record { is_told = s.is_told; entries = s.entries }
 
 stands_gained : (pool : List Posting) (x : Member) (added : Option Use) → Stands pool x → Stands pool (gained x added)
 stands_gained pool x added s = stands_more pool x (gained x added) refl (told_before x.told added) s (gained_told x added s.is_told)
@@ -216,7 +220,9 @@ sum_sound w v s =
 
 restart_sound : (w : World) (v k : ℕ) (r : Option Saved) → Sound w → slice_get w.saves k ≡ r → Sound (restart w v r)
 restart_sound w v k None s e = s
-restart_sound w v k (Some r) s e = cond_both (r.owner == v) (put w v r.was) w Sound (λ _. put_sound w v r.was s (s.saves k r e)) (λ _. s)
+restart_sound w v k (Some r) s e =
+    let x = with_renewal r.was (w.members v).renewal in
+    cond_both (r.owner == v) (put w v x) w Sound (λ _. put_sound w v x s (stands_renewed w.pool r.was (w.members v).renewal (s.saves k r e))) (λ _. s)
 
 module _ (group : ℕ → Terms) where
   happens_sound : (w : World) (e : Event) → Sound w → Sound (happens group w e)
@@ -242,6 +248,7 @@ module _ (group : ℕ → Terms) where
       take_sound w v (far group v now) (ticked (w.members v) now) k p refused (slice_get w.pool k) s (stands_ticked w.pool (w.members v) now (s.members v)) refl
   happens_sound w (Save v) s = save_sound w v (w.members v) s (s.members v)
   happens_sound w (Restart v k) s = restart_sound w v k (slice_get w.saves k) s refl
+  happens_sound w (Renew v renewal) s = put_sound w v (with_renewal (w.members v) (Some renewal)) s (stands_renewed w.pool (w.members v) (Some renewal) (s.members v))
 
   pub goes_on_sound : (w : World) (events : List Event) → Sound w → Sound (happen group w events)
   goes_on_sound w [] s = s

@@ -3,6 +3,7 @@ use Rattle.std.specs.Prelude.{◌≡◌, ◌≢◌, ℕ, ◌≤◌, Bool, false,
 use Rattle.std.specs.declared.alloc.Global.{Global}
 use Rattle.svid_token.specs.Rows.{Answers}
 use Rattle.svid_token.specs.declared.refusal.Refusal.{Refusal}
+use Rattle.svid_replay.specs.Buckets.{raised_to}
 use Rattle.svid_replay.specs.declared.token_use.Use.{Use}
 use Rattle.svid_replay.specs.Batches.{BatchData}
 use Rattle.svid_replay.specs.Records.{State, batch_state, join}
@@ -10,17 +11,19 @@ use Rattle.svid_replay.specs.Summary.{SummaryData}
 use Rattle.svid_check.specs.declared.accepted.Accepted.{Accepted}
 use Rattle.svid_check.specs.declared.take_fault.TakeFault.{TakeFault}
 use Rattle.svid_check.specs.declared.withdraw_fault.WithdrawFault.{WithdrawFault}
-use Rattle.svid_check.specs.Changes.{IsWithdrawal, Replies, Takes, gains, horizon, raised, settled, withdrawn_in}
+use Rattle.svid_check.specs.Changes.{IsWithdrawal, Replies, Takes, gains, horizon, settled, withdrawn_in}
 use Rattle.svid_check.specs.Lawful.{input_of}
 use Rattle.svid_check.specs.Runs.{Terms}
 use Rattle.svid_check.specs.Said.{RefusesForm}
 use Rattle.svid_check.specs.Verdict.{verdict}
 use Rattle.svid_check.specs.World.{check_answer, front, withdraw_answer}
+use Rattle.svid_check.specs.Setting.{Renewal, Setting, renewed}
 
--- a validator's record, and its saves
+-- a validator's record, its saves, and the last renewal of its setting, if there was one
 pub record Alone : Type 0 where
   pub held : State
   pub saves : List State
+  pub renewal : Option Renewal
 
 -- What may be called, at the moment `now`, with any batch and any summary. `refused` is the memory that was refused in it.
 pub data Call : Type 0 where
@@ -31,6 +34,7 @@ pub data Call : Type 0 where
   Answer : (now : ℕ) (summary : SummaryData) → Call
   Save : Call
   Restart : (save : ℕ) → Call
+  Renew : (renewal : Renewal) → Call
 
 -- what is joined of a batch: all, or so many of its first uses
 abbrev pub joined_of : BatchData → Option ℕ → BatchData
@@ -39,7 +43,7 @@ joined_of b (Some n) = front n b
 
 -- the record is now a
 abbrev pub with_held : Alone → State → Alone
-with_held w a = record { held = a; saves = w.saves }
+with_held w a = record { held = a; saves = w.saves; renewal = w.renewal }
 
 -- the record is what it was at this save
 abbrev pub put_back : Alone → Option State → Alone
@@ -47,24 +51,29 @@ put_back w None = w
 put_back w (Some a) = with_held w a
 
 module _ (t : Terms) where
+  -- the setting of now
+  abbrev pub setting_alone : Alone → Setting
+  setting_alone w = renewed t.setting w.renewal
+
   -- what a check answers
   abbrev pub answer_alone : Alone → ℕ → List ℕ → Bool → Result Accepted Refusal
-  answer_alone w now token refused = check_answer t.setting (raised w.held now) token refused
+  answer_alone w now token refused = check_answer (setting_alone w) (raised_to w.held now) token refused
 
   -- what a withdrawal answers
   abbrev pub withdrawal_alone : Alone → ℕ → List ℕ → ℕ → Bool → Result Use WithdrawFault
-  withdrawal_alone w now key exp refused = withdraw_answer t.setting.place (raised w.held now) key exp refused
+  withdrawal_alone w now key exp refused = withdraw_answer t.setting.place (raised_to w.held now) key exp refused
 
   -- what a call leaves
   abbrev pub called : Alone → Call → Alone
-  called w (Check now token refused) = with_held w (settled (raised w.held now) (answer_alone w now token refused))
-  called w (Withdraw now key exp refused) = with_held w (gains (raised w.held now) (withdrawn_in (withdrawal_alone w now key exp refused)))
-  called w (Tick now) = with_held w (raised w.held now)
+  called w (Check now token refused) = with_held w (settled (raised_to w.held now) (answer_alone w now token refused))
+  called w (Withdraw now key exp refused) = with_held w (gains (raised_to w.held now) (withdrawn_in (withdrawal_alone w now key exp refused)))
+  called w (Tick now) = with_held w (raised_to w.held now)
   called w (Take now b refused) =
-      with_held w (if nat_lt (horizon now t.ahead) b.moment then raised w.held now else join (raised w.held now) (batch_state (joined_of b refused)))
-  called w (Answer now s) = with_held w (if nat_lt (horizon now t.ahead) s.moment then raised w.held now else raised (raised w.held now) s.moment)
-  called w Save = record { held = w.held; saves = w.saves ++ w.held ∷ [] }
+      with_held w (if nat_lt (horizon now t.ahead) b.moment then raised_to w.held now else join (raised_to w.held now) (batch_state (joined_of b refused)))
+  called w (Answer now s) = with_held w (if nat_lt (horizon now t.ahead) s.moment then raised_to w.held now else raised_to (raised_to w.held now) s.moment)
+  called w Save = record { held = w.held; saves = w.saves ++ w.held ∷ []; renewal = w.renewal }
   called w (Restart k) = put_back w (slice_get w.saves k)
+  called w (Renew renewal) = record { held = w.held; saves = w.saves; renewal = Some renewal }
 
   -- what a list of calls leaves
   abbrev pub calls : Alone → List Call → Alone
@@ -74,30 +83,30 @@ module _ (t : Terms) where
 -- whatever the contract of a check allows, its call does, for some memory that was refused
 abbrev pub ChecksAreCalls : Type 0
 ChecksAreCalls = (t : Terms) (w : Alone) (now : ℕ) (token : List ℕ) (answer : Result Accepted Refusal)
-    → let x = raised w.held now in
-    Answers Some answer (verdict t.setting x.moment x.uses token) → RefusesForm token answer
+    → let x = raised_to w.held now in
+    Answers Some answer (verdict (setting_alone t w) x.moment x.uses token) → RefusesForm token answer
     → (refused : Bool) × (answer_alone t w now token refused ≡ answer) × ((called t w (Check now token refused)).held ≡ settled x answer)
 
 -- so it is with a withdrawal
 abbrev pub WithdrawalsAreCalls : Type 0
 WithdrawalsAreCalls = (t : Terms) (w : Alone) (now : ℕ) (key : List ℕ) (exp : ℕ) (answer : Result Use WithdrawFault)
-    → let x = raised w.held now in
+    → let x = raised_to w.held now in
     IsWithdrawal t.setting.place x.moment key exp answer
     → (refused : Bool) × (withdrawal_alone t w now key exp refused ≡ answer) × ((called t w (Withdraw now key exp refused)).held ≡ gains x (withdrawn_in answer))
 
 -- with a tick
 abbrev pub TicksAreCalls : Type 0
-TicksAreCalls = (t : Terms) (w : Alone) (now : ℕ) → (called t w (Tick now)).held ≡ raised w.held now
+TicksAreCalls = (t : Terms) (w : Alone) (now : ℕ) → (called t w (Tick now)).held ≡ raised_to w.held now
 
 -- with a take
 abbrev pub TakesAreCalls : Type 0
 TakesAreCalls = (t : Terms) (w : Alone) (now : ℕ) (b : BatchData) (answer : Result (Unit {0}) TakeFault) (y : State)
-    → Takes (raised w.held now) (horizon now t.ahead) b answer y → (refused : Option ℕ) × ((called t w (Take now b refused)).held ≡ y)
+    → Takes (raised_to w.held now) (horizon now t.ahead) b answer y → (refused : Option ℕ) × ((called t w (Take now b refused)).held ≡ y)
 
 -- and with an answer to a summary
 abbrev pub AnswersAreCalls : Type 0
 AnswersAreCalls = (t : Terms) (w : Alone) (now : ℕ) (s : SummaryData) (answer : Result (Vec BatchData Global) TakeFault) (y : State)
-    → Replies (raised w.held now) (horizon now t.ahead) s answer y → (called t w (Answer now s)).held ≡ y
+    → Replies (raised_to w.held now) (horizon now t.ahead) s answer y → (called t w (Answer now s)).held ≡ y
 
 -- no save before the n-th, counted from 0, is put back
 abbrev pub PutsBackFrom : ℕ → List Call → Type 0
@@ -105,7 +114,7 @@ PutsBackFrom n [] = Unit {0}
 PutsBackFrom n (Restart k ∷ more) = (n ≤ k) × PutsBackFrom n more
 PutsBackFrom n (_ ∷ more) = PutsBackFrom n more
 
--- from any state, once a check accepts a token, no later check accepts one of its signing input, unless a save from before the acceptance is put back
+-- from any state, once a check accepts a token, no later check accepts one of its signing input, whatever the renewals between, unless a save from before the acceptance is put back
 abbrev pub AcceptsOnce : Type 0
 AcceptsOnce = (t : Terms) (w : Alone) (now later : ℕ) (token again : List ℕ) (calls_between : List Call) (refused : Bool) (first second : Accepted)
     → answer_alone t w now token false ≡ Ok first

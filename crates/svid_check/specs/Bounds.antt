@@ -3,6 +3,7 @@ use Rattle.std.specs.Prelude.{ℕ, ◌<◌, ◌≤◌, ◌^◌, max, List, [], �
 use Rattle.std.specs.declared.alloc.Global.{Global}
 use Rattle.std.specs.List.{AllByRecursion}
 use Rattle.svid_token.specs.declared.refusal.Refusal.{Refusal}
+use Rattle.svid_replay.specs.Buckets.{raised_to}
 use Rattle.svid_replay.specs.declared.token_use.Use.{Use}
 use Rattle.svid_replay.specs.Batches.{BatchData}
 use Rattle.svid_replay.specs.Records.{IsRecord, State}
@@ -13,7 +14,7 @@ use Rattle.svid_check.specs.declared.event.Event.{Event}
 use Rattle.svid_check.specs.declared.event.Event.TheVariants.{Check, Tick, Take, Withdraw}
 use Rattle.svid_check.specs.declared.take_fault.TakeFault.{TakeFault}
 use Rattle.svid_check.specs.declared.withdraw_fault.WithdrawFault.{WithdrawFault}
-use Rattle.svid_check.specs.Changes.{Replies, Takes, gains, horizon, raised, settled, withdrawn_in}
+use Rattle.svid_check.specs.Changes.{Replies, Takes, gains, horizon, settled, withdrawn_in}
 use Rattle.svid_check.specs.Runs.{Runs, RunsFrom, Terms}
 use Rattle.svid_check.specs.Told.{Told}
 
@@ -39,25 +40,25 @@ AreMoments events = AllByRecursion (λ event. now_of event < 2 ^ 64) events
 
 -- whatever it answers, a check leaves the record within its reach
 abbrev pub ChecksAreBounded : Type 0
-ChecksAreBounded = (x : State) (now ahead : ℕ) (answer : Result Accepted Refusal) → now < 2 ^ 64 → (settled (raised x now) answer).moment ≤ reach x.moment now ahead
+ChecksAreBounded = (x : State) (now ahead : ℕ) (answer : Result Accepted Refusal) → now < 2 ^ 64 → (settled (raised_to x now) answer).moment ≤ reach x.moment now ahead
 
 -- so does a tick
 abbrev pub TicksAreBounded : Type 0
-TicksAreBounded = (x : State) (now ahead : ℕ) → now < 2 ^ 64 → (raised x now).moment ≤ reach x.moment now ahead
+TicksAreBounded = (x : State) (now ahead : ℕ) → now < 2 ^ 64 → (raised_to x now).moment ≤ reach x.moment now ahead
 
 -- and a withdrawal
 abbrev pub WithdrawalsAreBounded : Type 0
-WithdrawalsAreBounded = (x : State) (now ahead : ℕ) (answer : Result Use WithdrawFault) → now < 2 ^ 64 → (gains (raised x now) (withdrawn_in answer)).moment ≤ reach x.moment now ahead
+WithdrawalsAreBounded = (x : State) (now ahead : ℕ) (answer : Result Use WithdrawFault) → now < 2 ^ 64 → (gains (raised_to x now) (withdrawn_in answer)).moment ≤ reach x.moment now ahead
 
 -- and a take
 abbrev pub TakesAreBounded : Type 0
 TakesAreBounded = (x y : State) (now ahead : ℕ) (b : BatchData) (answer : Result (Unit {0}) TakeFault) → now < 2 ^ 64
-    → Takes (raised x now) (horizon now ahead) b answer y → y.moment ≤ reach x.moment now ahead
+    → Takes (raised_to x now) (horizon now ahead) b answer y → y.moment ≤ reach x.moment now ahead
 
 -- and an answer to a summary
 abbrev pub AnswersAreBounded : Type 0
 AnswersAreBounded = (x y : State) (now ahead : ℕ) (s : SummaryData) (answer : Result (Vec BatchData Global) TakeFault) → now < 2 ^ 64
-    → Replies (raised x now) (horizon now ahead) s answer y → y.moment ≤ reach x.moment now ahead
+    → Replies (raised_to x now) (horizon now ahead) s answer y → y.moment ≤ reach x.moment now ahead
 
 -- and a run, of its latest event
 abbrev pub RunsAreBounded : Type 0

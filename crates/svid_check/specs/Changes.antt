@@ -4,18 +4,15 @@ use Rattle.std.specs.declared.alloc.Global.{Global}
 use Rattle.svid_token.specs.declared.refusal.Refusal.{Refusal}
 use Rattle.svid_replay.specs.declared.token_use.Use.{Use}
 use Rattle.svid_replay.specs.Batches.{BatchData}
-use Rattle.svid_replay.specs.Buckets.{answer_to}
+use Rattle.svid_replay.specs.Buckets.{answer_to, raised_to}
 use Rattle.svid_replay.specs.Records.{State, IsPartlyJoined, batch_state, join, state_of}
+use Rattle.svid_replay.specs.Sets.{rising}
 use Rattle.svid_replay.specs.Summary.{SummaryData}
 use Rattle.svid_check.specs.declared.accepted.Accepted.{Accepted}
 use Rattle.svid_check.specs.declared.take_fault.TakeFault.{TakeFault}
 use Rattle.svid_check.specs.declared.take_fault.TakeFault.TheVariants.{TooFarAhead, OutOfMemory}
 use Rattle.svid_check.specs.declared.withdraw_fault.WithdrawFault.{WithdrawFault}
 use Rattle.svid_check.specs.declared.withdraw_fault.WithdrawFault.TheVariants as withdraw
-
--- a record raised to a moment
-abbrev pub raised : State → ℕ → State
-raised x now = join x (state_of now [])
 
 -- a record that gains a use, or none
 abbrev pub gains : State → Option Use → State
@@ -56,8 +53,14 @@ Takes x far b (Ok taken) y = (b.moment ≤ far) × (y ≡ join x (batch_state b)
 Takes x far b (Err TooFarAhead) y = (far < b.moment) × (y ≡ x)
 Takes x far b (Err OutOfMemory) y = (b.moment ≤ far) × IsPartlyJoined x y b.moment b.uses
 
+-- what taking a whole record leaves of a raised one: of a record within the horizon the join, or a part of it where memory was refused; else nothing more
+abbrev pub TakesRecord : State → ℕ → State → Result (Unit {0}) TakeFault → State → Type 0
+TakesRecord x far r (Ok taken) y = (r.moment ≤ far) × (y ≡ join x r)
+TakesRecord x far r (Err TooFarAhead) y = (far < r.moment) × (y ≡ x)
+TakesRecord x far r (Err OutOfMemory) y = (r.moment ≤ far) × IsPartlyJoined x y r.moment (rising r.uses)
+
 -- what an answer to a summary is, and what it leaves of a raised record: of a summary within the horizon the answer that is due, or want of memory, and the record raised to its moment; else nothing more
 abbrev pub Replies : State → ℕ → SummaryData → Result (Vec BatchData Global) TakeFault → State → Type 0
-Replies x far s (Ok batches) y = (s.moment ≤ far) × (batches.items ≡ answer_to x s) × (y ≡ raised x s.moment)
+Replies x far s (Ok batches) y = (s.moment ≤ far) × (batches.items ≡ answer_to x s) × (y ≡ raised_to x s.moment)
 Replies x far s (Err TooFarAhead) y = (far < s.moment) × (y ≡ x)
-Replies x far s (Err OutOfMemory) y = (s.moment ≤ far) × (y ≡ raised x s.moment)
+Replies x far s (Err OutOfMemory) y = (s.moment ≤ far) × (y ≡ raised_to x s.moment)

@@ -1,20 +1,20 @@
 -- Why a log is saved with its record: a group whose restarts leave the logs as they were, and what then is not told.
 use Rattle.std.specs.Prelude.{◌≡◌, ℕ, ◌<◌, ◌^◌, false, List, [], ◌∷◌, slice_get, Some, None, IsTrue, Ok}
 use Rattle.std.specs.List.{Contains}
+use Rattle.svid_replay.specs.Buckets.{raised_to}
 use Rattle.svid_replay.specs.declared.token_use.Use.{Use}
 use Rattle.svid_replay.specs.Batches.{BatchData}
 use Rattle.svid_replay.specs.Sets.{holds}
 use Rattle.svid_replay.specs.Summary.{SummaryData}
 use Rattle.svid_replay.specs.Use.{IsBytes}
 use Rattle.svid_check.specs.declared.accepted.Accepted.{Accepted}
-use Rattle.svid_check.specs.Changes.{raised}
 use Rattle.svid_check.specs.Headline.{HasTaken, IsClash, IsSend}
 use Rattle.svid_check.specs.Runs.{Terms}
 use Rattle.svid_check.specs.World.{Answer, Answered, Check, Entry, Event, Made, Member, Posting, Restart, Save, Send, Sum, Summed, Take, World, check_answer, happens, new_member, put, restart, start}
 
 -- the same validator with another log
 abbrev pub with_log : Member → List Entry → Member
-with_log x log = record { held = x.held; told = x.told; log = log }
+with_log x log = record { held = x.held; told = x.told; log = log; renewal = x.renewal }
 
 module _ (group : ℕ → Terms) where
   -- what an event leaves where a restart leaves the log as it was
@@ -51,7 +51,7 @@ pub record IsAnswerForgotten (w : World) (v j k : ℕ) (u : Use) : Type 0 where
 
 -- a new validator accepts the token
 abbrev pub AcceptsNew : Terms → ℕ → List ℕ → Accepted → Type 0
-AcceptsNew t now token first = check_answer t.setting (raised new_member.held now) token false ≡ Ok first
+AcceptsNew t now token first = check_answer t.setting (raised_to new_member.held now) token false ≡ Ok first
 
 -- validator 1 is saved, 0 accepts a token and sends its record, 1 takes it, and 1 is put back
 abbrev pub take_and_go_back : ℕ → List ℕ → List Event

@@ -5,7 +5,7 @@ use Rattle.svid_token.specs.Rows.{seen}
 use Rattle.svid_replay.specs.declared.token_use.Use.{Use}
 use Rattle.svid_replay.specs.declared.twice.Twice.{Twice}
 use Rattle.svid_replay.specs.Batches.{BatchData}
-use Rattle.svid_replay.specs.Buckets.{bucket_digest, bucket_text}
+use Rattle.svid_replay.specs.Buckets.{bucket_digest, bucket_text, raised_to}
 use Rattle.svid_replay.specs.Parts.{join_all, parts_of}
 use Rattle.svid_replay.specs.Records.{state_of}
 use Rattle.svid_replay.specs.Sets.{holds, rising}
@@ -15,13 +15,13 @@ use Rattle.svid_replay.specs.Use.{IsBytes}
 use Rattle.svid_replay.specs.Uses.{Uses, live}
 use Rattle.svid_wire.specs.RecordText.{record_text}
 use Rattle.svid_check.specs.declared.accepted.Accepted.{Accepted}
-use Rattle.svid_check.specs.Changes.{raised}
 use Rattle.svid_check.specs.Lawful.{Accepts, input_of}
 use Rattle.svid_check.specs.Runs.{IsAnswered, Terms}
 use Rattle.svid_check.specs.Setting.{Setting}
 use Rattle.svid_check.specs.Told.{Told, record_of, tell_now}
-use Rattle.svid_check.specs.Verdict.{verdict}
-use Rattle.svid_check.specs.World.{Answered, Check, Entry, Event, Made, Member, OldSend, Posting, Restart, Save, Saved, Send, Sent, Sum, Summed, Take, Tick, Withdraw, Answer, Took, World, accepted, answer_at, check_answer, happen, happens, parts_in, start, withdrawn}
+use Rattle.svid_check.specs.Verdict.{verdict, key_of}
+use Rattle.svid_check.specs.World.{Answered, Check, Entry, Event, Made, Member, OldSend, Posting, Restart, Save, Saved, Send, Sent, Sum, Summed, Take, Tick, Withdraw, Answer, Took, World, accepted, answer_at, check_answer, happen, happens, parts_in, start, withdrawn, Renew, setting_at}
+use Rattle.svid_check.specs.Said.{Said, said_of}
 
 -- each use of the one set is in the other
 abbrev pub IsWithin : Uses → Uses → Type 0
@@ -40,13 +40,15 @@ RecordsAreTold = (group : ℕ → Terms) (events : List Event) (v : ℕ) → let
 -- each check is answered by the verdict for what was told, acceptance or refusal, or by want of memory
 abbrev pub ChecksAreVerdicts : Type 0
 ChecksAreVerdicts = (group : ℕ → Terms) (events : List Event) (v now : ℕ) (token : List ℕ) (refused : Bool)
-    → IsAnswered (group v).setting (tell_now (member_after group events v).told now) token (answer_at group (happen group start events) v now token refused)
+    → let w = happen group start events in
+    IsAnswered (setting_at group w v) (tell_now (w.members v).told now) token (answer_at group w v now token refused)
 
 -- each check is answered by nothing but the verdict where no memory is refused
 abbrev pub WithMemoryVerdicts : Type 0
 WithMemoryVerdicts = (group : ℕ → Terms) (events : List Event) (v now : ℕ) (token : List ℕ)
-    → let x = tell_now (member_after group events v).told now in
-    seen Some (answer_at group (happen group start events) v now token false) ≡ verdict (group v).setting x.greatest (live x.uses x.greatest) token
+    → let w = happen group start events in
+    let x = tell_now (w.members v).told now in
+    seen Some (answer_at group w v now token false) ≡ verdict (setting_at group w v) x.greatest (live x.uses x.greatest) token
 
 -- Equal tellings.
 
@@ -77,6 +79,7 @@ TakesOnly v k (Sum n) = n ≢ v
 TakesOnly v k (Answer n now posting refused) = n ≢ v
 TakesOnly v k (Save n) = n ≢ v
 TakesOnly v k (Restart n save) = n ≢ v
+TakesOnly v k (Renew n renewal) = n ≢ v
 
 -- a validator that was told no use that the sender had not been told at a send, and that takes it whole with no other event of its own between, was then told just the uses that the sender had been told
 abbrev pub SendsMakeEqual : Type 0
@@ -105,25 +108,25 @@ ChainsTell = (group : ℕ → Terms) (events : List Event) (v k : ℕ) (q : Post
     → let w = happen group start events in
     IsSend w k q → HasTaken (w.members v).log k q → WentAlong w u k chain → IsTrue (holds (w.members v).told.uses u)
 
--- this validator accepts no token of the signing input, at any moment and in whatever memory
-abbrev pub IsRefusedBy : Terms → Member → List ℕ → Type 0
-IsRefusedBy t x input = (token : List ℕ) (now : ℕ) (refused : Bool) (accepted : Accepted) → input_of token ≡ Some input → check_answer t.setting (raised x.held now) token refused ≢ Ok accepted
+-- this validator accepts no token of the signing input, under any setting, so with whatever bundles and verifier, at any moment and in whatever memory
+abbrev pub IsRefusedBy : Member → List ℕ → Type 0
+IsRefusedBy x input = (s : Setting) (token : List ℕ) (now : ℕ) (refused : Bool) (accepted : Accepted) → input_of token ≡ Some input → check_answer s (raised_to x.held now) token refused ≢ Ok accepted
 
--- the use has the key and the expiry of the signing input: those that each acceptance of a token of it adds, wherever and whenever
+-- the use has the key and the expiry of the signing input: where a token of it says t, they are those of t
 abbrev pub IsUseOf : Use → List ℕ → Type 0
-IsUseOf u input = (s : Setting) (moment : ℕ) (uses : Uses) (token : List ℕ) (added : Use) → input_of token ≡ Some input → Accepts s moment uses token added → (added.key ≡ u.key) × (added.exp ≡ u.exp)
+IsUseOf u input = (token : List ℕ) (t : Said) → input_of token ≡ Some input → said_of token ≡ Some t → (key_of t ≡ u.key) × (t.exp ≡ u.exp)
 
 -- a validator that was told a use with the key and the expiry of a signing input accepts no token of it
 abbrev pub ToldIsRefused : Type 0
 ToldIsRefused = (group : ℕ → Terms) (events : List Event) (v : ℕ) (input : List ℕ) (u : Use)
     → let x = member_after group events v in
-    IsTrue (holds x.told.uses u) → IsUseOf u input → IsRefusedBy (group v) x input
+    IsTrue (holds x.told.uses u) → IsUseOf u input → IsRefusedBy x input
 
 -- so one that was told of an acceptance, wherever that was, accepts no token of its signing input
 abbrev pub AcceptedIsRefused : Type 0
 AcceptedIsRefused = (group : ℕ → Terms) (events : List Event) (v moment : ℕ) (s : Setting) (uses : Uses) (token input : List ℕ) (u : Use)
     → let x = member_after group events v in
-    Accepts s moment uses token u → input_of token ≡ Some input → IsTrue (holds x.told.uses u) → IsRefusedBy (group v) x input
+    Accepts s moment uses token u → input_of token ≡ Some input → IsTrue (holds x.told.uses u) → IsRefusedBy x input
 
 -- a check that accepts a token tells its validator the use
 abbrev pub AcceptanceTells : Type 0
@@ -134,7 +137,7 @@ AcceptanceTells = (group : ℕ → Terms) (w : World) (v now : ℕ) (token : Lis
 abbrev pub AcceptanceGoesAlong : Type 0
 AcceptanceGoesAlong = (group : ℕ → Terms) (events : List Event) (v k moment : ℕ) (q : Posting) (chain : List ℕ) (s : Setting) (uses : Uses) (token input : List ℕ) (u : Use)
     → let w = happen group start events in
-    Accepts s moment uses token u → input_of token ≡ Some input → IsSend w k q → HasTaken (w.members v).log k q → WentAlong w u k chain → IsRefusedBy (group v) (w.members v) input
+    Accepts s moment uses token u → input_of token ≡ Some input → IsSend w k q → HasTaken (w.members v).log k q → WentAlong w u k chain → IsRefusedBy (w.members v) input
 
 -- Withdrawals.
 
@@ -203,12 +206,12 @@ TwoPlacesAreReported = (group : ℕ → Terms) (events : List Event) (v : ℕ) (
 abbrev pub RestartsAbsorb : Type 0
 RestartsAbsorb = (group : ℕ → Terms) (events : List Event) (k : ℕ) (s : Saved) → slice_get (happen group start events).saves k ≡ Some s → join_all (state_of 0 []) (parts_of s.was.held) ≡ s.was.held
 
--- so a restart may absorb them: it leaves the validator with the record that they give, and with what it had been told and its log at the save
+-- so a restart may absorb them: it leaves the validator with the record that they give, with what it had been told and its log at the save, and with the setting of now
 abbrev pub RestartsPutBack : Type 0
 RestartsPutBack = (group : ℕ → Terms) (events : List Event) (v k : ℕ) (s : Saved)
     → let w = happen group start events in
     let x = (happens group w (Restart v k)).members v in
-    slice_get w.saves k ≡ Some s → s.owner ≡ v → (x.held ≡ join_all (state_of 0 []) (parts_of s.was.held)) × (x.told ≡ s.was.told) × (x.log ≡ s.was.log)
+    slice_get w.saves k ≡ Some s → s.owner ≡ v → (x.held ≡ join_all (state_of 0 []) (parts_of s.was.held)) × (x.told ≡ s.was.told) × (x.log ≡ s.was.log) × (x.renewal ≡ (w.members v).renewal)
 
 -- Summaries and answers.
 
@@ -217,13 +220,13 @@ abbrev pub HasPlaces : (ℕ → Terms) → Type 0
 HasPlaces group = (v : ℕ) → IsBytes 16 (group v).setting.place
 
 -- the moment of an event is one, and so is the expiry of a withdrawal, whose key has 32 bytes
-abbrev pub IsInRange : Event → Type 0
-IsInRange (Check v now token refused) = now < 2 ^ 64
-IsInRange (Withdraw v now key exp refused) = (now < 2 ^ 64) × IsBytes 32 key × (exp < 2 ^ 64)
-IsInRange (Tick v now) = now < 2 ^ 64
-IsInRange (Answer v now posting refused) = now < 2 ^ 64
-IsInRange (Take v now posting part refused) = now < 2 ^ 64
-IsInRange _ = Unit {0}
+abbrev pub IsEventInRange : Event → Type 0
+IsEventInRange (Check v now token refused) = now < 2 ^ 64
+IsEventInRange (Withdraw v now key exp refused) = (now < 2 ^ 64) × IsBytes 32 key × (exp < 2 ^ 64)
+IsEventInRange (Tick v now) = now < 2 ^ 64
+IsEventInRange (Answer v now posting refused) = now < 2 ^ 64
+IsEventInRange (Take v now posting part refused) = now < 2 ^ 64
+IsEventInRange _ = Unit {0}
 
 -- two sets have different texts of a bucket, and one digest
 pub record IsClash (s t : Uses) : Type 0 where
@@ -235,7 +238,7 @@ pub record IsClash (s t : Uses) : Type 0 where
 -- a validator that made a summary and took an answer to it whole was told all uses that the answerer had been told by then; or else some bucket of its own, when it made the summary, and of the answerer, when it answered, had two texts of one digest
 abbrev pub AnswersTellAll : Type 0
 AnswersTellAll = (group : ℕ → Terms) (events : List Event) (v j k : ℕ) (answer summary : Posting) (parts : List BatchData) (s : SummaryData)
-    → HasPlaces group → AllByRecursion IsInRange events
+    → HasPlaces group → AllByRecursion IsEventInRange events
     → let w = happen group start events in
     slice_get w.pool k ≡ Some summary → summary.content ≡ Summed s → Contains (w.members v).log (Made k)
     → slice_get w.pool j ≡ Some answer → answer.content ≡ Answered k parts → HasTaken (w.members v).log j answer

@@ -6,9 +6,13 @@ pub mod Events
 pub mod Forgetful
 pub mod Headline
 pub mod Lawful
+pub mod RunEvents
 pub mod Runs
 pub mod Said
+pub mod Saves
 pub mod Setting
+pub mod Table
 pub mod Told
 pub mod Verdict
+pub mod Verifiers
 pub mod World

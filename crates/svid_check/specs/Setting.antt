@@ -1,5 +1,5 @@
 -- What a validator is given, and what it holds.
-use Rattle.std.specs.Prelude.{ℕ, Bool, List, Option, map, string_bytes, refl}
+use Rattle.std.specs.Prelude.{ℕ, Bool, List, Option, None, Some, map, string_bytes, refl}
 use Rattle.std.specs.Coded.{Coded, code_by, coded×, coded_ℕ, coded_list, coded_option}
 use Rattle.svid_token.specs.declared.alg.Alg.{Alg}
 use Rattle.svid_token.specs.contracts.kty.Kty.{the_row}
@@ -21,6 +21,16 @@ pub record Setting : Type 0 where
   pub says : Says
   pub longest : Option ℕ
 
+-- what a validator is given anew while it lives: its trust bundles, and what its verifier says
+pub record Renewal : Type 0 where
+  pub bundles : List Bundle
+  pub says : Says
+
+-- a setting as it is since the last renewal, if there was one: the audiences, the place and the longest life stay for good
+abbrev pub renewed : Setting → Option Renewal → Setting
+renewed s None = s
+renewed s (Some r) = record { own = s.own; place = s.place; bundles = r.bundles; says = r.says; longest = s.longest }
+
 -- what a validator is to a contract; its verifier is a V
 pub record Held (V : Type 0) : Type 0 where
   pub own : List (List ℕ)
@@ -31,17 +41,25 @@ pub record Held (V : Type 0) : Type 0 where
   pub longest : Option ℕ
   pub state : State
 
--- the setting of a validator, where this is what verifiers say
-abbrev pub setting_of : {V : Type 0} → (V → Says) → Held V → Setting
-setting_of says held = record { own = held.own; place = held.place; bundles = held.bundles; says = says held.verifier; longest = held.longest }
+-- the setting of a validator, with what some verifier says
+abbrev pub setting_by : {V : Type 0} → Says → Held V → Setting
+setting_by says held = record { own = held.own; place = held.place; bundles = held.bundles; says = says; longest = held.longest }
 
--- the setting of what a validator is given
-abbrev pub given_setting : {V : Type 0} → (V → Says) → Given V → Setting
-given_setting says given = record { own = map string_bytes given.own.items; place = given.place; bundles = given.bundles; says = says given.verifier; longest = given.longest }
+-- the setting of a validator by its own verifier, where this is what verifiers say
+abbrev pub setting_of : {V : Type 0} → (V → Says) → Held V → Setting
+setting_of says held = setting_by (says held.verifier) held
+
+-- the setting of what a validator is given, with what some verifier says
+abbrev pub given_setting : Says → Given → Setting
+given_setting says given = record { own = map string_bytes given.own.items; place = given.place; bundles = given.bundles; says = says; longest = given.longest }
 
 -- the same validator with another record
 abbrev pub with_state : {V : Type 0} → Held V → State → Held V
 with_state held state = record { own = held.own; place = held.place; ahead = held.ahead; bundles = held.bundles; verifier = held.verifier; longest = held.longest; state = state }
+
+-- the same validator with other trust bundles
+abbrev pub with_bundles : {V : Type 0} → Held V → List Bundle → Held V
+with_bundles held bundles = record { own = held.own; place = held.place; ahead = held.ahead; bundles = bundles; verifier = held.verifier; longest = held.longest; state = held.state }
 
 -- how a key is stored
 abbrev pub key_code : Coded KeyData

@@ -7,7 +7,7 @@ use Rattle.svid_token.specs.declared.refusal.Refusal.{Refusal}
 use Rattle.svid_token.specs.declared.refusal.Refusal.TheVariants.{OutOfMemory}
 use Rattle.svid_replay.specs.declared.token_use.Use.{Use}
 use Rattle.svid_replay.specs.Batches.{BatchData}
-use Rattle.svid_replay.specs.Buckets.{answer_to, summary_of}
+use Rattle.svid_replay.specs.Buckets.{answer_to, raised_to, summary_of}
 use Rattle.svid_replay.specs.Parts.{full_batches, parts_of}
 use Rattle.svid_replay.specs.Records.{State, batch_state, join, state_of}
 use Rattle.svid_replay.specs.Sets.{holds, keep, rising}
@@ -16,9 +16,9 @@ use Rattle.svid_replay.specs.Uses.{Uses, uses_in}
 use Rattle.svid_check.specs.declared.accepted.Accepted.{Accepted}
 use Rattle.svid_check.specs.declared.withdraw_fault.WithdrawFault.{WithdrawFault}
 use Rattle.svid_check.specs.declared.withdraw_fault.WithdrawFault.TheVariants as withdraw
-use Rattle.svid_check.specs.Changes.{accepted_in, gains, horizon, raised, withdrawal, withdrawn_in}
+use Rattle.svid_check.specs.Changes.{accepted_in, gains, horizon, withdrawal, withdrawn_in}
 use Rattle.svid_check.specs.Runs.{Terms}
-use Rattle.svid_check.specs.Setting.{Setting}
+use Rattle.svid_check.specs.Setting.{Setting, Renewal, renewed}
 use Rattle.svid_check.specs.Told.{Told, begun, tell, tell_now, tell_one}
 use Rattle.svid_check.specs.Verdict.{verdict}
 
@@ -27,11 +27,12 @@ pub data Entry : Type 0 where
   Took : (posting part : ℕ) → Entry
   Made : (posting : ℕ) → Entry
 
--- a validator of a group: its record, what it was told, and its log
+-- a validator of a group: its record, what it was told, its log, and the last renewal of its setting, if there was one
 pub record Member : Type 0 where
   pub held : State
   pub told : Told
   pub log : List Entry
+  pub renewal : Option Renewal
 
 -- what is posted: the parts of a record, a summary, or the parts of an answer to the summary that this posting is
 pub data Content : Type 0 where
@@ -68,10 +69,11 @@ pub data Event : Type 0 where
   Take : (v now posting part : ℕ) (refused : Option ℕ) → Event
   Save : (v : ℕ) → Event
   Restart : (v save : ℕ) → Event
+  Renew : (v : ℕ) (renewal : Renewal) → Event
 
--- a validator that nothing happened to: a new record, nothing told, an empty log
+-- a validator that nothing happened to: a new record, nothing told, an empty log, the setting that the group gives it
 abbrev pub new_member : Member
-new_member = record { held = state_of 0 []; told = begun (state_of 0 []); log = [] }
+new_member = record { held = state_of 0 []; told = begun (state_of 0 []); log = []; renewal = None }
 
 -- a group that nothing happened in
 abbrev pub start : World
@@ -85,11 +87,15 @@ parts_in (Answered summary parts) = parts
 
 -- a moment is told
 abbrev pub ticked : Member → ℕ → Member
-ticked x now = record { held = raised x.held now; told = tell_now x.told now; log = x.log }
+ticked x now = record { held = raised_to x.held now; told = tell_now x.told now; log = x.log; renewal = x.renewal }
 
 -- a log gets an entry more
 abbrev pub logged : Member → Entry → Member
-logged x entry = record { held = x.held; told = x.told; log = x.log ++ entry ∷ [] }
+logged x entry = record { held = x.held; told = x.told; log = x.log ++ entry ∷ []; renewal = x.renewal }
+
+-- the same validator with another renewal
+abbrev pub with_renewal : Member → Option Renewal → Member
+with_renewal x renewal = record { held = x.held; told = x.told; log = x.log; renewal = renewal }
 
 -- a verdict as a check's answer; `Ok None` is no verdict at all
 abbrev pub answer_by : Result (Option Accepted) Refusal → Result Accepted Refusal
@@ -112,7 +118,7 @@ withdraw_answer place x key exp refused = if nat_lt x.moment exp then (if refuse
 
 -- a use is added and told, or none
 abbrev pub gained : Member → Option Use → Member
-gained x u = record { held = gains x.held u; told = tell_one x.told u; log = x.log }
+gained x u = record { held = gains x.held u; told = tell_one x.told u; log = x.log; renewal = x.renewal }
 
 -- a check is answered so: an acceptance adds its use and tells it
 abbrev pub checked : Member → Result Accepted Refusal → Member
@@ -128,7 +134,7 @@ carried sender b = keep (λ u. holds (uses_in b.uses) u || not (nat_lt b.moment 
 
 -- a batch is joined, and tells what it carries
 abbrev pub joined : Member → Uses → BatchData → Member
-joined x sender b = record { held = join x.held (batch_state b); told = tell x.told (record { moment = b.moment; uses = carried sender b }); log = x.log }
+joined x sender b = record { held = join x.held (batch_state b); told = tell x.told (record { moment = b.moment; uses = carried sender b }); log = x.log; renewal = x.renewal }
 
 -- the first uses of a batch
 abbrev pub front : ℕ → BatchData → BatchData
@@ -192,10 +198,10 @@ abbrev pub answer_posting : World → ℕ → ℕ → Member → ℕ → Bool �
 answer_posting w v far x k refused None = w
 answer_posting w v far x k refused (Some q) = answer_content w v far x k refused q.content
 
--- validator v is what it was at this save, if the save is its own
+-- validator v is what it was at this save, if the save is its own; its setting stays that of now
 abbrev pub restart : World → ℕ → Option Saved → World
 restart w v None = w
-restart w v (Some s) = if s.owner == v then put w v s.was else w
+restart w v (Some s) = if s.owner == v then put w v (with_renewal s.was (w.members v).renewal) else w
 
 -- a use as a list
 abbrev pub one_or_none : Option Use → List Use
@@ -207,13 +213,17 @@ module _ (group : ℕ → Terms) where
   abbrev pub far : ℕ → ℕ → ℕ
   far v now = horizon now (group v).ahead
 
+  -- the setting of validator v
+  abbrev pub setting_at : World → ℕ → Setting
+  setting_at w v = renewed (group v).setting (w.members v).renewal
+
   -- what validator v answers to a check
   abbrev pub answer_at : World → ℕ → ℕ → List ℕ → Bool → Result Accepted Refusal
-  answer_at w v now token refused = check_answer (group v).setting (raised (w.members v).held now) token refused
+  answer_at w v now token refused = check_answer (setting_at w v) (raised_to (w.members v).held now) token refused
 
   -- what validator v answers to a withdrawal
   abbrev pub withdrawal_at : World → ℕ → ℕ → List ℕ → ℕ → Bool → Result Use WithdrawFault
-  withdrawal_at w v now key exp refused = withdraw_answer (group v).setting.place (raised (w.members v).held now) key exp refused
+  withdrawal_at w v now key exp refused = withdraw_answer (group v).setting.place (raised_to (w.members v).held now) key exp refused
 
   -- what an event leaves; one that names a part or a summary that is not there, or a save that is not there or another's, leaves all as it was
   abbrev pub happens : World → Event → World
@@ -227,6 +237,7 @@ module _ (group : ℕ → Terms) where
   happens w (Take v now k p refused) = take_posting w v (far v now) (ticked (w.members v) now) k p refused (slice_get w.pool k)
   happens w (Save v) = save w v (w.members v)
   happens w (Restart v k) = restart w v (slice_get w.saves k)
+  happens w (Renew v renewal) = put w v (with_renewal (w.members v) (Some renewal))
 
   -- what a list of events leaves
   abbrev pub happen : World → List Event → World

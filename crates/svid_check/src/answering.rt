@@ -1,5 +1,6 @@
 ghost use Rattle.std.specs.Prelude.{◌≡◌};
-ghost use Rattle.svid_check.specs.Changes.{Replies, horizon, raised};
+ghost use Rattle.svid_replay.specs.Buckets.{raised_to};
+ghost use Rattle.svid_check.specs.Changes.{Replies, horizon};
 ghost use Rattle.svid_check.specs.Setting.{with_state};
 
 use crate::take_fault::TakeFault;
@@ -24,7 +25,7 @@ impl<V: Verifier, S: UseStore> Validator<V, S> {
         now: u64,
         summary: &Summary,
     ) -> Result<Vec<Batch>, TakeFault>
-        ensures replied { Replies (raised self.old.state now) (horizon now self.old.ahead) summary.now result self.new.state }
+        ensures replied { Replies (raised_to self.old.state now) (horizon now self.old.ahead) summary.now result self.new.state }
         ensures rest { self.new ≡ with_state self.old self.new.state }
     {
         self.tick(now);

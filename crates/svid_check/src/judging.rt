@@ -57,16 +57,13 @@ fn lasts_too_long(moment: u64, longest: Option<u64>, exp: u64) -> bool
 }
 
 // Whether a candidate made the signature, as the verifier says.
-fn is_signed<V: Verifier>(given: &Given<V>, reading: &Reading<'_>) -> bool
+fn is_signed<V: Verifier>(given: &Given, verifier: &V, reading: &Reading<'_>) -> bool
     requires input_len { length reading.now.input.now ≤ 65536 }
     requires signature_len { length reading.now.signature.items ≤ 65536 }
-    ensures { result ≡ is_signed (given_setting V.says given.now) (said_in reading.now) }
+    ensures { result ≡ is_signed (given_setting (V.says verifier.now) given.now) (said_in reading.now) }
 {
     for key in reading.keys(&given.bundles) {
-        if given
-            .verifier
-            .verify(key, reading.header.alg, reading.input, &reading.signature)
-        {
+        if verifier.verify(key, reading.header.alg, reading.input, &reading.signature) {
             return true;
         }
     }
@@ -89,7 +86,8 @@ fn record_refusal<S: UseStore>(replay: &Record<S>, key: &[u8; 32]) -> Option<Ref
 
 // Why the setting, the moment and the uses refuse what a token says.
 pub(crate) fn refusal<V: Verifier, S: UseStore>(
-    given: &Given<V>,
+    given: &Given,
+    verifier: &V,
     replay: &Record<S>,
     reading: &Reading<'_>,
     key: &[u8; 32],
@@ -98,7 +96,7 @@ pub(crate) fn refusal<V: Verifier, S: UseStore>(
     requires signature_len { length reading.now.signature.items ≤ 65536 }
     requires key { key.now ≡ key_of (said_in reading.now) }
     ensures { result
-        ≡ first_row (setting_rows (given_setting V.says given.now) replay.now.moment replay.now.uses (said_in reading.now)) }
+        ≡ first_row (setting_rows (given_setting (V.says verifier.now) given.now) replay.now.moment replay.now.uses (said_in reading.now)) }
 {
     if !is_for(&given.own, &reading.claims.aud) {
         return Some(Refusal::NotAudience);
@@ -115,7 +113,7 @@ pub(crate) fn refusal<V: Verifier, S: UseStore>(
     if let Some(refusal) = reading.keys_refusal(&given.bundles) {
         return Some(refusal);
     }
-    if !is_signed(given, reading) {
+    if !is_signed(given, verifier, reading) {
         return Some(Refusal::BadSignature);
     }
     record_refusal(replay, key)

@@ -4,19 +4,28 @@
 ghost use Rattle.svid_check.specs.Bounds.{AnswersAreBounded, ChecksAreBounded, RecordsAreBounded, RunsAreBounded, TakesAreBounded, TicksAreBounded, WithdrawalsAreBounded};
 ghost use Rattle.svid_check.specs.Calls.{AnswersTellMoments, ChecksAreSteps, RecordsGoOn, RunsGoOn, TakesAreSteps, TicksAreSteps, WithdrawalsAreSteps};
 ghost use Rattle.svid_check.specs.Alone.{AcceptsOnce, AnswersAreCalls, ChecksAreCalls, TakesAreCalls, TicksAreCalls, WithdrawalsAreCalls};
-ghost use Rattle.svid_check.specs.Events.{AnswersAreEvents, ChecksAreEvents, SendsAreEvents, SumsAreEvents, TakesAreEvents, TicksAreEvents, WithdrawalsAreEvents};
+ghost use Rattle.svid_check.specs.Events.{AnswersAreEvents, ChecksAreEvents, OldSendsAreEvents, RenewalsAreEvents, SavesAreEvents, SendsAreEvents, SumsAreEvents, TakesAreEvents, TicksAreEvents, WithdrawalsAreEvents};
 ghost use Rattle.svid_check.specs.Forgetful.{AnswersAreForgotten, SendsAreForgotten};
 ghost use Rattle.svid_check.specs.Headline.{AcceptanceGoesAlong, AcceptanceTells, AcceptedIsRefused, AnswersTellAll, ChainsTell, ChecksAreVerdicts, EqualTellings, RecordsAreTold, ReportedWereAcceptedTwice, ReportsAreExact, ReportsAreWhole, RestartsAbsorb, RestartsPutBack, SendsMakeEqual, SendsTellAll, ToldIsRefused, ToldWereAccepted, ToldWereWithdrawn, TwoPlacesAreReported, WithMemoryVerdicts, WithdrawnAreRefused};
 ghost use Rattle.svid_check.specs.Lawful.{IsAlive, IsFresh, IsInRange, IsMadeNow, IsOfItsInput, IsUsed};
+ghost use Rattle.svid_check.specs.RunEvents.{RunsAreEvents};
 ghost use Rattle.svid_check.specs.Said.{UnrefusedIsSaid};
+ghost use Rattle.svid_check.specs.Saves.{CallsLeaveLater, LaterGoesOn, SavesLoseNothing};
+ghost use Rattle.svid_check.specs.Table.{TableIsOneList};
 ghost use Rattle.svid_check.specs.Told.{BeginsAsGiven};
 ghost use Rattle.svid_check.specs.Verdict.{AcceptsNoSilence};
+ghost use Rattle.svid_check.specs.Verifiers.{TablesStand};
 
 /// A token that nothing refuses by itself says all that must be there, so that no verdict is 'accepted'
 /// of a token that does not.
 pub fn accepted_tokens_say_all()
     ensures said { UnrefusedIsSaid }
     ensures accepted { AcceptsNoSilence }
+{}
+
+/// The table of refusals of a token that says all that must be there is one list of 25 rows.
+pub fn the_table_is_one_list()
+    ensures { TableIsOneList }
 {}
 
 /// What validators that share their records rely on, whatever their settings: each use that an
@@ -162,6 +171,9 @@ pub fn calls_are_events()
     ensures sends { SendsAreEvents }
     ensures sums { SumsAreEvents }
     ensures withdrawals { WithdrawalsAreEvents }
+    ensures renewals { RenewalsAreEvents }
+    ensures saves { SavesAreEvents }
+    ensures old_sends { OldSendsAreEvents }
 {}
 
 /// So it is with the calls of one validator by itself, with any batch and any summary.
@@ -171,4 +183,26 @@ pub fn calls_stand_alone()
     ensures takes { TakesAreCalls }
     ensures answers { AnswersAreCalls }
     ensures withdrawals { WithdrawalsAreCalls }
+{}
+
+/// A table of questions stands for a verifier on a token: if of the token's candidates it has the questions of
+/// just those whose signature the verifier says is good, the verdict by the table is the verdict by the verifier.
+pub fn tables_stand_for_verifiers()
+    ensures { TablesStand }
+{}
+
+/// A record that is saved piece by piece, with other calls in between, loses nothing: the batches together have
+/// each use that the record had at the first piece and that is still live at the last. Each call but a restart
+/// leaves a later record, so any number of them may come in between.
+pub fn saves_lose_nothing()
+    ensures pieces { SavesLoseNothing }
+    ensures calls { CallsLeaveLater }
+    ensures on { LaterGoesOn }
+{}
+
+/// A run of a validator of a group is a list of events of the group, with the same answers and the same record at
+/// the end, where each batch that it takes was posted. So the laws of the group hold of what
+/// [`Validator::run`](crate::Validator::run) does.
+pub fn runs_are_events()
+    ensures { RunsAreEvents }
 {}

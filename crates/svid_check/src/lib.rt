@@ -38,11 +38,12 @@ mod given;
 mod judging;
 pub mod laws;
 mod reading;
+mod renewing;
 mod run;
+mod saving;
 mod take_fault;
 mod taking;
-#[cfg(test)]
-mod tests;
+mod taking_record;
 mod validator;
 mod withdraw_fault;
 mod withdrawing;

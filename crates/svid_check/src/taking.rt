@@ -1,6 +1,7 @@
 ghost use Rattle.std.specs.Prelude.{◌≡◌, ◌≢◌, Err};
+ghost use Rattle.svid_replay.specs.Buckets.{raised_to};
 ghost use Rattle.svid_replay.specs.Records.{HasNoNew};
-ghost use Rattle.svid_check.specs.Changes.{Takes, horizon, raised};
+ghost use Rattle.svid_check.specs.Changes.{Takes, horizon};
 ghost use Rattle.svid_check.specs.Setting.{with_state};
 ghost use Rattle.svid_check.specs.declared.take_fault.TakeFault.TheVariants.{OutOfMemory};
 
@@ -13,7 +14,7 @@ use svid_replay::{Batch, UseStore};
 impl<V: Verifier, S: UseStore> Validator<V, S> {
     /// Raises the record to a moment, in seconds. No memory is taken.
     pub fn tick(&mut self, now: u64)
-        ensures { self.new ≡ with_state self.old (raised self.old.state now) }
+        ensures { self.new ≡ with_state self.old (raised_to self.old.state now) }
     {
         self.replay.raise(now);
     }
@@ -25,9 +26,9 @@ impl<V: Verifier, S: UseStore> Validator<V, S> {
     /// any other is joined. Where memory is refused, the batch's moment and the uses in front of one that
     /// is new are joined; where no use is new and live, none is wanted.
     pub fn take(&mut self, now: u64, batch: &Batch) -> Result<(), TakeFault>
-        ensures taken { Takes (raised self.old.state now) (horizon now self.old.ahead) batch.now result self.new.state }
+        ensures taken { Takes (raised_to self.old.state now) (horizon now self.old.ahead) batch.now result self.new.state }
         ensures rest { self.new ≡ with_state self.old self.new.state }
-        ensures nothing_new { HasNoNew (raised self.old.state now) batch.now.moment batch.now.uses
+        ensures nothing_new { HasNoNew (raised_to self.old.state now) batch.now.moment batch.now.uses
             → result ≢ Err OutOfMemory }
     {
         self.tick(now);

@@ -1,9 +1,10 @@
 ghost use Rattle.std.specs.Prelude.{◌≡◌, ◌<◌, ◌≤◌, Some, IfOk, map, string_bytes};
 ghost use Rattle.svid_token.specs.Rows.{Answers};
+ghost use Rattle.svid_replay.specs.Buckets.{raised_to};
 ghost use Rattle.svid_replay.specs.Records.{IsRecord};
-ghost use Rattle.svid_check.specs.Changes.{raised, settled};
+ghost use Rattle.svid_check.specs.Changes.{settled};
 ghost use Rattle.svid_check.specs.Said.{RefusesForm};
-ghost use Rattle.svid_check.specs.Setting.{given_setting, setting_of, with_state};
+ghost use Rattle.svid_check.specs.Setting.{given_setting, setting_by, setting_of, with_state};
 ghost use Rattle.svid_check.specs.Verdict.{verdict};
 
 use crate::accepted::Accepted;
@@ -23,8 +24,9 @@ use svid_token::{Claims, Refusal};
 /// Contracts see it as these, with the record's moment and uses.
 #[derive(Drop)]
 pub struct Validator<V: Verifier, S: UseStore> {
-    alloc: Global,
-    pub(crate) given: Given<V>,
+    pub(crate) alloc: Global,
+    pub(crate) given: Given,
+    verifier: V,
     pub(crate) replay: Record<S>,
 }
 
@@ -41,7 +43,7 @@ impl<V: Verifier, S: UseStore> Model for Validator<V, S> {
       place = v.given.place;
       ahead = v.given.ahead;
       bundles = v.given.bundles;
-      verifier = v.given.verifier;
+      verifier = v.verifier;
       longest = v.given.longest;
       state = v.replay;
     } };
@@ -73,9 +75,9 @@ impl<V: Verifier, S: UseStore> Validator<V, S> {
                 place,
                 ahead,
                 bundles,
-                verifier,
                 longest,
             },
+            verifier,
             replay,
         }
     }
@@ -85,6 +87,7 @@ impl<V: Verifier, S: UseStore> Validator<V, S> {
         ensures value { result.now ≡ self.now.state }
         ensures is_record { IsRecord result.now }
     {
+        // (its contract says that the record is one at all times)
         let _moment = self.replay.moment();
         &self.replay
     }
@@ -96,31 +99,99 @@ impl<V: Verifier, S: UseStore> Validator<V, S> {
     /// refused one adds nothing. It answers the first refusal that holds, in the order of [`Refusal`];
     /// `OutOfMemory` may stand in place of an acceptance and of any refusal behind `NotThreeParts`.
     pub fn check(&mut self, now: u64, token: &[u8]) -> Result<Accepted, Refusal>
-        ensures answer { let x = raised self.old.state now in
+        ensures answer { let x = raised_to self.old.state now in
             Answers Some result (verdict (setting_of V.says self.old) x.moment x.uses token.now) }
         ensures early { RefusesForm token.now result }
-        ensures state { self.new ≡ with_state self.old (settled (raised self.old.state now) result) }
+        ensures state { self.new ≡ with_state self.old (settled (raised_to self.old.state now) result) }
     {
-        self.replay.raise(now);
-        let accepted = match judge(self.alloc, &self.given, &self.replay, token) {
-            Ok(accepted) => accepted,
-            Err(refusal) => return Err(refusal),
-        };
-        match self.replay.add(accepted.used) {
-            Ok(()) => Ok(accepted),
-            Err(_) => Err(Refusal::OutOfMemory),
-        }
+        check_by(
+            self.alloc,
+            &self.given,
+            &self.verifier,
+            &mut self.replay,
+            now,
+            token,
+        )
+    }
+
+    /// Checks a token at a moment, in seconds, by the verifier that is passed: it says which signatures are good, in
+    /// this call alone. Else as [`check`](Validator::check), which is this by the validator's own verifier.
+    pub fn check_by<W: Verifier>(
+        &mut self,
+        now: u64,
+        token: &[u8],
+        verifier: &W,
+    ) -> Result<Accepted, Refusal>
+        ensures answer { let x = raised_to self.old.state now in
+            Answers Some result (verdict (setting_by (W.says verifier.now) self.old) x.moment x.uses token.now) }
+        ensures early { RefusesForm token.now result }
+        ensures state { self.new ≡ with_state self.old (settled (raised_to self.old.state now) result) }
+    {
+        check_by(
+            self.alloc,
+            &self.given,
+            verifier,
+            &mut self.replay,
+            now,
+            token,
+        )
+    }
+
+    /// What [`check_by`](Validator::check_by) would answer at a moment, in seconds, if no memory were refused for the
+    /// use. The use of an acceptance is answered and not added, so a later check may accept the token.
+    ///
+    /// The record is raised to the moment, whatever the answer is, and nothing else happens to the validator.
+    /// `OutOfMemory` may stand in place of an acceptance and of any refusal behind `NotThreeParts`.
+    pub fn judge_by<W: Verifier>(
+        &mut self,
+        now: u64,
+        token: &[u8],
+        verifier: &W,
+    ) -> Result<Accepted, Refusal>
+        ensures answer { let x = raised_to self.old.state now in
+            Answers Some result (verdict (setting_by (W.says verifier.now) self.old) x.moment x.uses token.now) }
+        ensures early { RefusesForm token.now result }
+        ensures state { self.new ≡ with_state self.old (raised_to self.old.state now) }
+    {
+        self.tick(now);
+        judge(self.alloc, &self.given, verifier, &self.replay, token)
+    }
+}
+
+// A check by a verifier: the record is raised, the token is judged, and the use of an acceptance is added.
+fn check_by<V: Verifier, S: UseStore>(
+    alloc: Global,
+    given: &Given,
+    verifier: &V,
+    replay: &mut Record<S>,
+    now: u64,
+    token: &[u8],
+) -> Result<Accepted, Refusal>
+    ensures answer { let x = raised_to replay.old now in
+        Answers Some result (verdict (given_setting (V.says verifier.now) given.now) x.moment x.uses token.now) }
+    ensures early { RefusesForm token.now result }
+    ensures state { replay.new ≡ settled (raised_to replay.old now) result }
+{
+    replay.raise(now);
+    let accepted = match judge(alloc, given, verifier, replay, token) {
+        Ok(accepted) => accepted,
+        Err(refusal) => return Err(refusal),
+    };
+    match replay.add(accepted.used) {
+        Ok(()) => Ok(accepted),
+        Err(_) => Err(Refusal::OutOfMemory),
     }
 }
 
 // The acceptance of a token, or why it is refused. The record stays as it is.
 fn judge<V: Verifier, S: UseStore>(
     alloc: Global,
-    given: &Given<V>,
+    given: &Given,
+    verifier: &V,
     replay: &Record<S>,
     token: &[u8],
 ) -> Result<Accepted, Refusal>
-    ensures answer { Answers Some result (verdict (given_setting V.says given.now) replay.now.moment replay.now.uses token.now) }
+    ensures answer { Answers Some result (verdict (given_setting (V.says verifier.now) given.now) replay.now.moment replay.now.uses token.now) }
     ensures early { RefusesForm token.now result }
     ensures made { IfOk result (λ accepted. accepted.used.at ≤ replay.now.moment) }
     ensures live { IfOk result (λ accepted. replay.now.moment < accepted.used.exp) }
@@ -130,7 +201,7 @@ fn judge<V: Verifier, S: UseStore>(
         Err(refusal) => return Err(refusal),
     };
     let key = reading.key();
-    if let Some(refusal) = refusal(given, replay, &reading, &key) {
+    if let Some(refusal) = refusal(given, verifier, replay, &reading, &key) {
         return Err(refusal);
     }
     let used = Use {

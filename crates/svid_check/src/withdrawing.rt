@@ -1,6 +1,7 @@
 ghost use Rattle.std.specs.Prelude.{◌≡◌, ◌≢◌, Err, IsTrue};
+ghost use Rattle.svid_replay.specs.Buckets.{raised_to};
 ghost use Rattle.svid_replay.specs.Sets.{holds};
-ghost use Rattle.svid_check.specs.Changes.{IsWithdrawal, gains, raised, withdrawal, withdrawn_in};
+ghost use Rattle.svid_check.specs.Changes.{IsWithdrawal, gains, withdrawal, withdrawn_in};
 ghost use Rattle.svid_check.specs.Setting.{with_state};
 ghost use Rattle.svid_check.specs.declared.withdraw_fault.WithdrawFault.TheVariants.{OutOfMemory};
 
@@ -19,9 +20,9 @@ impl<V: Verifier, S: UseStore> Validator<V, S> {
     /// that moment. Where memory is refused, only the raise stands. A withdrawal that the record has
     /// already always succeeds.
     pub fn withdraw(&mut self, now: u64, key: [u8; 32], exp: u64) -> Result<Use, WithdrawFault>
-        ensures answer { IsWithdrawal self.old.place (raised self.old.state now).moment key exp result }
-        ensures state { self.new ≡ with_state self.old (gains (raised self.old.state now) (withdrawn_in result)) }
-        ensures held { let x = raised self.old.state now in
+        ensures answer { IsWithdrawal self.old.place (raised_to self.old.state now).moment key exp result }
+        ensures state { self.new ≡ with_state self.old (gains (raised_to self.old.state now) (withdrawn_in result)) }
+        ensures held { let x = raised_to self.old.state now in
             IsTrue (holds x.uses (withdrawal self.old.place x.moment key exp)) → result ≢ Err OutOfMemory }
     {
         self.tick(now);

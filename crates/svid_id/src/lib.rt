@@ -22,8 +22,6 @@ mod id_fault;
 pub mod laws;
 mod path;
 mod spiffe_id;
-#[cfg(test)]
-mod tests;
 mod text;
 mod trust_domain;
 

@@ -31,8 +31,6 @@ mod lines;
 mod questions;
 mod table_fault;
 mod table_verifier;
-#[cfg(test)]
-mod tests;
 mod verifier;
 
 pub use crate::bundle_fault::BundleFault;

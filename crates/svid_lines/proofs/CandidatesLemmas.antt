@@ -1,4 +1,4 @@
-use Rattle.std.proofs.Common.{◌≡◌, ℕ, List, ◌++◌, Some, inl, inr, sym, ap, ◌∙◌}
+use Rattle.std.proofs.Common.{◌≡◌, ℕ, List, ◌++◌, Some, inl, inr, sym, ap, subst, ◌∙◌}
 use Rattle.std.specs.Prelude.{Ok, Err}
 use Rattle.std.specs.List.{flat_map}
 use Rattle.svid_token.specs.Rows.{Refuses, first_row}
@@ -6,15 +6,15 @@ use Rattle.svid_token.specs.declared.refusal.Refusal.{Refusal}
 use Rattle.svid_keys.specs.Bundles.{Bundle}
 use Rattle.svid_keys.specs.Key.{KeyData}
 use Rattle.svid_keys.specs.declared.bundle_fault.BundleFault.{BundleFault}
-use Rattle.svid_wire.specs.Streams.{Taken}
+use Rattle.svid_wire.specs.Streams.{IsRead, Taken}
 use Rattle.svid_wire.specs.declared.read_fault.ReadFault.{ReadFault}
 use Rattle.svid_wire.specs.declared.read_fault.ReadFault.TheVariants as reading
 use Rattle.svid_check.specs.Said.{Said, reading_of, said_of, token_rows}
 use Rattle.svid_check.specs.Verdict.{keys_due, keys_for, keys_rows, rows_if_said}
 use Rattle.svid_check.proofs.RowsLemmas.{judged-Err, judged-None, judged-Ok, judged-Some, passes, refused, refused_through, stops}
 use Rattle.svid_lines.specs.Bundles.{AreBundlesRead, IsBundlesFault}
-use Rattle.svid_lines.specs.Candidates.{AreRefused, Inputs, IsCandidatesFault, candidate_line, lines_due, lines_if_said}
-use Rattle.svid_share.specs.Inputs.{IsUnread, read_fault_of}
+use Rattle.svid_lines.specs.Candidates.{AreRefused, Inputs, IsCandidatesFault, IsWanting, candidate_line, lines_due, lines_if_said}
+use Rattle.svid_share.specs.Inputs.{IsUnread, most_bytes, read_fault_of}
 use Rattle.svid_share.proofs.InputsLemmas.{not_write}
 use Rattle.svid_share.specs.declared.tool_fault.ToolFault.{ToolFault}
 use Rattle.svid_share.specs.declared.tool_fault.ToolFault.TheVariants as tool
@@ -62,6 +62,18 @@ pub second_refused : (inputs : Inputs) (fault : ToolFault) (bundles : List Bundl
 second_refused inputs (tool.Bundles fault) bundles read unread = absurd (not_bundles 2 unread.why fault unread.is)
 second_refused inputs tool.OutOfMemory bundles read unread = tt
 second_refused inputs given bundles read unread = inr (record { bundles = bundles; bundles_read = read; why = unread })
+
+-- memory was refused for the first input
+pub first_wants : (inputs : Inputs) (kept : Type 0) (fault : ToolFault) → IsBundlesFault inputs.bundles fault → kept → fault ≡ tool.OutOfMemory → IsWanting inputs kept
+first_wants inputs kept fault why same is = inl (subst (IsBundlesFault inputs.bundles) is why, same)
+
+-- memory was refused for what the second input gave
+pub second_wants : (inputs : Inputs) (kept : Type 0) (fault : ToolFault) (bundles : List Bundle) → AreBundlesRead inputs.bundles bundles → IsUnread 2 inputs.tokens fault → fault ≡ tool.OutOfMemory → IsWanting inputs kept
+second_wants inputs kept fault bundles read unread is = inr (record { bundles = bundles; bundles_read = read; why = inl (subst (IsUnread 2 inputs.tokens) is unread) })
+
+-- memory was refused for the answer
+pub answer_wants : (inputs : Inputs) (kept : Type 0) (bundles : List Bundle) (text : List ℕ) → AreBundlesRead inputs.bundles bundles → IsRead inputs.tokens most_bytes text → IsWanting inputs kept
+answer_wants inputs kept bundles text first second = inr (record { bundles = bundles; bundles_read = first; why = inr (record { text = text; read = second }) })
 
 -- no input is refused as a write is
 no_write : (inputs : Inputs) → AreRefused inputs tool.Write → ⊥

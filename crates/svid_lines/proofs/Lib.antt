@@ -1,3 +1,4 @@
 pub mod CandidatesLemmas
 pub mod CheckLemmas
 pub mod IdLemmas
+pub mod MemoryLemmas

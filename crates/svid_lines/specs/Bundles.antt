@@ -4,6 +4,7 @@ use Rattle.svid_keys.specs.Bundles.{Bundle, bundles_fault, bundles_in}
 use Rattle.svid_keys.specs.declared.bundle_fault.BundleFault.{BundleFault}
 use Rattle.svid_wire.specs.Streams.{Drawn, IsRead}
 use Rattle.svid_share.specs.Inputs.{IsUnread, most_bytes}
+use Rattle.svid_lines.specs.Memory.{WantsMemoryFor}
 use Rattle.svid_share.specs.declared.tool_fault.ToolFault.{ToolFault}
 use Rattle.svid_share.specs.declared.tool_fault.ToolFault.TheVariants as tool
 
@@ -19,8 +20,8 @@ pub record AreBundlesRefused (input : Drawn) (fault : BundleFault) : Type 0 wher
   pub read : IsRead input most_bytes text
   pub why : bundles_fault text ≡ Some fault
 
--- why the first input is refused: it is no bundles, it could not be read, or memory was wanted
+-- why the first input is refused: it is no bundles, it could not be read, or memory was refused for it
 abbrev pub IsBundlesFault : Drawn → ToolFault → Type 0
 IsBundlesFault input (tool.Bundles fault) = AreBundlesRefused input fault
-IsBundlesFault input tool.OutOfMemory = Unit {0}
+IsBundlesFault input tool.OutOfMemory = WantsMemoryFor 1 input
 IsBundlesFault input given = IsUnread 1 input given

@@ -14,6 +14,7 @@ use Rattle.svid_check.specs.Said.{Said, said_of, token_rows}
 use Rattle.svid_check.specs.Verdict.{keys_for, keys_rows, rows_if_said}
 use Rattle.svid_wire.specs.Streams.{Drawn, IsRead, Taken, TookAll, TookPart}
 use Rattle.svid_lines.specs.Bundles.{AreBundlesRead, AreBundlesRefused}
+use Rattle.svid_lines.specs.Memory.{WantsMemoryFor}
 use Rattle.svid_share.specs.Inputs.{IsUnread, most_bytes}
 use Rattle.svid_lines.specs.Refused.{refusal_line}
 use Rattle.svid_share.specs.declared.tool_fault.ToolFault.{ToolFault}
@@ -91,7 +92,17 @@ pub record IsSecondRefused (inputs : Inputs) (fault : ToolFault) : Type 0 where
   pub bundles_read : AreBundlesRead inputs.bundles bundles
   pub why : IsUnread 2 inputs.tokens fault
 
--- why the inputs of the engine are refused
+-- memory was refused for the second input or for the answer, while the first one is bundles
+pub record IsSecondWanting (inputs : Inputs) : Type 0 where
+  pub bundles : List Bundle
+  pub bundles_read : AreBundlesRead inputs.bundles bundles
+  pub why : WantsMemoryFor 2 inputs.tokens
+
+-- for what memory was refused: for the first input, and the second one is kept as it was; or for the second one
+abbrev pub IsWanting : Inputs → Type 0 → Type 0
+IsWanting inputs tokens_kept = (WantsMemoryFor 1 inputs.bundles × tokens_kept) ⊎ IsSecondWanting inputs
+
+-- why the inputs of the engine are refused; of want of memory `IsWanting` speaks
 abbrev pub AreRefused : Inputs → ToolFault → Type 0
 AreRefused inputs (tool.Bundles fault) = AreBundlesRefused inputs.bundles fault
 AreRefused inputs tool.OutOfMemory = Unit {0}

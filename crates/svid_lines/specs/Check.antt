@@ -1,45 +1,51 @@
 -- What `svid check` writes of what it reads.
-use Rattle.std.specs.Prelude.{◌≡◌, ℕ, Bool, List, [], map, string_bytes, Option, None, Some, ◌⊎◌}
+use Rattle.std.specs.Prelude.{◌≡◌, ℕ, ◌+◌, ◌-◌, ◌^◌, min, Bool, List, [], map, string_bytes, Option, None, Some, ◌⊎◌}
 use Rattle.svid_keys.specs.Bundles.{Bundle}
 use Rattle.svid_keys.specs.Lines.{lines_of}
 use Rattle.svid_keys.specs.Table.{is_among, questions_in, table_fault, table_says}
 use Rattle.svid_keys.specs.declared.table_fault.TableFault.TheVariants as table
 use Rattle.svid_replay.specs.Records.{State}
-use Rattle.svid_wire.specs.Messages.{batches_of}
+use Rattle.std.specs.Io.KnownBytes.{Appends}
+use Rattle.svid_wire.specs.Faults.{raised}
 use Rattle.svid_wire.specs.RecordText.{record_text}
-use Rattle.svid_wire.specs.Streams.{Drawn, IsRead, Taken, TookAll, TookPart, drawn, taken}
+use Rattle.svid_wire.specs.Streams.{Drawn, IsRead, Taken, TookAll, TookPart, taken}
 use Rattle.svid_wire.specs.declared.message.Message.{Message}
 use Rattle.svid_check.specs.Setting.{Says, Setting}
 use Rattle.svid_lines.specs.Bundles.{AreBundlesRead, IsBundlesFault}
+use Rattle.svid_lines.specs.Memory.{WantsMemoryFor}
 use Rattle.svid_lines.specs.Checks.{are_accepted, judgement_lines, judgements, record_after, tokens_of}
-use Rattle.svid_share.specs.Inputs.{IsInputFault, IsUnread, IsWhole, most_bytes}
+use Rattle.svid_share.specs.Inputs.{AreWhole, IsRefused, IsUnread, Sources, all_of, inputs_of, most_bytes}
 use Rattle.svid_share.specs.Joined.{joined}
 use Rattle.svid_lines.specs.declared.check.CheckSetting.{CheckSetting}
 use Rattle.svid_lines.specs.declared.check.Outcome.{Outcome as OutcomeMade}
 use Rattle.svid_share.specs.declared.tool_fault.ToolFault.{ToolFault}
 use Rattle.svid_share.specs.declared.tool_fault.ToolFault.TheVariants as tool
 
--- what was done to the inputs of the run; there may be no earlier record
-pub record CheckInputs : Type 0 where
+-- what was done to the inputs of the run; there may be no earlier record, or several
+pub record CheckInputs (R : Type 0) : Type 0 where
   pub bundles : Drawn
   pub table : Drawn
   pub tokens : Drawn
-  pub earlier : Option Drawn
+  pub earlier : Sources R
+
+-- what was done to a sink whose text is kept, and what it keeps then
+pub record Keeping : Type 0 where
+  pub sink : Taken
+  pub kept : Option (List ℕ)
 
 -- what was done to its outputs; the record after the last check may be kept, or not
 pub record CheckOutputs : Type 0 where
-  pub kept : Option Taken
+  pub kept : Option Keeping
   pub out : Taken
 
--- what was done to a source that may not be there
-abbrev pub drawn_if : {S : Type 0} → (S → Option (List ℕ)) → (S → ℕ) → Option S → Option S → Option Drawn
-drawn_if left stops (Some old) (Some new) = Some (drawn left stops old new)
-drawn_if left stops _ _ = None
+-- that of such a sink, by its own words `told`, `stops` and `kept`
+abbrev pub keeping : {K : Type 0} → (K → Option (List ℕ)) → (K → ℕ) → (K → Option (List ℕ)) → K → K → Keeping
+keeping told stops kept old new = record { sink = taken told stops old new; kept = kept new }
 
--- what was done to a sink that may not be there
-abbrev pub taken_if : {K : Type 0} → (K → Option (List ℕ)) → (K → ℕ) → Option K → Option K → Option Taken
-taken_if told stops (Some old) (Some new) = Some (taken told stops old new)
-taken_if told stops _ _ = None
+-- that of one that may not be there
+abbrev pub keeping_if : {K : Type 0} → (K → Option (List ℕ)) → (K → ℕ) → (K → Option (List ℕ)) → Option K → Option K → Option Keeping
+keeping_if told stops kept (Some old) (Some new) = Some (keeping told stops kept old new)
+keeping_if told stops kept _ _ = None
 
 -- the input was read, and each of its lines is a question or empty; these are the questions
 pub record IsTableRead (input : Drawn) (questions : List (List ℕ)) : Type 0 where
@@ -60,10 +66,11 @@ pub record IsTableOf (input : Drawn) (table : List (List ℕ)) : Type 0 where
   pub read : IsTableRead input questions
   pub same : (question : List ℕ) → is_among question table ≡ is_among question questions
 
--- the record that the run begins with: what the batches of the earlier one come to, or a new one
-abbrev pub IsEarlier : Option Drawn → State → Type 0
-IsEarlier None state = state ≡ joined []
-IsEarlier (Some input) state = (told : List Message) × IsWhole input told × (state ≡ joined (batches_of told))
+-- the record that the run begins with: what the batches of all earlier ones come to, a new one where there are none
+pub record IsEarlier (inputs : List Drawn) (state : State) : Type 0 where
+  pub told : List (List Message)
+  pub whole : AreWhole inputs told
+  pub is : state ≡ joined (all_of told)
 
 -- what the inputs say
 pub record Read : Type 0 where
@@ -73,11 +80,11 @@ pub record Read : Type 0 where
   pub earlier : State
 
 -- all inputs were read, and say this
-pub record AreRead (inputs : CheckInputs) (said : Read) : Type 0 where
+pub record AreRead {R : Type 0} (inputs : CheckInputs R) (said : Read) : Type 0 where
   pub bundles : AreBundlesRead inputs.bundles said.bundles
   pub table : IsTableRead inputs.table said.questions
   pub tokens : IsRead inputs.tokens most_bytes said.tokens
-  pub earlier : IsEarlier inputs.earlier said.earlier
+  pub earlier : IsEarlier (inputs_of inputs.earlier) said.earlier
 
 -- what a run comes to: whether all tokens are accepted, the text of the record after the last check, and a line for each
 pub record Outcome : Type 0 where
@@ -110,72 +117,98 @@ abbrev pub outcome_of : CheckSetting → Read → Outcome
 outcome_of given said = outcome_from (setting_for given said) given.now said.earlier (tokens_of (lines_of said.tokens))
 
 -- all inputs were read, and the run comes to this
-pub record IsOutcome (given : CheckSetting) (inputs : CheckInputs) (outcome : Outcome) : Type 0 where
+pub record IsOutcome {R : Type 0} (given : CheckSetting) (inputs : CheckInputs R) (outcome : Outcome) : Type 0 where
   pub said : Read
   pub read : AreRead inputs said
   pub is : outcome ≡ outcome_of given said
 
--- a sink that may not be there took the whole text
-abbrev pub TookAllIf : Option Taken → List ℕ → Type 0
-TookAllIf None text = Unit {0}
-TookAllIf (Some sink) text = TookAll sink text
+-- the sink took the whole text, and keeps what it took
+pub record IsKept (keeping : Keeping) (text : List ℕ) : Type 0 where
+  pub all : TookAll keeping.sink text
+  pub keeps : keeping.kept ≡ keeping.sink.told_after
 
--- a sink that may not be there stopped, and had taken a part of the text
-abbrev pub TookPartIf : Option Taken → List ℕ → Type 0
-TookPartIf None text = ⊥
-TookPartIf (Some sink) text = TookPart sink text
+-- the sink took the whole text, and stopped when it was to keep it
+pub record IsUnkept (sink : Taken) (text : List ℕ) : Type 0 where
+  pub gained : Appends sink.told_before sink.told_after text
+  pub stopped : sink.stops_after ≡ raised sink.stops_before
 
--- the record went out whole, where it is kept, and then each line
+-- the sink stopped: when it had taken a part of the text, or when it was to keep the whole
+abbrev pub IsLost : Keeping → List ℕ → Type 0
+IsLost keeping text = TookPart keeping.sink text ⊎ IsUnkept keeping.sink text
+
+-- a sink that may not be there keeps the whole text
+abbrev pub IsKeptIf : Option Keeping → List ℕ → Type 0
+IsKeptIf None text = Unit {0}
+IsKeptIf (Some keeping) text = IsKept keeping text
+
+-- a sink that may not be there stopped before it kept the whole text
+abbrev pub IsLostIf : Option Keeping → List ℕ → Type 0
+IsLostIf None text = ⊥
+IsLostIf (Some keeping) text = IsLost keeping text
+
+-- the record is kept whole, where it is to be, and each line went out
 pub record IsWritten (outputs : CheckOutputs) (outcome : Outcome) : Type 0 where
-  pub kept : TookAllIf outputs.kept outcome.kept
+  pub kept : IsKeptIf outputs.kept outcome.kept
   pub out : TookAll outputs.out outcome.lines
 
--- a part went out: of the record, and then no line; or the whole record, and then a part of the lines
+-- a part went out: the record is not kept, and no line went out; or it is kept whole, and a part of the lines went out
 abbrev pub IsWrittenInPart : CheckOutputs → Outcome → Type 0
 IsWrittenInPart outputs outcome =
-    (TookPartIf outputs.kept outcome.kept × TookAll outputs.out [])
-    ⊎ (TookAllIf outputs.kept outcome.kept × TookPart outputs.out outcome.lines)
+    (IsLostIf outputs.kept outcome.kept × TookAll outputs.out [])
+    ⊎ (IsKeptIf outputs.kept outcome.kept × TookPart outputs.out outcome.lines)
 
 -- what the run comes to was written
-pub record AreChecked (given : CheckSetting) (inputs : CheckInputs) (outputs : CheckOutputs) (accepted : Bool) : Type 0 where
+pub record AreChecked {R : Type 0} (given : CheckSetting) (inputs : CheckInputs R) (outputs : CheckOutputs) (accepted : Bool) : Type 0 where
   pub outcome : Outcome
   pub due : IsOutcome given inputs outcome
   pub written : IsWritten outputs outcome
   pub answer : accepted ≡ outcome.accepted
 
 -- a part of what the run comes to was written
-pub record AreCheckedInPart (given : CheckSetting) (inputs : CheckInputs) (outputs : CheckOutputs) : Type 0 where
+pub record AreCheckedInPart {R : Type 0} (given : CheckSetting) (inputs : CheckInputs R) (outputs : CheckOutputs) : Type 0 where
   pub outcome : Outcome
   pub due : IsOutcome given inputs outcome
   pub part : IsWrittenInPart outputs outcome
 
--- why the table is refused: a line is neither empty nor a question, it could not be read, or memory was wanted
+-- why the table is refused: a line is neither empty nor a question, it could not be read, or memory was refused for it
 abbrev pub IsTableFault : Drawn → ToolFault → Type 0
 IsTableFault input (tool.Table line) = IsTableRefused input line
-IsTableFault input tool.OutOfMemory = Unit {0}
+IsTableFault input tool.OutOfMemory = WantsMemoryFor 2 input
 IsTableFault input given = IsUnread 2 input given
 
--- why the earlier record is refused, where there is one
-abbrev pub IsEarlierFault : Option Drawn → ToolFault → Type 0
-IsEarlierFault None fault = fault ≡ tool.OutOfMemory
-IsEarlierFault (Some input) fault = IsInputFault 4 input fault
+-- the number of an input before which three more stand, held at 2^64-1
+abbrev pub behind_three : ℕ → ℕ
+behind_three number = min (number + 3) (2 ^ 64 - 1)
+
+-- the fault of earlier records, before which three more inputs stand
+abbrev pub earlier_fault : ToolFault → ToolFault
+earlier_fault (tool.Wire input message place reason) = tool.Wire (behind_three input) message place reason
+earlier_fault (tool.Read input) = tool.Read (behind_three input)
+earlier_fault (tool.TooMuch input) = tool.TooMuch (behind_three input)
+earlier_fault given = given
+
+-- why the earlier records are refused: one of them is, and those behind it are as they were
+pub record IsEarlierFault {R : Type 0} (s : Sources R) (fault : ToolFault) : Type 0 where
+  pub own : ToolFault
+  pub why : IsRefused s own
+  pub is : fault ≡ earlier_fault own
 
 -- the table is refused, and the bundles are good
-pub record IsSecondRefused (inputs : CheckInputs) (fault : ToolFault) : Type 0 where
+pub record IsSecondRefused {R : Type 0} (inputs : CheckInputs R) (fault : ToolFault) : Type 0 where
   pub bundles : List Bundle
   pub first : AreBundlesRead inputs.bundles bundles
   pub why : IsTableFault inputs.table fault
 
 -- the tokens are refused, and what stands before them is good
-pub record IsThirdRefused (inputs : CheckInputs) (fault : ToolFault) : Type 0 where
+pub record IsThirdRefused {R : Type 0} (inputs : CheckInputs R) (fault : ToolFault) : Type 0 where
   pub bundles : List Bundle
   pub questions : List (List ℕ)
   pub first : AreBundlesRead inputs.bundles bundles
   pub second : IsTableRead inputs.table questions
   pub why : IsUnread 3 inputs.tokens fault
 
--- the earlier record is refused, and what stands before it is good
-pub record IsFourthRefused (inputs : CheckInputs) (fault : ToolFault) : Type 0 where
+-- an earlier record is refused, and what stands before it is good
+pub record IsFourthRefused {R : Type 0} (inputs : CheckInputs R) (fault : ToolFault) : Type 0 where
   pub bundles : List Bundle
   pub questions : List (List ℕ)
   pub tokens : List ℕ
@@ -185,13 +218,28 @@ pub record IsFourthRefused (inputs : CheckInputs) (fault : ToolFault) : Type 0 w
   pub why : IsEarlierFault inputs.earlier fault
 
 -- the first input that is refused
-abbrev pub IsOneRefused : CheckInputs → ToolFault → Type 0
+abbrev pub IsOneRefused : {R : Type 0} → CheckInputs R → ToolFault → Type 0
 IsOneRefused inputs fault =
     IsBundlesFault inputs.bundles fault
     ⊎ (IsSecondRefused inputs fault ⊎ (IsThirdRefused inputs fault ⊎ IsFourthRefused inputs fault))
 
--- when the run gives up: since a sink stopped, for want of memory, or for the first of its inputs that is refused
-abbrev pub IsCheckFault : CheckSetting → CheckInputs → CheckOutputs → ToolFault → Type 0
+-- all inputs were read, and they say something
+pub record AreAllRead {R : Type 0} (inputs : CheckInputs R) : Type 0 where
+  pub said : Read
+  pub read : AreRead inputs said
+
+-- for what memory was refused: for an input, and those behind it are kept as they were; or for the checks, when all were
+-- read
+abbrev pub IsWanting : {R : Type 0} → CheckInputs R → Type 0 → Type 0 → Type 0 → Type 0
+IsWanting inputs table_kept tokens_kept earlier_kept =
+    (IsBundlesFault inputs.bundles tool.OutOfMemory × table_kept × tokens_kept × earlier_kept)
+    ⊎ ((IsSecondRefused inputs tool.OutOfMemory × tokens_kept × earlier_kept)
+    ⊎ ((IsThirdRefused inputs tool.OutOfMemory × earlier_kept)
+    ⊎ (IsFourthRefused inputs tool.OutOfMemory ⊎ AreAllRead inputs)))
+
+-- when the run gives up, but for want of memory, of which `IsWanting` speaks: since a sink stopped, or for the first of its
+-- inputs that is refused
+abbrev pub IsCheckFault : {R : Type 0} → CheckSetting → CheckInputs R → CheckOutputs → ToolFault → Type 0
 IsCheckFault given inputs outputs tool.Write = AreCheckedInPart given inputs outputs
 IsCheckFault given inputs outputs tool.OutOfMemory = Unit {0}
 IsCheckFault given inputs outputs fault = IsOneRefused inputs fault

@@ -4,8 +4,8 @@ use Rattle.std.specs.Fmt.{decimal}
 use Rattle.std.specs.List.{flat_map}
 use Rattle.svid_id.specs.Id.{id_text}
 use Rattle.svid_token.specs.declared.refusal.Refusal.{Refusal}
+use Rattle.svid_replay.specs.Buckets.{raised_to}
 use Rattle.svid_replay.specs.Records.{State, join, state_of}
-use Rattle.svid_check.specs.Changes.{raised}
 use Rattle.svid_check.specs.Setting.{Setting}
 use Rattle.svid_check.specs.Verdict.{verdict}
 use Rattle.svid_check.specs.declared.accepted.Accepted.{Accepted}
@@ -21,7 +21,7 @@ tokens_of lines = filter (λ line. nat_lt 0 (length line)) lines
 
 -- the verdict at the moment of the record, raised to now
 abbrev pub due : Setting → ℕ → State → List ℕ → Judgement
-due s now x token = verdict s (raised x now).moment (raised x now).uses token
+due s now x token = verdict s (raised_to x now).moment (raised_to x now).uses token
 
 -- a record after a verdict: an acceptance adds its use
 abbrev pub settled_by : State → Judgement → State
@@ -31,7 +31,7 @@ settled_by x (Err refusal) = x
 
 -- the record after the check of a token
 abbrev pub after : Setting → ℕ → State → List ℕ → State
-after s now x token = settled_by (raised x now) (due s now x token)
+after s now x token = settled_by (raised_to x now) (due s now x token)
 
 -- the record after the checks of all tokens
 abbrev pub record_after : Setting → ℕ → State → List (List ℕ) → State

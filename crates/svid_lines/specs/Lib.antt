@@ -3,4 +3,5 @@ pub mod Candidates
 pub mod Check
 pub mod Checks
 pub mod Id
+pub mod Memory
 pub mod Refused

@@ -4,7 +4,7 @@ ghost use Rattle.svid_token.specs.Rows.{Answers};
 ghost use Rattle.svid_keys.specs.Candidates.{candidates_left};
 ghost use Rattle.svid_check.specs.Said.{said_in};
 ghost use Rattle.svid_wire.specs.Streams.{drawn, taken};
-ghost use Rattle.svid_lines.specs.Candidates.{AreCandidatesPrinted, AreRefused, IsCandidatesAnswer, IsCandidatesFault, IsOfFirst, accepts, candidate_line, first_token, lines_due, printed};
+ghost use Rattle.svid_lines.specs.Candidates.{AreCandidatesPrinted, AreRefused, IsCandidatesAnswer, IsCandidatesFault, IsOfFirst, IsWanting, accepts, candidate_line, first_token, lines_due, printed};
 
 use crate::bundles::read_bundles;
 use crate::refused::refusal_line;
@@ -82,7 +82,7 @@ fn first_token(text: &[u8]) -> &[u8]
 }
 
 // What is printed for both inputs, and whether there are candidates.
-#[tactic(auto, using(crate::proofs::CandidatesLemmas::first_refused, crate::proofs::CandidatesLemmas::second_refused))]
+#[tactic(auto, using(crate::proofs::CandidatesLemmas::first_refused, crate::proofs::CandidatesLemmas::second_refused, crate::proofs::CandidatesLemmas::first_wants, crate::proofs::CandidatesLemmas::second_wants))]
 fn text_of_inputs<B: Source, T: Source>(
     alloc: Global,
     bundles: &mut B,
@@ -93,6 +93,9 @@ fn text_of_inputs<B: Source, T: Source>(
         a.0 (string_bytes a.1)) }
     ensures fault { IfErr result (AreRefused
         (record { bundles = drawn B.left B.stops bundles.old bundles.new; tokens = drawn T.left T.stops tokens.old tokens.new })) }
+    ensures memory { IfErr result (λ fault. fault ≡ ToolFault.OutOfMemory → IsWanting
+        (record { bundles = drawn B.left B.stops bundles.old bundles.new; tokens = drawn T.left T.stops tokens.old tokens.new })
+        (tokens.new ≡ tokens.old)) }
     ensures tokens_kept { IfErr result (λ fault. IsOfFirst fault → tokens.new ≡ tokens.old) }
 {
     let bundles = read_bundles(alloc, bundles)?;
@@ -109,7 +112,7 @@ fn text_of_inputs<B: Source, T: Source>(
 /// is written. Refused for bundles that are none (`Bundles`), for an input that could not be read
 /// (`Read`) or has more than 67,108,864 bytes (`TooMuch`), for want of memory, and where the sink
 /// stopped (`Write`): then a part of the text went out, and else nothing did. Where the first input is
-/// at fault, the second is as it was.
+/// at fault, or memory was refused for it, the second is as it was.
 #[tactic(auto, using(crate::proofs::CandidatesLemmas::inputs_refused))]
 pub fn run_candidates<B: Source, T: Source, K: Sink>(
     alloc: Global,
@@ -123,6 +126,9 @@ pub fn run_candidates<B: Source, T: Source, K: Sink>(
     ensures fault { IfErr result (IsCandidatesFault
         (record { bundles = drawn B.left B.stops bundles.old bundles.new; tokens = drawn T.left T.stops tokens.old tokens.new })
         (taken K.told K.stops out.old out.new)) }
+    ensures memory { IfErr result (λ fault. fault ≡ ToolFault.OutOfMemory → IsWanting
+        (record { bundles = drawn B.left B.stops bundles.old bundles.new; tokens = drawn T.left T.stops tokens.old tokens.new })
+        (tokens.new ≡ tokens.old)) }
     ensures tokens_kept { IfErr result (λ fault. IsOfFirst fault → tokens.new ≡ tokens.old) }
     ensures kept { IfErr result (λ fault. fault ≢ ToolFault.Write → out.new ≡ out.old) }
 {

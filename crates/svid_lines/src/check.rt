@@ -1,19 +1,20 @@
-ghost use Rattle.std.specs.Prelude.{◌≡◌, ◌≢◌, IfOk, IfErr, OnOk, OnErr, Some, is_some};
+ghost use Rattle.std.specs.Prelude.{◌≡◌, ◌≢◌, IfOk, IfErr, OnOk, OnErr, is_some};
 ghost use Rattle.svid_keys.specs.Lines.{lines_of};
 ghost use Rattle.svid_keys.specs.Table.{table_says};
 ghost use Rattle.svid_wire.specs.RecordText.{record_text};
 ghost use Rattle.svid_wire.specs.Streams.{drawn, taken};
 ghost use Rattle.svid_lines.specs.Checks.{tokens_of};
-ghost use Rattle.svid_share.specs.Inputs.{IsInputFault};
-ghost use Rattle.svid_lines.specs.Check.{AreChecked, IsCheckFault, IsEarlier, IsEarlierFault, IsOfInput, IsOneRefused, IsOutcome, IsTableFault, IsTableOf, TookAllIf, TookPartIf, drawn_if, outcome_from, outcome_view, setting_under, taken_if};
+ghost use Rattle.svid_share.specs.Inputs.{inputs_of, sources};
+ghost use Rattle.svid_lines.specs.Check.{AreChecked, IsCheckFault, IsEarlier, IsEarlierFault, IsKept, IsKeptIf, IsLost, IsLostIf, IsOfInput, IsOneRefused, IsOutcome, IsTableFault, IsTableOf, IsWanting, earlier_fault, keeping, keeping_if, outcome_from, outcome_view, setting_under};
 
 use crate::bundles::read_bundles;
 use crate::checks::check_lines;
+use crate::keep::Keep;
 use std::alloc::{AllocError, Global};
 use svid_check::Validator;
 use svid_keys::{Bundles, TableVerifier};
 use svid_replay::{Record, RunUses, UseStore};
-use svid_share::{ToolFault, join_input, put_record, put_text, read_input};
+use svid_share::{ToolFault, join_inputs, put_record, put_text, read_input};
 use svid_wire::{Sink, Source};
 
 /// What a run of checks is told.
@@ -48,31 +49,42 @@ fn read_table<S: Source>(alloc: Global, source: &mut S) -> Result<TableVerifier,
     Ok(TableVerifier::read(alloc, &bytes)?)
 }
 
-// What the earlier record comes to.
-#[tactic(auto, using(crate::proofs::CheckLemmas::begins_with))]
-fn join_earlier<S: Source>(alloc: Global, source: &mut S) -> Result<Record<RunUses>, ToolFault>
-    ensures ok { IfOk result (IsEarlier (Some (drawn S.left S.stops source.old source.new))) }
-    ensures fault { IfErr result (IsInputFault 4 (drawn S.left S.stops source.old source.new)) }
+// The fault of an earlier record: the bundles, the table and the tokens stand before it.
+fn earlier_fault(fault: ToolFault) -> ToolFault
+    ensures { result ≡ earlier_fault fault }
 {
-    let mut begun = Record::new(RunUses::new(alloc));
-    let mut messages = Vec::new(alloc);
-    join_input(alloc, source, 4, &mut messages, &mut begun)?;
-    Ok(begun)
+    match fault {
+        ToolFault::Wire {
+            input,
+            message,
+            place,
+            reason,
+        } => ToolFault::Wire {
+            input: input.saturating_add(3),
+            message,
+            place,
+            reason,
+        },
+        ToolFault::Read { input } => ToolFault::Read {
+            input: input.saturating_add(3),
+        },
+        ToolFault::TooMuch { input } => ToolFault::TooMuch {
+            input: input.saturating_add(3),
+        },
+        fault => fault,
+    }
 }
 
-// The record that the run begins with: what the earlier one comes to, where there is one.
-#[tactic(auto, using(svid_share::proofs::JoinedLemmas::joined_none))]
-fn read_earlier<S: Source>(
-    alloc: Global,
-    earlier: &mut Option<S>,
-) -> Result<Record<RunUses>, ToolFault>
-    ensures ok { IfOk result (IsEarlier (drawn_if S.left S.stops earlier.old earlier.new)) }
-    ensures fault { IfErr result (IsEarlierFault (drawn_if S.left S.stops earlier.old earlier.new)) }
-    ensures there { is_some earlier.new ≡ is_some earlier.old }
+// The record that the run begins with: what all earlier ones come to, or a new one.
+#[tactic(auto, using(crate::proofs::CheckLemmas::begins_with))]
+fn read_earlier<S: Source>(alloc: Global, earlier: &mut [S]) -> Result<Record<RunUses>, ToolFault>
+    ensures ok { IfOk result (IsEarlier (inputs_of (sources S.left S.stops earlier.old earlier.new))) }
+    ensures fault { IfErr result (IsEarlierFault (sources S.left S.stops earlier.old earlier.new)) }
 {
-    match earlier {
-        Some(source) => join_earlier(alloc, source),
-        None => Ok(Record::new(RunUses::new(alloc))),
+    let mut begun = Record::new(RunUses::new(alloc));
+    match join_inputs(alloc, earlier, &mut begun) {
+        Ok(()) => Ok(begun),
+        Err(fault) => Err(earlier_fault(fault)),
     }
 }
 
@@ -104,31 +116,36 @@ fn check_all(
 }
 
 // Reads all inputs and checks all tokens.
-#[tactic(auto, using(crate::proofs::CheckLemmas::comes_to, crate::proofs::CheckLemmas::first_refused, crate::proofs::CheckLemmas::second_refused, crate::proofs::CheckLemmas::third_refused, crate::proofs::CheckLemmas::fourth_refused))]
+#[tactic(auto, using(crate::proofs::CheckLemmas::comes_to, crate::proofs::CheckLemmas::first_refused, crate::proofs::CheckLemmas::second_refused, crate::proofs::CheckLemmas::third_refused, crate::proofs::CheckLemmas::fourth_refused, crate::proofs::CheckLemmas::not_before, crate::proofs::CheckLemmas::first_wants, crate::proofs::CheckLemmas::second_wants, crate::proofs::CheckLemmas::third_wants, crate::proofs::CheckLemmas::fourth_wants))]
 fn outcome_of_inputs<B: Source, T: Source, L: Source, R: Source>(
     alloc: Global,
     given: CheckSetting,
     bundles: &mut B,
     table: &mut T,
     tokens: &mut L,
-    earlier: &mut Option<R>,
+    earlier: &mut [R],
 ) -> Result<Outcome, ToolFault>
     ensures ok { IfOk result (λ outcome. IsOutcome given (record {
       bundles = drawn B.left B.stops bundles.old bundles.new;
       table = drawn T.left T.stops table.old table.new;
       tokens = drawn L.left L.stops tokens.old tokens.new;
-      earlier = drawn_if R.left R.stops earlier.old earlier.new;
+      earlier = sources R.left R.stops earlier.old earlier.new;
     }) (outcome_view outcome)) }
     ensures fault { IfErr result (λ fault. fault ≢ ToolFault.OutOfMemory → IsOneRefused (record {
       bundles = drawn B.left B.stops bundles.old bundles.new;
       table = drawn T.left T.stops table.old table.new;
       tokens = drawn L.left L.stops tokens.old tokens.new;
-      earlier = drawn_if R.left R.stops earlier.old earlier.new;
+      earlier = sources R.left R.stops earlier.old earlier.new;
     }) fault) }
+    ensures memory { IfErr result (λ fault. fault ≡ ToolFault.OutOfMemory → IsWanting (record {
+      bundles = drawn B.left B.stops bundles.old bundles.new;
+      table = drawn T.left T.stops table.old table.new;
+      tokens = drawn L.left L.stops tokens.old tokens.new;
+      earlier = sources R.left R.stops earlier.old earlier.new;
+    }) (table.new ≡ table.old) (tokens.new ≡ tokens.old) (earlier.new ≡ earlier.old)) }
     ensures behind_bundles { IfErr result (λ fault. IsOfInput 1 fault → (table.new ≡ table.old) × (tokens.new ≡ tokens.old) × (earlier.new ≡ earlier.old)) }
     ensures behind_table { IfErr result (λ fault. IsOfInput 2 fault → (tokens.new ≡ tokens.old) × (earlier.new ≡ earlier.old)) }
     ensures behind_tokens { IfErr result (λ fault. IsOfInput 3 fault → earlier.new ≡ earlier.old) }
-    ensures earlier_there { is_some earlier.new ≡ is_some earlier.old }
 {
     let bundles = read_bundles(alloc, bundles)?;
     let table = read_table(alloc, table)?;
@@ -137,15 +154,29 @@ fn outcome_of_inputs<B: Source, T: Source, L: Source, R: Source>(
     Ok(check_all(alloc, given, bundles, table, begun, &text)?)
 }
 
-// Writes the record, where it is kept.
-fn put_kept<T: UseStore, P: Sink>(kept: &mut Option<P>, state: &Record<T>) -> Result<(), ToolFault>
-    ensures ok { OnOk result (TookAllIf (taken_if P.told P.stops kept.old kept.new) (record_text state.now)) }
+// Writes the record, and keeps it.
+#[tactic(auto, using(crate::proofs::CheckLemmas::is_kept, crate::proofs::CheckLemmas::is_unkept))]
+fn keep_record<T: UseStore, P: Keep>(sink: &mut P, state: &Record<T>) -> Result<(), ToolFault>
+    ensures ok { OnOk result (IsKept (keeping P.told P.stops P.kept sink.old sink.new) (record_text state.now)) }
     ensures fault { IfErr result (λ e. e ≡ ToolFault.Write) }
-    ensures part { OnErr result (TookPartIf (taken_if P.told P.stops kept.old kept.new) (record_text state.now)) }
+    ensures part { OnErr result (IsLost (keeping P.told P.stops P.kept sink.old sink.new) (record_text state.now)) }
+{
+    put_record(state, sink)?;
+    match sink.keep() {
+        Ok(()) => Ok(()),
+        Err(_) => Err(ToolFault::Write),
+    }
+}
+
+// Writes the record and keeps it, where there is a sink for it.
+fn put_kept<T: UseStore, P: Keep>(kept: &mut Option<P>, state: &Record<T>) -> Result<(), ToolFault>
+    ensures ok { OnOk result (IsKeptIf (keeping_if P.told P.stops P.kept kept.old kept.new) (record_text state.now)) }
+    ensures fault { IfErr result (λ e. e ≡ ToolFault.Write) }
+    ensures part { OnErr result (IsLostIf (keeping_if P.told P.stops P.kept kept.old kept.new) (record_text state.now)) }
     ensures there { is_some kept.new ≡ is_some kept.old }
 {
     match kept {
-        Some(sink) => put_record(state, sink),
+        Some(sink) => keep_record(sink, state),
         None => Ok(()),
     }
 }
@@ -155,25 +186,25 @@ fn put_kept<T: UseStore, P: Sink>(kept: &mut Option<P>, state: &Record<T>) -> Re
 /// expiry, or `refused` and the first refusal that holds. Says whether all are accepted.
 ///
 /// The verifier says yes to the questions of the table. The record of used tokens begins with what the
-/// batches of `earlier` come to, where it is there, and else new; each acceptance adds its use, so a
+/// batches of all `earlier` come to, and is new where there are none; each acceptance adds its use, so a
 /// token that comes again is refused, and so is one that the record has a withdrawal of. Where there is
-/// `kept`, the record after the last check goes there whole before the first line goes out.
+/// `kept`, the record after the last check goes there whole, and is kept, before the first line goes out.
 ///
 /// The inputs are read and judged in this order, before anything is written: the bundles, the table, the
-/// tokens, the earlier record. Refused for the first that could not be read (`Read`), has more than
+/// tokens, the earlier records, which have the numbers from 4 on (held at 2^64-1). Refused for the first that could not be read (`Read`), has more than
 /// 67,108,864 bytes (`TooMuch`) or is not what it is to be (`Bundles`, `Table`, `Wire`), for want of
 /// memory, a check's among them, and where a sink stopped (`Write`): then a part went out, and else
-/// nothing did. A bad field of the earlier record in what came before a failed read or the limit is
-/// answered before these. The inputs behind a refused one are as they were; where memory was wanted,
-/// nothing is said of them.
+/// nothing did. A bad field of an earlier record in what came before a failed read or the limit is
+/// answered before these. The inputs behind a refused one, or one that memory was refused for, are as they
+/// were.
 #[tactic(auto, using(crate::proofs::CheckLemmas::inputs_refused))]
-pub fn run_check<B: Source, T: Source, L: Source, R: Source, P: Sink, K: Sink>(
+pub fn run_check<B: Source, T: Source, L: Source, R: Source, P: Keep, K: Sink>(
     alloc: Global,
     given: CheckSetting,
     bundles: &mut B,
     table: &mut T,
     tokens: &mut L,
-    earlier: &mut Option<R>,
+    earlier: &mut [R],
     kept: &mut Option<P>,
     out: &mut K,
 ) -> Result<bool, ToolFault>
@@ -181,19 +212,24 @@ pub fn run_check<B: Source, T: Source, L: Source, R: Source, P: Sink, K: Sink>(
       bundles = drawn B.left B.stops bundles.old bundles.new;
       table = drawn T.left T.stops table.old table.new;
       tokens = drawn L.left L.stops tokens.old tokens.new;
-      earlier = drawn_if R.left R.stops earlier.old earlier.new;
-    }) (record { kept = taken_if P.told P.stops kept.old kept.new; out = taken K.told K.stops out.old out.new })) }
+      earlier = sources R.left R.stops earlier.old earlier.new;
+    }) (record { kept = keeping_if P.told P.stops P.kept kept.old kept.new; out = taken K.told K.stops out.old out.new })) }
     ensures fault { IfErr result (IsCheckFault given (record {
       bundles = drawn B.left B.stops bundles.old bundles.new;
       table = drawn T.left T.stops table.old table.new;
       tokens = drawn L.left L.stops tokens.old tokens.new;
-      earlier = drawn_if R.left R.stops earlier.old earlier.new;
-    }) (record { kept = taken_if P.told P.stops kept.old kept.new; out = taken K.told K.stops out.old out.new })) }
+      earlier = sources R.left R.stops earlier.old earlier.new;
+    }) (record { kept = keeping_if P.told P.stops P.kept kept.old kept.new; out = taken K.told K.stops out.old out.new })) }
+    ensures memory { IfErr result (λ fault. fault ≡ ToolFault.OutOfMemory → IsWanting (record {
+      bundles = drawn B.left B.stops bundles.old bundles.new;
+      table = drawn T.left T.stops table.old table.new;
+      tokens = drawn L.left L.stops tokens.old tokens.new;
+      earlier = sources R.left R.stops earlier.old earlier.new;
+    }) (table.new ≡ table.old) (tokens.new ≡ tokens.old) (earlier.new ≡ earlier.old)) }
     ensures behind_bundles { IfErr result (λ fault. IsOfInput 1 fault → (table.new ≡ table.old) × (tokens.new ≡ tokens.old) × (earlier.new ≡ earlier.old)) }
     ensures behind_table { IfErr result (λ fault. IsOfInput 2 fault → (tokens.new ≡ tokens.old) × (earlier.new ≡ earlier.old)) }
     ensures behind_tokens { IfErr result (λ fault. IsOfInput 3 fault → earlier.new ≡ earlier.old) }
     ensures unwritten { IfErr result (λ fault. fault ≢ ToolFault.Write → (kept.new ≡ kept.old) × (out.new ≡ out.old)) }
-    ensures earlier_there { is_some earlier.new ≡ is_some earlier.old }
     ensures kept_there { is_some kept.new ≡ is_some kept.old }
 {
     let outcome = outcome_of_inputs(alloc, given, bundles, table, tokens, earlier)?;

@@ -22,10 +22,10 @@ mod candidates;
 mod check;
 mod checks;
 mod id;
+mod keep;
 mod refused;
-#[cfg(test)]
-mod tests;
 
 pub use candidates::{run_candidates, token_lines};
 pub use check::{CheckSetting, run_check};
 pub use id::run_id;
+pub use keep::Keep;

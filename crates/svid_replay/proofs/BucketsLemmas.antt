@@ -1,4 +1,4 @@
-use Rattle.std.proofs.Common.{◌≡◌, ℕ, ◌<◌, ◌==◌, true, false, Bool, List, [], ◌∷◌, ◌++◌, map, length, get_or, ap, sym, refl, ◌∙◌, arith, find, Option, None, Some, not}
+use Rattle.std.proofs.Common.{◌≡◌, ℕ, ◌<◌, ◌≤◌, ◌+◌, ◌≢◌, ◌==◌, nat_eq, subst, true, false, Bool, List, [], ◌∷◌, ◌++◌, map, length, get_or, ap, sym, refl, ◌∙◌, arith, find, Option, None, Some, not}
 use Rattle.std.specs.List.{AllByRecursion, filter, flat_map, range_with_len}
 use Rattle.std.proofs.lemmas.List.{same_lists}
 use Rattle.std.proofs.lemmas.List.FromFn.{get_or-map-range_with_len, length-map-range_with_len}
@@ -6,10 +6,14 @@ use Rattle.std.proofs.lemmas.List.Elements.{All-get_or}
 use Rattle.std.proofs.lemmas.Cmp.{nat_list_cmp_total, tied_itself}
 use Rattle.std.specs.Ordering.{is_eq}
 use Rattle.sha2.specs.Sha256.{sha256}
+use Rattle.sha2.specs.declared.Sha256.{Sha256}
+use Rattle.std.proofs.Math.ListN.{set}
+use Rattle.std.proofs.lemmas.Bool.{eqb-true, eqb-false}
+use Rattle.std.proofs.lemmas.List.{get_or-set_same, get_or-set_other, length-set}
 use Rattle.svid_replay.specs.declared.token_use.Use.{Use}
 use Rattle.svid_replay.specs.Batches.{is_after}
 use Rattle.svid_replay.specs.Buckets.{answer_to, bucket_of, bucket_digest, differs, digests_of, raised_to, stale, summary_of, BucketHoldsItsUses, StaleHoldsDiffering, RaisedIsRecord, AnswerIsBatches, OwnSummaryAsksNothing}
-use Rattle.svid_replay.specs.Hashers.{digests_in, text_in}
+use Rattle.svid_replay.specs.Hashers.{HoldBuckets, HoldsText, digests_in, text_in}
 use Rattle.svid_replay.specs.Parts.{cut}
 use Rattle.svid_replay.specs.Records.{State, IsHeldAt, IsRecord, state_of}
 use Rattle.svid_replay.specs.Sets.{holds, keep, rising}
@@ -28,6 +32,40 @@ use Rattle.svid_replay.proofs.UsesLemmas.{IsWalked, rising-keep, walk_none, walk
 pub digests_are : (digests : List (List ℕ)) (us : List Use) → length digests ≡ 256 → ((b : ℕ) (d : List ℕ) → b < 256 → get_or digests b d ≡ sha256 (text_in b us)) → digests ≡ digests_in us
 unfolding digests_in
 digests_are digests us full each = same_lists digests _ (full ∙ sym (length-map-range_with_len (λ b. sha256 (text_in b us)) 0 256)) (λ b d within. let below : b < 256 = omega (arith, full) in each b d below ∙ sym (get_or-map-range_with_len (λ c. sha256 (text_in c us)) 0 256 b b d below (omega arith)))
+
+-- the first of the slots are finished, and the others hold what they held
+pub record AreFinished (us : List Use) (slots : List (Option Sha256)) (digests : List (List ℕ)) (count : ℕ) : Type 0 where
+  pub full : length slots ≡ 256
+  pub long : length digests ≡ 256
+  pub done : (b : ℕ) (d : List ℕ) → b < count → get_or digests b d ≡ sha256 (text_in b us)
+  pub left : (b : ℕ) (d : Option Sha256) → count ≤ b → b < 256 → HoldsText (get_or slots b d) (text_in b us)
+
+pub finished_none : (us : List Use) (slots : List (Option Sha256)) (digests : List (List ℕ)) → HoldBuckets slots us → length digests ≡ 256 → AreFinished us slots digests 0
+finished_none us slots digests held long = record {
+  full = held.full;
+  long = long;
+  done = λ b d below. absurd (omega (arith, below));
+  left = λ b d above within. held.each b d within;
+}
+
+pub finished_more : (us : List Use) (slots : List (Option Sha256)) (digests : List (List ℕ)) (n : ℕ) (slot : Option Sha256) (digest : List ℕ) → AreFinished us slots digests n → n < 256 → digest ≡ sha256 (text_in n us) → AreFinished us (set slots n slot) (set digests n digest) (n + 1)
+finished_more us slots digests n slot digest so_far within is = record {
+  full = length-set slots n slot ∙ so_far.full;
+  long = length-set digests n digest ∙ so_far.long;
+  done = λ b d below. at_or_below b d below (nat_eq b n) refl;
+  left = λ b d above fits.
+      let other : b ≢ n = omega arith in
+      subst (λ h. HoldsText h (text_in b us)) (sym (get_or-set_other slots n b slot d other)) (so_far.left b d (omega arith) fits);
+}
+  where
+    at_or_below : (b : ℕ) (d : List ℕ) → b < n + 1 → (same : Bool) → nat_eq b n ≡ same → get_or (set digests n digest) b d ≡ sha256 (text_in b us)
+    at_or_below b d below true e =
+        let here : b ≡ n = eqb-true b n e in
+        let inside : n < length digests = omega (arith, so_far.long) in
+        subst (λ k. get_or (set digests n digest) k d ≡ sha256 (text_in k us)) (sym here) (get_or-set_same digests n digest d inside ∙ is)
+    at_or_below b d below false e =
+        let other : b ≢ n = eqb-false b n e in
+        get_or-set_other digests n b digest d other ∙ so_far.done b d (omega (arith, other))
 
 pub digest_at : (uses : Uses) (b : ℕ) (d : List ℕ) → b < 256 → get_or (digests_of uses) b d ≡ bucket_digest b uses
 unfolding digests_of

@@ -15,3 +15,4 @@ pub mod TwiceLemmas
 pub mod UseLemmas
 pub mod UsesLemmas
 pub mod WalksLemmas
+pub mod WeightsLemmas

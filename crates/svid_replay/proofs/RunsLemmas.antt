@@ -1,13 +1,13 @@
 -- Runs, their filters and their front, and the store of them.
 use Rattle.std.proofs.Common.{◌≡◌, ℕ, ◌<◌, ◌≤◌, ◌+◌, zero, suc, Bool, true, false, ◌||◌, ◌&&◌, List, [], ◌∷◌, ◌++◌, length, drop, take, get_or, cond, ◌-◌, nat_lt, not, filter, append_assoc, refl, sym, ◌∙◌, ap, subst, arith}
-use Rattle.std.proofs.lemmas.List.{append-nil, drop_all, take_more, length-drop, take-append-drop, length-append}
+use Rattle.std.proofs.lemmas.List.{append-nil, drop_all, take_all, take_more, length-drop, take-append-drop, length-append}
 use Rattle.std.proofs.Math.Seq.{drop-cons, take-suc, take-suc-set}
 use Rattle.std.proofs.Math.ListN.{set}
 use Rattle.std.proofs.lemmas.List.{length-set}
 use Rattle.std.proofs.lemmas.List.Folds.{list_any-append}
 use Rattle.std.proofs.lemmas.List.Sums.{prefix_len-le-length}
 use Rattle.std.specs.List.{prefix_len}
-use Rattle.svid_replay.specs.Runs.{all_of, live_of, HasSame}
+use Rattle.svid_replay.specs.Runs.{all_of, live_of, ArePutIn, HasSame}
 use Rattle.svid_replay.specs.Sets.{holds}
 use Rattle.svid_replay.specs.Uses.{uses_in}
 use Rattle.std.proofs.Common.{find, Option, Some, None}
@@ -34,7 +34,7 @@ use Rattle.svid_replay.specs.Sets.{rising, with, with_all}
 use Rattle.svid_replay.specs.Uses.{Uses, count, live, next_above}
 use Rattle.svid_replay.proofs.ListLemmas.{any_none, each_true, each_append, each_drop, each_take, each_weaker, filter-in, filter-out}
 use Rattle.svid_replay.proofs.SetsLemmas.{rising_rises, holds-rising, holds-with, holds-with_all, same_rising}
-use Rattle.svid_replay.proofs.UsesLemmas.{drop-expired, left_rises, left_is, left_count, rising-uses_in, uses_in-filter, same_uses, holds-uses_in, with-held, rising-keep, IsPruned, any-filter, to_front}
+use Rattle.svid_replay.proofs.UsesLemmas.{drop-expired, left_rises, left_is, left_count, rising-uses_in, uses_in-filter, same_uses, holds-uses_in, with-held, rising-keep, IsPruned, any-filter}
 use Rattle.std.specs.List.{AllByRecursion, list_any}
 use Rattle.std.specs.List.Sorted.{IsStrictlySortedBy}
 use Rattle.std.specs.Ordering.{eq_by_cmp, is_eq, ordering_reverse}
@@ -138,11 +138,11 @@ merged_two rs ss count older newer merged two long at_older at_newer is after =
     (after ∙ ap (λ n. take n (set rs k merged)) (sym next) ∙ take-suc-set rs k merged (omega arith) ∙ ap (λ m. take k rs ++ m ∷ []) is)
 
 -- one more run without what is expired
-pub record IsDroppedSoFar (now old : List (List Use)) (i moment dropped before : ℕ) : Type 0 where
+pub record IsDroppedSoFar (now old : List (List Use)) (i moment dropped : ℕ) : Type 0 where
   pub long : length now ≡ length old
   pub rest : drop i now ≡ drop i old
   pub kept : all_of (take i now) ≡ live_of moment (all_of (take i old))
-  pub counted : dropped + length (all_of now) ≡ before + length (all_of old)
+  pub counted : dropped + length (all_of now) ≡ length (all_of old)
 
 same_head : (x y : List Use) (xs ys : List (List Use)) → ◌≡◌ {A = List (List Use)} (x ∷ xs) (y ∷ ys) → x ≡ y
 same_head x y xs ys e = cc
@@ -169,20 +169,23 @@ drop_past_set [] (suc i) s = refl
 drop_past_set (x ∷ rs) zero s = refl
 drop_past_set (x ∷ rs) (suc i) s = drop_past_set rs i s
 
-pub drops_more : (now old : List (List Use)) (i moment dropped before went : ℕ) (run left : List Use) → IsDroppedSoFar now old i moment dropped before → i < length now → run ≡ get_or now i run → left ≡ live_of moment run → went + length left ≡ length run → IsDroppedSoFar (set now i left) old (i + 1) moment (dropped + went) before
-drops_more now old i moment dropped before went run left is within at kept counted =
+pub drops_more : (now old : List (List Use)) (i moment dropped went : ℕ) (run left : List Use) → IsDroppedSoFar now old i moment dropped → i < length now → run ≡ get_or now i run → left ≡ live_of moment run → went + length left ≡ length run → IsDroppedSoFar (set now i left) old (i + 1) moment (dropped + went)
+drops_more now old i moment dropped went run left is within at kept counted =
     let here : drop i now ≡ run ∷ drop (suc i) now = drop-cons now i run within ∙ ap (λ r. r ∷ drop (suc i) now) (sym at) in
     let there : drop i old ≡ get_or old i run ∷ drop (suc i) old = drop-cons old i run (omega (arith, is.long)) in
     let both : run ∷ drop (suc i) now ≡ get_or old i run ∷ drop (suc i) old = sym here ∙ is.rest ∙ there in
     let same : run ≡ get_or old i run = same_head _ _ _ _ both in
     let front : all_of (take (suc i) old) ≡ all_of (take i old) ++ run = ap all_of (take-suc old i run (omega (arith, is.long))) ∙ all_append (take i old) (get_or old i run ∷ []) ∙ ap (λ us. all_of (take i old) ++ us) (append-nil (get_or old i run) ∙ sym same) in
     let next : i + 1 ≡ suc i = omega arith in
-    subst (λ n. IsDroppedSoFar (set now i left) old n moment (dropped + went) before) (sym next) (record {
+    subst (λ n. IsDroppedSoFar (set now i left) old n moment (dropped + went)) (sym next) (record {
       long = length-set now i left ∙ is.long;
       rest = drop_past_set now i left ∙ same_tail _ _ _ _ both;
       kept = ap all_of (take-suc-set now i left within) ∙ all_append (take i now) (left ∷ []) ∙ (λ j. is.kept j ++ (append-nil left ∙ kept) j) ∙ sym (ap (live_of moment) front ∙ live_append moment (all_of (take i old)) run);
       counted = omega (arith, set_length now i run left within at, counted, is.counted);
     })
+
+pub dropped_all : (now old : List (List Use)) (i moment dropped : ℕ) → IsDroppedSoFar now old i moment dropped → length now ≤ i → all_of now ≡ live_of moment (all_of old)
+dropped_all now old i moment dropped is done = ap all_of (sym (take_all i now done)) ∙ is.kept ∙ ap (λ rs. live_of moment (all_of rs)) (take_all i old (omega (arith, is.long, done)))
 
 -- how many uses there are
 length-keys : (s : Uses) → count s ≡ finmap.len s
@@ -233,9 +236,9 @@ pub record IsDropped (front gone_front : List Use) (runs gone_runs : List (List 
   pub kept : uses_in (gone_front ++ all_of gone_runs) ≡ live s moment
   pub counted : dropped + count (uses_in (gone_front ++ all_of gone_runs)) ≡ count s
 
-pub runs_dropped : (front left : List Use) (runs rest : List (List Use)) (total expired dropped moment : ℕ) (s : Uses) → IsRuns front runs total → uses_in (front ++ all_of runs) ≡ s → IsPruned front moment expired left
-    → all_of rest ≡ live_of moment (all_of runs) → dropped + length (all_of rest) ≡ expired + length (all_of runs) → IsDropped front left runs rest total dropped moment s
-runs_dropped front left runs rest total expired dropped moment s is view cut kept counted =
+pub runs_dropped : (front left : List Use) (runs rest : List (List Use)) (total expired gone moment : ℕ) (s : Uses) → IsRuns front runs total → uses_in (front ++ all_of runs) ≡ s → IsPruned front moment expired left
+    → all_of rest ≡ live_of moment (all_of runs) → gone + length (all_of rest) ≡ length (all_of runs) → IsDropped front left runs rest total (expired + gone) moment s
+runs_dropped front left runs rest total expired gone moment s is view cut kept counted =
     let front_live : left ≡ live_of moment front = left_is front moment expired left is.rising cut in
     let all_live : left ++ all_of rest ≡ live_of moment (front ++ all_of runs) = (λ i. front_live i ++ kept i) ∙ sym (live_append moment front (all_of runs)) in
     let once = once_filter (λ u. nat_lt moment u.exp) (front ++ all_of runs) (length-append front (all_of runs) ∙ sym is.long ∙ is.once) in
@@ -540,24 +543,56 @@ count_new s (u ∷ us) up new =
     let one : count (with s u) ≡ count s + 1 = count-with s u ∙ ap (λ b. cond b (count s) (count s + 1)) new.0 in
     omega (arith, one, count_new (with s u) us up.1 (still_new s u us up.0 new.1))
 
--- a run more, of uses that the store does not hold
-pub runs_all : (front : List Use) (runs rest : List (List Use)) (total : ℕ) (s : Uses) (run : List Use) → IsSettled front runs total s → IsRising run → AllByRecursion (λ u. holds s u ≡ false) run → HasSame (run ++ all_of runs) (all_of rest) → length (all_of rest) ≤ length run + length (all_of runs) → IsSettled front rest (total + length run) (with_all s run)
-runs_all front runs rest total s run was up new same less =
-    let sets : uses_in (front ++ all_of rest) ≡ with_all s run = same_uses _ _ (λ q.
+second_first : (a b c : Bool) → ((a || b) || c) ≡ (b || (a || c))
+second_first true true c = refl
+second_first true false c = refl
+second_first false b c = refl
+
+-- uses put in that the store does not hold
+pub runs_all : (front now : List Use) (runs rest : List (List Use)) (total : ℕ) (s : Uses) (new : List Use) → IsSettled front runs total s → IsRising new → AllByRecursion (λ u. holds s u ≡ false) new → ArePutIn new front runs now rest → IsSettled now rest (total + length new) (with_all s new)
+runs_all front now runs rest total s new was up absent put =
+    let sets : uses_in (now ++ all_of rest) ≡ with_all s new = same_uses _ _ (λ q.
     let tie = eq_by_cmp use_cmp q in
-    holds-uses_in (front ++ all_of rest) q ∙ list_any-append tie front (all_of rest) ∙ ap (λ b. list_any tie front || b) (same q ∙ list_any-append tie run (all_of runs))
-    ∙ to_front (list_any tie front) (list_any tie run) (list_any tie (all_of runs))
-    ∙ ap (λ b. list_any tie run || b) (sym (list_any-append tie front (all_of runs)) ∙ sym (holds-uses_in (front ++ all_of runs) q) ∙ ap (λ t. holds t q) was.view)
-    ∙ sym (holds-with_all use_total use_exact s run q)) in
-    let grown : count (with_all s run) ≡ count s + length run = count_new s run up new in
-    let few = count_le (front ++ all_of rest) in
+    holds-uses_in (now ++ all_of rest) q ∙ put.same q ∙ list_any-append tie new (front ++ all_of runs)
+    ∙ ap (λ b. list_any tie new || b) (sym (holds-uses_in (front ++ all_of runs) q) ∙ ap (λ t. holds t q) was.view)
+    ∙ sym (holds-with_all use_total use_exact s new q)) in
+    let grown : count (with_all s new) ≡ count s + length new = count_new s new up absent in
+    let few = count_le (now ++ all_of rest) in
     record {
       is = record {
-        rising = was.is.rising;
-        long = omega (arith, few, ap count sets, grown, length-append front (all_of rest), was.is.long, was.is.once, ap count was.view, less);
+        rising = put.rising;
+        long = omega (arith, few, ap count sets, grown, length-append now (all_of rest), was.is.long, was.is.once, ap count was.view, put.less);
         once = omega (arith, ap count sets, grown, was.is.once, ap count was.view);
       };
       view = sets;
+    }
+
+-- put into the front
+pub put_in_front : (new front merged now : List Use) (runs : List (List Use)) → IsRising front → IsRising new → merged ≡ merge use_cmp front new → now ≡ merged → ArePutIn new front runs now runs
+put_in_front new front merged now runs up rises is same =
+    let all = same ∙ is in
+    record {
+      rising = subst IsRising (sym all) (merge_rises use_total use_exact front new up rises);
+      same = λ q.
+          let tie = eq_by_cmp use_cmp q in
+          ap (λ us. list_any tie (us ++ all_of runs)) all ∙ list_any-append tie (merge use_cmp front new) (all_of runs)
+          ∙ ap (λ b. b || list_any tie (all_of runs)) (merge_has use_total use_exact tie front new) ∙ second_first (list_any tie front) (list_any tie new) (list_any tie (all_of runs))
+          ∙ ap (λ b. list_any tie new || b) (sym (list_any-append tie front (all_of runs))) ∙ sym (list_any-append tie new (front ++ all_of runs));
+      less = omega (arith, ap length all, merge_length use_cmp front new);
+    }
+
+-- a run of them and those of the front
+pub put_in_run : (new front merged run now : List Use) (runs rest : List (List Use)) → merged ≡ merge use_cmp front new → run ≡ merged → HasSame (run ++ all_of runs) (all_of rest) → length (all_of rest) ≤ length run + length (all_of runs) → now ≡ [] → ArePutIn new front runs now rest
+put_in_run new front merged run now runs rest is made same less none =
+    let all = made ∙ is in
+    record {
+      rising = rising_none now none;
+      same = λ q.
+          let tie = eq_by_cmp use_cmp q in
+          ap (λ us. list_any tie (us ++ all_of rest)) none ∙ same q ∙ ap (λ us. list_any tie (us ++ all_of runs)) all ∙ list_any-append tie (merge use_cmp front new) (all_of runs)
+          ∙ ap (λ b. b || list_any tie (all_of runs)) (merge_has use_total use_exact tie front new) ∙ second_first (list_any tie front) (list_any tie new) (list_any tie (all_of runs))
+          ∙ ap (λ b. list_any tie new || b) (sym (list_any-append tie front (all_of runs))) ∙ sym (list_any-append tie new (front ++ all_of runs));
+      less = omega (arith, ap length none, less, ap length all, merge_length use_cmp front new);
     }
 
 was_not : (b : Bool) → not b ≡ true → b ≡ false

@@ -1,5 +1,5 @@
 -- What the hashers of all buckets hold.
-use Rattle.std.specs.Prelude.{◌≡◌, ◌==◌, ℕ, ◌<◌, List, length, map, slice_index_or}
+use Rattle.std.specs.Prelude.{◌≡◌, ◌==◌, ℕ, ◌<◌, List, [], Option, None, Some, length, map, slice_index_or}
 use Rattle.std.specs.List.{filter, flat_map, range_with_len}
 use Rattle.sha2.specs.declared.Sha256.{Sha256}
 use Rattle.sha2.specs.Hashers.{Holds256}
@@ -16,7 +16,12 @@ text_in b us = flat_map text_of (filter (λ u. bucket_of u == b) us)
 unfoldable pub digests_in : List Use → List (List ℕ)
 digests_in us = map (λ b. sha256 (text_in b us)) (range_with_len 0 256)
 
+-- a hasher that may be there holds a text: where there is none, that of no bytes
+abbrev pub HoldsText : Option Sha256 → List ℕ → Type 0
+HoldsText None text = text ≡ []
+HoldsText (Some hasher) text = Holds256 hasher text
+
 -- 256 hashers, each of which holds the texts of those of the uses that are of its bucket
-pub record HoldBuckets (hashers : List Sha256) (us : List Use) : Type 0 where
+pub record HoldBuckets (hashers : List (Option Sha256)) (us : List Use) : Type 0 where
   pub full : length hashers ≡ 256
-  pub each : (b : ℕ) (d : Sha256) → b < 256 → Holds256 (slice_index_or hashers b d) (text_in b us)
+  pub each : (b : ℕ) (d : Option Sha256) → b < 256 → HoldsText (slice_index_or hashers b d) (text_in b us)

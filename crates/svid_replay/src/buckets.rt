@@ -1,9 +1,8 @@
 ghost use Rattle.std.specs.Prelude.{◌≡◌, ◌∷◌, [], ◌++◌, ℕ, List, IfOk};
-ghost use Rattle.sha2.specs.Hashers.{Holds256};
 ghost use Rattle.sha2.specs.Sha256.{sha256};
 ghost use Rattle.svid_replay.specs.declared.token_use.Use.{Use};
 ghost use Rattle.svid_replay.specs.Buckets.{bucket_of, differs, digests_of, stale};
-ghost use Rattle.svid_replay.specs.Hashers.{HoldBuckets, digests_in};
+ghost use Rattle.svid_replay.specs.Hashers.{HoldBuckets, HoldsText, digests_in};
 ghost use Rattle.svid_replay.specs.Sets.{rising};
 ghost use Rattle.svid_replay.specs.Use.{text_of};
 ghost use Rattle.svid_replay.specs.Uses.{Uses};
@@ -14,17 +13,21 @@ use sha2::{Digest, Sha256};
 use std::alloc::{AllocError, Global};
 use std::array;
 
-// A hasher for each bucket.
-fn new_hashers() -> [Sha256; 256]
+// A hasher for each bucket, which is made when its first use comes.
+fn new_hashers() -> [Option<Sha256>; 256]
     ensures { HoldBuckets result [] }
 {
-    array::from_fn(|_| Sha256::new())
+    array::from_fn(|_| None)
 }
 
-fn feed(hasher: &mut Sha256, used: &Use)
-    ensures { (text : List ℕ) → Holds256 hasher.old text → Holds256 hasher.new (text ++ text_of used.now) }
+fn feed(slot: &mut Option<Sha256>, used: &Use)
+    ensures { (text : List ℕ) → HoldsText slot.old text → HoldsText slot.new (text ++ text_of used.now) }
 {
-    hasher.update(&used.text());
+    let text = used.text();
+    match slot {
+        None => *slot = Some(Sha256::new_with_prefix(&text)),
+        Some(hasher) => hasher.update(&text),
+    }
 }
 
 fn bucket_of(used: &Use) -> u8
@@ -34,22 +37,38 @@ fn bucket_of(used: &Use) -> u8
 }
 
 // Feeds the use to the hasher of its bucket.
-fn take_use(hashers: &mut [Sha256; 256], used: &Use)
+fn take_use(hashers: &mut [Option<Sha256>; 256], used: &Use)
     ensures { (us : List Use) → HoldBuckets hashers.old us → HoldBuckets hashers.new (us ++ used.now ∷ []) }
 {
     feed(&mut hashers[bucket_of(used) as usize], used);
 }
 
-fn finish(hasher: Sha256) -> [u8; 32]
-    ensures { (text : List ℕ) → Holds256 hasher text → result ≡ sha256 text }
+fn empty_digest() -> [u8; 32]
+    ensures { result ≡ sha256 [] }
 {
-    hasher.finalize()
+    Sha256::new().finalize()
 }
 
-fn finish_all(hashers: [Sha256; 256]) -> [[u8; 32]; 256]
-    ensures { (us : List Use) → HoldBuckets hashers us → result ≡ digests_in us }
+// The digest of the text in a slot, which is left with none.
+fn finish(slot: &mut Option<Sha256>, empty: &[u8; 32]) -> [u8; 32]
+    ensures { (text : List ℕ) → empty.now ≡ sha256 [] → HoldsText slot.old text → result ≡ sha256 text }
 {
-    hashers.map(finish)
+    match slot.take() {
+        None => *empty,
+        Some(hasher) => hasher.finalize(),
+    }
+}
+
+// The digest of no bytes is made once, however many buckets have no use.
+fn finish_all(hashers: &mut [Option<Sha256>; 256]) -> [[u8; 32]; 256]
+    ensures { (us : List Use) → HoldBuckets hashers.old us → result ≡ digests_in us }
+{
+    let empty = empty_digest();
+    let mut digests = [empty; 256];
+    for bucket in 0..256 {
+        digests[bucket] = finish(&mut hashers[bucket], &empty);
+    }
+    digests
 }
 
 // The digests of the buckets 0 to 255, in one pass over the uses.
@@ -63,7 +82,7 @@ pub(crate) fn digests_of<S: UseStore>(whole: &Record<S>) -> [[u8; 32]; 256]
         take_use(&mut hashers, &used);
         after = Some(used);
     }
-    finish_all(hashers)
+    finish_all(&mut hashers)
 }
 
 // Whether the digest of the use's bucket is another than the summary's.

@@ -48,6 +48,18 @@ pub(crate) fn add(words: &mut [u64], key: &[u8; 32])
     words[at] |= mask(key);
 }
 
+/// Puts the keys of some uses in.
+pub(crate) fn add_all(words: &mut [u64], uses: &[Use])
+    requires { 0 < length words.old }
+    ensures long { length words.new ≡ length words.old }
+    ensures known { AllByRecursion (λ u. HasBits words.new u.key) uses.now }
+{
+    for used in uses {
+        let key = used.key;
+        add(words, &key);
+    }
+}
+
 /// A filter of no key, with place for so many.
 pub(crate) fn no_keys(alloc: Global, count: usize) -> Result<Vec<u64>, AllocError>
     ensures { IfOk result (λ words. 0 < length words.items) }
@@ -61,10 +73,7 @@ pub(crate) fn filter_of(alloc: Global, uses: &[Use]) -> Result<Vec<u64>, AllocEr
     ensures known { IfOk result (λ words. AllByRecursion (λ u. HasBits words.items u.key) uses.now) }
 {
     let mut words = no_keys(alloc, uses.len())?;
-    for used in uses {
-        let key = used.key;
-        add(&mut words, &key);
-    }
+    add_all(&mut words, uses);
     Ok(words)
 }
 

@@ -1,20 +1,20 @@
 //! The front of a set in runs: few uses, sorted, with a filter of their keys.
 ghost use Rattle.std.specs.Prelude.{◌≡◌, ◌≤◌, [], drop, false, length, not, nat_lt, IsTrue, IsOk, OnOk, OnErr};
-ghost use Rattle.std.specs.List.{list_any, prefix_len};
+ghost use Rattle.std.specs.List.{AllByRecursion, list_any, prefix_len};
+ghost use Rattle.svid_replay.specs.Runs.{HasBits};
 ghost use Rattle.svid_replay.specs.Sets.{holds, with};
 ghost use Rattle.svid_replay.specs.Twice.{has_key, withdraws};
 ghost use Rattle.svid_replay.specs.Use.{IsRising};
 ghost use Rattle.svid_replay.specs.Uses.{uses_in};
 
 use crate::Use;
-use crate::filter::{add, may_have};
+use crate::filter::{add, add_all, may_have};
 use crate::sorted::{count_expired, drop_front, has_use_of, has_withdrawal_of, insert_use};
 use std::alloc::{AllocError, Global};
 use std::marker::Model;
 
-/// Uses that rise, few enough to be moved about quickly. `words` is a filter of the keys that were put in since the
-/// front was last made a run: a key that is not among them is mostly told without a look at each, until many have
-/// expired here.
+/// Uses that rise, few enough to be moved about quickly. `words` is a filter of their keys: a key that is not among
+/// them is mostly told without a look at each. It is made again when uses have expired.
 #[derive(Debug, Drop)]
 pub(crate) struct Front {
     uses: Vec<Use>,
@@ -40,6 +40,16 @@ fn no_words() -> [u64; 64]
     ensures { length result ≡ 64 }
 {
     [0; 64]
+}
+
+// A filter of the keys of some uses.
+fn words_of(uses: &[Use]) -> [u64; 64]
+    ensures long { length result ≡ 64 }
+    ensures known { AllByRecursion (λ u. HasBits result u.key) uses.now }
+{
+    let mut words = no_words();
+    add_all(&mut words, uses);
+    words
 }
 
 impl Front {
@@ -103,8 +113,21 @@ impl Front {
         ensures bound { result ≤ length self.old }
     {
         let expired = count_expired(&self.uses, moment);
+        if expired == 0 {
+            return expired;
+        }
         drop_front(&mut self.uses, expired);
+        self.words = words_of(&self.uses);
         expired
+    }
+
+    // Other uses in the place of these.
+    pub(crate) fn replace(&mut self, uses: Vec<Use>)
+        requires { IsRising uses.items }
+        ensures { self.new ≡ uses.items }
+    {
+        self.words = words_of(&uses);
+        self.uses = uses;
     }
 
     pub(crate) fn clear(&mut self)

@@ -64,12 +64,11 @@ mod record;
 mod room;
 mod run;
 mod run_uses;
+mod runs;
 mod sorted;
 mod stale;
 mod store;
 mod summary;
-#[cfg(test)]
-mod tests;
 mod token_use;
 mod twice;
 mod until;

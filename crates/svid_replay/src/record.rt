@@ -112,13 +112,16 @@ impl<S: UseStore> Record<S> {
     }
 
     /// Joins a moment (in seconds): the record's moment becomes the greater, and the uses that expire
-    /// by then go. Takes no memory.
+    /// by then go. The record is then the joined one, whatever its store still keeps of the memory of uses that
+    /// went: this and later calls give that back in parts, as the store's `tidy` does. Needs no memory.
     pub fn raise(&mut self, now: u64) -> Raised
         ensures joined { self.new ≡ join self.old (state_of now []) }
         ensures dropped { result.dropped + count self.new.uses ≡ count self.old.uses }
     {
         self.moment = self.moment.max(now);
-        self.store.drop_expired(self.moment)
+        let raised = self.store.drop_expired(self.moment);
+        self.store.tidy();
+        raised
     }
 
     /// Makes walks over the record quicker, if its store has a way to do that and is given the memory for it. The

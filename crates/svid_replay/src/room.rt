@@ -1,5 +1,5 @@
 //! Room for the next uses of a walk.
-ghost use Rattle.std.specs.Prelude.{◌≡◌, ◌==◌, ◌<◌, ◌≤◌, [], ◌∷◌, ◌++◌, length, take, true, IsTrue};
+ghost use Rattle.std.specs.Prelude.{◌≡◌, ◌==◌, ◌<◌, ◌≤◌, [], ◌∷◌, ◌++◌, length, nat_lt, take, true, IsTrue};
 ghost use Rattle.std.specs.Ordering.{is_lt};
 ghost use Rattle.std.specs.Set.{sorted_merge};
 ghost use Rattle.svid_replay.specs.Use.{IsRising, use_cmp};
@@ -71,15 +71,19 @@ impl Room {
         self.len = 0;
     }
 
-    /// Puts a use behind the others. Where there is no room for it they stay as they were.
-    pub fn push(&mut self, used: Use)
+    /// Puts a use behind the others, if there is room for it, and answers whether there was. If not, they stay as
+    /// they were.
+    pub fn push(&mut self, used: Use) -> bool
+        ensures answer { result ≡ nat_lt (length self.old) 64 }
         ensures pushed { length self.old < 64 → self.new ≡ self.old ++ used ∷ [] }
         ensures full { 64 ≤ length self.old → self.new ≡ self.old }
     {
         if self.len < ROOM_USES {
             self.uses[self.len] = used;
             self.len += 1;
+            return true;
         }
+        false
     }
 
     /// Puts uses behind the others, as many as there is room for.

@@ -1,5 +1,5 @@
 //! Uses that rise, as a run of a larger set.
-ghost use Rattle.std.specs.Prelude.{◌≡◌, ◌+◌, ◌++◌, false, length, drop, filter, nat_lt, true, IsTrue, IfOk};
+ghost use Rattle.std.specs.Prelude.{◌≡◌, ◌+◌, ◌++◌, ◌<◌, false, length, drop, filter, max, nat_lt, true, IsTrue, IfOk};
 ghost use Rattle.std.specs.List.{list_any};
 ghost use Rattle.std.specs.Ordering.{eq_by_cmp};
 ghost use Rattle.std.specs.Set.{sorted_merge};
@@ -57,7 +57,7 @@ fn are_apart(a: &[Use], b: &[Use]) -> bool
 }
 
 // Both lists in one, rising; a use that both have comes once.
-fn merge_uses(alloc: Global, a: &[Use], b: &[Use]) -> Result<Vec<Use>, AllocError>
+pub(crate) fn merge_uses(alloc: Global, a: &[Use], b: &[Use]) -> Result<Vec<Use>, AllocError>
     requires { IsRising a.now }
     ensures { IfOk result (λ merged. merged.items ≡ sorted_merge use_cmp true a.now b.now) }
 {
@@ -149,6 +149,14 @@ impl Run {
         &self.by_use[self.start..]
     }
 
+    // How many uses there are; one, where there are none.
+    pub(crate) fn weight(&self) -> usize
+        ensures value { result ≡ max (length self.now) 1 }
+        ensures some { 0 < result }
+    {
+        self.uses().len().max(1)
+    }
+
     pub(crate) fn holds(&self, used: &Use) -> bool
         ensures { result ≡ list_any (eq_by_cmp use_cmp used.now) self.now }
     {
@@ -180,23 +188,30 @@ impl Run {
         first_after(self.uses(), after)
     }
 
+    // Moves the start behind the uses that expire by a moment, and answers how many these are. `tidy` gives back their
+    // memory.
     pub(crate) fn drop_expired(&mut self, moment: u64) -> usize
         ensures kept { self.new ≡ filter (λ u. nat_lt moment u.exp) self.old }
         ensures dropped { result + length self.new ≡ length self.old }
     {
         let dropped = count_expired(self.uses(), moment);
-        let total = self.by_use.len();
-        let start = self.start + dropped;
-        let gone = gone_by(self.gone, moment);
-        if start > total - start {
-            drop_front(&mut self.by_use, start);
-            sweep(&mut self.by_key, gone);
-            self.start = 0;
-            self.gone = None;
-        } else {
-            self.start = start;
-            self.gone = gone;
-        }
+        self.start += dropped;
+        self.gone = gone_by(self.gone, moment);
         dropped
+    }
+
+    // Gives back the memory of the uses that are gone, where they are more than the others.
+    pub(crate) fn tidy(&mut self)
+        ensures { self.new ≡ self.old }
+    {
+        if self.start <= self.by_use.len() / 2 {
+            return;
+        }
+        drop_front(&mut self.by_use, self.start);
+        sweep(&mut self.by_key, self.gone);
+        self.start = 0;
+        self.gone = None;
+        self.by_use.shrink_to_fit();
+        self.by_key.shrink_to_fit();
     }
 }

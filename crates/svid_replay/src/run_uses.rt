@@ -1,8 +1,9 @@
 //! A set of uses as a short sorted front and runs that grow.
-ghost use Rattle.std.specs.Prelude.{◌≡◌, ◌+◌, ◌<◌, ◌≤◌, ◌++◌, [], ◌∷◌, false, length, not, ◌^◌, true, IsTrue, IfOk, IfSome, OnOk, OnErr, IfNone};
+ghost use Rattle.std.specs.Prelude.{◌≡◌, ◌+◌, ◌<◌, ◌≤◌, ◌++◌, [], false, length, not, true, IsTrue, IfOk, OnOk, OnErr};
 ghost use Rattle.std.specs.List.{AllByRecursion, list_any};
 ghost use Rattle.std.specs.Ordering.{eq_by_cmp};
-ghost use Rattle.svid_replay.specs.Runs.{all_of, least_from, least_of, live_of, new_among, HasSame, IsRuns};
+ghost use Rattle.std.specs.Set.{sorted_merge};
+ghost use Rattle.svid_replay.specs.Runs.{all_of, least_from, least_of, new_among, ArePutIn, HasSame, IsRuns};
 ghost use Rattle.svid_replay.specs.Sets.{holds, with_all};
 ghost use Rattle.svid_replay.specs.Indexed.{is_sought};
 ghost use Rattle.svid_replay.specs.Use.{IsRising, use_cmp};
@@ -12,7 +13,8 @@ ghost use Rattle.svid_replay.specs.Walks.{next_few};
 use crate::Use;
 use crate::front::Front;
 use crate::room::Room;
-use crate::run::{Run, holds_use};
+use crate::run::{Run, holds_use, merge_uses};
+use crate::runs::Runs;
 use crate::sorted::{first_after, rest_after};
 use crate::store::{Raised, UseStore};
 use std::alloc::{AllocError, Global};
@@ -22,18 +24,11 @@ use std::marker::Model;
 // next comes to a multiple of that.
 const FRONT: usize = 256;
 
-// A run is merged with the one behind it while it is shorter than so many times that.
-const FACTOR: usize = 2;
-
-// So many runs are left when all are merged for walks. The first is mostly half of the set, so the merge takes half of
-// the set's memory once more.
-const WALKED: usize = 2;
-
 /// A set of uses as a short sorted vector, and runs: sorted vectors, each with its keys. Most inserts are
 /// short, but one that fills the short vector makes it a run and may merge runs, at worst all of them. Where
 /// that is refused memory it is left undone, and the use is in the set all the same. Of 256 uses and more at
-/// once (`insert_all`) the new ones are a run by themselves, which is merged in the same way; fewer are not
-/// taken at once. `compact` merges all runs but the first, so that a walk has two to look at.
+/// once (`insert_all`) the new ones are merged with the short vector, and where that is then long it becomes a run in
+/// the same way; fewer are not taken at once. There are at most 64 runs. `compact` merges all runs but the first, so that a walk has two to look at.
 ///
 /// A set that [`RunUses::without_keys`] makes has runs without keys: less time and memory for each use that
 /// is put in, but `has` and `is_withdrawn` may look at all uses. It is for a record that is joined and walked,
@@ -43,7 +38,7 @@ pub struct RunUses {
     alloc: Global,
     keyed: bool,
     front: Front,
-    runs: Vec<Run>,
+    runs: Runs,
     total: usize,
 }
 
@@ -56,9 +51,9 @@ impl Model for RunUses {
 
     ghost coded = { uses_code };
 
-    ghost view = { λ s. uses_in (s.front ++ all_of s.runs.items) };
+    ghost view = { λ s. uses_in (s.front ++ all_of s.runs) };
 
-    ghost invariant = { λ s. IsRuns s.front s.runs.items s.total };
+    ghost invariant = { λ s. IsRuns s.front s.runs s.total };
 }
 
 // Whether one of the runs has the use.
@@ -119,92 +114,14 @@ fn merge_next(runs: &[Run], after: Option<Use>, room: &mut Room)
     }
 }
 
-// Takes the expired uses out of the runs; answers how many went.
-fn drop_all_expired(runs: &mut [Run], moment: u64, dropped_before: usize) -> usize
-    requires { dropped_before + length (all_of runs.old) < 2 ^ 64 }
-    ensures kept { all_of runs.new ≡ live_of moment (all_of runs.old) }
-    ensures dropped { result + length (all_of runs.new) ≡ dropped_before + length (all_of runs.old) }
-{
-    let mut dropped = dropped_before;
-    for i in 0..runs.len() {
-        let run = &mut runs[i];
-        dropped += run.drop_expired(moment);
-    }
-    dropped
-}
-
-// Merges the last two runs, if there are two. Where memory is refused they stay two.
-fn merge_two(alloc: Global, runs: &mut Vec<Run>) -> bool
-    ensures same { HasSame (all_of runs.old.items) (all_of runs.new.items) }
-    ensures less { length (all_of runs.new.items) ≤ length (all_of runs.old.items) }
-    ensures fewer { IsTrue result → length runs.new.items < length runs.old.items }
-{
-    let count = runs.len();
-    if count < 2 {
-        return false;
-    }
-    let older = &runs[count - 2];
-    let newer = &runs[count - 1];
-    match Run::merged(alloc, older, newer) {
-        Err(_) => false,
-        Ok(merged) => {
-            runs[count - 2] = merged;
-            runs.truncate(count - 1);
-            true
-        }
-    }
-}
-
-// Merges the last two runs if the last is no longer small beside the one in front of it. Where
-// memory is refused they stay two.
-fn merge_last(alloc: Global, runs: &mut Vec<Run>) -> bool
-    ensures same { HasSame (all_of runs.old.items) (all_of runs.new.items) }
-    ensures less { length (all_of runs.new.items) ≤ length (all_of runs.old.items) }
-    ensures fewer { IsTrue result → length runs.new.items < length runs.old.items }
-{
-    let count = runs.len();
-    if count < 2 || runs[count - 2].uses().len() / FACTOR >= runs[count - 1].uses().len() {
-        return false;
-    }
-    merge_two(alloc, runs)
-}
-
-// Merges the last runs until few are left, as far as memory is given.
-fn merge_most(alloc: Global, runs: &mut Vec<Run>)
-    ensures same { HasSame (all_of runs.old.items) (all_of runs.new.items) }
-    ensures less { length (all_of runs.new.items) ≤ length (all_of runs.old.items) }
-{
-    while runs.len() > WALKED {
-        if !merge_two(alloc, runs) {
-            return;
-        }
-    }
-}
-
-// Puts a run behind the others and merges runs, as far as memory is given.
-fn push_run(alloc: Global, runs: &mut Vec<Run>, run: Run) -> Result<(), AllocError>
-    ensures same { OnOk result (HasSame (run ++ all_of runs.old.items) (all_of runs.new.items)) }
-    ensures less { OnOk result (length (all_of runs.new.items) ≤ length run + length (all_of runs.old.items)) }
-    ensures err { OnErr result (runs.new.items ≡ runs.old.items) }
-{
-    runs.push(run)?;
-    while merge_last(alloc, runs) {}
-    Ok(())
-}
-
 // Makes the front a run, as far as memory is given.
-fn settle(
-    alloc: Global,
-    keyed: bool,
-    front: &mut Front,
-    runs: &mut Vec<Run>,
-) -> Result<(), AllocError>
+fn settle(alloc: Global, keyed: bool, front: &mut Front, runs: &mut Runs) -> Result<(), AllocError>
     ensures rising { IsRising front.new }
-    ensures same { HasSame (front.old ++ all_of runs.old.items) (front.new ++ all_of runs.new.items) }
-    ensures less { length front.new + length (all_of runs.new.items) ≤ length front.old + length (all_of runs.old.items) }
+    ensures same { HasSame (front.old ++ all_of runs.old) (front.new ++ all_of runs.new) }
+    ensures less { length front.new + length (all_of runs.new) ≤ length front.old + length (all_of runs.old) }
 {
     let run = Run::of(alloc, keyed, front.uses())?;
-    push_run(alloc, runs, run)?;
+    runs.push(alloc, run)?;
     front.clear();
     Ok(())
 }
@@ -215,17 +132,6 @@ fn is_new(front: &[Use], runs: &[Run], used: &Use) -> bool
     ensures { result ≡ not (list_any (eq_by_cmp use_cmp used.now) (front.now ++ all_of runs.now)) }
 {
     !(holds_use(front, used) || any_holds(runs, used))
-}
-
-// Puts a use behind the others. Before the first, room for the most that may come is asked for.
-fn push_new(new: &mut Vec<Use>, used: Use, most: usize) -> Result<(), AllocError>
-    ensures { OnOk result (new.new.items ≡ new.old.items ++ used ∷ []) }
-{
-    if new.is_empty() {
-        new.reserve(most)?;
-    }
-    new.push(used)?;
-    Ok(())
 }
 
 // Those of the uses that neither the front nor a run has. Takes no memory where they all are there.
@@ -241,31 +147,41 @@ fn new_uses(
     let mut new = Vec::new(alloc);
     for used in uses {
         if is_new(front, runs, used) {
-            push_new(&mut new, *used, uses.len())?;
+            new.push(*used)?;
         }
     }
     Ok(new)
 }
 
-// A run of those of the uses that neither the front nor a run has; none, and no memory taken, where they all are there.
-fn new_run(
+// Rising uses, and those of the front, in one list.
+fn joined(alloc: Global, front: &[Use], new: Vec<Use>) -> Result<Vec<Use>, AllocError>
+    requires { IsRising front.now }
+    ensures { IfOk result (λ all. all.items ≡ sorted_merge use_cmp true front.now new.items) }
+{
+    merge_uses(alloc, front, &new)
+}
+
+// Puts rising uses into the front; where that would be long, they are a run with those of the front.
+fn put_all(
     alloc: Global,
     keyed: bool,
-    front: &[Use],
-    runs: &[Run],
-    uses: &[Use],
-) -> Result<Option<Run>, AllocError>
-    requires front { IsRising front.now }
-    requires rising { IsRising uses.now }
-    ensures some { IfOk result (λ run. IfSome run (λ r. r ≡ new_among (front.now ++ all_of runs.now) uses.now)) }
-    ensures none { IfOk result (λ run. IfNone run (new_among (front.now ++ all_of runs.now) uses.now ≡ [])) }
+    front: &mut Front,
+    runs: &mut Runs,
+    new: Vec<Use>,
+) -> Result<(), AllocError>
+    requires { IsRising new.items }
+    ensures ok { OnOk result (ArePutIn new.items front.old runs.old front.new runs.new) }
+    ensures err { OnErr result ((front.new ≡ front.old) × (runs.new ≡ runs.old)) }
 {
-    let new = new_uses(alloc, front, runs, uses)?;
-    if new.is_empty() {
-        return Ok(None);
+    let all = joined(alloc, front.uses(), new)?;
+    if all.len() < FRONT {
+        front.replace(all);
+        return Ok(());
     }
-    let run = Run::of(alloc, keyed, &new)?;
-    Ok(Some(run))
+    let run = Run::of(alloc, keyed, &all)?;
+    runs.push(alloc, run)?;
+    front.clear();
+    Ok(())
 }
 
 impl RunUses {
@@ -276,7 +192,7 @@ impl RunUses {
             alloc,
             keyed,
             front: Front::new(alloc),
-            runs: Vec::new(alloc),
+            runs: Runs::new(alloc),
             total: 0,
         }
     }
@@ -296,17 +212,17 @@ impl RunUses {
         RunUses::empty(alloc, false)
     }
 
-    // Puts in a run of uses that are not there, if memory is given for it.
-    fn take_run(&mut self, run: Run) -> bool
-        requires rising { IsRising run }
-        requires new { AllByRecursion (λ u. holds self.old u ≡ false) run }
-        ensures all { IsTrue result → self.new ≡ with_all self.old run }
+    // Puts in uses that are not there, if memory is given for it.
+    fn take(&mut self, new: Vec<Use>) -> bool
+        requires rising { IsRising new.items }
+        requires new { AllByRecursion (λ u. holds self.old u ≡ false) new.items }
+        ensures all { IsTrue result → self.new ≡ with_all self.old new.items }
         ensures none { result ≡ false → self.new ≡ self.old }
     {
-        let Some(total) = self.total.checked_add(run.uses().len()) else {
+        let Some(total) = self.total.checked_add(new.len()) else {
             return false;
         };
-        match push_run(self.alloc, &mut self.runs, run) {
+        match put_all(self.alloc, self.keyed, &mut self.front, &mut self.runs, new) {
             Err(_) => false,
             Ok(()) => {
                 self.total = total;
@@ -320,7 +236,7 @@ impl UseStore for RunUses {
     ghost content = { λ s. s };
 
     fn insert(&mut self, new: Use) -> Result<(), AllocError> {
-        if any_holds(&self.runs, &new) {
+        if any_holds(self.runs.list(), &new) {
             return Ok(());
         }
         let Some(total) = self.total.checked_add(1) else {
@@ -346,30 +262,34 @@ impl UseStore for RunUses {
         if uses.len() < FRONT {
             return false;
         }
-        match new_run(self.alloc, self.keyed, self.front.uses(), &self.runs, uses) {
+        match new_uses(self.alloc, self.front.uses(), self.runs.list(), uses) {
             Err(_) => false,
-            Ok(None) => true,
-            Ok(Some(run)) => self.take_run(run),
+            Ok(new) => new.is_empty() || self.take(new),
         }
     }
 
     fn compact(&mut self) {
-        merge_most(self.alloc, &mut self.runs);
+        self.runs.compact(self.alloc);
     }
 
     fn drop_expired(&mut self, moment: u64) -> Raised {
-        let expired = self.front.drop_expired(moment);
-        let dropped = drop_all_expired(&mut self.runs, moment, expired);
+        let of_front = self.front.drop_expired(moment);
+        let of_runs = self.runs.drop_expired(moment);
+        let dropped = of_front + of_runs;
         self.total -= dropped;
         Raised { dropped }
     }
 
+    fn tidy(&mut self) {
+        self.runs.tidy();
+    }
+
     fn has(&self, key: &[u8; 32]) -> bool {
-        self.front.has(key) || any_has(&self.runs, key, false)
+        self.front.has(key) || any_has(self.runs.list(), key, false)
     }
 
     fn is_withdrawn(&self, key: &[u8; 32]) -> bool {
-        self.front.is_withdrawn(key) || any_has(&self.runs, key, true)
+        self.front.is_withdrawn(key) || any_has(self.runs.list(), key, true)
     }
 
     fn len(&self) -> usize {
@@ -377,12 +297,16 @@ impl UseStore for RunUses {
     }
 
     fn next_after(&self, after: Option<Use>) -> Option<Use> {
-        least_after(&self.runs, after, first_after(self.front.uses(), after))
+        least_after(
+            self.runs.list(),
+            after,
+            first_after(self.front.uses(), after),
+        )
     }
 
     fn next_uses(&self, after: Option<Use>, room: &mut Room) {
         room.clear();
-        merge_next(&self.runs, after, room);
+        merge_next(self.runs.list(), after, room);
         // (the latest uses, which are mostly behind those of the runs)
         room.merge(rest_after(self.front.uses(), after));
     }

@@ -19,8 +19,8 @@ pub struct Raised {
 pub trait UseStore {
     ghost content: { Self → Uses };
 
-    /// Puts a use into the set. This, `insert_all` and `compact` are the only calls that take memory; where it
-    /// is refused the set stays as it was. A use that is in the set already always succeeds.
+    /// Puts a use into the set. This, `insert_all`, `compact` and `tidy` are the only calls that take memory; where
+    /// it is refused the set stays as it was. A use that is in the set already always succeeds.
     fn insert(&mut self, new: Use) -> Result<(), AllocError>
         ensures ok { OnOk result (content self.new ≡ with (content self.old) new) }
         ensures err { OnErr result (content self.new ≡ content self.old) }
@@ -43,10 +43,18 @@ pub trait UseStore {
         ensures { content self.new ≡ content self.old }
     {}
 
-    /// Takes out the uses that expire at the moment (in seconds) or before it.
+    /// Takes out the uses that expire at the moment (in seconds) or before it. The set is that of the moment at
+    /// once; a store may keep the memory of these uses until `tidy`, so that this call is short.
     fn drop_expired(&mut self, moment: u64) -> Raised
         ensures kept { content self.new ≡ live (content self.old) moment }
         ensures dropped { result.dropped + count (content self.new) ≡ count (content self.old) };
+
+    /// Gives back memory of uses that were taken out, if the set has a way to do that. The set stays the same. A
+    /// call may do a part of the work, and leave the rest to later calls: a record makes one each time that it is
+    /// raised.
+    fn tidy(&mut self)
+        ensures { content self.new ≡ content self.old }
+    {}
 
     /// Whether a use of the set has this key.
     fn has(&self, key: &[u8; 32]) -> bool

@@ -28,7 +28,7 @@ use Rattle.svid_replay.proofs.TestsLemmas.{equal}
 use Rattle.svid_replay.proofs.UseLemmas.{use_exact}
 use Rattle.svid_wire.specs.RecordText.{record_text}
 use Rattle.svid_share.specs.Inputs.{all_of}
-use Rattle.svid_share.specs.Joined.{JoinedByWhich, JoinedFromNothing, JoinedIsRecord, JoinedOneByOne, PartsComeToRecord, PartsStandForBatches, greatest, joined}
+use Rattle.svid_share.specs.Joined.{JoinedByWhich, JoinedFromNothing, JoinedIsRecord, JoinedOneByOne, PartsComeToRecord, PartsStandForBatches, greatest, joined, raised_to}
 use Rattle.svid_share.specs.Merge.{MergedByWhich}
 use Rattle.svid_share.specs.Summary.{SummarizedByWhich}
 use Rattle.svid_replay.specs.Buckets.{summary_of}
@@ -225,7 +225,7 @@ joined_by_which batches others same =
 
 -- what the same batches come to has one text
 pub merged_by_which : MergedByWhich
-merged_by_which told others same = ap record_text (joined_by_which (all_of told) (all_of others) same)
+merged_by_which now told others same = ap (λ r. record_text (raised_to now r)) (joined_by_which (all_of told) (all_of others) same)
 
 -- and one summary
 pub summarized_by_which : SummarizedByWhich

@@ -1,11 +1,10 @@
 use Rattle.std.proofs.Common.{◌≡◌, List, [], ℕ, Option, ◌∙◌, ap}
 use Rattle.std.specs.List.{flat_map}
-use Rattle.svid_replay.specs.Batches.{BatchData}
 use Rattle.svid_replay.specs.Buckets.{answer_to, summary_of}
-use Rattle.svid_replay.specs.Parts.{parts_of}
 use Rattle.svid_replay.specs.Records.{State, state_of}
 use Rattle.svid_wire.specs.BatchText.{batch_text}
 use Rattle.svid_replay.specs.Summary.{SummaryData}
+use Rattle.svid_wire.specs.RecordText.{record_text}
 use Rattle.svid_wire.specs.Streams.{Drawn}
 use Rattle.svid_wire.specs.SummaryText.{summary_text}
 use Rattle.svid_share.specs.Answer.{answer_due}
@@ -29,12 +28,12 @@ reported inputs now text second third joins raises tells = record {
   is = tells ∙ ap report_of (raises ∙ ap (raised_to now) (all_joined inputs second joins));
 }
 
--- the parts of what a new record is after all inputs were joined are the merge
-pub merged : (inputs : List Drawn) (parts : List BatchData) (second : State) → JoinsAll inputs (state_of 0 []) second → parts ≡ parts_of second → IsDue merge_due inputs (flat_map batch_text parts)
-merged inputs parts second joins is = record {
+-- the text of what a new record is after all inputs were joined, and it was raised, is the merge
+pub merged : (inputs : List Drawn) (now : Option ℕ) (second third : State) → JoinsAll inputs (state_of 0 []) second → third ≡ raised_to now second → IsDue (merge_due now) inputs (record_text third)
+merged inputs now second third joins raises = record {
   told = joins.told;
   whole = joins.whole;
-  is = ap (flat_map batch_text) (is ∙ ap parts_of (all_joined inputs second joins));
+  is = ap record_text (raises ∙ ap (raised_to now) (all_joined inputs second joins));
 }
 
 -- the summary of what a new record is after all inputs were joined

@@ -32,8 +32,6 @@ mod parts;
 mod reader;
 mod report;
 mod summary;
-#[cfg(test)]
-mod tests;
 mod tool_fault;
 mod walked;
 

@@ -8,23 +8,31 @@ ghost use Rattle.svid_share.specs.Written.{IsDue, IsEngineFault, IsWritten};
 use crate::ToolFault;
 use crate::inputs::record_of;
 use crate::parts::put_record;
+use crate::report::raise_to;
 use std::alloc::Global;
 use svid_replay::{Record, RunUses};
 use svid_wire::{Sink, Source};
 
-// What all inputs tell.
-fn join_all<S: Source>(alloc: Global, inputs: &mut [S]) -> Result<Record<RunUses>, ToolFault>
-    ensures ok { IfOk result (λ r. IsDue merge_due (inputs_of (sources S.left S.stops inputs.old inputs.new)) (record_text r)) }
+// What all inputs tell, raised to the moment.
+fn join_all<S: Source>(
+    alloc: Global,
+    inputs: &mut [S],
+    now: Option<u64>,
+) -> Result<Record<RunUses>, ToolFault>
+    ensures ok { IfOk result (λ r. IsDue (merge_due now) (inputs_of (sources S.left S.stops inputs.old inputs.new)) (record_text r)) }
     ensures fault { IfErr result (IsJoinFault (sources S.left S.stops inputs.old inputs.new)) }
 {
-    record_of(alloc, inputs)
+    let mut record = record_of(alloc, inputs)?;
+    raise_to(&mut record, now);
+    Ok(record)
 }
 
-/// Joins the batches of all inputs, and writes the record that they come to as the texts of its parts:
-/// batches of its moment that hold its uses in rising order, 65,536 in each but the last; one with no use
-/// where the record has none. Summaries among the inputs are passed over.
+/// Joins the batches of all inputs, advances the record that they come to up to the moment `now` (in seconds) where
+/// one is given, and writes it as the texts of its parts: batches of its moment that hold its uses in rising order,
+/// 65,536 in each but the last; one with no use where the record has none. What has expired by its moment is left
+/// out. Summaries among the inputs are passed over.
 ///
-/// What is written depends on nothing but which batches there are. The inputs are read and judged in their
+/// What is written depends on nothing but which batches there are, and the moment. The inputs are read and judged in their
 /// order, before anything is written. Refused for the first that is not a row of whole messages (`Wire`),
 /// could not be read (`Read`) or has more than 67,108,864 bytes (`TooMuch`), for want of memory, and where
 /// the sink stopped (`Write`): then a part of the texts went out, and else nothing did. A bad field in what
@@ -33,12 +41,13 @@ fn join_all<S: Source>(alloc: Global, inputs: &mut [S]) -> Result<Record<RunUses
 pub fn run_merge<S: Source, K: Sink>(
     alloc: Global,
     inputs: &mut [S],
+    now: Option<u64>,
     out: &mut K,
 ) -> Result<(), ToolFault>
-    ensures ok { OnOk result (IsWritten merge_due (inputs_of (sources S.left S.stops inputs.old inputs.new)) (taken K.told K.stops out.old out.new)) }
-    ensures fault { IfErr result (IsEngineFault merge_due (sources S.left S.stops inputs.old inputs.new) (taken K.told K.stops out.old out.new)) }
+    ensures ok { OnOk result (IsWritten (merge_due now) (inputs_of (sources S.left S.stops inputs.old inputs.new)) (taken K.told K.stops out.old out.new)) }
+    ensures fault { IfErr result (IsEngineFault (merge_due now) (sources S.left S.stops inputs.old inputs.new) (taken K.told K.stops out.old out.new)) }
     ensures kept { IfErr result (λ fault. fault ≢ ToolFault.Write → out.new ≡ out.old) }
 {
-    let record = join_all(alloc, inputs)?;
+    let record = join_all(alloc, inputs, now)?;
     put_record(&record, out)
 }

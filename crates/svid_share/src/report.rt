@@ -100,7 +100,7 @@ pub fn put_report<T: UseStore, K: Sink>(
 }
 
 // Raises a record to a moment, where one is given.
-fn raise_to<T: UseStore>(target: &mut Record<T>, now: Option<u64>)
+pub(crate) fn raise_to<T: UseStore>(target: &mut Record<T>, now: Option<u64>)
     ensures { target.new ≡ raised_to now target.old }
 {
     if let Some(now) = now {

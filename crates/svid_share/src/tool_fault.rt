@@ -1,5 +1,5 @@
-ghost use Rattle.std.specs.Prelude.{◌≡◌};
-ghost use Rattle.svid_share.specs.Faults.{bundle_fault_of, status_of, table_fault_of};
+ghost use Rattle.std.specs.Prelude.{◌≡◌, Some};
+ghost use Rattle.svid_share.specs.Faults.{bundle_fault_of, fault_text, reason_name, status_of, table_fault_of};
 ghost use Rattle.svid_share.specs.declared.tool_fault.ToolFault.TheVariants.{OutOfMemory};
 
 use std::alloc::{AllocError, AllocFailed};
@@ -63,7 +63,9 @@ impl ToolFault {
     }
 }
 
-fn reason_name(reason: Reason) -> &'static str {
+fn reason_name(reason: Reason) -> &'static str
+    ensures { result.now ≡ reason_name reason }
+{
     match reason {
         Reason::Magic => "Magic",
         Reason::Kind => "Kind",
@@ -80,6 +82,8 @@ fn reason_name(reason: Reason) -> &'static str {
 
 // What main prints on standard error.
 impl fmt::Display for ToolFault {
+    ghost output = { λ e. Some (fault_text e) };
+
     fn fmt<W: fmt::Write>(&self, f: &mut fmt::Formatter<W>) -> fmt::Result {
         match *self {
             ToolFault::Wire {

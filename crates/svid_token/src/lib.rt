@@ -32,8 +32,6 @@ mod part;
 mod payload;
 mod refusal;
 mod signature;
-#[cfg(test)]
-mod tests;
 
 pub use alg::Alg;
 pub use claims::Claims;

@@ -2,6 +2,7 @@
 
 use crate::failure::Failure;
 use crate::input::Input;
+use crate::kept::Kept;
 use crate::words::{bytes_of_text, words};
 use clap::error::ErrorKind;
 use clap::{Arg, ArgAction, ArgMatches, Command, Error};
@@ -13,6 +14,9 @@ use std::{io, str};
 use svid_lines::{CheckSetting, run_candidates, run_check, run_id};
 use svid_share::{ToolFault, run_answer, run_merge, run_report, run_summary};
 use svid_wire::Counted;
+
+// The version of the program, and the kit that proves and builds it.
+const VERSION: &str = "0.3.0 (rattle-kit-13f logic dac8208d650f15bf)";
 
 fn id_command<'a>(alloc: Global) -> Result<Command<'a>, AllocError> {
     let text = Arg::new(alloc, "text")
@@ -36,12 +40,24 @@ fn files_argument<'a>(alloc: Global) -> Arg<'a> {
         .help("Files of messages; standard input where there is none")
 }
 
+// The moment to which a record is raised.
+fn now_option<'a>(alloc: Global) -> Arg<'a> {
+    Arg::new(alloc, "now")
+        .long("now")
+        .value_name("N")
+        .value_parser(clap::value_parser!(u64))
+        .help(
+            "Drop what has expired by N: a time in seconds, to which the record's clock is advanced",
+        )
+}
+
 fn merge_command<'a>(alloc: Global) -> Result<Command<'a>, AllocError> {
     Command::new(alloc, "merge")
         .about("Joins the batches of the inputs, and writes the record as the texts of its batches")
         .after_help(
-            "Standard input is read where no FILE is named: messages, to their end.{n}{n}Exit status: 0 the record was written; 1 an input was refused; 2 usage, a file, a write or memory.",
+            "Standard input is read where no FILE is named: messages, to their end.{n}{n}The shell empties the file behind > before svid runs: `svid merge a b > a` loses a. Write to a new file, and move it. An empty file is an empty record, and a record that was cut at the end of a message reads well.{n}{n}Exit status: 0 the record was written; 1 an input was refused; 2 usage, a file, a write or memory.",
         )
+        .arg(now_option(alloc))?
         .arg(files_argument(alloc))
 }
 
@@ -72,17 +88,12 @@ fn answer_command<'a>(alloc: Global) -> Result<Command<'a>, AllocError> {
 }
 
 fn report_command<'a>(alloc: Global) -> Result<Command<'a>, AllocError> {
-    let now = Arg::new(alloc, "now")
-        .long("now")
-        .value_name("N")
-        .value_parser(clap::value_parser!(u64))
-        .help("A moment in seconds, to which the record is raised");
     Command::new(alloc, "report")
         .about("Joins the batches of the inputs, and prints the uses and the keys used twice")
         .after_help(
-            "Standard input is read where no FILE is named: messages, to their end.{n}{n}Exit status: 0 the report was printed; 1 an input was refused; 2 usage, a file, a write or memory.",
+            "Standard input is read where no FILE is named: messages, to their end.{n}{n}The page dist/svid.html of the sources shows the same in a browser.{n}{n}Exit status: 0 the report was printed; 1 an input was refused; 2 usage, a file, a write or memory.",
         )
-        .arg(now)?
+        .arg(now_option(alloc))?
         .arg(files_argument(alloc))
 }
 
@@ -138,7 +149,7 @@ fn check_command<'a>(alloc: Global) -> Result<Command<'a>, AllocError> {
     Command::new(alloc, "check")
         .about("Checks each token of standard input: accepted, or the first refusal")
         .after_help(
-            "Standard input is read to its end: each line that is not empty is a token.{n}{n}Exit status: 0 each token is accepted; 1 a token or an input is refused; 2 usage, the place, a file, a write or memory.",
+            "Standard input is read to its end: each line that is not empty is a token.{n}{n}--record and --out may name the same file. --out replaces it whole before the first line is printed, and leaves it as it was where the check fails. Two checks that run at once with the same --out keep the uses of one alone. An empty file is an empty record, and a record that was cut at the end of a message reads well.{n}{n}Exit status: 0 each token is accepted; 1 a token or an input is refused; 2 usage, the place, a file, a write or memory.",
         )
         .arg(file_option(alloc, "bundles", true).help("A file of trust bundles"))?
         .arg(file_option(alloc, "table", true).help(
@@ -146,9 +157,13 @@ fn check_command<'a>(alloc: Global) -> Result<Command<'a>, AllocError> {
         ))?
         .arg(now)?
         .arg(place)?
-        .arg(file_option(alloc, "record", false).help(
-            "A file of messages: the record that the checks begin with",
-        ))?
+        .arg(
+            file_option(alloc, "record", false)
+                .action(ArgAction::Append)
+                .help(
+                    "A file of messages: the record that the checks begin with; may be given more than once",
+                ),
+        )?
         .arg(file_option(alloc, "out", false).help(
             "The file that gets the record after the last check",
         ))?
@@ -156,22 +171,59 @@ fn check_command<'a>(alloc: Global) -> Result<Command<'a>, AllocError> {
         .arg(audience)
 }
 
+// The program without its commands.
+fn svid_command<'a>(alloc: Global) -> Result<Command<'a>, AllocError> {
+    Ok(
+        Command::new(alloc, "svid")
+            .bin_name("svid")?
+            .version(VERSION)
+            .about("Checks SPIFFE JWT-SVIDs, and keeps the record of those that were used")
+            .after_help(
+                "Standard input is read by check and candidates, and by report, merge, summary and answer where no FILE is named.{n}{n}Exit status: 0 the answer is yes; 1 something was refused; 2 usage, a file, a write or memory.",
+            )
+            .subcommand_required(true),
+    )
+}
+
+// (each command in a function of its own is proved quicker than all in one)
+fn add_check<'a>(alloc: Global, svid: Command<'a>) -> Result<Command<'a>, AllocError> {
+    svid.subcommand(check_command(alloc)?)
+}
+
+fn add_id<'a>(alloc: Global, svid: Command<'a>) -> Result<Command<'a>, AllocError> {
+    svid.subcommand(id_command(alloc)?)
+}
+
+fn add_report<'a>(alloc: Global, svid: Command<'a>) -> Result<Command<'a>, AllocError> {
+    svid.subcommand(report_command(alloc)?)
+}
+
+fn add_merge<'a>(alloc: Global, svid: Command<'a>) -> Result<Command<'a>, AllocError> {
+    svid.subcommand(merge_command(alloc)?)
+}
+
+fn add_summary<'a>(alloc: Global, svid: Command<'a>) -> Result<Command<'a>, AllocError> {
+    svid.subcommand(summary_command(alloc)?)
+}
+
+fn add_answer<'a>(alloc: Global, svid: Command<'a>) -> Result<Command<'a>, AllocError> {
+    svid.subcommand(answer_command(alloc)?)
+}
+
+fn add_candidates<'a>(alloc: Global, svid: Command<'a>) -> Result<Command<'a>, AllocError> {
+    svid.subcommand(candidates_command(alloc)?)
+}
+
 /// The commands and their arguments.
 pub fn command<'a>(alloc: Global) -> Result<Command<'a>, AllocError> {
-    Command::new(alloc, "svid")
-        .bin_name("svid")?
-        .about("Checks SPIFFE JWT-SVIDs, and keeps the record of those that were used")
-        .after_help(
-            "Standard input is read by check and candidates, and by report, merge, summary and answer where no FILE is named.{n}{n}Exit status: 0 the answer is yes; 1 something was refused; 2 usage, a file, a write or memory.",
-        )
-        .subcommand_required(true)
-        .subcommand(check_command(alloc)?)?
-        .subcommand(id_command(alloc)?)?
-        .subcommand(report_command(alloc)?)?
-        .subcommand(merge_command(alloc)?)?
-        .subcommand(summary_command(alloc)?)?
-        .subcommand(answer_command(alloc)?)?
-        .subcommand(candidates_command(alloc)?)
+    let svid = svid_command(alloc)?;
+    let svid = add_check(alloc, svid)?;
+    let svid = add_id(alloc, svid)?;
+    let svid = add_report(alloc, svid)?;
+    let svid = add_merge(alloc, svid)?;
+    let svid = add_summary(alloc, svid)?;
+    let svid = add_answer(alloc, svid)?;
+    add_candidates(alloc, svid)
 }
 
 // A mistake on the command line is told on standard error, and a call for help on standard output.
@@ -197,33 +249,28 @@ fn open_beyond_streams(rt: &HostRuntime, path: &str) -> io::Result<File> {
     File::open(rt, path)?.try_clone()
 }
 
-// Likewise a file that is made or emptied.
-fn create_beyond_streams(rt: &HostRuntime, path: &str) -> io::Result<File> {
-    File::create(rt, path)?.try_clone()
-}
-
 // The file of this name. A name that is not UTF-8 is none that can be opened.
-fn open(rt: &HostRuntime, name: &str) -> Result<Input, Failure> {
+fn open<'a>(rt: &'a HostRuntime, name: &str) -> Result<Input<'a>, Failure> {
     let bytes = bytes_of_text(rt.alloc(), name)?;
     let file = match str::from_utf8(&bytes) {
         Ok(path) => open_beyond_streams(rt, path).ok(),
         Err(_) => None,
     };
     match file {
-        Some(file) => Ok(Input::File(file)),
+        Some(file) => Ok(Input::File(rt, file)),
         None => Err(Failure::CannotOpen(bytes)),
     }
 }
 
-// The file of this name, made or emptied.
-fn create(rt: &HostRuntime, name: &str) -> Result<File, Failure> {
+// The file of this name, which gets the record.
+fn open_kept<'a>(rt: &'a HostRuntime, name: &str) -> Result<Kept<'a>, Failure> {
     let bytes = bytes_of_text(rt.alloc(), name)?;
-    let file = match str::from_utf8(&bytes) {
-        Ok(path) => create_beyond_streams(rt, path).ok(),
+    let kept = match str::from_utf8(&bytes) {
+        Ok(path) => Kept::open(rt, path).ok(),
         Err(_) => None,
     };
-    match file {
-        Some(file) => Ok(file),
+    match kept {
+        Some(kept) => Ok(kept),
         None => Err(Failure::CannotOpen(bytes)),
     }
 }
@@ -248,14 +295,20 @@ fn audiences(alloc: Global, words: &[&str]) -> Result<Vec<String>, Failure> {
     Ok(own)
 }
 
-// The files of these names in their order, or standard input where there is none.
-fn open_all(rt: &HostRuntime, names: &[&str]) -> Result<Vec<Counted<Input>>, Failure> {
+// The files of these names in their order.
+fn open_each<'a>(rt: &'a HostRuntime, names: &[&str]) -> Result<Vec<Counted<Input<'a>>>, Failure> {
     let mut inputs = Vec::new(rt.alloc());
-    if names.is_empty() {
-        inputs.push(Counted::new(Input::Stdin(rt.stdin())))?;
-    }
     for name in names {
         inputs.push(Counted::new(open(rt, name)?))?;
+    }
+    Ok(inputs)
+}
+
+// The files of these names in their order, or standard input where there is none.
+fn open_all<'a>(rt: &'a HostRuntime, names: &[&str]) -> Result<Vec<Counted<Input<'a>>>, Failure> {
+    let mut inputs = open_each(rt, names)?;
+    if names.is_empty() {
+        inputs.push(Counted::new(Input::Stdin(rt, rt.stdin())))?;
     }
     Ok(inputs)
 }
@@ -275,9 +328,10 @@ fn report(rt: &HostRuntime, matches: &ArgMatches<'_>) -> Result<u8, Failure> {
 }
 
 fn merge(rt: &HostRuntime, matches: &ArgMatches<'_>) -> Result<u8, Failure> {
+    let now = matches.get_one::<u64>("now");
     let mut inputs = open_all(rt, matches.get_strs("file").unwrap_or(&[]))?;
     let mut out = Counted::new(io::writer(rt));
-    run_merge(rt.alloc(), inputs.as_mut_slice(), &mut out)?;
+    run_merge(rt.alloc(), inputs.as_mut_slice(), now, &mut out)?;
     Ok(0)
 }
 
@@ -309,7 +363,7 @@ fn answer(rt: &HostRuntime, matches: &ArgMatches<'_>) -> Result<u8, Failure> {
 
 fn candidates(rt: &HostRuntime, matches: &ArgMatches<'_>) -> Result<u8, Failure> {
     let mut bundles = Counted::new(open(rt, matches.get_str("bundles").unwrap_or(""))?);
-    let mut tokens = Counted::new(Input::Stdin(rt.stdin()));
+    let mut tokens = Counted::new(Input::Stdin(rt, rt.stdin()));
     let mut out = Counted::new(io::writer(rt));
     let accepted = run_candidates(rt.alloc(), &mut bundles, &mut tokens, &mut out)?;
     Ok(status_of(accepted))
@@ -332,27 +386,32 @@ fn check(rt: &HostRuntime, matches: &ArgMatches<'_>) -> Result<u8, Failure> {
     let given = check_setting(rt, matches)?;
     let mut bundles = Counted::new(open(rt, matches.get_str("bundles").unwrap_or(""))?);
     let mut table = Counted::new(open(rt, matches.get_str("table").unwrap_or(""))?);
-    let mut tokens = Counted::new(Input::Stdin(rt.stdin()));
-    let mut earlier = match matches.get_str("record") {
-        Some(name) => Some(Counted::new(open(rt, name)?)),
-        None => None,
-    };
+    let mut tokens = Counted::new(Input::Stdin(rt, rt.stdin()));
+    let mut earlier = open_each(rt, matches.get_strs("record").unwrap_or(&[]))?;
     let mut kept = match matches.get_str("out") {
-        Some(name) => Some(Counted::new(create(rt, name)?)),
+        Some(name) => Some(open_kept(rt, name)?),
         None => None,
     };
     let mut out = Counted::new(io::writer(rt));
-    let accepted = run_check(
+    let answer = run_check(
         rt.alloc(),
         given,
         &mut bundles,
         &mut table,
         &mut tokens,
-        &mut earlier,
+        earlier.as_mut_slice(),
         &mut kept,
         &mut out,
-    )?;
-    Ok(status_of(accepted))
+    );
+    match answer {
+        Ok(accepted) => Ok(status_of(accepted)),
+        Err(fault) => {
+            if let Some(kept) = &mut kept {
+                kept.discard();
+            }
+            Err(Failure::Tool(fault))
+        }
+    }
 }
 
 fn dispatch(rt: &HostRuntime, matches: &ArgMatches<'_>) -> Result<u8, Failure> {

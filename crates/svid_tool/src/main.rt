@@ -5,6 +5,7 @@
 mod cli;
 mod failure;
 mod input;
+mod kept;
 #[cfg(test)]
 mod tests;
 mod words;

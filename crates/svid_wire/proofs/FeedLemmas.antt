@@ -4,7 +4,7 @@ use Rattle.std.proofs.lemmas.List.{length-take}
 use Rattle.std.specs.List.{flat_map, AllByRecursion}
 use Rattle.svid_replay.specs.declared.token_use.Use.{Use}
 use Rattle.svid_replay.specs.Use.{IsBytes, IsUse}
-use Rattle.svid_wire.specs.BatchText.{numbers_text, head_text}
+use Rattle.svid_wire.specs.BatchText.{moment_and_count_text, head_text}
 use Rattle.svid_wire.specs.Versions.{use_len_of, use_text}
 use Rattle.svid_wire.specs.declared.version.Version.{Version}
 use Rattle.svid_wire.specs.declared.version.Version.TheVariants.{One, Two}
@@ -17,7 +17,7 @@ use Rattle.svid_wire.specs.WireFault.{IsFieldRefusal}
 use Rattle.svid_wire.specs.declared.message.Message.{Message}
 use Rattle.svid_wire.specs.declared.partial.Partial.{Partial}
 use Rattle.svid_wire.specs.declared.stage.Stage.{Stage}
-use Rattle.svid_wire.specs.declared.stage.Stage.TheVariants.{Magic, Kind, Numbers, Uses, Moment, Digests}
+use Rattle.svid_wire.specs.declared.stage.Stage.TheVariants.{Magic, Kind, MomentAndCount, Uses, Moment, Digests}
 use Rattle.svid_wire.specs.declared.wire_fault.WireFault.{WireFault}
 use Rattle.svid_wire.proofs.FirstMessage.{length-use_text}
 use Rattle.svid_wire.proofs.MessagesLemmas.{Appended-more, Appended-trans}
@@ -30,7 +30,7 @@ length-texts One (u ∷ us) all = omega (arith, length-append (use_text One u) (
 length-texts Two (u ∷ us) all = omega (arith, length-append (use_text Two u) (flat_map (use_text Two) us), length-use_text Two u all.0, length-texts Two us all.1)
 
 length-head : (v : Version) (m c : ℕ) → length (head_text v m c) ≡ 17
-unfolding numbers_text
+unfolding moment_and_count_text
 length-head One m c = refl
 length-head Two m c = refl
 
@@ -54,8 +54,8 @@ length-stage : (s : Stage) → IsStage s → length (stage_text s) + field_len s
 length-stage Magic good = omega arith
 length-stage (Kind One) good = omega arith
 length-stage (Kind Two) good = omega arith
-length-stage (Numbers One) good = omega arith
-length-stage (Numbers Two) good = omega arith
+length-stage (MomentAndCount One) good = omega arith
+length-stage (MomentAndCount Two) good = omega arith
 length-stage (Uses One m c us) good = omega (arith, good.more, good.few, length-begun One m c us.items good.fields)
 length-stage (Uses Two m c us) good = omega (arith, good.more, good.few, length-begun Two m c us.items good.fields)
 length-stage Moment good = omega arith

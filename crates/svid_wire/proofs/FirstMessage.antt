@@ -14,11 +14,11 @@ use Rattle.svid_replay.specs.Use.{IsBytes, IsUse, front_text, text_of}
 use Rattle.svid_replay.specs.Batches.{BatchData, AllGood, flaw, last_of}
 use Rattle.svid_replay.specs.Summary.{SummaryData, IsSummary}
 use Rattle.svid_replay.proofs.BatchesLemmas.{last_of-push}
-use Rattle.svid_wire.specs.BatchText.{IsBatchIn, batch_kind, numbers_text, head_text, batch_text_in}
+use Rattle.svid_wire.specs.BatchText.{IsBatchIn, batch_kind, moment_and_count_text, head_text, batch_text_in}
 use Rattle.svid_wire.specs.Versions.{CanTell, magic_of, most_of, use_len_of, use_text}
 use Rattle.svid_wire.specs.SummaryText.{summary_kind, moment_text, summary_head, digest_text, summary_text}
 use Rattle.svid_wire.specs.Messages.{Written, batch_in, summary, written_text, IsWritten, BeginsOneMessage, TextHasNoFault}
-use Rattle.svid_wire.specs.WireFault.{IsUnfinished, in_magic, in_kind, in_numbers, in_uses, in_moment, in_digests, IsBegun, IsFaultFor, FaultIsUnique, HasSummaries, IsUseFault, IsUseKindFault, IsKindFault, IsCountFault, flaw_reason}
+use Rattle.svid_wire.specs.WireFault.{IsUnfinished, in_magic, in_kind, in_moment_and_count, in_uses, in_moment, in_digests, IsBegun, IsFaultFor, FaultIsUnique, HasSummaries, IsUseFault, IsUseKindFault, IsKindFault, IsCountFault, flaw_reason}
 use Rattle.svid_wire.specs.declared.version.Version.{Version}
 use Rattle.svid_wire.specs.declared.version.Version.TheVariants.{One, Two}
 use Rattle.svid_wire.specs.declared.wire_fault.WireFault.{WireFault}
@@ -141,8 +141,8 @@ find_uses v (suc n) m us x = at_field (use_len_of v) x (λ f rest. with_use v (u
 unfoldable pub found_uses : Version → ℕ → ℕ → List ℕ → Found
 found_uses v m c rest = if nat_lt (most_of v) c then fault_at 13 reason.Count else find_uses v c m [] rest
 
-unfoldable pub find_numbers : Version → List ℕ → Found
-find_numbers v x = at_field 12 x (λ f rest. found_uses v (from_be_bytes w64 (take 8 f)) (from_be_bytes w32 (drop 8 f)) rest)
+unfoldable pub find_moment_and_count : Version → List ℕ → Found
+find_moment_and_count v x = at_field 12 x (λ f rest. found_uses v (from_be_bytes w64 (take 8 f)) (from_be_bytes w32 (drop 8 f)) rest)
 
 -- so many digests more, behind those that came
 unfoldable pub find_digests : ℕ → ℕ → List (List ℕ) → List ℕ → Found
@@ -157,7 +157,7 @@ find_summary_kind One f rest = fault_at 4 reason.Kind
 find_summary_kind Two f rest = if bytes_eq f (summary_kind ∷ []) then find_moment rest else fault_at 4 reason.Kind
 
 unfoldable pub find_kind : Version → List ℕ → Found
-find_kind v x = at_field 1 x (λ f rest. if bytes_eq f (batch_kind ∷ []) then find_numbers v rest else find_summary_kind v f rest)
+find_kind v x = at_field 1 x (λ f rest. if bytes_eq f (batch_kind ∷ []) then find_moment_and_count v rest else find_summary_kind v f rest)
 
 abbrev pub find_version : List ℕ → List ℕ → Found
 find_version f rest = if bytes_eq f (magic_of Two) then find_kind Two rest else (if bytes_eq f (magic_of One) then find_kind One rest else fault_at 0 reason.Magic)
@@ -202,22 +202,22 @@ unfolding find_magic
 find_magic-good One x = at_whole 4 (magic_of One) x _ refl
 find_magic-good Two x = at_whole 4 (magic_of Two) x _ refl
 
-find_kind-good : (v : Version) (x : List ℕ) → find_kind v (batch_kind ∷ x) ≡ find_numbers v x
+find_kind-good : (v : Version) (x : List ℕ) → find_kind v (batch_kind ∷ x) ≡ find_moment_and_count v x
 unfolding find_kind
 find_kind-good v x = at_whole 1 (batch_kind ∷ []) x _ refl
 
-find_numbers-next : (v : Version) (m c : ℕ) (x : List ℕ) → m < 2 ^ 64 → c < 2 ^ 32 → find_numbers v (numbers_text m c ++ x) ≡ found_uses v m c x
-unfolding find_numbers numbers_text
-find_numbers-next v m c x fm fc =
-    at_whole 12 (numbers_text m c) x _ refl
+find_moment_and_count-next : (v : Version) (m c : ℕ) (x : List ℕ) → m < 2 ^ 64 → c < 2 ^ 32 → find_moment_and_count v (moment_and_count_text m c ++ x) ≡ found_uses v m c x
+unfolding find_moment_and_count moment_and_count_text
+find_moment_and_count-next v m c x fm fc =
+    at_whole 12 (moment_and_count_text m c) x _ refl
     ∙ ap (λ n. found_uses v n (from_be_bytes w32 (to_be_bytes w32 c)) x) (from_be_bytes-to_be_bytes_8 m fm)
     ∙ ap (λ n. found_uses v m n x) (from_be_bytes-to_be_bytes_4 c fc)
 
 -- the head of a batch
 find_head : (v : Version) (m c : ℕ) (x : List ℕ) → m < 2 ^ 64 → c < 2 ^ 32 → find_magic (head_text v m c ++ x) ≡ found_uses v m c x
-find_head v m c x fm fc = ap find_magic (head_parts v m c x) ∙ find_magic-good v _ ∙ find_kind-good v _ ∙ find_numbers-next v m c x fm fc
+find_head v m c x fm fc = ap find_magic (head_parts v m c x) ∙ find_magic-good v _ ∙ find_kind-good v _ ∙ find_moment_and_count-next v m c x fm fc
   where
-    head_parts : (v : Version) (m c : ℕ) (x : List ℕ) → head_text v m c ++ x ≡ magic_of v ++ (batch_kind ∷ (numbers_text m c ++ x))
+    head_parts : (v : Version) (m c : ℕ) (x : List ℕ) → head_text v m c ++ x ≡ magic_of v ++ (batch_kind ∷ (moment_and_count_text m c ++ x))
     head_parts One m c x = refl
     head_parts Two m c x = refl
 
@@ -291,10 +291,10 @@ find_begun v m c us x begun =
     (k, find_head-few v m c _ begun.moment_fits begun.few ∙ find_uses-begun v m c (suc k) us x left begun.fields begun.tells begun.good)
 
 find_cut : (bytes : List ℕ) → IsUnfinished bytes → find_magic bytes ≡ cut
-unfolding find_magic find_kind find_numbers find_uses find_moment
+unfolding find_magic find_kind find_moment_and_count find_uses find_moment
 find_cut bytes (in_magic short) = at_short 4 bytes _ short
 find_cut bytes (in_kind v parts) = ap find_magic (parts ∙ sym (append-nil (magic_of v))) ∙ find_magic-good v [] ∙ at_short 1 [] _ (omega arith)
-find_cut bytes (in_numbers v part parts short) = ap find_magic parts ∙ find_magic-good v _ ∙ find_kind-good v part ∙ at_short 12 part _ short
+find_cut bytes (in_moment_and_count v part parts short) = ap find_magic parts ∙ find_magic-good v _ ∙ find_kind-good v part ∙ at_short 12 part _ short
 find_cut bytes (in_uses v m c us part begun parts short) =
     ap find_magic parts ∙ (find_begun v m c us part begun).1 ∙ at_short (use_len_of v) part _ short
 find_cut bytes (in_moment part parts short) = ap find_magic parts ∙ find_magic-good Two _ ∙ find_kind-summary part ∙ at_short 8 part _ short
@@ -355,7 +355,7 @@ find_kind_fault bytes h =
     ap find_magic h.parts
     ∙ find_magic-good v _
     ∙ at_whole 1 (h.kind ∷ []) h.after _ refl
-    ∙ ap (λ b. if b then find_numbers v h.after else find_summary_kind v (h.kind ∷ []) h.after) (bytes_eq-false (h.kind ∷ []) (batch_kind ∷ []) (λ e. h.no_batch cc))
+    ∙ ap (λ b. if b then find_moment_and_count v h.after else find_summary_kind v (h.kind ∷ []) h.after) (bytes_eq-false (h.kind ∷ []) (batch_kind ∷ []) (λ e. h.no_batch cc))
     ∙ no_summary_kind v h.kind h.after h.no_summary
 
 find_count_fault : (bytes : List ℕ) → IsCountFault bytes → find_magic bytes ≡ fault_at 13 reason.Count

@@ -15,16 +15,16 @@ use Rattle.svid_replay.specs.declared.flaw.Flaw.{Flaw}
 use Rattle.svid_replay.specs.Use.{IsUse, IsBytes, front_text}
 use Rattle.svid_replay.specs.Batches.{AllGood, flaw, last_of}
 use Rattle.svid_replay.proofs.BatchesLemmas.{AllGood-push, AllByRecursion-push}
-use Rattle.svid_wire.specs.BatchText.{batch_kind, numbers_text, head_text}
+use Rattle.svid_wire.specs.BatchText.{batch_kind, moment_and_count_text, head_text}
 use Rattle.svid_wire.specs.Versions.{CanTell, magic_of, most_of, use_len_of, use_text}
 use Rattle.svid_wire.specs.declared.version.Version.{Version}
 use Rattle.svid_wire.specs.declared.version.Version.TheVariants.{One, Two}
-use Rattle.svid_wire.specs.WireFault.{IsUnfinished, in_magic, in_kind, in_numbers, in_uses, in_moment, in_digests, AreBegun, IsBegun, IsFault, IsUseFault}
+use Rattle.svid_wire.specs.WireFault.{IsUnfinished, in_magic, in_kind, in_moment_and_count, in_uses, in_moment, in_digests, AreBegun, IsBegun, IsFault, IsUseFault}
 use Rattle.svid_wire.specs.Messages.{written_text, IsWritten, BeginsMessage, HasFault, BeginsOrFaults}
 use Rattle.svid_wire.specs.SummaryText.{summary_kind, moment_text, summary_head, digest_text}
 use Rattle.svid_wire.specs.declared.reason.Reason.TheVariants as reason
 use Rattle.svid_wire.proofs.StageLemmas.{IsFieldFault-use}
-use Rattle.svid_wire.proofs.FirstMessage.{Found, message, fault, cut, fault_at, at_field, front_of, use_of_pieces, kind_of, use_with, use_in, text_of-front, judged, with_use, find_uses, found_uses, find_numbers, find_digests, find_moment, find_summary_kind, find_kind, find_magic}
+use Rattle.svid_wire.proofs.FirstMessage.{Found, message, fault, cut, fault_at, at_field, front_of, use_of_pieces, kind_of, use_with, use_in, text_of-front, judged, with_use, find_uses, found_uses, find_moment_and_count, find_digests, find_moment, find_summary_kind, find_kind, find_magic}
 
 -- bytes as a slice knows them
 AreBytes : List ℕ → Type 0
@@ -77,9 +77,9 @@ from_be_bytes-lt bytes h =
     omega (arith, at 0, at 1, at 2, at 3, at 4, at 5, at 6, at 7)
 
 -- the moment and the number of uses that a field tells
-numbers_text-of : (f : List ℕ) → length f ≡ 12 → AreBytes f → numbers_text (from_be_bytes w64 (take 8 f)) (from_be_bytes w32 (drop 8 f)) ≡ f
-unfolding numbers_text
-numbers_text-of f size h =
+moment_and_count_text-of : (f : List ℕ) → length f ≡ 12 → AreBytes f → moment_and_count_text (from_be_bytes w64 (take 8 f)) (from_be_bytes w32 (drop 8 f)) ≡ f
+unfolding moment_and_count_text
+moment_and_count_text-of f size h =
     ap (λ x. x ++ to_be_bytes w32 (from_be_bytes w32 (drop 8 f))) (be_bytes_8 (take 8 f) _ (length-take-le 8 f (omega arith)) (AreBytes-at _ (AreBytes-take 8 f h)) refl)
     ∙ ap (λ x. take 8 f ++ x) (be_bytes_4 (drop 8 f) _ (omega (arith, length-drop 8 f)) (AreBytes-at _ (AreBytes-drop 8 f h)) refl)
     ∙ take-append-drop 8 f
@@ -254,16 +254,16 @@ Tells-head bytes v m c rest true fm fc h parts test =
 Tells-head bytes v m c rest false fm fc h parts test =
     Tells-uses v c m c [] rest bytes (omega arith) fm (is_within (most_of v) c test) tt tt tt h parts
 
-find_numbers-tells : (v : Version) (x bytes : List ℕ) → AreBytes x → bytes ≡ magic_of v ++ batch_kind ∷ x → Tells bytes (find_numbers v x)
-unfolding find_numbers found_uses
-find_numbers-tells v x bytes h parts =
-    Tells-field bytes 12 x _ (λ short. in_numbers v x parts short) (λ f rest split size.
+find_moment_and_count-tells : (v : Version) (x bytes : List ℕ) → AreBytes x → bytes ≡ magic_of v ++ batch_kind ∷ x → Tells bytes (find_moment_and_count v x)
+unfolding find_moment_and_count found_uses
+find_moment_and_count-tells v x bytes h parts =
+    Tells-field bytes 12 x _ (λ short. in_moment_and_count v x parts short) (λ f rest split size.
     let (are, after) = field_bytes x f rest split h in
     let count = AreBytes-at (drop 8 f) (AreBytes-drop 8 f are) in
     Tells-head bytes v (from_be_bytes w64 (take 8 f)) (from_be_bytes w32 (drop 8 f)) rest _ (from_be_bytes-lt (take 8 f) (AreBytes-take 8 f are)) (omega (arith, count 0, count 1, count 2, count 3)) after
-    (parts ∙ ap (λ y. magic_of v ++ batch_kind ∷ y) (split ∙ ap (λ y. y ++ rest) (sym (numbers_text-of f size are))) ∙ head_parts v _ _ rest) refl)
+    (parts ∙ ap (λ y. magic_of v ++ batch_kind ∷ y) (split ∙ ap (λ y. y ++ rest) (sym (moment_and_count_text-of f size are))) ∙ head_parts v _ _ rest) refl)
   where
-    head_parts : (v : Version) (m c : ℕ) (x : List ℕ) → magic_of v ++ batch_kind ∷ (numbers_text m c ++ x) ≡ head_text v m c ++ x
+    head_parts : (v : Version) (m c : ℕ) (x : List ℕ) → magic_of v ++ batch_kind ∷ (moment_and_count_text m c ++ x) ≡ head_text v m c ++ x
     head_parts One m c x = refl
     head_parts Two m c x = refl
 
@@ -313,8 +313,8 @@ find_kind-tells v x bytes h parts =
     Tells-field bytes 1 x _ (λ short. in_kind v (parts ∙ ap (λ y. magic_of v ++ y) (nil_from_length x (omega arith)) ∙ append-nil (magic_of v))) (λ f rest split size.
     let (are, after) = field_bytes x f rest split h in
     let (kind, is) = one_byte f size in
-    Tells-compared bytes f (batch_kind ∷ []) (find_numbers v rest) (find_summary_kind v f rest) _ refl
-    (λ same. find_numbers-tells v rest bytes after (parts ∙ ap (λ y. magic_of v ++ y) (split ∙ ap (λ y. y ++ rest) same)))
+    Tells-compared bytes f (batch_kind ∷ []) (find_moment_and_count v rest) (find_summary_kind v f rest) _ refl
+    (λ same. find_moment_and_count-tells v rest bytes after (parts ∙ ap (λ y. magic_of v ++ y) (split ∙ ap (λ y. y ++ rest) same)))
     (λ no_batch. Tells-other v kind f rest bytes after is no_batch (parts ∙ ap (λ y. magic_of v ++ y) split)))
 
 find_magic-tells : (bytes : List ℕ) → AreBytes bytes → Tells bytes (find_magic bytes)

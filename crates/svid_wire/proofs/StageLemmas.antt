@@ -7,14 +7,14 @@ use Rattle.svid_replay.specs.declared.flaw.Flaw.TheVariants.{Expired, Future, Or
 use Rattle.svid_replay.specs.Use.{IsBytes}
 use Rattle.svid_replay.specs.Batches.{last_of}
 use Rattle.svid_replay.proofs.BatchesLemmas.{AllByRecursion-push}
-use Rattle.svid_wire.specs.BatchText.{batch_kind, numbers_text, head_text}
+use Rattle.svid_wire.specs.BatchText.{batch_kind, moment_and_count_text, head_text}
 use Rattle.svid_wire.specs.Versions.{magic_of, most_of, use_text}
 use Rattle.svid_wire.specs.declared.version.Version.{Version}
 use Rattle.svid_wire.specs.SummaryText.{summary_head, digest_text}
 use Rattle.svid_wire.specs.Stage.{IsStage, stage_text, field_len}
 use Rattle.svid_wire.specs.declared.stage.Stage.{Stage}
-use Rattle.svid_wire.specs.declared.stage.Stage.TheVariants.{Magic, Kind, Numbers, Uses, Moment, Digests}
-use Rattle.svid_wire.specs.WireFault.{IsUnfinished, in_magic, in_kind, in_numbers, in_uses, in_moment, in_digests, IsFieldFault, IsUseFault, IsCountFault, flaw_reason}
+use Rattle.svid_wire.specs.declared.stage.Stage.TheVariants.{Magic, Kind, MomentAndCount, Uses, Moment, Digests}
+use Rattle.svid_wire.specs.WireFault.{IsUnfinished, in_magic, in_kind, in_moment_and_count, in_uses, in_moment, in_digests, IsFieldFault, IsUseFault, IsCountFault, flaw_reason}
 
 pub last_of-read : (before : Option Use) (u : Use) (us : List Use) → last_of before (u ∷ us) ≡ slice_get (u ∷ us) (length us)
 last_of-read before u [] = refl
@@ -34,7 +34,7 @@ IsFieldFault-use bytes place Future h = (h, λ e. cc)
 IsFieldFault-use bytes place Order h = (h, λ e. cc)
 
 -- a count that is too great
-pub IsCountFault-last : (v : Version) (m c : ℕ) (field : List ℕ) → numbers_text m c ≡ field → m < 2 ^ 64 → c < 2 ^ 32 → most_of v < c → IsCountFault (magic_of v ++ batch_kind ∷ [] ++ field)
+pub IsCountFault-last : (v : Version) (m c : ℕ) (field : List ℕ) → moment_and_count_text m c ≡ field → m < 2 ^ 64 → c < 2 ^ 32 → most_of v < c → IsCountFault (magic_of v ++ batch_kind ∷ [] ++ field)
 IsCountFault-last v m c field e mf cf many = record {
   version = v;
   moment = m;
@@ -58,7 +58,7 @@ digests-more head ds now d field grown same =
 pub IsUnfinished-stage : (stage : Stage) (rest bytes : List ℕ) → IsStage stage → bytes ≡ stage_text stage ++ rest → length rest < field_len stage → IsUnfinished bytes
 IsUnfinished-stage Magic rest bytes good parts short = in_magic (subst (λ (x : List ℕ). length x < 4) (sym parts) short)
 IsUnfinished-stage (Kind v) rest bytes good parts short = in_kind v (parts ∙ ap (λ x. magic_of v ++ x) (nil_from_length rest (omega arith)) ∙ append-nil (magic_of v))
-IsUnfinished-stage (Numbers v) rest bytes good parts short = in_numbers v rest (parts ∙ append_assoc (magic_of v) (batch_kind ∷ []) rest) short
+IsUnfinished-stage (MomentAndCount v) rest bytes good parts short = in_moment_and_count v rest (parts ∙ append_assoc (magic_of v) (batch_kind ∷ []) rest) short
 IsUnfinished-stage (Uses v m c us) rest bytes good parts short = in_uses v m c us.items rest good (parts ∙ append_assoc (head_text v m c) (flat_map (use_text v) us.items) rest) short
 IsUnfinished-stage Moment rest bytes good parts short = in_moment rest parts short
 IsUnfinished-stage (Digests m ds) rest bytes good parts short = in_digests m ds.items rest good (parts ∙ append_assoc (summary_head m) (flat_map digest_text ds.items) rest) short

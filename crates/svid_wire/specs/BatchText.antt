@@ -12,12 +12,12 @@ abbrev pub batch_kind : ℕ
 batch_kind = 1
 
 -- the moment and the number of uses, each with its greatest byte first
-unfoldable pub numbers_text : ℕ → ℕ → List ℕ
-numbers_text moment count = to_be_bytes w64 moment ++ to_be_bytes w32 count
+unfoldable pub moment_and_count_text : ℕ → ℕ → List ℕ
+moment_and_count_text moment count = to_be_bytes w64 moment ++ to_be_bytes w32 count
 
 -- what stands before the first use
 abbrev pub head_text : Version → ℕ → ℕ → List ℕ
-head_text v moment count = magic_of v ++ batch_kind ∷ [] ++ numbers_text moment count
+head_text v moment count = magic_of v ++ batch_kind ∷ [] ++ moment_and_count_text moment count
 
 -- the head, and then the bytes of each use
 abbrev pub batch_text_in : Version → BatchData → List ℕ

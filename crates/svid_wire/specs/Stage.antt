@@ -7,7 +7,7 @@ use Rattle.svid_wire.specs.Versions.{magic_of, use_len_of, use_text}
 use Rattle.svid_wire.specs.SummaryText.{summary_kind, summary_head, digest_text, summary_text}
 use Rattle.svid_wire.specs.WireFault.{IsBegun, AreBegun, IsFieldRefusal}
 use Rattle.svid_wire.specs.declared.stage.Stage.{Stage}
-use Rattle.svid_wire.specs.declared.stage.Stage.TheVariants.{Magic, Kind, Numbers, Uses, Moment, Digests}
+use Rattle.svid_wire.specs.declared.stage.Stage.TheVariants.{Magic, Kind, MomentAndCount, Uses, Moment, Digests}
 use Rattle.svid_wire.specs.declared.stage.Progress.{Progress}
 use Rattle.svid_wire.specs.declared.stage.Progress.TheVariants.{More, Batch, Summary}
 use Rattle.svid_wire.specs.declared.version.Version.{Version}
@@ -18,7 +18,7 @@ use Rattle.svid_wire.specs.declared.wire_fault.WireFault.{WireFault}
 abbrev pub stage_text : Stage → List ℕ
 stage_text Magic = []
 stage_text (Kind v) = magic_of v
-stage_text (Numbers v) = magic_of v ++ batch_kind ∷ []
+stage_text (MomentAndCount v) = magic_of v ++ batch_kind ∷ []
 stage_text (Uses v moment count uses) = head_text v moment count ++ flat_map (use_text v) uses.items
 stage_text Moment = magic_of Two ++ summary_kind ∷ []
 stage_text (Digests moment digests) = summary_head moment ++ flat_map digest_text digests.items
@@ -27,7 +27,7 @@ stage_text (Digests moment digests) = summary_head moment ++ flat_map digest_tex
 abbrev pub IsStage : Stage → Type 0
 IsStage Magic = Unit {0}
 IsStage (Kind v) = Unit {0}
-IsStage (Numbers v) = Unit {0}
+IsStage (MomentAndCount v) = Unit {0}
 IsStage (Uses v moment count uses) = IsBegun v moment count uses.items
 IsStage Moment = Unit {0}
 IsStage (Digests moment digests) = AreBegun moment digests.items
@@ -36,7 +36,7 @@ IsStage (Digests moment digests) = AreBegun moment digests.items
 abbrev pub field_len : Stage → ℕ
 field_len Magic = 4
 field_len (Kind v) = 1
-field_len (Numbers v) = 12
+field_len (MomentAndCount v) = 12
 field_len (Uses v moment count uses) = use_len_of v
 field_len Moment = 8
 field_len (Digests moment digests) = 32

@@ -89,7 +89,7 @@ pub record IsCountFault (bytes : List ℕ) : Type 0 where
 pub data IsUnfinished (bytes : List ℕ) : Type 0 where
   in_magic : length bytes < 4 → IsUnfinished bytes
   in_kind : (v : Version) → bytes ≡ magic_of v → IsUnfinished bytes
-  in_numbers : (v : Version) (part : List ℕ) → bytes ≡ magic_of v ++ batch_kind ∷ part → length part < 12 → IsUnfinished bytes
+  in_moment_and_count : (v : Version) (part : List ℕ) → bytes ≡ magic_of v ++ batch_kind ∷ part → length part < 12 → IsUnfinished bytes
   in_uses : (v : Version) (moment count : ℕ) (uses : List Use) (part : List ℕ) → IsBegun v moment count uses → bytes ≡ head_text v moment count ++ (flat_map (use_text v) uses ++ part) → length part < use_len_of v → IsUnfinished bytes
   in_moment : (part : List ℕ) → bytes ≡ magic_of Two ++ summary_kind ∷ part → length part < 8 → IsUnfinished bytes
   in_digests : (moment : ℕ) (digests : List (List ℕ)) (part : List ℕ) → AreBegun moment digests → bytes ≡ summary_head moment ++ (flat_map digest_text digests ++ part) → length part < 32 → IsUnfinished bytes

@@ -1,7 +1,7 @@
 ghost use Rattle.std.specs.Prelude.{◌≡◌, ◌≢◌, MatchOption, length};
 ghost use Rattle.std.specs.Int.{from_bool, to_be_bytes, w32, w64};
 ghost use Rattle.svid_replay.specs.Use.{IsBytes, front_text, text_of};
-ghost use Rattle.svid_wire.specs.BatchText.{numbers_text};
+ghost use Rattle.svid_wire.specs.BatchText.{moment_and_count_text};
 ghost use Rattle.svid_wire.specs.Stage.{IsNoUse};
 ghost use Rattle.svid_wire.specs.declared.version.Version.{Version};
 ghost use Rattle.svid_wire.specs.SummaryText.{moment_text};
@@ -77,10 +77,10 @@ pub(crate) fn use_of(field: &[u8]) -> Option<Use>
 }
 
 /// The moment and the number of uses that such bytes tell.
-#[tactic(auto, using(std::proofs::lemmas::Grind::common_steps), unfolding(crate::specs::BatchText::numbers_text))]
-pub(crate) fn numbers_of(field: &[u8]) -> (u64, u32)
+#[tactic(auto, using(std::proofs::lemmas::Grind::common_steps), unfolding(crate::specs::BatchText::moment_and_count_text))]
+pub(crate) fn moment_and_count_of(field: &[u8]) -> (u64, u32)
     requires { length field.now ≡ 12 }
-    ensures { numbers_text result.0 result.1 ≡ field.now }
+    ensures { moment_and_count_text result.0 result.1 ≡ field.now }
 {
     let (moment, count) = field.split_at(8);
     (u64_of(moment), u32_of(count))

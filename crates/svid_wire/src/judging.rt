@@ -9,7 +9,7 @@ ghost use Rattle.svid_wire.specs.SummaryText.{summary_kind, summary_head, digest
 ghost use Rattle.svid_wire.specs.WireFault.{AreBegun, IsBegun, flaw_reason};
 ghost use Rattle.svid_wire.specs.Stage.{IsStage, Judges, Reaches, field_len, stage_text};
 
-use crate::field::{digest_of, moment_of, numbers_of};
+use crate::field::{digest_of, moment_and_count_of, moment_of};
 use crate::layout::{
     BATCH_KIND, COUNT_PLACE, DIGEST_LEN, DIGESTS, HEAD_LEN, KIND_PLACE, SUMMARY_KIND,
 };
@@ -47,7 +47,7 @@ fn judge_kind(version: Version, field: &[u8]) -> Result<Progress, WireFault>
     ensures { Judges (magic_of version ++ field.now) result }
 {
     match (version, field[0]) {
-        (_, BATCH_KIND) => Ok(Progress::More(Stage::Numbers(version))),
+        (_, BATCH_KIND) => Ok(Progress::More(Stage::MomentAndCount(version))),
         (Version::Two, SUMMARY_KIND) => Ok(Progress::More(Stage::Moment)),
         _ => Err(WireFault {
             place: KIND_PLACE,
@@ -77,11 +77,15 @@ fn next(version: Version, moment: u64, count: u32, uses: Vec<Use>) -> Progress
     }
 }
 
-fn judge_numbers(alloc: Global, version: Version, field: &[u8]) -> Result<Progress, WireFault>
+fn judge_moment_and_count(
+    alloc: Global,
+    version: Version,
+    field: &[u8],
+) -> Result<Progress, WireFault>
     requires { length field.now ≡ 12 }
     ensures { Judges (magic_of version ++ batch_kind ∷ [] ++ field.now) result }
 {
-    let (moment, count) = numbers_of(field);
+    let (moment, count) = moment_and_count_of(field);
     if count as usize > version.most_uses() {
         return Err(WireFault {
             place: COUNT_PLACE,
@@ -170,7 +174,7 @@ pub(crate) fn judge(alloc: Global, stage: Stage, field: &[u8]) -> Result<Progres
     match stage {
         Stage::Magic => judge_magic(field),
         Stage::Kind(version) => judge_kind(version, field),
-        Stage::Numbers(version) => judge_numbers(alloc, version, field),
+        Stage::MomentAndCount(version) => judge_moment_and_count(alloc, version, field),
         Stage::Uses {
             version,
             moment,

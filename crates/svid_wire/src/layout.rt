@@ -16,7 +16,7 @@ pub(crate) const MAGIC_LEN: usize = 4;
 pub(crate) const KIND_LEN: usize = 1;
 
 /// How many bytes the moment and the number of uses have.
-pub(crate) const NUMBERS_LEN: usize = 12;
+pub(crate) const MOMENT_AND_COUNT_LEN: usize = 12;
 
 /// How many bytes a use has in version 2.
 pub(crate) const USE_LEN: usize = 65;

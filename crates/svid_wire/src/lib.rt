@@ -48,8 +48,6 @@ mod sink;
 mod source;
 mod stage;
 mod stopped;
-#[cfg(test)]
-mod tests;
 mod version;
 mod version_1;
 mod wire_fault;

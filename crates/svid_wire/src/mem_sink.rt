@@ -12,7 +12,7 @@ use std::marker::Model;
 pub struct MemSink {
     bytes: Vec<u8>,
     step: usize,
-    until: Option<u64>,
+    calls_left: Option<u64>,
     faults: u64,
 }
 
@@ -22,7 +22,7 @@ impl Model for MemSink {
 
     ghost Value = { Stream };
 
-    ghost view = { λ s. record { bytes = s.bytes.items; step = s.step; until = s.until; stops = s.faults } };
+    ghost view = { λ s. record { bytes = s.bytes.items; step = s.step; calls_left = s.calls_left; stops = s.faults } };
 
     ghost invariant = { λ s. 0 < s.step };
 }
@@ -33,12 +33,12 @@ impl MemSink {
     /// Where `fail_at` is given, the call of `put` with that number, counted from 1, answers `Stopped`.
     pub fn new(alloc: Global, step: usize, fail_at: Option<u64>) -> MemSink
         requires { 0 < step }
-        ensures { result ≡ record { bytes = []; step = step; until = fail_at; stops = 0 } }
+        ensures { result ≡ record { bytes = []; step = step; calls_left = fail_at; stops = 0 } }
     {
         MemSink {
             bytes: Vec::new(alloc),
             step,
-            until: fail_at,
+            calls_left: fail_at,
             faults: 0,
         }
     }
@@ -62,13 +62,13 @@ impl Sink for MemSink {
         ensures bytes { WriteAppends (Some self.old.bytes) (Some self.new.bytes) result piece.now }
         ensures faults { CountsFault self.old.stops self.new.stops result }
 
-        ensures due { self.old.until ≡ Some 1 → IsErr result }
-        ensures next_due { self.new.until ≡ counted_down self.old.until }
+        ensures due { self.old.calls_left ≡ Some 1 → IsErr result }
+        ensures next_due { self.new.calls_left ≡ counted_down self.old.calls_left }
         ensures moved { IfOk result (λ k. k ≡ min self.old.step (length piece.now)) }
         ensures step { self.new.step ≡ self.old.step }
     {
-        let due = self.until == Some(1);
-        self.until = self.until.map(|calls| calls.saturating_sub(1));
+        let due = self.calls_left == Some(1);
+        self.calls_left = self.calls_left.map(|calls| calls.saturating_sub(1));
         let moved = self.step.min(piece.len());
         if due || self.bytes.extend_from_slice(&piece[..moved]).is_err() {
             self.faults = self.faults.saturating_add(1);

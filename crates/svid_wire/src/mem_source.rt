@@ -12,7 +12,7 @@ pub struct MemSource {
     bytes: Vec<u8>,
     at: usize,
     step: usize,
-    until: Option<u64>,
+    calls_left: Option<u64>,
     faults: u64,
 }
 
@@ -22,7 +22,7 @@ impl Model for MemSource {
 
     ghost Value = { Stream };
 
-    ghost view = { λ s. record { bytes = drop s.at s.bytes.items; step = s.step; until = s.until; stops = s.faults } };
+    ghost view = { λ s. record { bytes = drop s.at s.bytes.items; step = s.step; calls_left = s.calls_left; stops = s.faults } };
 
     ghost invariant = { λ s. (s.at ≤ vec_len s.bytes) × (0 < s.step) };
 }
@@ -33,13 +33,13 @@ impl MemSource {
     /// Where `fail_at` is given, the call of `get` with that number, counted from 1, answers `Stopped`, and no other.
     pub fn new(bytes: Vec<u8>, step: usize, fail_at: Option<u64>) -> MemSource
         requires { 0 < step }
-        ensures { result ≡ record { bytes = bytes.items; step = step; until = fail_at; stops = 0 } }
+        ensures { result ≡ record { bytes = bytes.items; step = step; calls_left = fail_at; stops = 0 } }
     {
         MemSource {
             bytes,
             at: 0,
             step,
-            until: fail_at,
+            calls_left: fail_at,
             faults: 0,
         }
     }
@@ -56,13 +56,13 @@ impl Source for MemSource {
         ensures bytes { ReadConsumes (Some self.old.bytes) (Some self.new.bytes) result room.new }
         ensures faults { CountsFault self.old.stops self.new.stops result }
 
-        ensures due { IsErr result ↔ (self.old.until ≡ Some 1) }
-        ensures next_due { self.new.until ≡ counted_down self.old.until }
+        ensures due { IsErr result ↔ (self.old.calls_left ≡ Some 1) }
+        ensures next_due { self.new.calls_left ≡ counted_down self.old.calls_left }
         ensures moved { IfOk result (λ k. k ≡ min (length self.old.bytes) (min self.old.step (length room.new))) }
         ensures step { self.new.step ≡ self.old.step }
     {
-        let due = self.until == Some(1);
-        self.until = self.until.map(|calls| calls.saturating_sub(1));
+        let due = self.calls_left == Some(1);
+        self.calls_left = self.calls_left.map(|calls| calls.saturating_sub(1));
         if due {
             self.faults = self.faults.saturating_add(1);
             return Err(Stopped);

@@ -1,7 +1,7 @@
 ghost use Rattle.std.specs.Prelude.{◌≡◌, ◌+◌, ◌<◌, ◌≤◌, length};
 
 use crate::layout::{
-    DIGEST_LEN, HEAD_LEN, KIND_LEN, MAGIC_LEN, MOMENT_LEN, NUMBERS_LEN, SUMMARY_HEAD_LEN,
+    DIGEST_LEN, HEAD_LEN, KIND_LEN, MAGIC_LEN, MOMENT_AND_COUNT_LEN, MOMENT_LEN, SUMMARY_HEAD_LEN,
 };
 use crate::version::Version;
 use svid_replay::{Batch, Use};
@@ -11,7 +11,7 @@ use svid_replay::{Batch, Use};
 pub(crate) enum Stage {
     Magic,
     Kind(Version),
-    Numbers(Version),
+    MomentAndCount(Version),
     Uses {
         version: Version,
         moment: u64,
@@ -36,7 +36,7 @@ impl Stage {
         match self {
             Stage::Magic => MAGIC_LEN,
             Stage::Kind(_) => KIND_LEN,
-            Stage::Numbers(_) => NUMBERS_LEN,
+            Stage::MomentAndCount(_) => MOMENT_AND_COUNT_LEN,
             Stage::Uses { version, .. } => version.use_len(),
             Stage::Moment => MOMENT_LEN,
             Stage::Digests { .. } => DIGEST_LEN,
@@ -52,7 +52,7 @@ impl Stage {
         match self {
             Stage::Magic => 0,
             Stage::Kind(_) => MAGIC_LEN,
-            Stage::Numbers(_) => MAGIC_LEN + KIND_LEN,
+            Stage::MomentAndCount(_) => MAGIC_LEN + KIND_LEN,
             Stage::Uses { version, uses, .. } => HEAD_LEN + version.use_len() * uses.len(),
             Stage::Moment => MAGIC_LEN + KIND_LEN,
             Stage::Digests { digests, .. } => SUMMARY_HEAD_LEN + DIGEST_LEN * digests.len(),

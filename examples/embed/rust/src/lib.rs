@@ -34,16 +34,59 @@ pub struct Use {
     pub place: [u8; 16],
 }
 
+#[repr(C)]
+#[derive(Debug, Clone, Copy, PartialEq)]
+pub struct Terms {
+    pub longest: u64,
+    pub ahead: u64,
+    pub step: u64,
+    pub place: [u8; 16],
+}
+
+#[repr(C)]
+#[derive(Debug, Clone, Copy, PartialEq)]
+pub struct Key {
+    pub bytes: [u8; 32],
+}
+
+#[repr(C)]
+#[derive(Default, Debug, Clone, Copy, PartialEq)]
+pub struct Part {
+    pub begun: u64,
+    pub done: u64,
+    pub withdrawn: u64,
+    pub exp: u64,
+    pub at: u64,
+    pub key: [u8; 32],
+    pub place: [u8; 16],
+}
+
 type One = unsafe extern "C" fn(*const u8, usize, u64, *mut u8, usize, *mut Told) -> u32;
 type Two = unsafe extern "C" fn(*const u8, usize, *const u8, usize, u64, *mut u8, usize, *mut Told) -> u32;
 
-unsafe extern "C" {
+extern "C" {
     fn svid_id_parse(text: *const u8, len: usize, out: *mut Id) -> u32;
     fn svid_join(a: *const u8, a_len: usize, b: *const u8, b_len: usize, now: u64, out: *mut u8, len: usize, told: *mut Told) -> u32;
     fn svid_report(a: *const u8, a_len: usize, now: u64, out: *mut u8, len: usize, told: *mut Told) -> u32;
     fn svid_summary(a: *const u8, a_len: usize, now: u64, out: *mut u8, len: usize, told: *mut Told) -> u32;
     fn svid_questions(a: *const u8, a_len: usize, b: *const u8, b_len: usize, out: *mut u8, len: usize, told: *mut Told) -> u32;
-    fn svid_check(setting: *const Setting, own: *const u8, own_len: usize, bundles: *const u8, bundles_len: usize, questions: *const u8, questions_len: usize, messages: *const u8, messages_len: usize, token: *const u8, token_len: usize, out: *mut u8, len: usize, used: *mut Use, told: *mut Told) -> u32;
+    fn svid_check(
+        setting: *const Setting,
+        own: *const u8,
+        own_len: usize,
+        bundles: *const u8,
+        bundles_len: usize,
+        questions: *const u8,
+        questions_len: usize,
+        messages: *const u8,
+        messages_len: usize,
+        token: *const u8,
+        token_len: usize,
+        out: *mut u8,
+        len: usize,
+        used: *mut Use,
+        told: *mut Told,
+    ) -> u32;
     fn svid_answer(a: *const u8, a_len: usize, b: *const u8, b_len: usize, now: u64, out: *mut u8, len: usize, told: *mut Told) -> u32;
 }
 
@@ -105,14 +148,191 @@ pub fn questions(bundles: &[u8], token: &[u8]) -> Result<Vec<u8>, Refused> {
 }
 
 /// The ID and the use of a token that is accepted.
-pub fn check(setting: &Setting, own: &[u8], bundles: &[u8], questions: &[u8], messages: &[u8], token: &[u8]) -> Result<(Vec<u8>, Use), Refused> {
+pub fn check(
+    setting: &Setting,
+    own: &[u8],
+    bundles: &[u8],
+    questions: &[u8],
+    messages: &[u8],
+    token: &[u8],
+) -> Result<(Vec<u8>, Use), Refused> {
     let (mut out, mut used, mut told) = (vec![0; 2048], Use::default(), Told::default());
     let status = unsafe {
         svid_check(
-            setting, own.as_ptr(), own.len(), bundles.as_ptr(), bundles.len(), questions.as_ptr(), questions.len(),
-            messages.as_ptr(), messages.len(), token.as_ptr(), token.len(), out.as_mut_ptr(), out.len(), &mut used, &mut told,
+            setting,
+            own.as_ptr(),
+            own.len(),
+            bundles.as_ptr(),
+            bundles.len(),
+            questions.as_ptr(),
+            questions.len(),
+            messages.as_ptr(),
+            messages.len(),
+            token.as_ptr(),
+            token.len(),
+            out.as_mut_ptr(),
+            out.len(),
+            &mut used,
+            &mut told,
         )
     };
     out.truncate(told.len);
-    if status == 0 { Ok((out, used)) } else { Err((status, told)) }
+    if status == 0 {
+        Ok((out, used))
+    } else {
+        Err((status, told))
+    }
+}
+
+/// A validator that this process keeps. It may go to another thread, but only one call at a time is made of it.
+#[repr(C)]
+pub struct Validator {
+    word: u64,
+    held: *mut std::ffi::c_void,
+}
+
+// The library keeps nothing of a thread. (It is not `Sync`: every call takes `&mut self`.)
+unsafe impl Send for Validator {}
+
+extern "C" {
+    fn svid_validator_open_by_lengths(
+        v: *mut Validator,
+        terms: *const Terms,
+        own: *const u8,
+        own_len: usize,
+        lens: *const usize,
+        lens_len: usize,
+        bundles: *const u8,
+        bundles_len: usize,
+        told: *mut Told,
+    ) -> u32;
+    fn svid_validator_close(v: *mut Validator);
+    fn svid_validator_bundles(v: *mut Validator, bundles: *const u8, len: usize, told: *mut Told) -> u32;
+    fn svid_validator_ask(v: *mut Validator, token: *const u8, token_len: usize, out: *mut u8, len: usize, told: *mut Told) -> u32;
+    fn svid_validator_check(
+        v: *mut Validator,
+        now: u64,
+        yes: *const [u8; 32],
+        yes_len: usize,
+        token: *const u8,
+        token_len: usize,
+        out: *mut u8,
+        len: usize,
+        used: *mut Use,
+        told: *mut Told,
+    ) -> u32;
+    fn svid_validator_withdraw(v: *mut Validator, now: u64, key: *const Key, exp: u64, used: *mut Use, told: *mut Told) -> u32;
+    fn svid_validator_tick(v: *mut Validator, now: u64, told: *mut Told) -> u32;
+    fn svid_validator_take(v: *mut Validator, now: u64, messages: *const u8, len: usize, told: *mut Told) -> u32;
+    fn svid_validator_parts(v: *mut Validator, part: *mut Part, out: *mut u8, len: usize, told: *mut Told) -> u32;
+}
+
+/// A key that may have signed a token: the question to answer, the algorithm's name, and the key as JSON.
+pub struct Row {
+    pub question: [u8; 32],
+    pub alg: String,
+    pub jwk: String,
+}
+
+fn done(status: u32, told: Told) -> Result<(), Refused> {
+    if status == 0 {
+        Ok(())
+    } else {
+        Err((status, told))
+    }
+}
+
+impl Validator {
+    pub fn open(terms: &Terms, own: &[&str], bundles: &[u8]) -> Result<Validator, Refused> {
+        let (mut v, mut told) = (Validator { word: 0, held: std::ptr::null_mut() }, Told::default());
+        let (text, lens): (String, Vec<usize>) = (own.concat(), own.iter().map(|name| name.len()).collect());
+        let status = unsafe {
+            svid_validator_open_by_lengths(
+                &mut v,
+                terms,
+                text.as_ptr(),
+                text.len(),
+                lens.as_ptr(),
+                lens.len(),
+                bundles.as_ptr(),
+                bundles.len(),
+                &mut told,
+            )
+        };
+        done(status, told).map(|()| v)
+    }
+
+    pub fn bundles(&mut self, bundles: &[u8]) -> Result<(), Refused> {
+        let mut told = Told::default();
+        done(unsafe { svid_validator_bundles(self, bundles.as_ptr(), bundles.len(), &mut told) }, told)
+    }
+
+    pub fn ask(&mut self, token: &[u8]) -> Result<Vec<Row>, Refused> {
+        let text = written(|out, len, told| unsafe { svid_validator_ask(self, token.as_ptr(), token.len(), out, len, told) })?;
+        let (mut rows, mut rest) = (Vec::new(), &text[..]);
+        let field = |rest: &mut &[u8]| {
+            let (len, behind) = rest.split_at(4);
+            let (text, behind) = behind.split_at(u32::from_be_bytes(len.try_into().unwrap()) as usize);
+            *rest = behind;
+            String::from_utf8_lossy(text).into_owned()
+        };
+        while !rest.is_empty() {
+            let (question, behind) = rest.split_at(32);
+            rest = behind;
+            rows.push(Row { question: question.try_into().unwrap(), alg: field(&mut rest), jwk: field(&mut rest) });
+        }
+        Ok(rows)
+    }
+
+    /// Checks a token. `yes` are the questions of `ask` about it whose key made its signature. The subject's ID and the use of an accepted
+    /// one; else the first of the reasons to refuse it.
+    pub fn check(&mut self, now: u64, yes: &[[u8; 32]], token: &[u8]) -> Result<(String, Use), Refused> {
+        let (mut id, mut used, mut told) = (vec![0; 2048], Use::default(), Told::default());
+        let status = unsafe {
+            svid_validator_check(
+                self,
+                now,
+                yes.as_ptr(),
+                yes.len(),
+                token.as_ptr(),
+                token.len(),
+                id.as_mut_ptr(),
+                id.len(),
+                &mut used,
+                &mut told,
+            )
+        };
+        done(status, told)?;
+        id.truncate(told.len);
+        Ok((String::from_utf8_lossy(&id).into_owned(), used))
+    }
+
+    pub fn withdraw(&mut self, now: u64, key: [u8; 32], exp: u64) -> Result<Use, Refused> {
+        let (mut used, mut told) = (Use::default(), Told::default());
+        done(unsafe { svid_validator_withdraw(self, now, &Key { bytes: key }, exp, &mut used, &mut told) }, told).map(|()| used)
+    }
+
+    pub fn tick(&mut self, now: u64) -> Result<(), Refused> {
+        let mut told = Told::default();
+        done(unsafe { svid_validator_tick(self, now, &mut told) }, told)
+    }
+
+    pub fn take(&mut self, now: u64, messages: &[u8]) -> Result<(), Refused> {
+        let mut told = Told::default();
+        done(unsafe { svid_validator_take(self, now, messages.as_ptr(), messages.len(), &mut told) }, told)
+    }
+
+    /// The next piece of the record, behind what `part` says is written: at most `room` bytes, and at least 82.
+    pub fn part(&mut self, part: &mut Part, room: usize) -> Result<Vec<u8>, Refused> {
+        let (mut out, mut told) = (vec![0; room], Told::default());
+        done(unsafe { svid_validator_parts(self, part, out.as_mut_ptr(), out.len(), &mut told) }, told)?;
+        out.truncate(told.len);
+        Ok(out)
+    }
+}
+
+impl Drop for Validator {
+    fn drop(&mut self) {
+        unsafe { svid_validator_close(self) }
+    }
 }

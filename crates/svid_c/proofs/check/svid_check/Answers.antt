@@ -1,12 +1,9 @@
-use Rattle.std.proofs.Common.{refl}
-use Rattle.svid_c.specs.Checked.{accepted, not_made, refused}
+use Rattle.std.proofs.Common.{refl, ◌∙◌}
+use Rattle.svid_c.specs.Own.{named, unnamed}
 use Rattle.svid_c.proofs.check.svid_check.Goals as goal
 
+pub returns-in-Ok : goal.returns-in-Ok
+returns-in-Ok c = named _ c.in-Ok.ensures.ok c.check.ensures
+
 pub returns-in-Err : goal.returns-in-Err
-returns-in-Err c = not_made c.in-Err.fault c.in-Err.ensures.fault c.number.ensures c.told.ensures refl refl
-
-pub returns-in-Ok-check : goal.returns-in-Ok-check
-returns-in-Ok-check c = accepted _ _ c.in-Ok-check.accepted c.in-Ok.ensures.ok c.in-Ok-check.ensures.answer c.accept.ensures.put c.accept.ensures.told c.accept.ensures.used c.accept.ensures.kept
-
-pub returns : goal.returns
-returns c = refused _ _ c.in-Err-check.refusal c.in-Ok.ensures.ok c.in-Err-check.ensures.answer c.refusal_number.ensures c.told_length.ensures refl refl
+returns-in-Err c = unnamed c.in-Err.fault c.in-Err.ensures.fault (c.only.ensures.status ∙ c.number.ensures) c.only.ensures.told (refl, refl)

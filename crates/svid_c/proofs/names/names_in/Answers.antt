@@ -4,7 +4,7 @@ use Rattle.std.specs.List.{Contains}
 use Rattle.std.proofs.lemmas.List.Elements.{All-cons}
 use Rattle.std.specs.String.{string_bytes}
 use Rattle.svid_keys.specs.Lines.{lines_left, lines_of}
-use Rattle.svid_c.specs.Checked.{full_lines}
+use Rattle.svid_c.specs.Own.{full_lines}
 use Rattle.svid_c.proofs.names.names_in.Goals as goal
 
 behind : (first line : List ℕ) (lines : List (List ℕ)) → Contains lines line → Contains (first ∷ lines) line

@@ -1,8 +1,7 @@
-use Rattle.std.proofs.Common.{arith, length, ap, sym, subst, not, nat_lt}
+use Rattle.std.proofs.Common.{arith, length, ap, subst, not, nat_lt}
 use Rattle.std.specs.List.{AllByRecursion}
 use Rattle.std.proofs.lemmas.List.Sums.{prefix_len-le-length}
 use Rattle.svid_replay.specs.Runs.{HasBits}
-use Rattle.svid_replay.proofs.ListLemmas.{each_drop}
 use Rattle.svid_replay.proofs.UsesLemmas.{left_rises}
 use Rattle.svid_replay.proofs.RunsLemmas.{front_is}
 use Rattle.svid_replay.proofs.front.Front.drop_expired.Goals as goal
@@ -12,9 +11,9 @@ drop_front-requires c = omega (arith, front_is c.args.moment _ _ _ c.count_expir
 
 pub invariant_of-self : goal.invariant_of-self
 invariant_of-self c = record {
-  long = c.self.invariant.long;
+  long = c.words_of-self-inside.ensures.long;
   rising = left_rises c.self.inside.uses.items c.args.moment _ _ c.self.invariant.rising (record { front = front_is c.args.moment _ _ _ c.count_expired-expired.ensures c.deref.ensures.value; rest = c.drop_front.ensures });
-  known = subst (AllByRecursion (λ u. HasBits c.self.inside.words u.key)) (sym c.drop_front.ensures) (each_drop _ c.count_expired-expired.result c.self.inside.uses.items c.self.invariant.known);
+  known = subst (AllByRecursion (λ u. HasBits c.words_of-self-inside.result u.key)) c.deref-2.ensures.value c.words_of-self-inside.ensures.known;
 }
 
 pub returns-clause-bound : goal.returns-clause-bound

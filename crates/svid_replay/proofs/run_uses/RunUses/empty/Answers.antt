@@ -2,4 +2,4 @@ use Rattle.svid_replay.proofs.RunsLemmas.{runs_none}
 use Rattle.svid_replay.proofs.run_uses.RunUses.empty.Goals as goal
 
 pub invariant_of-result : goal.invariant_of-result
-invariant_of-result c = rw c.new.ensures (rw c.new-2.ensures.items runs_none)
+invariant_of-result c = rw c.new.ensures (rw c.new-2.ensures runs_none)

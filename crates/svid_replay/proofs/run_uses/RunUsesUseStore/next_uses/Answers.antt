@@ -10,7 +10,7 @@ use Rattle.svid_replay.proofs.run_uses.RunUsesUseStore.next_uses.Goals as goal
 pub returns : goal.returns
 returns c =
     let front = c.self.inside.front in
-    let runs = c.self.inside.runs.items in
+    let runs = c.self.inside.runs in
     few_more (all_of runs) c.args.after front c.rest_after.result.now c.merge_next.new.room c.merge.new.self c.self.invariant.rising (c.rest_after.ensures ∙ ap (filter (is_after c.args.after)) c.uses.ensures.value)
-    (c.merge_next.ensures ∙ ap (λ rs. next_few (uses_in (all_of rs)) c.args.after) c.deref.ensures.value) c.merge.ensures
+    (c.merge_next.ensures ∙ ap (λ rs. next_few (uses_in (all_of rs)) c.args.after) c.list.ensures.value) c.merge.ensures
     ∙ ap (λ (s : Uses). next_few s c.args.after) (uses_in-turned (all_of runs) front ∙ c.self.view_is)

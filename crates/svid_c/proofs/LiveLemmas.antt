@@ -1,0 +1,42 @@
+use Rattle.std.proofs.Common.{◌≡◌, ℕ, true, false, List, [], Option, Some, None, Err, refl, sym, ap, subst}
+use Rattle.std.specs.Prelude.{is_some}
+use Rattle.std.proofs.lemmas.Bool.{false≢true}
+use Rattle.svid_keys.specs.Bundles.{Bundle}
+use Rattle.svid_replay.specs.Records.{State, state_of}
+use Rattle.svid_replay.specs.Summary.{SummaryData}
+use Rattle.svid_check.specs.Changes.{Replies, TakesRecord}
+use Rattle.svid_check.specs.declared.take_fault.TakeFault.{TakeFault}
+use Rattle.svid_c.specs.Inputs.{AreBundles}
+use Rattle.svid_c.specs.Live.{IsBegun}
+use Rattle.svid_c.specs.declared.live.Nobody.{Nobody}
+use Rattle.svid_c.specs.declared.open.SvidTerms.{SvidTerms}
+
+-- a validator that is made of what the inputs say begins
+pub begun : (own : List (List ℕ)) (text : List ℕ) (terms : SvidTerms) (kept : List Bundle) (nobody : Nobody) (r : State)
+    → AreBundles text kept → r ≡ state_of 0 []
+    → IsBegun own text terms (record { validator = record { own = own; place = terms.place; ahead = terms.ahead; bundles = kept; verifier = nobody; longest = Some terms.longest; state = r }; step = terms.step })
+begun own text terms kept nobody r are new = record {
+  kept = kept;
+  nobody = nobody;
+  are = are;
+  held = ap (λ s. record { own = own; place = terms.place; ahead = terms.ahead; bundles = kept; verifier = nobody; longest = Some terms.longest; state = s }) new;
+  step = refl;
+}
+
+-- what is some holds one
+pub holds_one : {A : Type 0} (held : Option A) → true ≡ is_some held → (x : A) × (held ≡ Some x)
+holds_one None is = absurd (false≢true (sym is))
+holds_one (Some x) is = (x, refl)
+
+-- what is not some holds none
+pub holds_none : {A : Type 0} (held : Option A) → false ≡ is_some held → held ≡ None
+holds_none None is = refl
+holds_none (Some x) is = absurd (false≢true is)
+
+-- what taking a record leaves, where the fault is known
+pub taking_fault : (x : State) (far : ℕ) (r y : State) (f g : TakeFault) → f ≡ g → TakesRecord x far r (Err f) y → TakesRecord x far r (Err g) y
+taking_fault x far r y f g is t = subst (λ h. TakesRecord x far r (Err h) y) is t
+
+-- what answering a summary leaves, where the fault is known
+pub answering_fault : (x : State) (far : ℕ) (s : SummaryData) (y : State) (f g : TakeFault) → f ≡ g → Replies x far s (Err f) y → Replies x far s (Err g) y
+answering_fault x far s y f g is t = subst (λ h. Replies x far s (Err h) y) is t

@@ -1,0 +1,138 @@
+-- What the calls on a validator that C keeps do.
+use Rattle.std.specs.Prelude.{◌≡◌, ◌&&◌, ◌-◌, ℕ, Bool, true, false, ◌<◌, ◌≤◌, nat_lt, List, [], ◌∷◌, length, Option, None, Some, Result, Ok}
+use Rattle.std.specs.List.{flat_map}
+use Rattle.svid_id.specs.Id.{id_text}
+use Rattle.svid_token.specs.Rows.{Refuses}
+use Rattle.svid_token.specs.declared.refusal.Refusal.{Refusal}
+use Rattle.svid_keys.specs.Bundles.{Bundle}
+use Rattle.svid_replay.specs.Buckets.{answer_to, raised_to}
+use Rattle.svid_replay.specs.Records.{State, IsPartlyJoined, join, state_of}
+use Rattle.svid_replay.specs.declared.token_use.Use.{Use}
+use Rattle.svid_replay.specs.Sets.{rising}
+use Rattle.svid_replay.specs.Summary.{SummaryData}
+use Rattle.svid_wire.specs.BatchText.{batch_text}
+use Rattle.svid_wire.specs.declared.message.Message.TheVariants.{Summary}
+use Rattle.svid_check.specs.Changes.{gains, horizon, withdrawal}
+use Rattle.svid_check.specs.Setting.{Held, setting_by, with_bundles, with_state}
+use Rattle.svid_check.specs.Verdict.{verdict}
+use Rattle.svid_check.specs.declared.accepted.Accepted.{Accepted}
+use Rattle.svid_share.specs.declared.tool_fault.ToolFault.{ToolFault}
+use Rattle.svid_c.specs.Answered.{says_yes}
+use Rattle.svid_c.specs.Checked.{refusal_number, use_seen}
+use Rattle.svid_c.specs.Inputs.{AreBundles, AreMessages, AreNoBundles, IsRefused, Tells}
+use Rattle.svid_c.specs.Joined.{IsSummaryRefused}
+use Rattle.svid_c.specs.Own.{Named}
+use Rattle.svid_c.specs.Status.{fault_number, told_fault, told_length}
+use Rattle.svid_c.specs.Written.{HasFirst, IsPut}
+use Rattle.svid_c.specs.declared.check.SvidUse.{SvidUse}
+use Rattle.svid_c.specs.declared.live.Live.{Live}
+use Rattle.svid_c.specs.declared.live.Nobody.{Nobody}
+use Rattle.svid_c.specs.declared.open.SvidTerms.{SvidTerms}
+use Rattle.svid_c.specs.declared.own_fault.OwnFault.{OwnFault}
+use Rattle.svid_c.specs.declared.told.SvidTold.{SvidTold}
+
+-- a validator of C to contracts
+abbrev pub Kept : Type 0
+Kept = Held Nobody
+
+-- a moment lies more than its step past the record's; a record of the moment 0 has seen no moment, and takes any
+abbrev pub is_jump : Live → ℕ → Bool
+is_jump live now = nat_lt 0 live.validator.state.moment && nat_lt live.step (now - live.validator.state.moment)
+
+-- A call on a handle: where that is closed, this is told, and all is as it was; else the call does to the validator what it is for.
+pub data Calls (IsAsBefore : Type 0) (Does : Kept → Kept → Type 0) (status : ℕ) (told : SvidTold) (old new : Option Live) : Type 0 where
+  closed : old ≡ None → new ≡ None → status ≡ 5 → told ≡ told_length 0 → IsAsBefore → Calls IsAsBefore Does status told old new
+  does : (a b : Live) → old ≡ Some a → new ≡ Some b → b.step ≡ a.step → Does a.validator b.validator → Calls IsAsBefore Does status told old new
+
+-- A call at a moment: as `Calls`, but where the moment lies too far past the record's, that is told, and all is as it was.
+pub data CallsAt (now : ℕ) (IsAsBefore : Type 0) (Does : Kept → Kept → Type 0) (status : ℕ) (told : SvidTold) (old new : Option Live) : Type 0 where
+  closed_at : old ≡ None → new ≡ None → status ≡ 5 → told ≡ told_length 0 → IsAsBefore → CallsAt now IsAsBefore Does status told old new
+  jumped : (a : Live) → old ≡ Some a → is_jump a now ≡ true → new ≡ Some a → status ≡ 9 → told ≡ told_length 0 → IsAsBefore → CallsAt now IsAsBefore Does status told old new
+  does_at : (a b : Live) → old ≡ Some a → is_jump a now ≡ false → new ≡ Some b → b.step ≡ a.step → Does a.validator b.validator → CallsAt now IsAsBefore Does status told old new
+
+-- a validator begins with these audiences, trust bundles and terms, and a new record
+pub record IsBegun (own : List (List ℕ)) (bundles : List ℕ) (terms : SvidTerms) (live : Live) : Type 0 where
+  pub kept : List Bundle
+  pub nobody : Nobody
+  pub are : AreBundles bundles kept
+  pub held : live.validator ≡ record { own = own; place = terms.place; ahead = terms.ahead; bundles = kept; verifier = nobody; longest = Some terms.longest; state = state_of 0 [] }
+  pub step : live.step ≡ terms.step
+
+-- what comes of a closed handle that is opened with these audiences: it holds a validator that begins; or the bundles are refused
+pub data Begins (bundles : List ℕ) (terms : SvidTerms) (status : ℕ) (told : SvidTold) (new : Option Live) (own : List (List ℕ)) : Type 0 where
+  begun : (live : Live) → new ≡ Some live → IsBegun own bundles terms live → status ≡ 0 → told ≡ told_length 0 → Begins bundles terms status told new own
+  not_begun : (why : ToolFault) → new ≡ None → AreNoBundles bundles why → status ≡ fault_number why → told ≡ told_fault why → Begins bundles terms status told new own
+
+-- what opening answers: the handle was open, and stays as it was; or it was closed, and is opened with the audiences that it is given
+pub data Opens (AreOwn : List (List ℕ) → Type 0) (IsOwnFault : OwnFault → Type 0) (bundles : List ℕ) (terms : SvidTerms) (status : ℕ) (told : SvidTold) (old new : Option Live) : Type 0 where
+  was_open : (live : Live) → old ≡ Some live → new ≡ old → status ≡ 6 → told ≡ told_length 0 → Opens AreOwn IsOwnFault bundles terms status told old new
+  was_closed : old ≡ None → Named AreOwn IsOwnFault (new ≡ None) (Begins bundles terms status told new) status told → Opens AreOwn IsOwnFault bundles terms status told old new
+
+-- the verdict of a validator on a token at a moment, where the answer to just these questions is yes
+abbrev pub verdict_at : Kept → List (List ℕ) → ℕ → List ℕ → Result (Option Accepted) Refusal
+verdict_at held given now token = verdict (setting_by (says_yes given) held) (raised_to held.state now).moment (raised_to held.state now).uses token
+
+-- What a check does: there is too little room for an ID, and nothing happens; or the record is raised, and the token is refused or
+-- accepted, as is its verdict at the raised record. The text of an accepted token's ID is put, its use is told, and the record gains
+-- this of it.
+pub data Checks (gained : State → Use → State) (now : ℕ) (given : List (List ℕ)) (token : List ℕ) (status : ℕ) (told : SvidTold) (old_out new_out : List ℕ) (old_use new_use : SvidUse) (old new : Kept) : Type 0 where
+  no_room : length old_out < 2048 → status ≡ 1 → told ≡ told_length 2048 → new_out ≡ old_out → new_use ≡ old_use → new ≡ old → Checks gained now given token status told old_out new_out old_use new_use old new
+  refused : (why : Refusal) → 2048 ≤ length old_out → Refuses why (verdict_at old given now token)
+      → status ≡ refusal_number why → told ≡ told_length 0 → new_out ≡ old_out → new_use ≡ old_use → new ≡ with_state old (raised_to old.state now) → Checks gained now given token status told old_out new_out old_use new_use old new
+  accepted : (a : Accepted) → 2048 ≤ length old_out → verdict_at old given now token ≡ Ok (Some a)
+      → status ≡ 0 → told ≡ told_length (length (id_text a.id)) → HasFirst (id_text a.id) old_out new_out
+      → new_use ≡ use_seen a.used → new ≡ with_state old (gained (raised_to old.state now) a.used) → Checks gained now given token status told old_out new_out old_use new_use old new
+
+-- a check adds the use that it accepts
+abbrev pub adds : State → Use → State
+adds r used = gains r (Some used)
+
+-- a judgment adds nothing
+abbrev pub adds_nothing : State → Use → State
+adds_nothing r used = r
+
+-- what renewing the bundles does: other bundles stand in the place of those that there were; or they are refused, and nothing happens
+pub data Renews (text : List ℕ) (status : ℕ) (told : SvidTold) (old new : Kept) : Type 0 where
+  renewed : (kept : List Bundle) → AreBundles text kept → status ≡ 0 → told ≡ told_length 0 → new ≡ with_bundles old kept → Renews text status told old new
+  unrenewed : (why : ToolFault) → AreNoBundles text why → status ≡ fault_number why → told ≡ told_fault why → new ≡ old → Renews text status told old new
+
+-- what a tick does
+pub record Ticks (now status : ℕ) (told : SvidTold) (old new : Kept) : Type 0 where
+  pub done : status ≡ 0
+  pub length : told ≡ told_length 0
+  pub raised : new ≡ with_state old (raised_to old.state now)
+
+-- what withdrawing does: the record is raised, and gains the withdrawal, which is told; or the tokens have expired (7), or memory was refused (2)
+pub data Withdraws (now : ℕ) (key : List ℕ) (exp : ℕ) (status : ℕ) (told : SvidTold) (old_use new_use : SvidUse) (old new : Kept) : Type 0 where
+  withdrawn : (u : Use) → u ≡ withdrawal old.place (raised_to old.state now).moment key exp → (raised_to old.state now).moment < exp
+      → status ≡ 0 → told ≡ told_length 0 → new_use ≡ use_seen u → new ≡ with_state old (gains (raised_to old.state now) (Some u)) → Withdraws now key exp status told old_use new_use old new
+  expired : exp ≤ (raised_to old.state now).moment → status ≡ 7 → told ≡ told_length 0 → new_use ≡ old_use → new ≡ with_state old (raised_to old.state now) → Withdraws now key exp status told old_use new_use old new
+  no_memory : status ≡ 2 → told ≡ told_length 0 → new_use ≡ old_use → new ≡ with_state old (raised_to old.state now) → Withdraws now key exp status told old_use new_use old new
+
+-- what taking messages does: the record is raised, and joined with that of the messages, if that lies within the horizon (8); or the
+-- messages are refused, and nothing happens; or memory was refused, and a part of them may be joined
+pub data Takes (now : ℕ) (messages : List ℕ) (status : ℕ) (told : SvidTold) (old new : Kept) : Type 0 where
+  taken : (r : State) → Tells messages (state_of 0 []) r → r.moment ≤ horizon now old.ahead
+      → status ≡ 0 → told ≡ told_length 0 → new ≡ with_state old (join (raised_to old.state now) r) → Takes now messages status told old new
+  too_far : (r : State) → Tells messages (state_of 0 []) r → horizon now old.ahead < r.moment
+      → status ≡ 8 → told ≡ told_length 0 → new ≡ with_state old (raised_to old.state now) → Takes now messages status told old new
+  part : (r y : State) → Tells messages (state_of 0 []) r → r.moment ≤ horizon now old.ahead → IsPartlyJoined (raised_to old.state now) y r.moment (rising r.uses)
+      → status ≡ 2 → told ≡ told_length 0 → new ≡ with_state old y → Takes now messages status told old new
+  untaken : (given : ToolFault) → IsRefused 1 messages given → status ≡ fault_number given → told ≡ told_fault given → new ≡ old → Takes now messages status told old new
+
+-- what writing does: the text that is due to the record is put, or has no room; or memory was refused. Nothing happens to the validator.
+pub data Writes (due : State → List ℕ) (status : ℕ) (told : SvidTold) (old_out new_out : List ℕ) (old new : Kept) : Type 0 where
+  written : (text : List ℕ) → text ≡ due old.state → IsPut text status old_out new_out → told ≡ told_length (length text) → new ≡ old → Writes due status told old_out new_out old new
+  unwritten : status ≡ 2 → told ≡ told_length 0 → new_out ≡ old_out → new ≡ old → Writes due status told old_out new_out old new
+
+-- what replying to a summary does: the record is raised, also to the summary's moment, and the answer is put, or has no room; or the
+-- summary is refused, or lies past the horizon (8), or memory was refused
+pub data Replies (now : ℕ) (summary : List ℕ) (status : ℕ) (told : SvidTold) (old_out new_out : List ℕ) (old new : Kept) : Type 0 where
+  replied : (asked : SummaryData) (text : List ℕ) → AreMessages summary (Summary asked ∷ []) → asked.moment ≤ horizon now old.ahead
+      → text ≡ flat_map batch_text (answer_to (raised_to old.state now) asked) → IsPut text status old_out new_out → told ≡ told_length (length text)
+      → new ≡ with_state old (raised_to (raised_to old.state now) asked.moment) → Replies now summary status told old_out new_out old new
+  reply_too_far : (asked : SummaryData) → AreMessages summary (Summary asked ∷ []) → horizon now old.ahead < asked.moment
+      → status ≡ 8 → told ≡ told_length 0 → new_out ≡ old_out → new ≡ with_state old (raised_to old.state now) → Replies now summary status told old_out new_out old new
+  no_memory_for_reply : (asked : SummaryData) → AreMessages summary (Summary asked ∷ []) → asked.moment ≤ horizon now old.ahead
+      → status ≡ 2 → told ≡ told_length 0 → new_out ≡ old_out → new ≡ with_state old (raised_to (raised_to old.state now) asked.moment) → Replies now summary status told old_out new_out old new
+  no_summary : (given : ToolFault) → IsSummaryRefused summary given → status ≡ fault_number given → told ≡ told_fault given → new_out ≡ old_out → new ≡ old → Replies now summary status told old_out new_out old new

@@ -1,0 +1,30 @@
+ghost use Rattle.std.specs.Prelude.{◌≡◌, Bool, List, ℕ, false, true, take, drop, bytes_eq};
+ghost use Rattle.std.specs.List.{list_any};
+ghost use Rattle.svid_keys.specs.Table.{is_among};
+
+use std::marker::Model;
+use svid_keys::{JwtKey, Verifier, question};
+use svid_token::Alg;
+
+/// A verifier that says yes to the questions that a caller lent, and to no others.
+#[derive(Drop)]
+pub(crate) struct Answered<'a> {
+    pub(crate) yes: &'a [[u8; 32]],
+}
+
+// Whether a question is one of these.
+fn is_among(question: &[u8; 32], yes: &[[u8; 32]]) -> bool
+    ensures { result ≡ is_among question.now yes.now }
+{
+    yes.iter().any(|one| question == one)
+}
+
+impl<'a> Verifier for Answered<'a> {
+    ghost use Rattle.svid_c.specs.Answered.{says_yes};
+
+    ghost says = { λ given. says_yes given.yes.now };
+
+    fn verify(&self, key: &JwtKey, alg: Alg, input: &[u8], signature: &[u8]) -> bool {
+        is_among(&question(key, alg, input, signature), self.yes)
+    }
+}

@@ -1,0 +1,74 @@
+ghost use Rattle.std.specs.Prelude.{◌≡◌};
+ghost use Rattle.svid_c.specs.Live.{Calls, CallsAt, Renews, Ticks};
+
+use crate::inputs::bundles_of;
+use crate::live::Live;
+use crate::told::{SvidTold, told_length};
+use crate::validator::{SvidValidator, only};
+use crate::writing::refuse;
+use std::alloc::Global;
+
+// Reads other bundles, and puts them in the place of those that there are.
+fn renew(alloc: Global, live: &mut Live, bundles: &[u8], told: &mut SvidTold) -> u32
+    ensures does { Renews bundles.now result told.new live.old.validator live.new.validator }
+    ensures step { live.new.step ≡ live.old.step }
+{
+    match bundles_of(alloc, bundles) {
+        Ok(bundles) => {
+            let _before = live.validator.replace_bundles(bundles);
+            *told = told_length(0);
+            0
+        }
+        Err(fault) => refuse(fault, told),
+    }
+}
+
+/// Puts other trust bundles in the place of those that there are. The record stays as it is. 3 (of the input 1) and 31 to 33 where
+/// they are refused, and 2 for want of memory: then nothing happened. 5 where the validator is closed.
+#[unsafe(no_mangle)]
+pub extern "C" fn svid_validator_bundles(
+    alloc: Global,
+    v: &mut SvidValidator,
+    bundles: &[u8],
+    told: &mut SvidTold,
+) -> u32
+    ensures { Calls (Unit {0}) (Renews bundles.now result told.new) result told.new v.old.handle.live v.new.handle.live }
+{
+    let Some(mut live) = v.take(alloc) else {
+        return only(5, told);
+    };
+    let status = renew(alloc, &mut live, bundles, told);
+    v.put(live);
+    status
+}
+
+fn tick(live: &mut Live, now: u64, told: &mut SvidTold) -> u32
+    ensures does { Ticks now result told.new live.old.validator live.new.validator }
+    ensures step { live.new.step ≡ live.old.step }
+{
+    live.validator.tick(now);
+    *told = told_length(0);
+    0
+}
+
+/// Raises the record to a moment, in seconds. 5 where the validator is closed.
+#[unsafe(no_mangle)]
+pub extern "C" fn svid_validator_tick(
+    alloc: Global,
+    v: &mut SvidValidator,
+    now: u64,
+    told: &mut SvidTold,
+) -> u32
+    ensures { CallsAt now (Unit {0}) (Ticks now result told.new) result told.new v.old.handle.live v.new.handle.live }
+{
+    let Some(mut live) = v.take(alloc) else {
+        return only(5, told);
+    };
+    if live.jumps(now) {
+        v.put(live);
+        return only(9, told);
+    }
+    let status = tick(&mut live, now, told);
+    v.put(live);
+    status
+}

@@ -1,0 +1,88 @@
+ghost use Rattle.std.specs.Prelude.{◌≡◌, IfOk};
+ghost use Rattle.std.specs.List.{flat_map};
+ghost use Rattle.svid_wire.specs.BatchText.{batch_text};
+ghost use Rattle.svid_c.specs.Live.{CallsAt, Replies};
+
+use crate::inputs::summary_in;
+use crate::live::Live;
+use crate::told::{SvidTold, told_length};
+use crate::validator::{SvidValidator, only};
+use crate::writing::{put, refuse};
+use std::alloc::{AllocError, Global};
+use svid_check::TakeFault;
+use svid_replay::Batch;
+use svid_wire::{MemSink, write_batch};
+
+// The texts of batches.
+pub(crate) fn texts_of(alloc: Global, batches: &[Batch]) -> Result<MemSink, AllocError>
+    ensures { IfOk result (λ sink. sink.bytes ≡ flat_map batch_text batches.now) }
+{
+    let mut sink = MemSink::new(alloc, 65_536, None);
+    for batch in batches {
+        if let Err(_) = write_batch(batch, &mut sink) {
+            return Err(AllocError);
+        }
+    }
+    Ok(sink)
+}
+
+fn reply(
+    alloc: Global,
+    live: &mut Live,
+    now: u64,
+    summary: &[u8],
+    out: &mut [u8],
+    told: &mut SvidTold,
+) -> u32
+    ensures does { Replies now summary.now result told.new out.old out.new live.old.validator live.new.validator }
+    ensures step { live.new.step ≡ live.old.step }
+{
+    let asked = match summary_in(alloc, summary) {
+        Ok(asked) => asked,
+        Err(fault) => return refuse(fault, told),
+    };
+    match live.validator.answer(alloc, now, &asked) {
+        Ok(batches) => match texts_of(alloc, &batches) {
+            Ok(sink) => put(sink.bytes(), out, told),
+            Err(_) => {
+                *told = told_length(0);
+                2
+            }
+        },
+        Err(TakeFault::TooFarAhead) => {
+            *told = told_length(0);
+            8
+        }
+        Err(TakeFault::OutOfMemory) => {
+            *told = told_length(0);
+            2
+        }
+    }
+}
+
+/// Puts the answer to a summary that another validator sent first into `out`, at a moment, in seconds: the uses of all buckets whose
+/// digests differ, as messages. The record is raised to the moment, and to the summary's where that is not past `now` and `ahead`
+/// together (8). 4, 3 and 11 to 18 where it is no one summary: then nothing happened. 1 where the answer is longer than `out`; 2
+/// for want of memory; 5 where the validator is closed.
+#[unsafe(no_mangle)]
+pub extern "C" fn svid_validator_answer(
+    alloc: Global,
+    v: &mut SvidValidator,
+    now: u64,
+    summary: &[u8],
+    out: &mut [u8],
+    told: &mut SvidTold,
+) -> u32
+    ensures { CallsAt now (out.new ≡ out.old) (Replies now summary.now result told.new out.old out.new) result told.new v.old.handle.live v.new.handle.live }
+{
+    let Some(mut live) = v.take(alloc) else {
+        return only(5, told);
+    };
+    if live.jumps(now) {
+        v.put(live);
+        return only(9, told);
+    }
+    let status = reply(alloc, &mut live, now, summary, out, told);
+    v.put(live);
+    status
+}

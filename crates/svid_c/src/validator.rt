@@ -1,0 +1,75 @@
+ghost use Rattle.std.specs.Prelude.{◌≡◌, None, Some, is_some, option_map};
+ghost use Rattle.svid_c.specs.Handle.{open_word};
+ghost use Rattle.svid_c.specs.Status.{told_length};
+
+use crate::handle::Handle;
+use crate::live::Live;
+use crate::told::{SvidTold, told_length};
+use std::alloc::Global;
+use std::mem;
+
+/// A validator that C keeps, open or closed. C makes one closed, all its bytes 0, and gives it to one call at a time; only the
+/// calls write it.
+#[repr(C)]
+pub struct SvidValidator {
+    word: u64,
+    pub handle: Handle,
+    pub ghost is: { word ≡ open_word handle.live },
+}
+
+impl SvidValidator {
+    fn closed(alloc: Global) -> SvidValidator
+        ensures { result.handle.live ≡ None }
+    {
+        SvidValidator {
+            word: 0,
+            handle: Handle::empty(alloc),
+        }
+    }
+
+    fn opened(live: Box<Live>) -> SvidValidator
+        ensures { result.handle.live ≡ Some live.value }
+    {
+        SvidValidator {
+            word: 1,
+            handle: Handle::of(live),
+        }
+    }
+
+    // Whether it holds a validator.
+    pub(crate) fn is_open(&self) -> bool
+        ensures { result ≡ is_some self.now.handle.live }
+    {
+        self.word != 0
+    }
+
+    // Takes out what is held, and leaves the handle closed.
+    pub(crate) fn take(&mut self, alloc: Global) -> Option<Box<Live>>
+        ensures value { option_map (λ live. live.value) result ≡ self.old.handle.live }
+        ensures closed { self.new.handle.live ≡ None }
+    {
+        if self.word == 0 {
+            return None;
+        }
+        let SvidValidator { word: _, handle } = mem::replace(self, SvidValidator::closed(alloc));
+        Some(handle.into_box())
+    }
+
+    // Puts a validator into a closed handle.
+    pub(crate) fn put(&mut self, live: Box<Live>)
+        requires { self.old.handle.live ≡ None }
+        ensures { self.new.handle.live ≡ Some live.value }
+    {
+        let SvidValidator { word: _, handle } = mem::replace(self, SvidValidator::opened(live));
+        handle.forget();
+    }
+}
+
+// Answers a number beside which nothing is told.
+pub(crate) fn only(status: u32, told: &mut SvidTold) -> u32
+    ensures status { result ≡ status }
+    ensures told { told.new ≡ told_length 0 }
+{
+    *told = told_length(0);
+    status
+}

@@ -1,0 +1,9 @@
+ghost use Rattle.std.specs.Prelude.{◌≡◌};
+
+/// The version of the library: 10,000 times its major number, 100 times its minor one, and its patch.
+#[unsafe(no_mangle)]
+pub extern "C" fn svid_version() -> u32
+    ensures { result ≡ 10000 }
+{
+    10_000
+}

@@ -1,0 +1,67 @@
+ghost use Rattle.std.specs.Prelude.{◌≡◌};
+ghost use Rattle.svid_c.specs.Live.{CallsAt, Withdraws};
+
+use crate::check::{SvidUse, use_seen};
+use crate::live::Live;
+use crate::told::{SvidTold, told_length};
+use crate::validator::{SvidValidator, only};
+use std::alloc::Global;
+use svid_check::WithdrawFault;
+
+/// The key by which the uses of a token are told.
+#[repr(C)]
+#[derive(Drop)]
+pub struct SvidKey {
+    /// Its bytes.
+    pub bytes: [u8; 32],
+}
+
+// Withdraws the tokens with a key.
+fn withdraw(
+    live: &mut Live,
+    now: u64,
+    key: [u8; 32],
+    exp: u64,
+    used: &mut SvidUse,
+    told: &mut SvidTold,
+) -> u32
+    ensures does { Withdraws now key exp result told.new used.old used.new live.old.validator live.new.validator }
+    ensures step { live.new.step ≡ live.old.step }
+{
+    *told = told_length(0);
+    match live.validator.withdraw(now, key, exp) {
+        Ok(withdrawn) => {
+            *used = use_seen(withdrawn);
+            0
+        }
+        Err(WithdrawFault::Expired) => 7,
+        Err(WithdrawFault::OutOfMemory) => 2,
+    }
+}
+
+/// Withdraws the tokens with a key until `exp`, when they expire, at a moment, both in seconds: 0, and `used` is the withdrawal
+/// that was added to the record. 7 where the tokens have expired at the record's moment, which is raised first; 2 for want of
+/// memory; 5 where the validator is closed.
+#[unsafe(no_mangle)]
+pub extern "C" fn svid_validator_withdraw(
+    alloc: Global,
+    v: &mut SvidValidator,
+    now: u64,
+    key: &SvidKey,
+    exp: u64,
+    used: &mut SvidUse,
+    told: &mut SvidTold,
+) -> u32
+    ensures { CallsAt now (used.new ≡ used.old) (Withdraws now key.now.bytes exp result told.new used.old used.new) result told.new v.old.handle.live v.new.handle.live }
+{
+    let Some(mut live) = v.take(alloc) else {
+        return only(5, told);
+    };
+    if live.jumps(now) {
+        v.put(live);
+        return only(9, told);
+    }
+    let status = withdraw(&mut live, now, key.bytes, exp, used, told);
+    v.put(live);
+    status
+}

@@ -1,0 +1,18 @@
+use Rattle.std.proofs.Common.{◌≡◌, ◌≤◌, ◌-◌, ◌++◌, Option, length, map}
+use Rattle.std.specs.List.{filter}
+use Rattle.svid_replay.specs.declared.token_use.Use.{Use}
+use Rattle.svid_replay.specs.Batches.{is_after}
+use Rattle.svid_replay.specs.Sets.{rising}
+use Rattle.svid_shards.specs.Shards.{all_in, heads_of}
+use Rattle.svid_shards.proofs.shards.next_uses.Given as goal
+
+-- the room has what is in front of what is left, whose first are the heads
+abbrev pub invariant-loop-used : goal.invariant-loop-used
+invariant-loop-used g l = let ss = map g.S.UseStore.content l.shards in (last : Option Use) × record {
+  heads : l.heads ≡ heads_of ss last;
+  few : length l.room ≤ 64;
+  parts : l.room ++ filter (is_after last) (rising (all_in ss)) ≡ filter (is_after l.fn.after) (rising (all_in ss));
+}
+
+abbrev pub decreases-loop-used : goal.decreases-loop-used
+decreases-loop-used g l = 64 - length l.room

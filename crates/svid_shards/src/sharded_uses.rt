@@ -1,0 +1,124 @@
+ghost use Rattle.std.specs.Prelude.{◌≡◌, replicate, IfOk};
+ghost use Rattle.svid_replay.specs.Uses.{no_uses};
+
+use crate::shards::{
+    SHARDS, TIDIED, compact_all, drop_all_expired, insert_into, next_after, next_uses, shard_holds,
+    shard_of, tidy_some,
+};
+use std::alloc::{AllocError, Global};
+use std::marker::Model;
+use svid_replay::{Raised, Room, RunUses, Use, UseStore};
+
+/// A set of uses in 256 stores, by the first byte of a key. A call that asks for a key or puts in a use has to do
+/// with one of them, so its longest call is that of a store with a 256th of the uses.
+///
+/// A walk looks at each of the stores for every 64 uses. What expires is taken out of all stores, but only where
+/// the moment has come to a second in which a use may expire. A call of `tidy` gives back memory in four of the stores,
+/// so 64 calls do it in all.
+#[derive(Debug, Drop)]
+pub struct ShardedUses<S: UseStore> {
+    shards: Vec<S>,
+    total: usize,
+    // (no use expires before this second)
+    first: u64,
+    // (the number of the shard that is tidied next)
+    next: u8,
+}
+
+impl<S: UseStore> Model for ShardedUses<S> {
+    ghost use Rattle.std.specs.Prelude.{map};
+    ghost use Rattle.svid_replay.specs.Uses.{Uses, uses_code};
+    ghost use Rattle.svid_shards.specs.Shards.{IsSharded, all_in};
+
+    ghost Value = { Uses };
+
+    ghost coded = { uses_code };
+
+    ghost view = { λ s. all_in (map S.content s.shards.items) };
+
+    ghost invariant = { λ s. IsSharded (map S.content s.shards.items) s.total s.first };
+}
+
+// As many empty stores as there are shards.
+fn empty_shards(alloc: Global) -> Result<Vec<RunUses>, AllocError>
+    ensures { IfOk result (λ shards. shards.items ≡ replicate 256 no_uses) }
+{
+    let mut shards = Vec::with_capacity(alloc, SHARDS)?;
+    for _ in 0..SHARDS {
+        shards.push(RunUses::new(alloc))?;
+    }
+    Ok(shards)
+}
+
+impl ShardedUses<RunUses> {
+    /// The empty set, in 256 sets of runs.
+    pub fn new(alloc: Global) -> Result<ShardedUses<RunUses>, AllocError>
+        ensures { IfOk result (λ uses. uses ≡ no_uses) }
+    {
+        let shards = empty_shards(alloc)?;
+        Ok(ShardedUses {
+            shards,
+            total: 0,
+            first: u64::MAX,
+            next: 0,
+        })
+    }
+}
+
+impl<S: UseStore> UseStore for ShardedUses<S> {
+    ghost content = { λ s. s };
+
+    fn insert(&mut self, new: Use) -> Result<(), AllocError> {
+        if self.total == usize::MAX {
+            // (nothing can be added, so only a use that is there succeeds)
+            if shard_holds(&self.shards, &new) {
+                return Ok(());
+            }
+            return Err(AllocError);
+        }
+        let more = insert_into(&mut self.shards, new)?;
+        self.total += more;
+        self.first = self.first.min(new.exp);
+        Ok(())
+    }
+
+    fn compact(&mut self) {
+        compact_all(&mut self.shards);
+    }
+
+    fn drop_expired(&mut self, moment: u64) -> Raised {
+        if moment < self.first {
+            return Raised { dropped: 0 };
+        }
+        let dropped = drop_all_expired(&mut self.shards, moment);
+        self.total -= dropped;
+        self.first = moment.saturating_add(1);
+        Raised { dropped }
+    }
+
+    fn tidy(&mut self) {
+        tidy_some(&mut self.shards, self.next);
+        self.next = self.next.wrapping_add(TIDIED);
+    }
+
+    fn has(&self, key: &[u8; 32]) -> bool {
+        self.shards[shard_of(key)].has(key)
+    }
+
+    fn is_withdrawn(&self, key: &[u8; 32]) -> bool {
+        self.shards[shard_of(key)].is_withdrawn(key)
+    }
+
+    fn len(&self) -> usize {
+        self.total
+    }
+
+    fn next_after(&self, after: Option<Use>) -> Option<Use> {
+        next_after(&self.shards, after)
+    }
+
+    fn next_uses(&self, after: Option<Use>, room: &mut Room) {
+        room.clear();
+        next_uses(&self.shards, after, room);
+    }
+}

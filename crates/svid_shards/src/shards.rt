@@ -1,0 +1,163 @@
+//! Stores side by side, each for the uses whose key begins with the store's number.
+ghost use Rattle.std.specs.Prelude.{◌≡◌, ◌+◌, ◌^◌, ◌<◌, ◌≤◌, [], None, map, length, slice_index, IsTrue, IsOk, IfOk, OnOk, OnErr};
+ghost use Rattle.svid_replay.specs.Buckets.{bucket_of};
+ghost use Rattle.svid_replay.specs.Sets.{holds};
+ghost use Rattle.svid_replay.specs.Uses.{live, next_above};
+ghost use Rattle.svid_replay.specs.Walks.{next_few};
+ghost use Rattle.svid_shards.specs.Shards.{AreApart, AreHeads, IsPut, all_in, expires_before, heads_of, least_in, shard, total_of};
+
+use std::alloc::AllocError;
+use svid_replay::{Room, Use, UseStore};
+
+/// How many shards there are: one for each first byte of a key.
+pub(crate) const SHARDS: usize = 256;
+
+// So many shards are tidied at a time: few, so that a call is short.
+pub(crate) const TIDIED: u8 = 4;
+
+// The number of the shard that uses of a key lie in.
+pub(crate) fn shard_of(key: &[u8; 32]) -> usize
+    ensures value { result ≡ slice_index key.now 0 }
+    ensures bound { result < 256 }
+{
+    key[0] as usize
+}
+
+// Whether a store holds a use. Looks at each of its uses.
+fn holds_use<S: UseStore>(store: &S, sought: &Use) -> bool
+    ensures { result ≡ holds (S.content store.now) sought.now }
+{
+    let mut after = None;
+    while let Some(used) = store.next_after(after) {
+        if sought.cmp(&used).is_eq() {
+            return true;
+        }
+        after = Some(used);
+    }
+    false
+}
+
+// Whether the shard of a use holds it. Looks at each use of the shard.
+pub(crate) fn shard_holds<S: UseStore>(shards: &[S], sought: &Use) -> bool
+    requires { length shards.now ≡ 256 }
+    ensures { result ≡ holds (shard (map S.content shards.now) (bucket_of sought.now)) sought.now }
+{
+    holds_use(&shards[shard_of(&sought.key)], sought)
+}
+
+// Puts a use into its shard, and answers how many uses that made more: one, or none where it was there.
+pub(crate) fn insert_into<S: UseStore>(shards: &mut Vec<S>, new: Use) -> Result<usize, AllocError>
+    requires { length shards.old.items ≡ 256 }
+    ensures ok { OnOk result (IsPut (map S.content shards.old.items) new (map S.content shards.new.items)) }
+    ensures more { IfOk result (λ more. (more ≤ 1) × (total_of (map S.content shards.old.items) + more ≡ total_of (map S.content shards.new.items))) }
+    ensures place { bucket_of new < 256 }
+    ensures err { OnErr result (map S.content shards.new.items ≡ map S.content shards.old.items) }
+    ensures held { IsTrue (holds (shard (map S.content shards.old.items) (bucket_of new)) new) → IsOk result }
+{
+    let store = &mut shards[shard_of(&new.key)];
+    let before = store.len();
+    store.insert(new)?;
+    Ok(store.len() - before)
+}
+
+// Takes the expired uses out of each shard; answers how many went.
+pub(crate) fn drop_all_expired<S: UseStore>(shards: &mut Vec<S>, moment: u64) -> usize
+    requires { total_of (map S.content shards.old.items) < 2 ^ 64 }
+    ensures kept { map S.content shards.new.items ≡ map (λ s. live s moment) (map S.content shards.old.items) }
+    ensures dropped { result + total_of (map S.content shards.new.items) ≡ total_of (map S.content shards.old.items) }
+{
+    let mut dropped = 0;
+    for i in 0..shards.len() {
+        let store = &mut shards[i];
+        dropped += store.drop_expired(moment).dropped;
+    }
+    dropped
+}
+
+// Makes walks over each shard quicker.
+pub(crate) fn compact_all<S: UseStore>(shards: &mut Vec<S>)
+    ensures { map S.content shards.new.items ≡ map S.content shards.old.items }
+{
+    for i in 0..shards.len() {
+        let store = &mut shards[i];
+        store.compact();
+    }
+}
+
+// Gives back memory in some shards, the one of this number first; behind the last comes the first.
+pub(crate) fn tidy_some<S: UseStore>(shards: &mut Vec<S>, from: u8)
+    requires { length shards.old.items ≡ 256 }
+    ensures { map S.content shards.new.items ≡ map S.content shards.old.items }
+{
+    for i in 0..TIDIED {
+        let place = from.wrapping_add(i) as usize;
+        let store = &mut shards[place];
+        store.tidy();
+    }
+}
+
+// What comes next in each shard.
+fn heads_of<S: UseStore>(shards: &[S], after: Option<Use>) -> [Option<Use>; SHARDS]
+    requires { length shards.now ≡ 256 }
+    ensures { result ≡ heads_of (map S.content shards.now) after }
+{
+    let mut heads = [None; SHARDS];
+    for i in 0..SHARDS {
+        heads[i] = shards[i].next_after(after);
+    }
+    heads
+}
+
+// Whether the first is there, and the second is not or expires later.
+fn is_before(one: &Option<Use>, other: &Option<Use>) -> bool
+    ensures { result ≡ expires_before one.now other.now }
+{
+    match one {
+        None => false,
+        Some(a) => match other {
+            None => true,
+            Some(b) => a.exp < b.exp,
+        },
+    }
+}
+
+// The least of what comes next in each shard. Of those that expire at one second it is the first, since shards are in
+// the order of the keys.
+fn least(heads: &[Option<Use>; SHARDS]) -> Option<Use>
+    requires { AreHeads heads.now }
+    ensures { result ≡ least_in None heads.now }
+{
+    let mut at = 0;
+    for i in 1..SHARDS {
+        if is_before(&heads[i], &heads[at]) {
+            at = i;
+        }
+    }
+    heads[at]
+}
+
+// The least use of all shards, or the least that is greater than the one given.
+pub(crate) fn next_after<S: UseStore>(shards: &[S], after: Option<Use>) -> Option<Use>
+    requires long { length shards.now ≡ 256 }
+    requires apart { AreApart (map S.content shards.now) }
+    ensures { result ≡ next_above (all_in (map S.content shards.now)) after }
+{
+    least(&heads_of(shards, after))
+}
+
+// Puts into an empty room what comes next in all shards.
+pub(crate) fn next_uses<S: UseStore>(shards: &[S], after: Option<Use>, room: &mut Room)
+    requires long { length shards.now ≡ 256 }
+    requires apart { AreApart (map S.content shards.now) }
+    requires empty { room.old ≡ [] }
+    ensures { room.new ≡ next_few (all_in (map S.content shards.now)) after }
+{
+    let mut heads = heads_of(shards, after);
+    while let Some(used) = least(&heads) {
+        if !room.push(used) {
+            return;
+        }
+        let place = shard_of(&used.key);
+        heads[place] = shards[place].next_after(Some(used));
+    }
+}

@@ -1,0 +1,99 @@
+"""Writes what live.c, live.py and rust/src/bin/live run on: new keys, tokens that they sign, and the answers that are due.
+
+Usage: tokens.py FOLDER. Writes bundles.json, renewed.json (the bundles as they are later), tokens.txt (a name and a token a line), and
+due.txt, the lines that live.py prints, sorted. Needs the packages `cryptography` and `jwt` (PyJWT), which signs."""
+import json
+import pathlib
+import sys
+import jwt
+from cryptography.hazmat.primitives import hashes
+from cryptography.hazmat.primitives.asymmetric import ec, padding, rsa, utils
+from jwt.utils import base64url_decode, base64url_encode
+
+THREADS = 8
+ID = "spiffe://example.org/web"
+
+
+def text(number, size=None):
+    return base64url_encode(number.to_bytes(size or (number.bit_length() + 7) // 8, "big")).decode()
+
+
+def entry(kid, private, **more):
+    """The entry of a bundle for a key."""
+    public = private.public_key().public_numbers()
+    if isinstance(private, rsa.RSAPrivateKey):
+        return {"kty": "RSA", "use": "jwt-svid", "kid": kid, "n": text(public.n), "e": text(public.e), **more}
+    size = (private.curve.key_size + 7) // 8
+    curve = f"P-{private.curve.key_size}"
+    return {"kty": "EC", "use": "jwt-svid", "kid": kid, "crv": curve, "x": text(public.x, size), "y": text(public.y, size), **more}
+
+
+def signed(private, alg, kid, jti):
+    claims = {"sub": ID, "aud": ["ledger"], "exp": 1_767_225_900, "jti": jti}
+    return jwt.encode(claims, private, algorithm=alg, headers={"kid": kid} if kid else None)
+
+
+def resigned(token, change):
+    """The token with another signature, by its own and by what it signs."""
+    text, _, signature = token.rpartition(".")
+    return f"{text}.{base64url_encode(change(base64url_decode(signature), text.encode())).decode()}"
+
+
+def as_der(raw, _):
+    return utils.encode_dss_signature(int.from_bytes(raw[:32], "big"), int.from_bytes(raw[32:], "big"))
+
+
+def main(folder):
+    curves = {"ES256": ec.SECP256R1(), "ES384": ec.SECP384R1(), "ES512": ec.SECP521R1()}
+    of = {alg: ec.generate_private_key(curve) for alg, curve in curves.items()}
+    of["RSA"], of["weak"] = (rsa.generate_private_key(65537, bits) for bits in (2048, 1024))
+    new = ec.generate_private_key(ec.SECP256R1())
+    off = entry("off", of["ES256"])
+    off["y"] = off["x"]
+    keys = [entry(kid, private) for kid, private in of.items()] + [entry("PS256", of["RSA"], alg="PS256"), off, entry("named", of["ES256"], crv="P-384")]
+    bundles = {"example.org": {"keys": keys}}
+    renewed = {"example.org": {"keys": [keys[0], entry("new", new)]}}
+
+    es256 = signed(of["ES256"], "ES256", "ES256", "es256")
+    ps256 = signed(of["RSA"], "PS256", "RSA", "ps256")
+    sha256, rsa_key = hashes.SHA256(), of["RSA"]
+    good, bad, no_key = "SVID_OK", "SVID_BAD_SIGNATURE", "SVID_NO_KEY"
+    # A token, and the answers by the bundles and by the renewed ones, to a validator that has not seen it.
+    cases = [("ES256", es256, good, good)]
+    cases += [(alg, signed(of[alg], alg, alg, alg), good, no_key) for alg in ("ES384", "ES512")]
+    cases += [(alg, signed(of["RSA"], alg, "RSA", alg), good, no_key) for alg in ("RS256", "RS384", "RS512", "PS256", "PS384", "PS512")]
+    cases += [
+        ("no-kid", signed(of["ES256"], "ES256", None, "no-kid"), good, good),
+        ("unknown-key", signed(new, "ES256", "new", "unknown-key"), no_key, good),
+        ("stranger", signed(new, "ES256", "ES256", "stranger"), bad, bad),
+        ("broken", resigned(es256, lambda raw, _: bytes([raw[0] ^ 1]) + raw[1:]), bad, bad),
+        ("short", resigned(es256, lambda raw, _: raw[:-1]), bad, bad),
+        ("long", resigned(es256, lambda raw, _: raw + b"\0"), bad, bad),
+        ("huge", resigned(es256, lambda raw, _: raw * 40), bad, bad),
+        ("zero", resigned(es256, lambda raw, _: bytes(64)), bad, bad),
+        ("der", resigned(es256, as_der), bad, bad),
+        ("old-padding", resigned(ps256, lambda _, text: rsa_key.sign(text, padding.PKCS1v15(), sha256)), bad, no_key),
+        ("long-salt", resigned(ps256, lambda _, text: rsa_key.sign(text, padding.PSS(padding.MGF1(sha256), 64), sha256)), bad, no_key),
+        ("other-alg", signed(of["RSA"], "RS256", "PS256", "other-alg"), bad, no_key),
+        ("its-alg", signed(of["RSA"], "PS256", "PS256", "its-alg"), good, no_key),
+        ("weak", signed(of["weak"], "RS256", "weak", "weak"), bad, no_key),
+        ("off-curve", signed(of["ES256"], "ES256", "off", "off-curve"), bad, no_key),
+        ("other-curve", signed(of["ES256"], "ES256", "named", "other-curve"), bad, no_key),
+    ]
+    due = []
+    for name, _, first, later in cases:
+        again = "SVID_REPLAYED" if first == good else first
+        due += [f"a: {name}: {first}{f' {ID}' if first == good else ''}"] + [f"a: {name}: {again}"] * (THREADS - 1)
+        due += [f"b, told by a: {name}: {again}", f"b, milliseconds: {name}: SVID_JUMP", f"a, closed: {name}: SVID_CLOSED"]
+        due += [f"b, no bundles: {name}: SVID_UNKNOWN_DOMAIN"]
+        due += [f"a, told by b: {name}: " + ("SVID_REPLAYED" if later == good else later)]
+        due += [f"b, renewed: {name}: " + ("SVID_REPLAYED" if first == later == good else f"{later} {ID}" if later == good else later)]
+    folder = pathlib.Path(folder)
+    (folder / "bundles.json").write_text(json.dumps(bundles))
+    (folder / "renewed.json").write_text(json.dumps(renewed))
+    (folder / "tokens.txt").write_text("".join(f"{name} {token}\n" for name, token, *_ in cases))
+    (folder / "due.txt").write_text("".join(f"{line}\n" for line in sorted(due)))
+
+
+if __name__ == "__main__":
+    main(sys.argv[1])

@@ -1,0 +1,93 @@
+"""A validator of libsvid for Python, by ctypes: live.py uses it."""
+import ctypes as c
+import os
+import struct
+import threading
+from svid import Key, Part, Refused, Terms, Told, Use, lib, told_text
+
+BIG = 2**64 - 1
+
+
+class Validator:
+    """A validator that this process keeps, for any number of threads: a lock orders their calls. Use it by `with`, which closes it."""
+
+    def __init__(self, own, bundles, longest=BIG, ahead=10, step=86_400, place=None):
+        self.handle = (c.c_uint64 * 2)()
+        self.lock = threading.Lock()
+        terms = Terms(longest, ahead, step, (c.c_uint8 * 16)(*(place or os.urandom(16))))
+        names = [name.encode() for name in own]
+        lens = (c.c_size_t * len(names))(*map(len, names))
+        self._call("open_by_lengths", c.byref(terms), *self._lent(b"".join(names)), lens, c.c_size_t(len(names)), *self._lent(bundles))
+
+    def __enter__(self):
+        return self
+
+    def __exit__(self, *_):
+        with self.lock:
+            lib.svid_validator_close(self.handle)
+
+    @staticmethod
+    def _lent(text):
+        return text, c.c_size_t(len(text))
+
+    def _call(self, name, *args):
+        told = Told()
+        with self.lock:
+            status = getattr(lib, "svid_validator_" + name)(self.handle, *args, c.byref(told))
+        if status != 0:
+            raise Refused(status, told_text(told), told.len)
+        return told.len
+
+    def _text(self, name, *args, room=65_536):
+        out = c.create_string_buffer(room)
+        try:
+            size = self._call(name, *args, out, c.c_size_t(room))
+            return out.raw[:size]
+        except Refused as refused:
+            if refused.args[0] != 1:
+                raise
+            return self._text(name, *args, room=refused.args[2])
+
+    def ask(self, token):
+        """The keys that may have signed a token: of each the question, the algorithm's name, and the key as JSON."""
+        text, rows = self._text("ask", *self._lent(token)), []
+        while text:
+            row, text = [text[:32]], text[32:]
+            for _ in range(2):
+                end = 4 + struct.unpack(">I", text[:4])[0]
+                row, text = row + [text[4:end]], text[end:]
+            rows.append(row)
+        return rows
+
+    def check(self, now, token, verifies):
+        """The subject's ID and the use of an accepted token. `verifies` says whether a key, as JSON, made its signature; it is called
+        without the lock."""
+        try:
+            rows = self.ask(token)
+        except Refused as refused:
+            if refused.args[0] <= 100:
+                raise
+            # Where no key may have signed the token, the check answers the first refusal that holds, which may be another.
+            rows = []
+        yes = [question for question, alg, key in rows if verifies(alg, key, token)]
+        out, used = c.create_string_buffer(2048), Use()
+        size = self._call("check", c.c_uint64(now), b"".join(yes), c.c_size_t(len(yes)), *self._lent(token), out, c.c_size_t(2048), c.byref(used))
+        return out.raw[:size].decode(), used
+
+    def take(self, now, messages):
+        self._call("take", c.c_uint64(now), *self._lent(messages))
+
+    def tell(self):
+        return self._text("tell")
+
+    def save(self, room=65_536):
+        """The record, a batch a call."""
+        part = Part()
+        while not part.done:
+            yield self._text("parts", c.byref(part), room=room)
+
+    def withdraw(self, now, key, exp):
+        self._call("withdraw", c.c_uint64(now), c.byref(Key(key)), c.c_uint64(exp), c.byref(Use()))
+
+    def bundles(self, text):
+        self._call("bundles", *self._lent(text))

@@ -1,0 +1,10 @@
+/* Verifies the signature of a JWT-SVID with a key of its trust bundle, by OpenSSL 3 (-lcrypto) and Jansson (-ljansson). */
+#ifndef VERIFY_H
+#define VERIFY_H
+#include <stddef.h>
+#include <stdint.h>
+
+/* Not 0 if the key `jwk`, as JSON, made the token's signature with the algorithm of this name: a `svid_verify` of svid.h. */
+int verify(void *context, const uint8_t *alg, size_t alg_len, const uint8_t *jwk, size_t jwk_len, const uint8_t *token, size_t token_len);
+
+#endif

@@ -1,0 +1,59 @@
+package main
+
+import (
+	"context"
+	"flag"
+	"fmt"
+	"strings"
+	"time"
+
+	"github.com/nats-io/nats.go"
+
+	"svid.example/go/internal/group"
+	"svid.example/go/svid"
+)
+
+// A deaf sink takes nothing, so that a bucket can be made and filled without a record.
+type deaf struct{}
+
+func (deaf) Take([]byte) error { return nil }
+
+// fill puts random uses into a group's bucket.
+func fill(f *flag.FlagSet, args []string) error {
+	urls := f.String("nats", "", "the broker's addresses")
+	name := f.String("group", "svid", "the bucket")
+	n := f.Int("uses", 1000, "how many")
+	replicas := f.Int("replicas", 1, "of the bucket")
+	f.Parse(args)
+	return fillBucket(*urls, *name, *n, *replicas)
+}
+
+func fillBucket(urls, name string, n, replicas int) error {
+	ctx, cancel := context.WithTimeout(context.Background(), time.Minute)
+	defer cancel()
+	g, err := group.Join(ctx, group.Options{Servers: strings.Split(urls, ","), Name: name, TTL: (longest + 60) * time.Second, Replicas: replicas}, deaf{})
+	if err != nil {
+		return err
+	}
+	defer g.Close()
+	nc, err := nats.Connect(urls)
+	if err != nil {
+		return err
+	}
+	defer nc.Close()
+	js, err := nc.JetStream(nats.PublishAsyncMaxPending(4096))
+	if err != nil {
+		return err
+	}
+	for _, u := range randomUses(make([]svid.Use, n)) {
+		if _, err := js.PublishAsync(fmt.Sprintf("$KV.%s.u.%v.%v", name, u.Key, u.Place), u.Batch(), nats.StallWait(time.Minute)); err != nil {
+			return err
+		}
+	}
+	select {
+	case <-js.PublishAsyncComplete():
+		return nil
+	case <-time.After(5 * time.Minute):
+		return fmt.Errorf("the broker did not store %d uses in five minutes", n)
+	}
+}

@@ -1,0 +1,150 @@
+// Svidbench makes what bench/sidecar measures with, and measures what wrk can't: the group as it grows.
+//
+//	svidbench mint --tokens N --out DIR             DIR/bundle.json, and DIR/tokens, one a line
+//	svidbench record --uses N                       a record of N uses, on standard output
+//	svidbench fill --nats URL --group NAME --uses N puts N uses into a group's bucket
+//	svidbench scale --svidd FILE --members N        a group of N sidecars on this machine, as a row of a table
+//	svidbench simulate                              what a bucket and a sidecar bear, to 1,000 sidecars
+package main
+
+import (
+	"bufio"
+	"crypto/rand"
+	"encoding/binary"
+	"flag"
+	"fmt"
+	"io"
+	"os"
+	"path/filepath"
+	"runtime"
+	"sort"
+	"sync"
+	"time"
+
+	"svid.example/go/internal/issuer"
+	"svid.example/go/svid"
+)
+
+const (
+	domain   = "example.org"
+	audience = "ledger"
+	longest  = 7200 // seconds that a token lives at the most
+)
+
+var commands = map[string]func(*flag.FlagSet, []string) error{
+	"mint": mint, "record": record, "fill": fill, "scale": scale, "simulate": simulate,
+}
+
+func main() {
+	if len(os.Args) < 2 || commands[os.Args[1]] == nil {
+		fmt.Fprintln(os.Stderr, "usage: svidbench mint|record|fill|scale|simulate [option..]")
+		os.Exit(2)
+	}
+	f := flag.NewFlagSet("svidbench "+os.Args[1], flag.ExitOnError)
+	if err := commands[os.Args[1]](f, os.Args[2:]); err != nil {
+		fmt.Fprintln(os.Stderr, "svidbench:", err)
+		os.Exit(1)
+	}
+}
+
+// mint makes tokens of ES256 that live for an hour, each with a jti of its own.
+func mint(f *flag.FlagSet, args []string) error {
+	n := f.Int("tokens", 1000, "how many")
+	out := f.String("out", ".", "the folder")
+	f.Parse(args)
+	i, err := issuer.New(domain)
+	if err != nil {
+		return err
+	}
+	if err := os.WriteFile(filepath.Join(*out, "bundle.json"), i.JWKSet(), 0o644); err != nil {
+		return err
+	}
+	file, err := os.Create(filepath.Join(*out, "tokens"))
+	if err != nil {
+		return err
+	}
+	w := bufio.NewWriter(file)
+	for _, token := range mintAll(i, *n, "token") {
+		fmt.Fprintln(w, token)
+	}
+	if err := w.Flush(); err != nil {
+		return err
+	}
+	return file.Close()
+}
+
+// mintAll makes n tokens on all processors.
+func mintAll(i *issuer.Issuer, n int, name string) []string {
+	tokens, exp := make([]string, n), time.Now().Unix()+longest/2
+	var workers sync.WaitGroup
+	step := runtime.NumCPU()
+	for first := 0; first < step; first++ {
+		workers.Add(1)
+		go func(first int) {
+			defer workers.Done()
+			for k := first; k < n; k += step {
+				tokens[k] = i.Token("ES256", map[string]any{"sub": i.Subject("/billing/api"), "aud": audience, "exp": exp,
+					"iat": exp - longest/2, "jti": fmt.Sprintf("%s-%d", name, k)})
+			}
+		}(first)
+	}
+	workers.Wait()
+	return tokens
+}
+
+// record writes a record of uses with random keys that are live for an hour.
+func record(f *flag.FlagSet, args []string) error {
+	n := f.Int("uses", 1000, "how many")
+	f.Parse(args)
+	const most = 4096 // uses in a batch
+	w := bufio.NewWriter(os.Stdout)
+	for ; *n > 0; *n -= most {
+		uses := make([]svid.Use, most)
+		if *n < most {
+			uses = uses[:*n]
+		}
+		if err := writeBatch(w, randomUses(uses)); err != nil {
+			return err
+		}
+	}
+	return w.Flush()
+}
+
+// randomUses gives uses random keys. All expire within an hour.
+func randomUses(uses []svid.Use) []svid.Use {
+	now := svid.Now()
+	for i := range uses {
+		u := &uses[i]
+		mustRead(u.Key[:])
+		u.At, u.Expires, u.Place = now, now+longest/2-uint64(u.Key[0]), svid.Place{1}
+	}
+	sort.Slice(uses, func(i, k int) bool {
+		if uses[i].Expires != uses[k].Expires {
+			return uses[i].Expires < uses[k].Expires
+		}
+		return string(uses[i].Key[:]) < string(uses[k].Key[:])
+	})
+	return uses
+}
+
+// writeBatch writes rising uses of one moment as one batch.
+func writeBatch(w io.Writer, uses []svid.Use) error {
+	one := uses[0].Batch()
+	head := one[:17:17]
+	binary.BigEndian.PutUint32(head[13:], uint32(len(uses)))
+	if _, err := w.Write(head); err != nil {
+		return err
+	}
+	for _, u := range uses {
+		if _, err := w.Write(u.Batch()[17:]); err != nil {
+			return err
+		}
+	}
+	return nil
+}
+
+func mustRead(b []byte) {
+	if _, err := rand.Read(b); err != nil {
+		panic(err)
+	}
+}

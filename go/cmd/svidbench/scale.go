@@ -1,0 +1,357 @@
+package main
+
+import (
+	"context"
+	"errors"
+	"flag"
+	"fmt"
+	"io"
+	"net/http"
+	"os"
+	"os/exec"
+	"path/filepath"
+	"sort"
+	"strconv"
+	"strings"
+	"sync"
+	"sync/atomic"
+	"time"
+
+	"github.com/nats-io/nats.go"
+
+	"svid.example/go/internal/broker"
+	"svid.example/go/internal/issuer"
+)
+
+const (
+	patience = 2 * time.Minute
+	inFlight = 32 // tokens that are sent at a time
+	bucket   = "svid"
+)
+
+// scale runs a group on this machine, sends tokens to all members but one, which only hears, and prints a row of what
+// one token costs.
+func scale(f *flag.FlagSet, args []string) error {
+	svidd := f.String("svidd", "", "the program")
+	members := f.Int("members", 3, "how many sidecars")
+	mode := f.String("mode", "once", "of the sidecars")
+	uses := f.Int("uses", 50_000, "in the bucket before")
+	n := f.Int("tokens", 5_000, "to send")
+	f.Parse(args)
+	dir, err := os.MkdirTemp("", "svid-scale-")
+	if err != nil {
+		return err
+	}
+	defer os.RemoveAll(dir)
+	g := &scaled{dir: dir, svidd: *svidd, mode: *mode}
+	defer g.end()
+	if err := g.begin(*members, *uses); err != nil {
+		return err
+	}
+	return g.measure(*uses, *n)
+}
+
+// A scaled is a group on this machine.
+type scaled struct {
+	dir, svidd, mode, bundle string
+
+	broker  *broker.Server
+	issuer  *issuer.Issuer
+	members []*member
+	client  http.Client
+}
+
+// A member is a sidecar.
+type member struct {
+	address string
+	run     *exec.Cmd
+}
+
+func (g *scaled) begin(members, uses int) (err error) {
+	g.client.Transport = &http.Transport{MaxIdleConnsPerHost: inFlight}
+	g.bundle = filepath.Join(g.dir, "bundle.json")
+	if g.issuer, err = issuer.New(domain); err != nil {
+		return err
+	}
+	if err := os.WriteFile(g.bundle, g.issuer.JWKSet(), 0o600); err != nil {
+		return err
+	}
+	store := filepath.Join(g.dir, "nats")
+	if err := os.Mkdir(store, 0o700); err != nil {
+		return err
+	}
+	if g.broker, err = broker.New(store); err != nil {
+		return err
+	}
+	if err := g.broker.Start(); err != nil {
+		return err
+	}
+	err = await("the broker", func() error {
+		if !g.broker.Answers() {
+			return errors.New("no answer")
+		}
+		return nil
+	})
+	if err != nil {
+		return err
+	}
+	if err := fillBucket(g.broker.URL, bucket, uses, 1); err != nil {
+		return err
+	}
+	for len(g.members) < members {
+		if err := g.start(); err != nil {
+			return err
+		}
+	}
+	for _, m := range g.members {
+		if err := g.awaitReady(m); err != nil {
+			return err
+		}
+	}
+	return nil
+}
+
+// start starts one more sidecar.
+func (g *scaled) start() error {
+	ports, err := broker.FreePorts(1)
+	if err != nil {
+		return err
+	}
+	m := &member{address: fmt.Sprintf("127.0.0.1:%d", ports[0])}
+	m.run = exec.Command(g.svidd, "serve", "--audience", audience, "--bundle", domain+"="+g.bundle, "--longest", fmt.Sprint(longest),
+		"--listen", m.address, "--state", filepath.Join(g.dir, fmt.Sprint("state-", len(g.members))), "--replay", g.mode,
+		"--nats", g.broker.URL, "--group", bucket, "--log", "errors")
+	m.run.Stderr = os.Stderr
+	if err := m.run.Start(); err != nil {
+		return err
+	}
+	g.members = append(g.members, m)
+	return nil
+}
+
+func (g *scaled) awaitReady(m *member) error {
+	return await("a sidecar", func() error {
+		status, text, err := g.get("http://"+m.address+"/readyz", "")
+		if err == nil && status != http.StatusOK {
+			err = errors.New(text)
+		}
+		return err
+	})
+}
+
+func (g *scaled) end() {
+	for _, m := range g.members {
+		m.run.Process.Kill()
+		m.run.Wait()
+	}
+	if g.broker != nil {
+		g.broker.Kill()
+	}
+}
+
+// A reading is what was used of the processor so far, by process.
+type reading struct {
+	heard, accepting, broker time.Duration
+	received                 float64 // bytes that the sidecar which only hears read from its connections
+}
+
+func (g *scaled) read() (r reading, err error) {
+	for i, m := range g.members {
+		used, err := cpu(m.run.Process.Pid)
+		if err != nil {
+			return r, err
+		}
+		if i == 0 {
+			r.heard = used
+		} else {
+			r.accepting += used
+		}
+	}
+	if r.broker, err = cpu(g.broker.Pid()); err != nil {
+		return r, err
+	}
+	text, err := os.ReadFile(fmt.Sprintf("/proc/%d/io", g.members[0].run.Process.Pid))
+	if err != nil {
+		return r, err
+	}
+	_, err = fmt.Sscanf(string(text), "rchar: %f", &r.received)
+	return r, err
+}
+
+// inBucket is how many bytes a value has in the bucket.
+func (g *scaled) inBucket() (float64, error) {
+	nc, err := nats.Connect(g.broker.URL)
+	if err != nil {
+		return 0, err
+	}
+	defer nc.Close()
+	js, err := nc.JetStream()
+	if err != nil {
+		return 0, err
+	}
+	info, err := js.StreamInfo("KV_" + bucket)
+	if err != nil {
+		return 0, err
+	}
+	return float64(info.State.Bytes) / float64(info.State.Msgs), nil
+}
+
+// measure sends n tokens, and prints the row.
+func (g *scaled) measure(uses, n int) error {
+	tokens := mintAll(g.issuer, n, "scale")
+	before, err := g.read()
+	if err != nil {
+		return err
+	}
+	from := time.Now()
+	took, err := g.send(tokens)
+	if err != nil {
+		return err
+	}
+	sending := time.Since(from)
+	hears := g.members[0]
+	err = await("all uses to be heard", func() error {
+		heard, err := g.metric(hears, "svidd_messages_taken_total")
+		if err == nil && int(heard) < uses+n {
+			err = fmt.Errorf("%.0f of %d", heard, uses+n)
+		}
+		return err
+	})
+	if err != nil {
+		return err
+	}
+	lag := time.Since(from) - sending
+	after, err := g.read()
+	if err != nil {
+		return err
+	}
+	resident, err := g.metric(hears, "process_resident_memory_bytes")
+	if err != nil {
+		return err
+	}
+	// Another one, with all of it to read. It is a member from here on.
+	from = time.Now()
+	if err := g.start(); err != nil {
+		return err
+	}
+	if err := g.awaitReady(g.members[len(g.members)-1]); err != nil {
+		return err
+	}
+	caughtUp := time.Since(from)
+	stored, err := g.inBucket()
+	if err != nil {
+		return err
+	}
+	members := len(g.members) - 1
+	each := func(d time.Duration) float64 { return float64(d.Microseconds()) / float64(n) }
+	hear := each(after.heard - before.heard)
+	fmt.Printf("| %s | %d | %.0f | %.1f | %.1f | %.0f | %.1f | %.0f | %.0f | %.0f | %.1f | %.0f | %.1f |\n", g.mode, members,
+		float64(n)/sending.Seconds(), percentile(took, 50), percentile(took, 99),
+		each(after.accepting-before.accepting)-float64(members-1)*hear, hear, each(after.broker-before.broker),
+		stored, (after.received-before.received)/float64(n), float64(lag.Milliseconds())/1000, resident/1e6, caughtUp.Seconds())
+	return nil
+}
+
+// send sends each token to one of the members that accept, by turns, and returns the milliseconds that each took.
+func (g *scaled) send(tokens []string) (took []float64, err error) {
+	took = make([]float64, len(tokens))
+	var next atomic.Int64
+	failed := make(chan error, inFlight)
+	var workers sync.WaitGroup
+	for w := 0; w < inFlight; w++ {
+		workers.Add(1)
+		go func() {
+			defer workers.Done()
+			for i := next.Add(1) - 1; int(i) < len(tokens); i = next.Add(1) - 1 {
+				m := g.members[1+int(i)%(len(g.members)-1)]
+				from := time.Now()
+				status, text, err := g.get("http://"+m.address+"/check", tokens[i])
+				took[i] = float64(time.Since(from).Microseconds()) / 1000
+				if err == nil && status != http.StatusOK {
+					err = fmt.Errorf("a token is answered %d %s", status, text)
+				}
+				if err != nil {
+					failed <- err
+					return
+				}
+			}
+		}()
+	}
+	workers.Wait()
+	select {
+	case err := <-failed:
+		return nil, err
+	default:
+		return took, nil
+	}
+}
+
+func percentile(values []float64, percent int) float64 {
+	sort.Float64s(values)
+	return values[(len(values)-1)*percent/100]
+}
+
+func (g *scaled) get(url, token string) (status int, text string, err error) {
+	ctx, cancel := context.WithTimeout(context.Background(), patience)
+	defer cancel()
+	request, err := http.NewRequestWithContext(ctx, http.MethodGet, url, nil)
+	if err != nil {
+		return 0, "", err
+	}
+	if token != "" {
+		request.Header.Set("Authorization", "Bearer "+token)
+	}
+	answer, err := g.client.Do(request)
+	if err != nil {
+		return 0, "", err
+	}
+	defer answer.Body.Close()
+	body, err := io.ReadAll(answer.Body)
+	return answer.StatusCode, string(body), err
+}
+
+func (g *scaled) metric(m *member, name string) (float64, error) {
+	_, text, err := g.get("http://"+m.address+"/metrics", "")
+	if err != nil {
+		return 0, err
+	}
+	for _, line := range strings.Split(text, "\n") {
+		if rest := strings.TrimPrefix(line, name+" "); rest != line {
+			return strconv.ParseFloat(rest, 64)
+		}
+	}
+	return 0, fmt.Errorf("no metric is named %s", name)
+}
+
+// cpu is the processor time that a process has used.
+func cpu(pid int) (time.Duration, error) {
+	text, err := os.ReadFile(fmt.Sprintf("/proc/%d/stat", pid))
+	if err != nil {
+		return 0, err
+	}
+	// The name, in parentheses, may hold anything.
+	fields := strings.Fields(string(text[strings.LastIndexByte(string(text), ')')+1:]))
+	const user, system, hertz = 11, 12, 100
+	var ticks int64
+	for _, i := range []int{user, system} {
+		n, err := strconv.ParseInt(fields[i], 10, 64)
+		if err != nil {
+			return 0, err
+		}
+		ticks += n
+	}
+	return time.Duration(ticks) * time.Second / hertz, nil
+}
+
+// await tries until it goes well, or patience ends.
+func await(what string, try func() error) error {
+	for end := time.Now().Add(patience); ; time.Sleep(5 * time.Millisecond) {
+		err := try()
+		if err == nil || time.Now().After(end) {
+			if err != nil {
+				err = fmt.Errorf("waited %v for %s: %w", patience, what, err)
+			}
+			return err
+		}
+	}
+}

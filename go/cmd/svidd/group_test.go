@@ -1,0 +1,331 @@
+package main
+
+import (
+	"fmt"
+	"math/rand"
+	"net/http"
+	"path/filepath"
+	"sort"
+	"strings"
+	"sync"
+	"sync/atomic"
+	"testing"
+	"time"
+
+	"github.com/nats-io/nats.go"
+
+	"svid.example/go/internal/broker"
+	"svid.example/go/internal/natstest"
+	"svid.example/go/svid"
+)
+
+// several starts n sidecars of a group.
+func several(t *testing.T, n int, mode, urls string, more ...string) []*process {
+	t.Helper()
+	bundle := bundleOption(bundleFile(t, example))
+	all := make([]*process, n)
+	for i := range all {
+		args := []string{bundle, "--replay", mode, "--nats", urls, "--log", "errors", "--admin", filepath.Join(t.TempDir(), "admin.sock")}
+		if mode == "once" {
+			args = append(args, "--state", filepath.Join(t.TempDir(), "state"))
+		}
+		all[i] = start(t, append(args, more...)...)
+	}
+	return all
+}
+
+// storm sends each token to all sidecars at the same instant, many tokens at a time,
+// and returns how many answered each 200, and how many did not judge it.
+func storm(all []*process, tokens []string, atATime int) (accepted, unjudged []int32) {
+	accepted, unjudged = make([]int32, len(tokens)), make([]int32, len(tokens))
+	next := int64(-1)
+	var workers sync.WaitGroup
+	for w := 0; w < atATime; w++ {
+		workers.Add(1)
+		go func() {
+			defer workers.Done()
+			for i := atomic.AddInt64(&next, 1); i < int64(len(tokens)); i = atomic.AddInt64(&next, 1) {
+				var asked sync.WaitGroup
+				for _, p := range all {
+					asked.Add(1)
+					go func(p *process) {
+						defer asked.Done()
+						switch status, _, _ := p.check(tokens[i]); status {
+						case http.StatusOK:
+							atomic.AddInt32(&accepted[i], 1)
+						case http.StatusUnauthorized:
+						default:
+							atomic.AddInt32(&unjudged[i], 1)
+						}
+					}(p)
+				}
+				asked.Wait()
+			}
+		}()
+	}
+	workers.Wait()
+	return accepted, unjudged
+}
+
+func tokens(t *testing.T, name string, n int) []string {
+	all := make([]string, n)
+	for i := range all {
+		all[i] = token(t, fmt.Sprint(name, i), 30*time.Minute)
+	}
+	return all
+}
+
+// count says how often each number is there: "1:998 2:2".
+func count(numbers []int32) string {
+	counts := make(map[int32]int)
+	for _, n := range numbers {
+		counts[n]++
+	}
+	var all []string
+	for n, c := range counts {
+		all = append(all, fmt.Sprintf("%d:%d", n, c))
+	}
+	sort.Strings(all)
+	return strings.Join(all, " ")
+}
+
+// In mode strict each token that three sidecars get at once is accepted by exactly one.
+func TestStrictAcceptsOnceInTheWholeGroup(t *testing.T) {
+	const n = 1000
+	servers := natstest.Cluster(t, 3)
+	all := several(t, 3, "strict", strings.Join(broker.URLs(servers), ","), "--replicas", "3", "--wait", "10s")
+	accepted, unjudged := storm(all, tokens(t, "strict", n), 16)
+	if got := count(accepted); got != fmt.Sprintf("1:%d", n) {
+		t.Errorf("accepted %s; unjudged %s", got, count(unjudged))
+	}
+	t.Logf("%d tokens to 3 sidecars at once: accepted %s, not judged %s", n, count(accepted), count(unjudged))
+	equalRecords(t, all)
+}
+
+// In mode once a token may be accepted by each sidecar, and then every report says so.
+func TestOnceReportsWhatTwoAccepted(t *testing.T) {
+	const n = 500
+	server := natstest.Start(t)
+	all := several(t, 3, "once", server.URL)
+	accepted, unjudged := storm(all, tokens(t, "once", n), 16)
+	more := 0
+	for i, a := range accepted {
+		if a < 1 || unjudged[i] != 0 {
+			t.Fatalf("token %d: %d accepted it, %d did not judge it", i, a, unjudged[i])
+		}
+		if a > 1 {
+			more++
+		}
+	}
+	text := equalRecords(t, all)
+	if !strings.Contains(text, fmt.Sprintf("\ntwice %d\n", more)) {
+		t.Errorf("%d tokens were accepted more than once, and the report says %s", more, text[strings.Index(text, "\ntwice ")+1:])
+	}
+	t.Logf("%d tokens to 3 sidecars at once: accepted %s", n, count(accepted))
+}
+
+// equalRecords wants the sidecars to have the same uses soon, and returns the report of them.
+func equalRecords(t *testing.T, all []*process) string {
+	t.Helper()
+	var first string
+	all[0].await("equal records", func() bool {
+		for i, p := range all {
+			status, text, errors := svidd(t, "", "report", "--admin", p.option("--admin"))
+			if status != 0 {
+				t.Fatalf("report: %s", errors)
+			}
+			uses := text[strings.IndexByte(text, '\n'):] // moments go with the clock
+			if i == 0 {
+				first = uses
+			} else if uses != first {
+				return false
+			}
+		}
+		return true
+	})
+	return first
+}
+
+// option is the value of one of the process's options.
+func (p *process) option(name string) string {
+	for i, arg := range p.args {
+		if arg == name {
+			return p.args[i+1]
+		}
+	}
+	return ""
+}
+
+// A withdrawal reaches the group, also a sidecar that starts later.
+func TestAWithdrawalReachesTheGroup(t *testing.T) {
+	server := natstest.Start(t)
+	all := several(t, 2, "reuse", server.URL)
+	reused := token(t, "reused", time.Minute)
+	all[1].want(reused, 200, "")
+	if status, _, err := svidd(t, "", "withdraw", "--admin", all[0].option("--admin"), reused); status != 0 {
+		t.Fatalf("withdraw: %s", err)
+	}
+	all[1].await("the withdrawal", func() bool { status, _, _ := all[1].check(reused); return status == 401 })
+	all[1].end()
+	all[1].start()
+	all[1].want(reused, 401, "Withdrawn")
+}
+
+// Without its broker a strict sidecar judges nothing; one of mode once goes on.
+func TestTheBrokerIsAway(t *testing.T) {
+	server := natstest.Start(t)
+	strict := several(t, 1, "strict", server.URL, "--wait", "300ms")[0]
+	once := several(t, 1, "once", server.URL)[0]
+	before := token(t, "before", time.Minute)
+	strict.want(before, 200, "")
+	server.Kill()
+	status, header, body := strict.check(token(t, "away", time.Minute))
+	if status != 503 || header.Get("Retry-After") == "" || !strings.Contains(body, "unavailable") {
+		t.Errorf("strict: %d %v %q", status, header, body)
+	}
+	strict.want(before, 401, "Replayed")
+	alone := token(t, "alone", time.Minute)
+	once.want(alone, 200, "")
+	once.want(alone, 401, "Replayed")
+	if err := server.Start(); err != nil {
+		t.Fatal(err)
+	}
+	strict.await("the broker again", func() bool {
+		status, _, _ := strict.check(token(t, fmt.Sprint(rand.Int()), time.Minute))
+		return status == 200
+	})
+}
+
+// What others write to the bucket is put aside where it is no use of a token, and nobody is accepted by it.
+func TestAMemberThatLies(t *testing.T) {
+	server := natstest.Start(t)
+	p := several(t, 1, "strict", server.URL)[0]
+	kv := bucket(t, server.URL)
+	far := svid.Use{Key: svid.TokenKey{1}, Expires: ^uint64(0), At: ^uint64(0) - 1}
+	for name, value := range map[string][]byte{"u.far": far.Batch(), "u.garbage": make([]byte, 900_000), "u.empty": {}} {
+		if _, err := kv.Put(name, value); err != nil {
+			t.Fatal(err)
+		}
+	}
+	p.await("two values aside", func() bool { return p.metric("svidd_messages_aside_total") == "2" })
+	// Someone claims a token with garbage as its value before it comes.
+	victim := token(t, "victim", time.Minute)
+	admin := p.option("--admin")
+	if _, err := kv.Create("c."+keyOf(t, victim).String(), []byte("garbage")); err != nil {
+		t.Fatal(err)
+	}
+	if status, _, body := p.check(victim); status != 503 || !strings.Contains(body, "no use of it") {
+		t.Errorf("claimed by garbage: %d %q", status, body)
+	}
+	p.want(token(t, "other", time.Minute), 200, "")
+	if status, _, err := svidd(t, "", "report", "--admin", admin); status != 0 {
+		t.Error(err)
+	}
+}
+
+// bucket is the group's bucket, as any member can write to it.
+func bucket(t *testing.T, url string) nats.KeyValue {
+	t.Helper()
+	conn, err := nats.Connect(url)
+	if err != nil {
+		t.Fatal(err)
+	}
+	t.Cleanup(conn.Close)
+	stream, err := conn.JetStream()
+	if err != nil {
+		t.Fatal(err)
+	}
+	kv, err := stream.KeyValue("svid")
+	if err != nil {
+		t.Fatal(err)
+	}
+	return kv
+}
+
+// keyOf is the key by which the record names a token.
+func keyOf(t *testing.T, token string) svid.TokenKey {
+	t.Helper()
+	keyring, err := svid.NewKeyring(example.Bundles())
+	if err != nil {
+		t.Fatal(err)
+	}
+	defer keyring.Close()
+	validator, err := svid.Open(svid.Options{Audiences: []string{"ledger"}, Bundles: example.Bundles(), Longest: svid.NoLimit, Step: svid.NoLimit})
+	if err != nil {
+		t.Fatal(err)
+	}
+	defer validator.Close()
+	yes, err := keyring.Verify(token)
+	if err != nil {
+		t.Fatal(err)
+	}
+	judged, err := validator.Judge(svid.Now(), token, yes)
+	if err != nil {
+		t.Fatal(err)
+	}
+	return judged.Use.Key
+}
+
+// Whatever is killed, no token that was answered 200 is answered 200 again.
+func TestKilledAtRandomMoments(t *testing.T) {
+	rounds := 8
+	if testing.Short() {
+		rounds = 3
+	}
+	t.Run("once", func(t *testing.T) {
+		p := start(t, bundleOption(bundleFile(t, example)), "--state", filepath.Join(t.TempDir(), "state"), "--log", "errors")
+		killed(t, rounds, p, nil, nil)
+	})
+	t.Run("strict", func(t *testing.T) {
+		servers := natstest.Cluster(t, 3)
+		all := several(t, 2, "strict", strings.Join(broker.URLs(servers), ","), "--replicas", "3")
+		killed(t, rounds, all[0], all[1:], servers)
+	})
+}
+
+// killed sends tokens to a sidecar, and to others at the same time, kills it at a random moment and one of the
+// brokers in every other round, starts them again, and sends all tokens again.
+func killed(t *testing.T, rounds int, p *process, others []*process, brokers []*broker.Server) {
+	total := 0
+	everyone := append([]*process{p}, others...)
+	for round := 0; round < rounds; round++ {
+		all := tokens(t, fmt.Sprint("round", round, "-"), 150)
+		var killing sync.WaitGroup
+		afterAWhile(&killing, func() { _ = p.run.Process.Kill() })
+		var away *broker.Server
+		if len(brokers) > 0 && round%2 == 1 {
+			away = brokers[rand.Intn(len(brokers))]
+			afterAWhile(&killing, away.Kill)
+		}
+		accepted, _ := storm(everyone, all, 8)
+		killing.Wait()
+		p.kill()
+		if away != nil {
+			if err := away.Start(); err != nil {
+				t.Fatal(err)
+			}
+		}
+		p.start()
+		again, _ := storm(everyone, all, 8)
+		for i := range all {
+			if accepted[i]+again[i] > 1 {
+				t.Fatalf("round %d: token %d was answered 200 %d times", round, i, accepted[i]+again[i])
+			}
+			total += int(accepted[i])
+		}
+	}
+	if total == 0 {
+		t.Error("no token was accepted before the process was killed")
+	}
+	t.Logf("killed %d times; %d tokens were answered 200 before, and none of them behind it", rounds, total)
+}
+
+// afterAWhile does something at a random moment soon.
+func afterAWhile(group *sync.WaitGroup, do func()) {
+	group.Add(1)
+	go func() {
+		defer group.Done()
+		time.Sleep(time.Duration(rand.Intn(120)) * time.Millisecond)
+		do()
+	}()
+}

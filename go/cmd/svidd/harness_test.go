@@ -1,0 +1,277 @@
+package main
+
+import (
+	"bufio"
+	"bytes"
+	"encoding/json"
+	"fmt"
+	"io"
+	"net"
+	"net/http"
+	"os"
+	"os/exec"
+	"path/filepath"
+	"strings"
+	"sync"
+	"syscall"
+	"testing"
+	"time"
+
+	"svid.example/go/internal/issuer"
+)
+
+// asSvidd, in the environment, lets the test's own binary be the program svidd.
+const asSvidd = "SVIDD_TEST_IS_SVIDD"
+
+// patience is how long anything that is awaited may take.
+const patience = 30 * time.Second
+
+func TestMain(m *testing.M) {
+	if os.Getenv(asSvidd) != "" {
+		os.Exit(run(os.Args[1:], stdio{os.Stdin, os.Stdout, os.Stderr}))
+	}
+	os.Exit(m.Run())
+}
+
+var example = func() *issuer.Issuer {
+	i, err := issuer.New("example.org")
+	if err != nil {
+		panic(err)
+	}
+	return i
+}()
+
+// token is a new token for the audience ledger that lives for so long.
+func token(t testing.TB, id string, life time.Duration) string {
+	t.Helper()
+	return example.Token("ES256", map[string]any{
+		"sub": "spiffe://example.org/web", "aud": []string{"other", "ledger"},
+		"exp": time.Now().Add(life).Unix(), "jti": id,
+	})
+}
+
+// bundleFile writes the issuer's keys as a bundle, with an entry that signs no token, as SPIRE's has.
+func bundleFile(t testing.TB, i *issuer.Issuer) string {
+	t.Helper()
+	name := filepath.Join(t.TempDir(), "bundle.json")
+	writeBundle(t, name, i)
+	return name
+}
+
+func writeBundle(t testing.TB, name string, i *issuer.Issuer) {
+	t.Helper()
+	var set struct {
+		Keys []map[string]any `json:"keys"`
+	}
+	if err := json.Unmarshal(i.JWKSet(), &set); err != nil {
+		t.Fatal(err)
+	}
+	set.Keys = append(set.Keys, map[string]any{"use": "x509-svid", "kty": "EC", "x5c": []string{"AAAA"}})
+	text, err := json.Marshal(set)
+	if err != nil {
+		t.Fatal(err)
+	}
+	if err := os.WriteFile(name+".new", text, 0o600); err != nil {
+		t.Fatal(err)
+	}
+	if err := os.Rename(name+".new", name); err != nil {
+		t.Fatal(err)
+	}
+}
+
+// A process is a running svidd.
+type process struct {
+	t       testing.TB
+	args    []string
+	address string
+	run     *exec.Cmd
+	log     *lines
+	client  *http.Client
+}
+
+// lines is a log that can be read while it is written.
+type lines struct {
+	mu   sync.Mutex
+	text bytes.Buffer
+}
+
+func (l *lines) Write(b []byte) (int, error) {
+	l.mu.Lock()
+	defer l.mu.Unlock()
+	return l.text.Write(b)
+}
+
+func (l *lines) String() string {
+	l.mu.Lock()
+	defer l.mu.Unlock()
+	return l.text.String()
+}
+
+// start starts svidd serve on a free port, and waits until it is ready.
+func start(t testing.TB, args ...string) *process {
+	t.Helper()
+	p := &process{t: t, address: freeAddress(t), log: &lines{}, client: &http.Client{
+		Timeout: patience, Transport: &http.Transport{MaxIdleConnsPerHost: 64},
+	}}
+	p.args = append([]string{"serve", "--audience", "ledger", "--longest", "3600", "--listen", p.address}, args...)
+	t.Cleanup(p.kill)
+	p.start()
+	return p
+}
+
+func freeAddress(t testing.TB) string {
+	t.Helper()
+	l, err := net.Listen("tcp", "127.0.0.1:0")
+	if err != nil {
+		t.Fatal(err)
+	}
+	defer l.Close()
+	return l.Addr().String()
+}
+
+func command(args ...string) *exec.Cmd {
+	c := exec.Command(os.Args[0], args...)
+	c.Env = append(os.Environ(), asSvidd+"=1")
+	return c
+}
+
+func (p *process) start() {
+	p.t.Helper()
+	p.launch()
+	p.await("ready", func() bool { status, _ := p.get("/readyz"); return status == http.StatusOK })
+}
+
+func (p *process) launch() {
+	p.t.Helper()
+	p.run = command(p.args...)
+	p.run.Stderr = p.log
+	if err := p.run.Start(); err != nil {
+		p.t.Fatal(err)
+	}
+}
+
+// await waits until something is so.
+func (p *process) await(what string, is func() bool) {
+	p.t.Helper()
+	for end := time.Now().Add(patience); !is(); time.Sleep(5 * time.Millisecond) {
+		if time.Now().After(end) {
+			p.t.Fatalf("waited %v for: %s\n%s", patience, what, p.log)
+		}
+	}
+}
+
+// kill ends the process as a crash does, if it runs.
+func (p *process) kill() {
+	if p.run != nil && p.run.ProcessState == nil {
+		_ = p.run.Process.Kill()
+		_ = p.run.Wait()
+	}
+	p.client.CloseIdleConnections()
+}
+
+// end ends it by SIGTERM, and wants it to end well.
+func (p *process) end() {
+	p.t.Helper()
+	if err := p.run.Process.Signal(syscall.SIGTERM); err != nil {
+		p.t.Fatal(err)
+	}
+	if err := p.run.Wait(); err != nil {
+		p.t.Fatalf("svidd: %v\n%s", err, p.log)
+	}
+	p.client.CloseIdleConnections()
+}
+
+func (p *process) get(path string) (status int, body string) {
+	answer, err := p.client.Get("http://" + p.address + path)
+	if err != nil {
+		return 0, err.Error()
+	}
+	defer answer.Body.Close()
+	text, err := io.ReadAll(answer.Body)
+	if err != nil {
+		return 0, err.Error()
+	}
+	return answer.StatusCode, string(text)
+}
+
+// check asks for a token. The status is 0 where no answer came.
+func (p *process) check(token string) (status int, header http.Header, body string) {
+	request, err := http.NewRequest(http.MethodGet, "http://"+p.address+"/check/a//b?c", nil)
+	if err != nil {
+		p.t.Error(err)
+		return 0, nil, ""
+	}
+	request.Header.Set("Authorization", "Bearer "+token)
+	answer, err := p.client.Do(request)
+	if err != nil {
+		return 0, nil, err.Error()
+	}
+	defer answer.Body.Close()
+	text, err := io.ReadAll(answer.Body)
+	if err != nil {
+		return 0, nil, err.Error()
+	}
+	return answer.StatusCode, answer.Header, string(text)
+}
+
+// want wants a token to be answered with this status and reason.
+func (p *process) want(token string, status int, reason string) {
+	p.t.Helper()
+	got, _, body := p.check(token)
+	var said struct{ Reason string }
+	if body != "" {
+		if err := json.Unmarshal([]byte(body), &said); err != nil {
+			p.t.Errorf("body %q: %v", body, err)
+		}
+	}
+	if got != status || said.Reason != reason {
+		p.t.Errorf("status %d %q, and %d %q is due", got, said.Reason, status, reason)
+	}
+}
+
+// events returns the lines of the log with this event.
+func (p *process) events(name string) []map[string]any {
+	var found []map[string]any
+	text := p.log.String()
+	text = text[:strings.LastIndexByte(text, '\n')+1] // The last line may still be on its way.
+	scanner := bufio.NewScanner(strings.NewReader(text))
+	scanner.Buffer(nil, 1<<20)
+	for scanner.Scan() {
+		var line map[string]any
+		if err := json.Unmarshal(scanner.Bytes(), &line); err != nil {
+			p.t.Errorf("a line of the log is no JSON object: %q", scanner.Text())
+			continue
+		}
+		if line["event"] == name {
+			found = append(found, line)
+		}
+	}
+	return found
+}
+
+// svidd runs a command to its end.
+func svidd(t testing.TB, stdin string, args ...string) (status int, out, err string) {
+	t.Helper()
+	c := command(args...)
+	var o, e bytes.Buffer
+	c.Stdin, c.Stdout, c.Stderr = strings.NewReader(stdin), &o, &e
+	if runErr := c.Run(); runErr != nil && c.ProcessState == nil {
+		t.Fatal(runErr)
+	}
+	return c.ProcessState.ExitCode(), o.String(), e.String()
+}
+
+// metric is the value of one line of /metrics.
+func (p *process) metric(name string) string {
+	p.t.Helper()
+	_, text := p.get("/metrics")
+	for _, line := range strings.Split(text, "\n") {
+		if rest := strings.TrimPrefix(line, name+" "); rest != line {
+			return rest
+		}
+	}
+	p.t.Errorf("/metrics has no %s", name)
+	return ""
+}
+
+func bundleOption(name string) string { return fmt.Sprintf("--bundle=example.org=%s", name) }

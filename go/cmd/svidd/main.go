@@ -1,0 +1,90 @@
+// Svidd is a sidecar that accepts and rejects SPIFFE JWT-SVIDs for a service.
+//
+//	svidd serve --audience ledger --bundle example.org=bundle.json --longest 3600 --state /var/lib/svidd
+//
+// answers GET /check with 200 for a bearer token that it accepts, and 401 for one
+// that it rejects, so that nginx (auth_request) or Envoy (ext_authz) can ask it.
+// docs/SIDECAR.md says the rest.
+package main
+
+import (
+	"errors"
+	"flag"
+	"fmt"
+	"io"
+	"os"
+	"runtime"
+
+	"svid.example/go/svid"
+)
+
+// version is the sidecar's own.
+const version = "0.1.0"
+
+// The exit statuses, which are those of the program svid.
+const (
+	exitYes     = 0
+	exitRefused = 1 // a token was rejected
+	exitFailed  = 2 // usage, a file, the network or memory
+)
+
+const usage = `usage:
+  svidd serve    --audience NAME.. --bundle DOMAIN=FILE|https://..  --longest SECONDS [option..]
+  svidd verify   --audience NAME.. --bundle DOMAIN=FILE [--longest SECONDS] < token
+  svidd withdraw --admin SOCKET (TOKEN | --key HEX --exp SECONDS)
+  svidd report   --admin SOCKET [--json]
+  svidd ready    [--listen ADDRESS]
+  svidd version
+
+'svidd COMMAND --help' lists the options of a command.
+`
+
+// commands by name. Each returns the exit status.
+var commands = map[string]func(args []string, std stdio) int{
+	"serve": serve, "verify": verify, "withdraw": withdraw, "report": report, "ready": ready, "version": printVersion,
+}
+
+// stdio is what a command reads and writes.
+type stdio struct {
+	in       io.Reader
+	out, err io.Writer
+}
+
+func main() {
+	os.Exit(run(os.Args[1:], stdio{os.Stdin, os.Stdout, os.Stderr}))
+}
+
+func run(args []string, std stdio) int {
+	if len(args) == 0 {
+		fmt.Fprint(std.err, usage)
+		return exitFailed
+	}
+	switch args[0] {
+	case "help", "--help", "-h":
+		fmt.Fprint(std.out, usage)
+		return exitYes
+	case "--version":
+		args[0] = "version"
+	}
+	command := commands[args[0]]
+	if command == nil {
+		fmt.Fprintf(std.err, "svidd: no command is named %q\n%s", args[0], usage)
+		return exitFailed
+	}
+	return command(args[1:], std)
+}
+
+func printVersion(args []string, std stdio) int {
+	v := svid.Version()
+	fmt.Fprintf(std.out, "svidd %s (libsvid %d.%d.%d, %s)\n", version, v/10000, v/100%100, v%100, runtime.Version())
+	return exitYes
+}
+
+// fail says on standard error what went wrong.
+func fail(std stdio, err error) int {
+	if errors.Is(err, flag.ErrHelp) {
+		return exitYes
+	}
+	fmt.Fprintf(std.err, "svidd: %v\n", err)
+	return exitFailed
+}

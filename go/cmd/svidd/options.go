@@ -1,0 +1,288 @@
+package main
+
+import (
+	"bytes"
+	"encoding/json"
+	"errors"
+	"flag"
+	"fmt"
+	"io"
+	"net/url"
+	"os"
+	"sort"
+	"strconv"
+	"strings"
+	"time"
+
+	"github.com/BurntSushi/toml"
+
+	"svid.example/go/internal/bundles"
+	"svid.example/go/internal/group"
+	"svid.example/go/internal/server"
+)
+
+// A list is an option that may be given more than once.
+type list []string
+
+func (l *list) String() string { return strings.Join(*l, ",") }
+
+func (l *list) Set(value string) error {
+	if value == "" {
+		return errors.New("is empty")
+	}
+	*l = append(*l, value)
+	return nil
+}
+
+// seconds is an option whose value is a whole number of seconds. It tells 0 from
+// not given.
+type seconds struct {
+	value uint64
+	given bool
+}
+
+func (s *seconds) String() string {
+	if !s.given {
+		return ""
+	}
+	return strconv.FormatUint(s.value, 10)
+}
+
+func (s *seconds) Set(text string) error {
+	value, err := strconv.ParseUint(text, 10, 64)
+	if err != nil {
+		return errors.New("is not a whole number of seconds")
+	}
+	*s = seconds{value, true}
+	return nil
+}
+
+// options are those of serve, and of verify, which has fewer.
+type options struct {
+	audiences, bundles list
+	bundleFolder       string
+	longest, ahead     seconds
+
+	listen, admin string
+	replay        string
+	nats          list
+	files         group.Files // for the NATS servers
+	group         string
+	replicas      int
+	wait          time.Duration
+	summaries     time.Duration
+	state         string
+	log           string
+	config        string
+	check         bool
+}
+
+const (
+	aheadDefault  = 30
+	listenDefault = "127.0.0.1:9901"
+)
+
+// addCommon adds the options that serve and verify share.
+func (o *options) addCommon(f *flag.FlagSet) {
+	f.Var(&o.audiences, "audience", "`NAME` by which tokens may call the service; may be repeated")
+	f.Var(&o.bundles, "bundle", "trust bundle `DOMAIN=FILE` (JWK set, as spire-server bundle show -format spiffe prints it)\nor DOMAIN=https://..; may be repeated")
+	f.StringVar(&o.bundleFolder, "bundles", "", "folder `DIR` of trust bundles, each DOMAIN.json")
+	f.Var(&o.longest, "longest", "the most `SECONDS` that a token may have to live")
+	f.StringVar(&o.config, "config", "", "`FILE` of options, as TOML (audience = [\"ledger\"]) or as a JSON object")
+}
+
+func (o *options) addServe(f *flag.FlagSet) {
+	o.ahead = seconds{value: aheadDefault, given: true}
+	f.Var(&o.ahead, "ahead", "the most `SECONDS` that clocks of the group may differ")
+	f.StringVar(&o.listen, "listen", listenDefault, "`ADDRESS` to answer /check on: HOST:PORT or unix:PATH")
+	f.StringVar(&o.admin, "admin", "", "unix socket `PATH` for withdraw, report and reload; none without")
+	f.StringVar(&o.replay, "replay", string(server.Once), "`MODE`: once, strict or reuse")
+	f.Var(&o.nats, "nats", "NATS server `URL` of the group, nats://HOST:PORT; may be repeated, or several with commas")
+	f.StringVar(&o.files.CA, "nats-ca", "", "`FILE` of the authorities (PEM) of the NATS servers' certificates; the system's without")
+	f.StringVar(&o.files.Cert, "nats-cert", "", "`FILE` of this sidecar's certificate (PEM) for the NATS servers, such as an X.509-SVID")
+	f.StringVar(&o.files.Key, "nats-key", "", "`FILE` of its key (PEM)")
+	f.StringVar(&o.files.Creds, "nats-creds", "", "`FILE` of a NATS user's credentials, as nsc writes it")
+	f.StringVar(&o.group, "group", "svid", "`NAME` of the group's bucket")
+	f.IntVar(&o.replicas, "replicas", 1, "`NUMBER` of NATS servers that keep the bucket, if it must be made")
+	f.DurationVar(&o.wait, "wait", 2*time.Second, "the longest `TIME` for the group's answer to one claim")
+	f.DurationVar(&o.summaries, "summaries", 5*time.Minute, "`TIME` between two repairs by summaries")
+	f.StringVar(&o.state, "state", "", "folder `DIR` where the record is kept")
+	f.StringVar(&o.log, "log", "decisions", "`LEVEL`: errors, decisions or all")
+	f.BoolVar(&o.check, "check-config", false, "say what is wrong with the options, and start nothing")
+}
+
+// parse reads the options of the command line, then those that are not given there
+// from the environment (SVIDD_AUDIENCE, SVIDD_NATS, ..), then from the file of --config.
+func parse(f *flag.FlagSet, o *options, args []string) error {
+	if err := f.Parse(args); err != nil {
+		return err
+	}
+	given := make(map[string]bool)
+	f.Visit(func(option *flag.Flag) { given[option.Name] = true })
+	var problem error
+	f.VisitAll(func(option *flag.Flag) {
+		name := "SVIDD_" + strings.ToUpper(strings.ReplaceAll(option.Name, "-", "_"))
+		text, ok := os.LookupEnv(name)
+		if !ok || given[option.Name] || problem != nil {
+			return
+		}
+		given[option.Name] = true
+		if err := setAll(f, option, text); err != nil {
+			problem = fmt.Errorf("%s: %w", name, err)
+		}
+	})
+	if problem != nil || o.config == "" {
+		return problem
+	}
+	return parseFile(f, o.config, given)
+}
+
+// setAll sets an option from one text. Commas part the values of a list.
+func setAll(f *flag.FlagSet, option *flag.Flag, text string) error {
+	if _, ok := option.Value.(*list); !ok {
+		return f.Set(option.Name, text)
+	}
+	for _, value := range strings.Split(text, ",") {
+		if err := f.Set(option.Name, strings.TrimSpace(value)); err != nil {
+			return err
+		}
+	}
+	return nil
+}
+
+// parseFile sets what is not given yet from a file of options: TOML, or a JSON object.
+func parseFile(f *flag.FlagSet, name string, given map[string]bool) error {
+	members, err := readFile(name)
+	if err != nil {
+		return err
+	}
+	names := make([]string, 0, len(members))
+	for option := range members {
+		names = append(names, option)
+	}
+	sort.Strings(names) // so of several faults it is always the same one
+	for _, option := range names {
+		known := f.Lookup(option)
+		if option == "config" || known == nil {
+			return fmt.Errorf("%s: no option is named %q", name, option)
+		}
+		values, isList := members[option].([]any)
+		if !isList {
+			values = []any{members[option]}
+		} else if _, ok := known.Value.(*list); !ok {
+			return fmt.Errorf("%s: %s has one value, not a list", name, option)
+		}
+		for _, v := range values {
+			text, err := plain(v)
+			if err == nil && !given[option] {
+				err = f.Set(option, text)
+			}
+			if err != nil {
+				return fmt.Errorf("%s: %s: %w", name, option, err)
+			}
+		}
+	}
+	return nil
+}
+
+// readFile reads a file of options: JSON if it begins with a brace, and TOML if not.
+func readFile(name string) (members map[string]any, err error) {
+	text, err := os.ReadFile(name)
+	if err != nil {
+		return nil, err
+	}
+	if !bytes.HasPrefix(bytes.TrimSpace(text), []byte("{")) {
+		if err := toml.Unmarshal(text, &members); err != nil {
+			return nil, fmt.Errorf("%s: it is no TOML: %w", name, err)
+		}
+		return members, nil
+	}
+	decoder := json.NewDecoder(bytes.NewReader(text))
+	decoder.UseNumber()
+	if err := decoder.Decode(&members); err != nil {
+		return nil, fmt.Errorf("%s: it is no JSON object: %w", name, err)
+	}
+	if _, err := decoder.Token(); err != io.EOF {
+		return nil, fmt.Errorf("%s: something stands behind the JSON object", name)
+	}
+	return members, nil
+}
+
+// plain is the text of a value, as the command line has it.
+func plain(value any) (string, error) {
+	switch v := value.(type) {
+	case string:
+		return v, nil
+	case bool, int64, json.Number:
+		return fmt.Sprint(v), nil
+	}
+	return "", errors.New("is neither text, nor a whole number, nor true or false")
+}
+
+// problems is everything that is wrong with the options of serve.
+func (o *options) problems() []string {
+	var all []string
+	wrong := func(is bool, text string, values ...any) {
+		if is {
+			all = append(all, fmt.Sprintf(text, values...))
+		}
+	}
+	wrong(len(o.audiences) == 0, "--audience is missing: the name by which tokens call this service")
+	for _, a := range o.audiences {
+		wrong(strings.ContainsAny(a, "\r\n"), "--audience %q holds a line break", a)
+	}
+	wrong(len(o.bundles) == 0 && o.bundleFolder == "", "--bundle or --bundles is missing: without trust bundles no token can be accepted")
+	if _, err := o.specs(); err != nil {
+		wrong(true, "--bundle: %v", err)
+	}
+	wrong(!o.longest.given, "--longest is missing: the record keeps each used token until it expires, so a token that lives for years fills the memory. Give the longest life in seconds that your issuer grants, such as 3600")
+	wrong(o.longest.given && (o.longest.value == 0 || o.longest.value > mostLongest), "--longest must be from 1 to %d seconds", uint64(mostLongest))
+	wrong(o.ahead.value > mostAhead, "--ahead must be at most %d seconds: so far a clock that is wrong can expire tokens", uint64(mostAhead))
+	switch server.Mode(o.replay) {
+	case server.Once:
+		wrong(o.state == "", "--state is missing: in mode once the record is kept there, since a token that was accepted before a restart must not be accepted behind it")
+	case server.Strict:
+		wrong(len(o.servers()) == 0, "--nats is missing: in mode strict each token is claimed in the group's bucket")
+	case server.Reuse:
+	default:
+		wrong(true, "--replay %q is none of once, strict and reuse", o.replay)
+	}
+	for i, server := range o.servers() {
+		// (its text may hold a password)
+		u, err := url.Parse(server)
+		wrong(strings.Contains(server, "://") && (err != nil || u.Host == ""), "--nats: address %d is not like nats://HOST:PORT", i+1)
+	}
+	if _, err := o.files.Connect(); err != nil {
+		wrong(true, "--nats-ca, --nats-cert, --nats-key, --nats-creds: %v", err)
+	}
+	_, ok := logLevels[o.log]
+	wrong(!ok, "--log %q is none of errors, decisions and all", o.log)
+	wrong(o.wait <= 0, "--wait must be greater than 0")
+	wrong(o.summaries <= 0, "--summaries must be greater than 0")
+	return all
+}
+
+const (
+	mostLongest = 100 * 365 * 24 * 3600 // 100 years; keeps sums of times far from any limit
+	mostAhead   = 24 * 3600
+)
+
+var logLevels = map[string]server.Level{"errors": server.Errors, "decisions": server.Decisions, "all": server.All}
+
+// servers are the NATS servers, each by itself.
+func (o *options) servers() []string {
+	var all []string
+	for _, urls := range o.nats {
+		for _, url := range strings.Split(urls, ",") {
+			if url = strings.TrimSpace(url); url != "" {
+				all = append(all, url)
+			}
+		}
+	}
+	return all
+}
+
+// specs are the sources of the trust bundles.
+func (o *options) specs() ([]bundles.Spec, error) {
+	return bundles.ParseSpecs(o.bundles, o.bundleFolder)
+}

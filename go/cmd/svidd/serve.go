@@ -1,0 +1,275 @@
+package main
+
+import (
+	"context"
+	"encoding/json"
+	"flag"
+	"fmt"
+	"os"
+	"os/signal"
+	"runtime/debug"
+	"sync"
+	"syscall"
+	"time"
+
+	"svid.example/go/internal/bundles"
+	"svid.example/go/internal/group"
+	"svid.example/go/internal/journal"
+	"svid.example/go/internal/server"
+	"svid.example/go/svid"
+)
+
+const (
+	// drainWait is how long requests that are under way at SIGTERM may take.
+	drainWait = 10 * time.Second
+	// headerWait is how long a client may take to send the headers of a request.
+	headerWait = 5 * time.Second
+	// requestWait is how long reading a request, or writing its answer, may take.
+	requestWait = time.Minute
+	// idleWait is how long a connection may stay idle.
+	idleWait = 2 * time.Minute
+	// clockStep is how many seconds the clock may go ahead at once, as it does where the machine was suspended.
+	clockStep = 600
+)
+
+// errClock ends the sidecar: the next one begins with the clock as it is.
+var errClock = fmt.Errorf("the clock went ahead by more than %d seconds, and stayed there for a minute: start svidd again, and it takes the clock as it is", clockStep)
+
+func serve(args []string, std stdio) int {
+	f := flag.NewFlagSet("svidd serve", flag.ContinueOnError)
+	f.SetOutput(std.err)
+	var o options
+	o.addCommon(f)
+	o.addServe(f)
+	if err := parse(f, &o, args); err != nil {
+		return fail(std, err)
+	}
+	if f.NArg() > 0 {
+		return fail(std, fmt.Errorf("serve takes no argument, and got %q", f.Arg(0)))
+	}
+	if problems := o.problems(); len(problems) > 0 {
+		for _, p := range problems {
+			fmt.Fprintf(std.err, "svidd: %s\n", p)
+		}
+		return exitFailed
+	}
+	if o.check {
+		fmt.Fprintln(std.out, "svidd: the options are good")
+		return exitYes
+	}
+	signals := make(chan os.Signal, 8)
+	signal.Notify(signals, syscall.SIGHUP, syscall.SIGTERM, syscall.SIGINT)
+	defer signal.Stop(signals)
+	log := server.NewLog(std.err, logLevels[o.log])
+	s := &sidecar{options: o, log: log, failed: make(chan error, 1)}
+	if err := s.run(signals); err != nil {
+		log.Error("end", err)
+		return exitFailed
+	}
+	return exitYes
+}
+
+// A sidecar is a running svidd.
+type sidecar struct {
+	options
+	log     *server.Log
+	engine  *server.Engine
+	journal *journal.Journal // nil without --state
+	watcher *bundles.Watcher
+	failed  chan error // what ends the sidecar
+
+	joining sync.Mutex
+	group   *group.Group // nil until it is joined
+}
+
+// run serves until a signal ends it, or something fails that it can't go on
+// without.
+func (s *sidecar) run(signals <-chan os.Signal) error {
+	ctx, cancel := context.WithCancel(context.Background())
+	defer cancel()
+	if err := s.open(ctx); err != nil {
+		return err
+	}
+	defer s.close()
+
+	// The address is bound before the record is read: a proxy gets 503 and not a
+	// refused connection, and an address that is taken is known at once.
+	servers, err := s.listen()
+	if err != nil {
+		return err
+	}
+	if err := s.load(); err != nil {
+		return err
+	}
+	var keeping sync.WaitGroup
+	keeping.Add(1)
+	go func() { defer keeping.Done(); s.engine.Run(ctx) }()
+	if len(s.servers()) > 0 {
+		go s.join(ctx)
+	}
+	notify("READY=1")
+	s.log.Event("serving", "listen", servers[0].listener.Addr().String(), "mode", s.replay, "place", s.engine.Place.String())
+
+	failure := s.await(signals)
+	s.engine.Drain()
+	notify("STOPPING=1")
+	s.shutdown(servers)
+	cancel()
+	keeping.Wait()
+	s.log.Event("end")
+	return failure
+}
+
+// open opens the state folder, the engine and the bundles.
+func (s *sidecar) open(ctx context.Context) error {
+	place, err := svid.NewPlace()
+	if err != nil {
+		return err
+	}
+	var kept server.Journal
+	if s.state != "" {
+		if s.journal, err = journal.Open(s.state); err != nil {
+			return err
+		}
+		if cut := s.journal.Cut(); cut > 0 {
+			s.log.Event("journal cut", "bytes", cut, "why", "a crash left them of a write that nobody was answered for")
+		}
+		kept = s.journal
+		if place, err = s.journal.Place(); err != nil {
+			return err
+		}
+	}
+	s.engine, err = server.NewEngine(server.Options{
+		Mode: server.Mode(s.replay), Audiences: s.audiences, Longest: s.longest.value, Ahead: s.ahead.value,
+		Step: clockStep, Jumped: func() { s.fail(errClock) }, Place: place, Journal: kept, Grouped: len(s.servers()) > 0, Wait: s.wait, Log: s.log,
+	})
+	if err != nil {
+		return err
+	}
+	specs, err := s.specs()
+	if err != nil {
+		return err
+	}
+	s.watcher, err = bundles.Watch(ctx, specs, s.renew, bundles.Options{Log: s.said, Check: checkBundle})
+	if err != nil {
+		return err
+	}
+	s.engine.Metrics.BundleAges = s.watcher.Ages
+	return nil
+}
+
+// close gives back what open and join took.
+func (s *sidecar) close() {
+	s.joining.Lock()
+	defer s.joining.Unlock()
+	if s.group != nil {
+		s.group.Close()
+	}
+	if s.journal != nil {
+		if err := s.journal.Close(); err != nil {
+			s.log.Error("journal", err)
+		}
+	}
+	s.engine.Close()
+}
+
+// load gives the engine what the state folder has.
+func (s *sidecar) load() error {
+	if s.journal == nil {
+		return s.engine.Load(nil)
+	}
+	err := s.engine.Load(s.journal.Messages())
+	debug.FreeOSMemory() // of the messages, which may be as large as the record
+	return err
+}
+
+// checkBundle is the validator's own judgment of one bundle.
+func checkBundle(domain string, document json.RawMessage) error {
+	text, err := json.Marshal(map[string]json.RawMessage{domain: document})
+	if err != nil {
+		return err
+	}
+	validator, err := svid.Open(svid.Options{Bundles: text})
+	if err != nil {
+		return err
+	}
+	validator.Close()
+	return nil
+}
+
+// renew is told of each change of the bundles.
+func (s *sidecar) renew(domains map[string]json.RawMessage) {
+	if err := s.engine.SetBundles(domains); err != nil {
+		s.log.Error("bundles", err)
+		return
+	}
+	s.log.Event("bundles", "trust_domains", len(domains))
+}
+
+// join joins the group, however long its broker takes to come up.
+func (s *sidecar) join(ctx context.Context) {
+	connect, err := s.files.Connect()
+	if err != nil {
+		s.fail(err)
+		return
+	}
+	g, err := group.Join(ctx, group.Options{
+		Connect: connect, Servers: s.servers(), Name: s.options.group, Place: s.engine.Place, Replicas: s.replicas,
+		// A token lives for --longest by the clock of who accepts it, and that clock
+		// and the one of who asks may both be off by --ahead.
+		TTL: time.Duration(s.longest.value+2*s.ahead.value) * time.Second,
+		Log: s.said,
+	}, s.engine)
+	if err != nil {
+		if ctx.Err() == nil {
+			s.fail(err)
+		}
+		return
+	}
+	s.joining.Lock()
+	s.group = g
+	s.joining.Unlock()
+	s.engine.Join(g)
+	g.Summaries(s.summaries, s.engine.Summary, s.engine.Answer)
+	select {
+	case <-g.Ready():
+		s.log.Event("group", "name", s.options.group, "taken", g.Taken(), "aside", g.Aside())
+	case <-ctx.Done():
+	}
+}
+
+// said logs what the packages bundles and group say: as an error if they say why
+// something did not work.
+func (s *sidecar) said(event string, fields ...any) {
+	for i := 0; i+1 < len(fields); i += 2 {
+		if err, ok := fields[i+1].(error); ok && fields[i] == "why" {
+			s.log.Error(event, err, append(append([]any(nil), fields[:i]...), fields[i+2:]...)...)
+			return
+		}
+	}
+	s.log.Event(event, fields...)
+}
+
+// fail ends the sidecar. The first reason counts.
+func (s *sidecar) fail(err error) {
+	select {
+	case s.failed <- err:
+	default:
+	}
+}
+
+// await returns when a signal says to end, or with what went wrong.
+func (s *sidecar) await(signals <-chan os.Signal) error {
+	for {
+		select {
+		case err := <-s.failed:
+			return err
+		case sig := <-signals:
+			s.log.Event("signal", "name", sig.String())
+			if sig != syscall.SIGHUP {
+				return nil
+			}
+			s.watcher.Reload()
+		}
+	}
+}

@@ -1,0 +1,139 @@
+package main
+
+import (
+	"context"
+	"encoding/base64"
+	"encoding/json"
+	"errors"
+	"flag"
+	"fmt"
+	"io"
+	"strings"
+	"time"
+
+	"svid.example/go/internal/bundles"
+	"svid.example/go/svid"
+)
+
+// fetchWait is how long verify waits for the bundles that come over https.
+const fetchWait = 20 * time.Second
+
+// verify judges the token of standard input by itself: there is no record, so a
+// token that was used is none. It prints the claims of one that is accepted.
+func verify(args []string, std stdio) int {
+	f := flag.NewFlagSet("svidd verify", flag.ContinueOnError)
+	f.SetOutput(std.err)
+	var o options
+	o.addCommon(f)
+	if err := parse(f, &o, args); err != nil {
+		return fail(std, err)
+	}
+	if len(o.audiences) == 0 || len(o.bundles) == 0 && o.bundleFolder == "" || f.NArg() > 0 {
+		return fail(std, errors.New("verify wants --audience, and --bundle or --bundles, and reads the token from standard input"))
+	}
+	text, err := io.ReadAll(io.LimitReader(std.in, svid.MaxToken+2))
+	if err != nil {
+		return fail(std, err)
+	}
+	token := strings.TrimSpace(string(text))
+	err = o.judge(token, std)
+	var refusal svid.Refusal
+	switch {
+	case errors.As(err, &refusal):
+		fmt.Fprintf(std.err, "refused %s\n", refusal.String())
+		return exitRefused
+	case err != nil:
+		return fail(std, err)
+	}
+	payload, err := base64.RawURLEncoding.DecodeString(strings.Split(token, ".")[1])
+	if err != nil {
+		return fail(std, err)
+	}
+	if _, err := fmt.Fprintf(std.out, "%s\n", payload); err != nil {
+		return fail(std, err)
+	}
+	return exitYes
+}
+
+// judge is nil for a token that a validator with an empty record accepts.
+func (o *options) judge(token string, std stdio) error {
+	text, err := o.readBundles(std)
+	if err != nil {
+		return err
+	}
+	keyring, err := svid.NewKeyring(text)
+	if err != nil {
+		return err
+	}
+	defer keyring.Close()
+	longest := uint64(svid.NoLimit)
+	if o.longest.given {
+		longest = o.longest.value
+	}
+	validator, err := svid.Open(svid.Options{Audiences: o.audiences, Bundles: text, Longest: longest, Step: svid.NoLimit})
+	if err != nil {
+		return err
+	}
+	defer validator.Close()
+	// (a token that the keyring rejects goes on, since another refusal may come first)
+	yes, err := keyring.Verify(token)
+	var refusal svid.Refusal
+	if err != nil && !errors.As(err, &refusal) {
+		return err
+	}
+	_, err = validator.Judge(svid.Now(), token, yes)
+	return err
+}
+
+// readBundles reads all bundles once. One that can't be read is an error.
+func (o *options) readBundles(std stdio) ([]byte, error) {
+	specs, err := o.specs()
+	if err != nil {
+		return nil, err
+	}
+	wanted := make(map[string]bool)
+	for _, s := range specs {
+		wanted[s.Domain] = s.Domain != ""
+	}
+	ctx, cancel := context.WithTimeout(context.Background(), fetchWait)
+	defer cancel()
+	changes, faults := make(chan map[string]json.RawMessage, 1), make(chan error, 1)
+	_, err = bundles.Watch(ctx, specs, func(domains map[string]json.RawMessage) {
+		select {
+		case <-changes: // only the newest counts
+		default:
+		}
+		changes <- domains
+	}, bundles.Options{Check: checkBundle, Log: func(event string, fields ...any) {
+		if strings.HasPrefix(event, "bundle not read") {
+			select {
+			case faults <- fmt.Errorf("%s: %v", event, fields):
+			default:
+			}
+		}
+	}})
+	if err != nil {
+		return nil, err
+	}
+	for {
+		select {
+		case domains := <-changes:
+			if hasAll(domains, wanted) {
+				return json.Marshal(domains)
+			}
+		case err := <-faults:
+			return nil, err
+		case <-ctx.Done():
+			return nil, errors.New("the bundles did not come in time")
+		}
+	}
+}
+
+func hasAll(domains map[string]json.RawMessage, wanted map[string]bool) bool {
+	for domain, is := range wanted {
+		if _, ok := domains[domain]; is && !ok {
+			return false
+		}
+	}
+	return true
+}

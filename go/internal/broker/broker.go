@@ -1,0 +1,121 @@
+// Package broker starts nats-server with JetStream, alone or as a cluster, on 127.0.0.1 and in folders of its caller.
+// Tests, examples and measurements use it.
+package broker
+
+import (
+	"fmt"
+	"net"
+	"os/exec"
+	"path/filepath"
+	"strings"
+	"time"
+
+	"github.com/nats-io/nats.go"
+)
+
+// A Server is one nats-server. It keeps its port and its folder when it is killed and started again. It is for one
+// goroutine at a time.
+type Server struct {
+	URL  string
+	args []string
+	run  *exec.Cmd
+}
+
+// New returns a server that does not run yet, with what it keeps in dir, which must be there.
+func New(dir string, more ...string) (*Server, error) {
+	ports, err := FreePorts(1)
+	if err != nil {
+		return nil, err
+	}
+	return newServer(dir, ports[0], more...), nil
+}
+
+// NewCluster returns servers that do not run yet, one for each folder, which form a cluster.
+func NewCluster(dirs []string, more ...string) ([]*Server, error) {
+	n := len(dirs)
+	ports, err := FreePorts(2 * n)
+	if err != nil {
+		return nil, err
+	}
+	routes := make([]string, n)
+	for i := range routes {
+		routes[i] = fmt.Sprintf("nats://127.0.0.1:%d", ports[n+i])
+	}
+	servers := make([]*Server, n)
+	for i, dir := range dirs {
+		args := append([]string{"--name", fmt.Sprint("n", i), "--cluster_name", "svid", "--cluster", routes[i],
+			"--routes", strings.Join(routes, ",")}, more...)
+		servers[i] = newServer(dir, ports[i], args...)
+	}
+	return servers, nil
+}
+
+func newServer(dir string, port int, more ...string) *Server {
+	args := []string{"-js", "-sd", dir, "-a", "127.0.0.1", "-p", fmt.Sprint(port), "-l", filepath.Join(dir, "log")}
+	return &Server{URL: fmt.Sprintf("nats://127.0.0.1:%d", port), args: append(args, more...)}
+}
+
+// Start starts the server, for the first time or again. It may take a while until it Answers.
+func (s *Server) Start() error {
+	s.run = exec.Command("nats-server", s.args...)
+	if err := s.run.Start(); err != nil {
+		s.run = nil
+		return fmt.Errorf("broker: %w: install Debian's nats-server", err)
+	}
+	return nil
+}
+
+// Kill ends the server as kill -9 does. Of a server that does not run it does nothing.
+func (s *Server) Kill() {
+	if s.run != nil {
+		s.run.Process.Kill()
+		s.run.Wait()
+		s.run = nil
+	}
+}
+
+// Pid is the server's process, and 0 where it does not run.
+func (s *Server) Pid() int {
+	if s.run == nil {
+		return 0
+	}
+	return s.run.Process.Pid
+}
+
+// Answers says whether JetStream answers: of a cluster, whether it has a leader.
+func (s *Server) Answers() bool {
+	nc, err := nats.Connect(s.URL)
+	if err != nil {
+		return false
+	}
+	defer nc.Close()
+	js, err := nc.JetStream(nats.MaxWait(time.Second))
+	if err != nil {
+		return false
+	}
+	_, err = js.AccountInfo()
+	return err == nil
+}
+
+// URLs returns the addresses of the servers.
+func URLs(servers []*Server) []string {
+	var all []string
+	for _, s := range servers {
+		all = append(all, s.URL)
+	}
+	return all
+}
+
+// FreePorts returns n ports of 127.0.0.1 that nobody listened on a moment ago.
+func FreePorts(n int) ([]int, error) {
+	ports := make([]int, n)
+	for i := range ports {
+		l, err := net.Listen("tcp", "127.0.0.1:0")
+		if err != nil {
+			return nil, fmt.Errorf("broker: %w", err)
+		}
+		defer l.Close()
+		ports[i] = l.Addr().(*net.TCPAddr).Port
+	}
+	return ports, nil
+}

@@ -1,0 +1,759 @@
+package group
+
+import (
+	"bytes"
+	"context"
+	"encoding/binary"
+	"errors"
+	"fmt"
+	"io"
+	"net"
+	"runtime"
+	"strings"
+	"sync"
+	"testing"
+	"time"
+
+	"github.com/nats-io/nats.go"
+
+	"svid.example/go/internal/broker"
+	"svid.example/go/internal/natstest"
+)
+
+// batch is a batch of one use with this key and place.
+func batch(key [32]byte, place [16]byte) []byte {
+	return batchOf(append(append(append(make([]byte, 7, useLen), 200), key[:]...), append(place[:], 0, 0, 0, 0, 0, 0, 0, 100, 0)...))
+}
+
+// batchOf is a batch of moment 100 with these uses.
+func batchOf(uses ...[]byte) []byte {
+	b := append([]byte("JSR\x02\x01"), make([]byte, headLen-5)...)
+	binary.BigEndian.PutUint64(b[5:], 100)
+	binary.BigEndian.PutUint32(b[countAt:], uint32(len(uses)))
+	return append(b, bytes.Join(uses, nil)...)
+}
+
+func key(n int) (k [32]byte) {
+	binary.BigEndian.PutUint64(k[:], uint64(n))
+	return k
+}
+
+// A sink keeps batches, and puts aside what does not begin as one.
+type sink struct {
+	mu   sync.Mutex
+	held map[string]bool
+}
+
+func (s *sink) Take(m []byte) error {
+	if !bytes.HasPrefix(m, []byte("JSR\x02\x01")) {
+		return errors.New("no batch")
+	}
+	s.mu.Lock()
+	defer s.mu.Unlock()
+	if s.held == nil {
+		s.held = map[string]bool{}
+	}
+	s.held[string(m)] = true
+	return nil
+}
+
+func (s *sink) has(m []byte) bool {
+	s.mu.Lock()
+	defer s.mu.Unlock()
+	return s.held[string(m)]
+}
+
+// A member is a group as a test joins it, with its sink and what it logged.
+type member struct {
+	*Group
+	sink
+	place [16]byte
+	logMu sync.Mutex
+	lines []string
+}
+
+func (m *member) log(event string, fields ...any) {
+	m.logMu.Lock()
+	defer m.logMu.Unlock()
+	m.lines = append(m.lines, fmt.Sprint(append([]any{event}, fields...)...))
+}
+
+func (m *member) logged(text string) bool {
+	m.logMu.Lock()
+	defer m.logMu.Unlock()
+	for _, line := range m.lines {
+		if strings.Contains(line, text) {
+			return true
+		}
+	}
+	return false
+}
+
+func options(place byte, urls ...string) Options {
+	return Options{Servers: urls, Name: "test", Place: [16]byte{place}, TTL: time.Hour}
+}
+
+func patience(t testing.TB) context.Context {
+	ctx, cancel := context.WithTimeout(context.Background(), 30*time.Second)
+	t.Cleanup(cancel)
+	return ctx
+}
+
+// join joins, and waits until it is ready.
+func join(t *testing.T, o Options) *member {
+	t.Helper()
+	m := &member{place: o.Place}
+	o.Log = m.log
+	g, err := Join(patience(t), o, &m.sink)
+	if err != nil {
+		t.Fatal(err)
+	}
+	m.Group = g
+	t.Cleanup(func() { g.Close() })
+	select {
+	case <-g.Ready():
+	case <-time.After(30 * time.Second):
+		t.Fatal("not ready")
+	}
+	return m
+}
+
+func tell(t *testing.T, m *member, n int) []byte {
+	t.Helper()
+	b := batch(key(n), m.place)
+	if err := m.Tell(patience(t), key(n), b); err != nil {
+		t.Fatal(err)
+	}
+	return b
+}
+
+func awaitHeld(t *testing.T, m *member, b []byte) {
+	t.Helper()
+	natstest.Await(t, "a batch", func() bool { return m.has(b) })
+}
+
+func TestTellsTheOthers(t *testing.T) {
+	s := natstest.Start(t)
+	a, b := join(t, options(1, s.URL)), join(t, options(2, s.URL))
+	use := tell(t, a, 1)
+	awaitHeld(t, b, use)
+	awaitHeld(t, a, use) // One's own come too.
+	withdrawal := batch(key(2), b.place)
+	if err := b.Withdraw(patience(t), key(2), withdrawal); err != nil {
+		t.Fatal(err)
+	}
+	awaitHeld(t, a, withdrawal)
+	for n := 10; n < 200; n++ {
+		use = tell(t, a, n)
+	}
+	c := join(t, options(3, s.URL))
+	if got := c.Taken(); got != 192 || !c.has(use) {
+		t.Fatalf("a member that came anew was ready with %d values, want 192", got)
+	}
+	if a.Aside() != 0 {
+		t.Error(a.Aside(), a.lines)
+	}
+}
+
+func TestKeysOfTheBucket(t *testing.T) {
+	s := natstest.Start(t)
+	a := join(t, options(1, s.URL))
+	tell(t, a, 1)
+	if err := a.Withdraw(patience(t), key(2), batch(key(2), a.place)); err != nil {
+		t.Fatal(err)
+	}
+	if won, _, err := a.Claim(patience(t), key(3), batch(key(3), a.place)); !won || err != nil {
+		t.Fatal(won, err)
+	}
+	kv, err := a.js.KeyValue("test")
+	if err != nil {
+		t.Fatal(err)
+	}
+	names, err := kv.Keys()
+	if err != nil {
+		t.Fatal(err)
+	}
+	hex := func(n int) string { return fmt.Sprintf("%016x%048d", n, 0) }
+	place := "01" + strings.Repeat("0", 30)
+	want := fmt.Sprintf("[u.%s.%s w.%s.%s c.%s]", hex(1), place, hex(2), place, hex(3))
+	if got := fmt.Sprint(names); got != want {
+		t.Errorf("%s, want %s", got, want)
+	}
+}
+
+func TestClaimsAtOnceHaveOneWinner(t *testing.T) {
+	s := natstest.Start(t)
+	members := []*member{join(t, options(1, s.URL)), join(t, options(2, s.URL)), join(t, options(3, s.URL))}
+	for n := 0; n < 100; n++ {
+		wantOneWinner(t, members, n, patience(t))
+	}
+}
+
+// wantOneWinner lets each member claim one key twice at the same instant, with equal batches.
+func wantOneWinner(t *testing.T, members []*member, n int, ctx context.Context) {
+	t.Helper()
+	type outcome struct {
+		won    bool
+		by     *member
+		winner []byte
+		err    error
+	}
+	outcomes := make(chan outcome)
+	for i := 0; i < 2*len(members); i++ {
+		go func(m *member) {
+			won, winner, err := m.Claim(ctx, key(n), batch(key(n), m.place))
+			outcomes <- outcome{won, m, winner, err}
+		}(members[i/2])
+	}
+	var winners []*member
+	var told [][]byte
+	for i := 0; i < 2*len(members); i++ {
+		o := <-outcomes
+		switch {
+		case o.err != nil:
+			t.Fatal(o.err)
+		case o.won:
+			winners = append(winners, o.by)
+		default:
+			told = append(told, o.winner)
+		}
+	}
+	if len(winners) != 1 {
+		t.Fatalf("key %d has %d winners", n, len(winners))
+	}
+	for _, winner := range told {
+		if want := batch(key(n), winners[0].place); !bytes.Equal(winner, want) {
+			t.Fatalf("a loser was told % X, want % X", winner, want)
+		}
+	}
+}
+
+// A proxy stands before a server, and can hold back what the server says, or cut its connections.
+type proxy struct {
+	URL    string
+	listen net.Listener
+	mu     sync.Mutex
+	free   *sync.Cond
+	held   bool
+	open   []net.Conn
+}
+
+func newProxy(t *testing.T, server string) *proxy {
+	l, err := net.Listen("tcp", "127.0.0.1:0")
+	if err != nil {
+		t.Fatal(err)
+	}
+	p := &proxy{URL: "nats://" + l.Addr().String(), listen: l}
+	p.free = sync.NewCond(&p.mu)
+	t.Cleanup(func() { l.Close(); p.cut(); p.hold(false) })
+	go func() {
+		for {
+			client, err := l.Accept()
+			if err != nil {
+				return
+			}
+			up, err := net.Dial("tcp", strings.TrimPrefix(server, "nats://"))
+			if err != nil {
+				client.Close()
+				continue
+			}
+			p.mu.Lock()
+			p.open = append(p.open, client, up)
+			p.mu.Unlock()
+			go func() { io.Copy(up, client); up.Close() }()
+			go func() { p.back(client, up); client.Close() }()
+		}
+	}()
+	return p
+}
+
+// back copies what the server says, when it is not held.
+func (p *proxy) back(client, up net.Conn) {
+	said := make([]byte, 4096)
+	for {
+		n, err := up.Read(said)
+		p.mu.Lock()
+		for p.held {
+			p.free.Wait()
+		}
+		p.mu.Unlock()
+		if _, werr := client.Write(said[:n]); err != nil || werr != nil {
+			return
+		}
+	}
+}
+
+func (p *proxy) hold(held bool) {
+	p.mu.Lock()
+	defer p.mu.Unlock()
+	p.held = held
+	p.free.Broadcast()
+}
+
+func (p *proxy) cut() {
+	p.mu.Lock()
+	defer p.mu.Unlock()
+	for _, c := range p.open {
+		c.Close()
+	}
+	p.open = nil
+}
+
+// TestClaimWhoseAnswerIsLost lets the broker store a claim and holds back or cuts off its answer. The call must find
+// its own claim, and a second one with an equal batch must not.
+func TestClaimWhoseAnswerIsLost(t *testing.T) {
+	for name, after := range map[string]func(*proxy){
+		"late": func(p *proxy) { time.Sleep(attemptWait + 100*time.Millisecond); p.hold(false) },
+		"cut":  func(p *proxy) { p.cut(); p.hold(false) },
+	} {
+		t.Run(name, func(t *testing.T) {
+			s := natstest.Start(t)
+			p := newProxy(t, s.URL)
+			a, other := join(t, options(1, p.URL)), join(t, options(2, s.URL))
+			b := batch(key(1), a.place)
+			type outcome struct {
+				won bool
+				err error
+			}
+			first := make(chan outcome)
+			p.hold(true)
+			go func() {
+				won, _, err := a.Claim(patience(t), key(1), b)
+				first <- outcome{won, err}
+			}()
+			awaitHeld(t, other, b) // It is stored, and its maker does not know.
+			after(p)
+			if o := <-first; !o.won || o.err != nil {
+				t.Fatal("a call lost against itself: ", o.won, o.err)
+			}
+			won, winner, err := a.Claim(patience(t), key(1), b)
+			if won || err != nil || !bytes.Equal(winner, b) {
+				t.Fatal("a second call with an equal batch: ", won, winner, err)
+			}
+		})
+	}
+}
+
+func TestClaimWithoutABroker(t *testing.T) {
+	s := natstest.Start(t)
+	a := join(t, options(1, s.URL))
+	s.Kill()
+	ctx, cancel := context.WithTimeout(context.Background(), 300*time.Millisecond)
+	defer cancel()
+	won, _, err := a.Claim(ctx, key(1), batch(key(1), a.place))
+	if won || !errors.Is(err, context.DeadlineExceeded) {
+		t.Fatal(won, err)
+	}
+	if err := a.Tell(ctx, key(1), batch(key(1), a.place)); !errors.Is(err, context.DeadlineExceeded) {
+		t.Fatal(err)
+	}
+	natstest.Await(t, "the loss", func() bool { return !a.Connected() })
+	restart(t, s)
+	if won, _, err := a.Claim(patience(t), key(2), batch(key(2), a.place)); !won || err != nil {
+		t.Fatal("after the broker came back: ", won, err)
+	}
+}
+
+// TestClaimsWhileServersAreKilled has a cluster of three brokers, and kills each of them in turn while the members
+// claim keys at the same instant.
+func TestClaimsWhileServersAreKilled(t *testing.T) {
+	servers := natstest.Cluster(t, 3)
+	var members []*member
+	for i := range servers {
+		o := options(byte(1+i), append(broker.URLs(servers[i:]), broker.URLs(servers[:i])...)...)
+		o.Replicas = 3
+		members = append(members, join(t, o))
+	}
+	killed := make(chan bool)
+	go func() {
+		defer close(killed)
+		for _, s := range servers {
+			s.Kill()
+			time.Sleep(time.Second)
+			restart(t, s)
+			for replicas(members[0]) < 3 && !t.Failed() {
+				time.Sleep(10 * time.Millisecond)
+			}
+		}
+	}()
+	n := 0
+	for going := true; going && !t.Failed(); n++ {
+		select {
+		case <-killed:
+			going = false
+		default:
+		}
+		wantOneWinner(t, members, n, patience(t))
+	}
+	for _, m := range members {
+		awaitHeld(t, m, tell(t, members[0], n))
+		m.mu.Lock()
+		if got := len(m.held); got != n+1 {
+			t.Errorf("a member heard of %d keys, want %d", got, n+1)
+		}
+		m.mu.Unlock()
+	}
+	t.Logf("%d keys, each claimed six times at once, have one winner each", n)
+}
+
+// restart starts a server again that was killed.
+func restart(t *testing.T, s *broker.Server) {
+	if err := s.Start(); err != nil {
+		t.Error(err)
+	}
+}
+
+// replicas is how many servers have the bucket as it is now.
+func replicas(m *member) int {
+	info, err := m.js.StreamInfo(m.stream)
+	if err != nil || info.Cluster == nil || info.Cluster.Leader == "" {
+		return 0
+	}
+	n := 1
+	for _, peer := range info.Cluster.Replicas {
+		if peer.Current && !peer.Offline {
+			n++
+		}
+	}
+	return n
+}
+
+func TestDeletedClaimIsWonByNobody(t *testing.T) {
+	s := natstest.Start(t)
+	a := join(t, options(1, s.URL))
+	if won, _, err := a.Claim(patience(t), key(1), batch(key(1), a.place)); !won || err != nil {
+		t.Fatal(won, err)
+	}
+	kv, err := a.js.KeyValue("test")
+	if err != nil {
+		t.Fatal(err)
+	}
+	if err := kv.Delete(fmt.Sprintf("c.%x", key(1))); err != nil {
+		t.Fatal(err)
+	}
+	if won, _, err := a.Claim(patience(t), key(1), batch(key(1), a.place)); won || !errors.Is(err, ErrDeleted) {
+		t.Fatal(won, err)
+	}
+	if a.Aside() != 0 {
+		t.Error("the mark of a deleted key was given to the sink")
+	}
+}
+
+func TestValuesThatAreNoBatchAreAside(t *testing.T) {
+	s := natstest.Start(t)
+	a := join(t, options(1, s.URL))
+	kv, err := a.js.KeyValue("test")
+	if err != nil {
+		t.Fatal(err)
+	}
+	garbage := bytes.Repeat([]byte("x"), 1<<20-1<<10)
+	for n := 0; n < 64; n++ {
+		if _, err := kv.Put(fmt.Sprint("u.lie.", n), garbage); err != nil {
+			t.Fatal(err)
+		}
+	}
+	if _, err := kv.Put("empty", nil); err != nil {
+		t.Fatal(err)
+	}
+	awaitHeld(t, a, tell(t, a, 1)) // What comes behind them is heard.
+	natstest.Await(t, "it to be counted", func() bool { return a.Taken() > 0 })
+	if a.Aside() != 65 || a.Taken() != 1 || !a.logged("put aside") {
+		t.Errorf("%d aside, %d taken, want 65 and 1", a.Aside(), a.Taken())
+	}
+	a.logMu.Lock()
+	defer a.logMu.Unlock()
+	if len(a.lines) > 30 {
+		t.Errorf("%d lines of log for 65 values", len(a.lines))
+	}
+}
+
+// A wideSink takes values at once, except where one of them is no batch.
+type wideSink struct {
+	sink
+	most int
+}
+
+func (s *wideSink) TakeAll(messages [][]byte) error {
+	for _, m := range messages {
+		if !bytes.HasPrefix(m, []byte("JSR")) {
+			return errors.New("each by itself")
+		}
+	}
+	s.mu.Lock()
+	s.most = max(s.most, len(messages))
+	s.mu.Unlock()
+	for _, m := range messages {
+		if err := s.Take(m); err != nil {
+			return err
+		}
+	}
+	return nil
+}
+
+func max(a, b int) int {
+	if a > b {
+		return a
+	}
+	return b
+}
+
+func TestValuesAreTakenAtOnce(t *testing.T) {
+	s := natstest.Start(t)
+	a := join(t, options(1, s.URL))
+	kv, err := a.js.KeyValue("test")
+	if err != nil {
+		t.Fatal(err)
+	}
+	for n := 0; n < 1000; n++ {
+		if n%300 == 299 {
+			if _, err := kv.Put(fmt.Sprint("u.lie.", n), []byte("no batch")); err != nil {
+				t.Fatal(err)
+			}
+		}
+		tell(t, a, n)
+	}
+	b := &wideSink{}
+	g, err := Join(patience(t), options(2, s.URL), b)
+	if err != nil {
+		t.Fatal(err)
+	}
+	t.Cleanup(func() { g.Close() })
+	<-g.Ready()
+	if len(b.held) != 1000 || g.Taken() != 1000 || g.Aside() != 3 || b.most < 2 || b.most > mostAtOnce {
+		t.Errorf("%d held, %d taken, %d aside, %d at once", len(b.held), g.Taken(), g.Aside(), b.most)
+	}
+}
+
+func TestGoesOnAfterTheBrokerWasAway(t *testing.T) {
+	s := natstest.Start(t)
+	a, b := join(t, options(1, s.URL)), join(t, options(2, s.URL))
+	awaitHeld(t, b, tell(t, a, 1))
+	for n := 2; n < 4; n++ {
+		s.Kill()
+		natstest.Await(t, "the loss", func() bool { return !a.Connected() && !b.Connected() })
+		restart(t, s)
+		awaitHeld(t, b, tell(t, a, n))
+	}
+}
+
+func TestBucketThatWasRemovedIsMadeAnew(t *testing.T) {
+	s := natstest.Start(t)
+	a, b := join(t, options(1, s.URL)), join(t, options(2, s.URL))
+	for n := 0; n < 20; n++ {
+		awaitHeld(t, b, tell(t, a, n))
+	}
+	if err := a.js.DeleteKeyValue("test"); err != nil {
+		t.Fatal(err)
+	}
+	awaitHeld(t, b, tell(t, a, 99))
+}
+
+// Someone removes the bucket's last values by hand. A member that comes anew does not wait for these.
+func TestReadyThoughTheLastValuesAreGone(t *testing.T) {
+	s := natstest.Start(t)
+	a := join(t, options(1, s.URL))
+	for n := 0; n < 5; n++ {
+		awaitHeld(t, a, tell(t, a, n))
+	}
+	for n := 3; n < 5; n++ {
+		if err := a.js.PurgeStream("KV_test", &nats.StreamPurgeRequest{Subject: fmt.Sprintf("$KV.test.u.%x.%x", key(n), a.place)}); err != nil {
+			t.Fatal(err)
+		}
+	}
+	b := join(t, options(2, s.URL))
+	if b.Taken() != 3 {
+		t.Errorf("ready with %d values", b.Taken())
+	}
+	awaitHeld(t, b, tell(t, a, 9))
+	if b.logged("reading the bucket anew") {
+		t.Error(b.lines)
+	}
+}
+
+func TestJoinWaitsForABroker(t *testing.T) {
+	s := natstest.Start(t)
+	s.Kill()
+	ctx, cancel := context.WithTimeout(context.Background(), 200*time.Millisecond)
+	defer cancel()
+	if _, err := Join(ctx, options(1, s.URL), &sink{}); !errors.Is(err, context.DeadlineExceeded) {
+		t.Fatal(err)
+	}
+	joined := make(chan error)
+	m := &member{}
+	go func() {
+		o := options(1, s.URL)
+		o.Log = m.log
+		g, err := Join(patience(t), o, &sink{})
+		if err == nil {
+			g.Close()
+		}
+		joined <- err
+	}()
+	natstest.Await(t, "a line that says why", func() bool { return m.logged("broker not reached") })
+	restart(t, s)
+	if err := <-joined; err != nil {
+		t.Fatal(err)
+	}
+}
+
+func TestJoinRefusesABucketThatForgets(t *testing.T) {
+	s := natstest.Start(t)
+	nc, err := nats.Connect(s.URL)
+	if err != nil {
+		t.Fatal(err)
+	}
+	defer nc.Close()
+	js, err := nc.JetStream()
+	if err != nil {
+		t.Fatal(err)
+	}
+	good := func(name string) *nats.StreamConfig {
+		return &nats.StreamConfig{Name: "KV_" + name, Subjects: []string{"$KV." + name + ".>"}, MaxMsgsPerSubject: 1,
+			MaxAge: time.Hour, Discard: nats.DiscardNew, DenyDelete: true, AllowRollup: true}
+	}
+	for name, change := range map[string]func(*nats.StreamConfig){
+		"good":     func(*nats.StreamConfig) {},
+		"longer":   func(c *nats.StreamConfig) { c.MaxAge = 2 * time.Hour },
+		"for-good": func(c *nats.StreamConfig) { c.MaxAge = 0 },
+		"full":     func(c *nats.StreamConfig) { c.MaxBytes = 1 << 20 },
+		"shorter":  func(c *nats.StreamConfig) { c.MaxAge = time.Minute },
+		"drops":    func(c *nats.StreamConfig) { c.MaxBytes, c.Discard = 1<<20, nats.DiscardOld },
+		"memory":   func(c *nats.StreamConfig) { c.Storage = nats.MemoryStorage },
+		"deletes":  func(c *nats.StreamConfig) { c.DenyDelete = false },
+		"stream":   func(c *nats.StreamConfig) { c.MaxMsgsPerSubject = -1 },
+		"fewer":    func(*nats.StreamConfig) {},
+	} {
+		config := good(name)
+		change(config)
+		if _, err := js.AddStream(config); err != nil {
+			t.Fatal(name, err)
+		}
+		o := options(1, s.URL)
+		if o.Name = name; name == "fewer" {
+			o.Replicas = 3
+		}
+		g, err := Join(patience(t), o, &sink{})
+		if err == nil {
+			g.Close()
+		}
+		keeps := name == "good" || name == "longer" || name == "for-good" || name == "full"
+		if keeps != (err == nil) {
+			t.Errorf("%s: %v", name, err)
+		}
+	}
+}
+
+func TestJoinRefusesBadOptions(t *testing.T) {
+	for name, change := range map[string]func(*Options){
+		"no server":   func(o *Options) { o.Servers = nil },
+		"no name":     func(o *Options) { o.Name = "" },
+		"a wild name": func(o *Options) { o.Name = "a.>" },
+		"no TTL":      func(o *Options) { o.TTL = 0 },
+		"6 replicas":  func(o *Options) { o.Replicas = 6 },
+	} {
+		o := options(1, "nats://127.0.0.1:1")
+		change(&o)
+		if _, err := Join(patience(t), o, &sink{}); err == nil || errors.Is(err, context.DeadlineExceeded) {
+			t.Errorf("%s: %v", name, err)
+		}
+	}
+}
+
+func TestSummariesBringBackWhatWasLost(t *testing.T) {
+	s := natstest.Start(t)
+	a, b := join(t, options(1, s.URL)), join(t, options(2, s.URL))
+	var uses [][]byte
+	for n := 0; n < 40000; n++ {
+		one := batch(key(n), a.place)
+		uses = append(uses, one[headLen:])
+	}
+	lost := batchOf(uses...) // 2.6 MB, more than a message of the broker has room for
+	nothing := func([]byte) ([]byte, error) { return batchOf(), nil }
+	a.Summaries(time.Hour, func() ([]byte, error) { return []byte("of a"), nil }, func(summary []byte) ([]byte, error) {
+		if string(summary) != "of b" {
+			return nil, fmt.Errorf("asked by %q", summary)
+		}
+		return lost, nil
+	})
+	b.Summaries(50*time.Millisecond, func() ([]byte, error) { return []byte("of b"), nil }, nothing)
+	got := func() (n int) {
+		b.mu.Lock()
+		defer b.mu.Unlock()
+		for m := range b.held {
+			n += int(binary.BigEndian.Uint32([]byte(m)[countAt:]))
+		}
+		return n
+	}
+	natstest.Await(t, "40,000 uses", func() bool { return got() == 40000 })
+	if b.Aside() != 0 {
+		t.Error(b.Aside(), b.lines)
+	}
+}
+
+func TestSummariesOfOneMember(t *testing.T) {
+	s := natstest.Start(t)
+	a := join(t, options(1, s.URL))
+	asked := make(chan bool, 100)
+	a.Summaries(time.Millisecond, func() ([]byte, error) { asked <- true; return []byte("of a"), nil },
+		func([]byte) ([]byte, error) { t.Error("a member answers itself"); return nil, nil })
+	for i := 0; i < 5; i++ {
+		<-asked
+	}
+	if a.logged("no answer") {
+		t.Error(a.lines)
+	}
+}
+
+// Close ends every goroutine that Join and Summaries began, also of a member whose broker is away.
+func TestCloseLeavesNothing(t *testing.T) {
+	s := natstest.Start(t)
+	before := runtime.NumGoroutine()
+	for _, away := range []bool{false, true} {
+		a := join(t, options(1, s.URL))
+		a.Summaries(time.Millisecond, func() ([]byte, error) { return []byte("of a"), nil }, func([]byte) ([]byte, error) { return nil, nil })
+		awaitHeld(t, a, tell(t, a, 1))
+		if away {
+			s.Kill()
+			natstest.Await(t, "the loss", func() bool { return !a.Connected() })
+		}
+		if err := a.Close(); err != nil {
+			t.Fatal(err)
+		}
+		natstest.Await(t, "the end of its goroutines", func() bool { return runtime.NumGoroutine() <= before })
+	}
+}
+
+func TestCutKeepsEachUseInItsOrder(t *testing.T) {
+	var uses [][]byte
+	for n := 0; n < 10; n++ {
+		one := batch(key(n), [16]byte{})
+		uses = append(uses, one[headLen:])
+	}
+	all := append(append(batchOf(uses...), batchOf()...), batchOf(uses[3])...)
+	for room, want := range map[int][]int{1: {1, 1, 1, 1, 1, 1, 1, 1, 1, 1, 0, 1}, 4: {4, 4, 2, 0, 1}, 10: {10, 0, 1}, 99: {10, 0, 1}} {
+		parts, err := cut(all, headLen+room*useLen+64)
+		if err != nil {
+			t.Fatal(err)
+		}
+		var counts []int
+		var body []byte
+		for _, part := range parts {
+			n := int(binary.BigEndian.Uint32(part[countAt:]))
+			if len(part) != headLen+n*useLen || !bytes.Equal(part[:countAt], all[:countAt]) {
+				t.Fatalf("% X", part)
+			}
+			counts, body = append(counts, n), append(body, part[headLen:]...)
+		}
+		if fmt.Sprint(counts) != fmt.Sprint(want) || !bytes.Equal(body, append(bytes.Join(uses, nil), uses[3]...)) {
+			t.Errorf("room %d: %v, want %v", room, counts, want)
+		}
+	}
+	for _, bad := range [][]byte{all[:16], all[:100], append([]byte("JSR\x02\x01"), bytes.Repeat([]byte{255}, 12)...)} {
+		if _, err := cut(bad, 1000); err == nil {
+			t.Errorf("%d bytes that end within a batch were cut", len(bad))
+		}
+	}
+	if _, err := cut(all, 81); err == nil {
+		t.Error("a batch was cut into nothing")
+	}
+}

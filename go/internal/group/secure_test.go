@@ -1,0 +1,227 @@
+package group
+
+import (
+	"crypto/ecdsa"
+	"crypto/elliptic"
+	"crypto/rand"
+	"crypto/x509"
+	"encoding/pem"
+	"errors"
+	"math/big"
+	"net"
+	"net/url"
+	"os"
+	"os/exec"
+	"path/filepath"
+	"strings"
+	"testing"
+	"time"
+
+	"github.com/nats-io/nats.go"
+
+	"svid.example/go/internal/broker"
+	"svid.example/go/internal/natstest"
+)
+
+// An authority makes certificates.
+type authority struct {
+	t    *testing.T
+	cert *x509.Certificate
+	key  *ecdsa.PrivateKey
+}
+
+func newAuthority(t *testing.T) *authority {
+	a := &authority{t: t, cert: &x509.Certificate{IsCA: true, KeyUsage: x509.KeyUsageCertSign, BasicConstraintsValid: true}}
+	a.cert, a.key = a.make(a.cert, nil)
+	return a
+}
+
+// make makes a certificate by this authority, or by itself where it has none.
+func (a *authority) make(c *x509.Certificate, by *authority) (*x509.Certificate, *ecdsa.PrivateKey) {
+	a.t.Helper()
+	c.SerialNumber, c.NotBefore, c.NotAfter = big.NewInt(time.Now().UnixNano()), time.Now().Add(-time.Minute), time.Now().Add(time.Hour)
+	key, err := ecdsa.GenerateKey(elliptic.P256(), rand.Reader)
+	if err != nil {
+		a.t.Fatal(err)
+	}
+	parent, signer := c, key
+	if by != nil {
+		parent, signer = by.cert, by.key
+	}
+	der, err := x509.CreateCertificate(rand.Reader, c, parent, &key.PublicKey, signer)
+	if err != nil {
+		a.t.Fatal(err)
+	}
+	made, err := x509.ParseCertificate(der)
+	if err != nil {
+		a.t.Fatal(err)
+	}
+	return made, key
+}
+
+// write writes a new certificate of this SPIFFE ID for 127.0.0.1, its key, and the authority's own certificate.
+func (a *authority) write(dir, name, id string) Files {
+	a.t.Helper()
+	uri, err := url.Parse(id)
+	if err != nil {
+		a.t.Fatal(err)
+	}
+	cert, key := a.make(&x509.Certificate{URIs: []*url.URL{uri}, IPAddresses: []net.IP{net.IPv4(127, 0, 0, 1)}, KeyUsage: x509.KeyUsageDigitalSignature,
+		ExtKeyUsage: []x509.ExtKeyUsage{x509.ExtKeyUsageClientAuth, x509.ExtKeyUsageServerAuth}}, a)
+	secret, err := x509.MarshalECPrivateKey(key)
+	if err != nil {
+		a.t.Fatal(err)
+	}
+	f := Files{CA: filepath.Join(dir, "bundle.pem"), Cert: filepath.Join(dir, name+".pem"), Key: filepath.Join(dir, name+"_key.pem")}
+	for file, block := range map[string]*pem.Block{
+		f.CA: {Type: "CERTIFICATE", Bytes: a.cert.Raw}, f.Cert: {Type: "CERTIFICATE", Bytes: cert.Raw}, f.Key: {Type: "EC PRIVATE KEY", Bytes: secret},
+	} {
+		if err := os.WriteFile(file, pem.EncodeToMemory(block), 0o600); err != nil {
+			a.t.Fatal(err)
+		}
+	}
+	return f
+}
+
+// startDeployed starts one server by deploy/nats.conf, and returns its address.
+func startDeployed(t *testing.T, dir string) string {
+	t.Helper()
+	ports, err := broker.FreePorts(2)
+	if err != nil {
+		t.Fatal(err)
+	}
+	text, err := os.ReadFile("../../deploy/nats.conf")
+	if err != nil {
+		t.Fatal(err)
+	}
+	config := string(text)
+	begin, end := strings.Index(config, "cluster {"), strings.Index(config, "\ntls {")
+	config = config[:begin] + config[end:] // one server alone
+	client, _ := url.Parse("nats://127.0.0.1:0")
+	client.Host = net.JoinHostPort("127.0.0.1", big.NewInt(int64(ports[0])).String())
+	config = strings.NewReplacer("0.0.0.0:4222", client.Host, "/var/lib/nats", filepath.Join(dir, "store"), "/etc/nats", dir).Replace(config)
+	file := filepath.Join(dir, "nats.conf")
+	if err := os.WriteFile(file, []byte(config), 0o600); err != nil {
+		t.Fatal(err)
+	}
+	server := exec.Command("nats-server", "-c", file, "-l", filepath.Join(dir, "log"))
+	if err := server.Start(); err != nil {
+		t.Fatal(err)
+	}
+	t.Cleanup(func() { server.Process.Kill(); server.Wait() })
+	natstest.Await(t, "the server's port", func() bool {
+		c, err := net.Dial("tcp", client.Host)
+		if err == nil {
+			c.Close()
+		}
+		return err == nil
+	})
+	return client.String()
+}
+
+// secured is options of a member with these files.
+func secured(t *testing.T, place byte, url string, f Files) Options {
+	t.Helper()
+	o := options(place, url)
+	o.Name = "svid"
+	var err error
+	if o.Connect, err = f.Connect(); err != nil {
+		t.Fatal(err)
+	}
+	return o
+}
+
+// With the permissions of deploy/nats.conf a member can do all that it must, and remove nothing; nobody else can do anything.
+func TestTheServersOfDeploy(t *testing.T) {
+	dir := t.TempDir()
+	ca := newAuthority(t)
+	ca.write(dir, "server", "spiffe://example.org/nats")
+	own := ca.write(dir, "svidd", "spiffe://example.org/svidd")
+	server := startDeployed(t, dir)
+	a, b := join(t, secured(t, 1, server, own)), join(t, secured(t, 2, server, own))
+	awaitHeld(t, b, tell(t, a, 1))
+	if err := b.Withdraw(patience(t), key(2), batch(key(2), b.place)); err != nil {
+		t.Fatal(err)
+	}
+	wantOneWinner(t, []*member{a, b}, 3, patience(t))
+	lost := batch(key(4), a.place)
+	a.Summaries(time.Hour, func() ([]byte, error) { return []byte("of a"), nil }, func([]byte) ([]byte, error) { return lost, nil })
+	b.Summaries(50*time.Millisecond, func() ([]byte, error) { return []byte("of b"), nil }, func([]byte) ([]byte, error) { return batchOf(), nil })
+	awaitHeld(t, b, lost)
+	c := join(t, secured(t, 3, server, own))
+	if c.Taken() != 3 {
+		t.Errorf("a member that comes anew reads %d values", c.Taken())
+	}
+	for _, forbidden := range []string{"$JS.API.STREAM.DELETE.KV_svid", "$JS.API.STREAM.PURGE.KV_svid", "$JS.API.STREAM.MSG.DELETE.KV_svid",
+		"$JS.API.STREAM.UPDATE.KV_svid", "$KV.other.a", "svid.other.summary"} {
+		if err := a.conn.Publish(forbidden, nil); err != nil {
+			t.Fatal(err)
+		}
+		natstest.Await(t, "a violation", func() bool {
+			return a.logged(`Permissions Violation for Publish to "`+forbidden) || a.logged(`permissions violation for publish to "`+strings.ToLower(forbidden))
+		})
+	}
+	for _, m := range []*member{b, c} {
+		if m.logged("iolation") {
+			t.Error(m.lines)
+		}
+	}
+	for what, f := range map[string]Files{
+		"no certificate": {CA: own.CA}, "another ID": ca.write(dir, "other", "spiffe://example.org/other"),
+	} {
+		if nc, err := nats.Connect(server, append(mustConnect(t, f), nats.MaxReconnects(0))...); err == nil {
+			nc.Close()
+			t.Errorf("%s: connected", what)
+		}
+	}
+	stranger := newAuthority(t).write(t.TempDir(), "svidd", "spiffe://example.org/svidd")
+	if nc, err := nats.Connect(server, mustConnect(t, stranger)...); err == nil {
+		nc.Close()
+		t.Error("a member connected to servers of authorities that it does not know")
+	}
+}
+
+func mustConnect(t *testing.T, f Files) []nats.Option {
+	t.Helper()
+	options, err := f.Connect()
+	if err != nil {
+		t.Fatal(err)
+	}
+	return options
+}
+
+// Authorities and certificates that are renewed on the disk are used for the next connection.
+func TestCertificatesAreReadAnew(t *testing.T) {
+	dir := t.TempDir()
+	before := newAuthority(t)
+	before.write(dir, "server", "spiffe://example.org/nats")
+	files := before.write(dir, "svidd", "spiffe://example.org/svidd")
+	options := mustConnect(t, files)
+	after := newAuthority(t)
+	after.write(dir, "server", "spiffe://example.org/nats")
+	after.write(dir, "svidd", "spiffe://example.org/svidd")
+	server := startDeployed(t, dir)
+	nc, err := nats.Connect(server, options...)
+	if err != nil {
+		t.Fatal(err)
+	}
+	nc.Close()
+}
+
+func TestFilesThatCannotBeUsed(t *testing.T) {
+	dir := t.TempDir()
+	empty := filepath.Join(dir, "empty")
+	if err := os.WriteFile(empty, nil, 0o600); err != nil {
+		t.Fatal(err)
+	}
+	for _, f := range []Files{{Cert: empty}, {Key: empty}, {CA: empty}, {Cert: empty, Key: empty}} {
+		if _, err := f.Connect(); err == nil {
+			t.Errorf("%+v", f)
+		}
+	}
+	for _, f := range []Files{{CA: filepath.Join(dir, "none")}, {Creds: filepath.Join(dir, "none")}} {
+		if _, err := f.Connect(); !errors.Is(err, os.ErrNotExist) {
+			t.Errorf("%+v: %v", f, err)
+		}
+	}
+}

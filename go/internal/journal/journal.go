@@ -1,0 +1,297 @@
+// Package journal keeps the acceptances of one validator in a folder, so that none is lost when the process is killed
+// or the machine loses power.
+//
+// The folder holds:
+//
+//	lock         locked (flock) while a process has the folder open; names that process
+//	place        the validator's place, 32 hexadecimal digits, made once
+//	snapshot     a record as it was at some time
+//	journal.N    what was appended since; the greatest N is the one that grows
+//	*.new        a file that was being written when the process was killed; Open removes it
+//
+// A snapshot and a journal are batches as docs/FORMATS.md has them, one after the other, so `svid report` and
+// `svid merge` read them. Batches may be told in any order and more than once, which makes the rest simple:
+//
+//   - Append returns after the batch is on the disk. Callers that come while a write is under way share the next one.
+//   - Snapshot first begins a new journal, then writes the record to snapshot.new, forces it to the disk, renames it
+//     over snapshot, and only then removes the older journals. At every moment the folder therefore holds the old
+//     snapshot and all journals, or the new snapshot and at least the new journal.
+//   - Open reads the snapshot and every journal. The last journal that is not empty may end in what a crash left of a
+//     write that no Append had answered. Open cuts it off behind the last whole batch. (An empty one behind it is what
+//     a Snapshot made that failed right there; Append went on with the one before it.)
+package journal
+
+import (
+	"bytes"
+	"errors"
+	"fmt"
+	"io"
+	"os"
+	"sync"
+	"syscall"
+)
+
+// ErrClosed is what a call returns after Close.
+var ErrClosed = errors.New("journal: closed")
+
+// A Journal is an open state folder. Its methods may be called from many goroutines at once.
+type Journal struct {
+	folder   folder
+	lock     *os.File
+	datasync func(fd int) error // fdatasync
+
+	gather    sync.Mutex // guards gathering
+	gathering *commit    // what the next write takes, nil where no caller waits
+
+	write  sync.Mutex // held over a write; guards the fields below
+	file   *os.File   // the journal that grows
+	number uint64     // its number
+	size   int64      // its length, all of it on the disk
+	broken error      // why nothing can be appended any more
+
+	snapshot sync.Mutex // held over a snapshot
+
+	messages []byte
+	cut      int64
+}
+
+// A commit is the batches that one write takes to the disk.
+type commit struct {
+	bytes []byte
+	done  chan struct{} // closed when err is set
+	err   error
+}
+
+// Open locks the folder dir, which it makes where its parent is there, and reads what it holds.
+//
+// The error wraps ErrHeld, and names the holder, where another process has the folder. A snapshot or an older journal
+// that is not whole batches is an error that names the file and the place: no crash leaves such a file.
+func Open(dir string) (*Journal, error) {
+	f, err := openFolder(dir)
+	if err != nil {
+		return nil, err
+	}
+	lock, err := f.hold()
+	if err != nil {
+		return nil, err
+	}
+	j := &Journal{folder: f, lock: lock, datasync: syscall.Fdatasync}
+	if err := j.recover(); err != nil {
+		lock.Close()
+		return nil, err
+	}
+	return j, nil
+}
+
+// recover reads the folder's messages, mends its last journal and opens it.
+func (j *Journal) recover() error {
+	if err := j.folder.removeUnfinished(); err != nil {
+		return err
+	}
+	numbers, err := j.folder.journals()
+	if err != nil {
+		return err
+	}
+	messages, err := j.folder.readWhole(snapshotName)
+	if err != nil && !errors.Is(err, os.ErrNotExist) {
+		return err
+	}
+	if numbers, err = j.folder.dropEmptyEnd(numbers); err != nil {
+		return err
+	}
+	if len(numbers) == 0 {
+		numbers = []uint64{1}
+	}
+	last := numbers[len(numbers)-1]
+	for _, n := range numbers[:len(numbers)-1] {
+		more, err := j.folder.readWhole(journalName(n))
+		if err != nil {
+			return err
+		}
+		messages = append(messages, more...)
+	}
+	tail, file, cut, err := j.folder.mend(journalName(last))
+	if err != nil {
+		return err
+	}
+	j.messages = append(messages, tail...)
+	j.file, j.number, j.size, j.cut = file, last, int64(len(tail)), cut
+	return nil
+}
+
+// Messages returns the batches that Open found in the snapshot and the journals, one after the other, for the
+// validator to take at its start. The journal keeps no copy: a second call returns nil.
+func (j *Journal) Messages() []byte {
+	j.write.Lock()
+	defer j.write.Unlock()
+	found := j.messages
+	j.messages = nil
+	return found
+}
+
+// Cut returns how many bytes Open cut off the end of the last journal: what a crash left of a write that no Append had
+// answered. It is worth a line in the log where it is not 0.
+func (j *Journal) Cut() int64 { return j.cut }
+
+// Size returns the length in bytes of the journal that grows, by which a caller decides when to take a Snapshot.
+func (j *Journal) Size() int64 {
+	j.write.Lock()
+	defer j.write.Unlock()
+	return j.size
+}
+
+// Append writes batch, whole batches of version 2, behind the journal, and returns after it is on the disk.
+//
+// Callers that come while another write is under way share the next one, and its one fdatasync. Bytes that are no whole
+// batches are refused, since Open would cut off all that stands behind them. Where a write fails (the disk is full),
+// the journal is as it was, and a later Append may succeed. Where the disk does not say what it holds (fdatasync
+// failed), this and every later Append fails until the folder is opened anew.
+func (j *Journal) Append(batch []byte) error {
+	if _, err := scan(bytes.NewReader(batch)); err != nil {
+		return fmt.Errorf("journal: append: %w", err)
+	}
+	c, first := j.join(batch)
+	if !first {
+		<-c.done
+		return c.err
+	}
+	j.write.Lock()
+	j.seal()
+	c.err = j.commit(c.bytes)
+	j.write.Unlock()
+	close(c.done)
+	return c.err
+}
+
+// join adds batch to what the next write takes, and says whether it is the first there: that caller writes for all.
+func (j *Journal) join(batch []byte) (c *commit, first bool) {
+	j.gather.Lock()
+	defer j.gather.Unlock()
+	if first = j.gathering == nil; first {
+		j.gathering = &commit{done: make(chan struct{})}
+	}
+	j.gathering.bytes = append(j.gathering.bytes, batch...)
+	return j.gathering, first
+}
+
+// seal ends the gathering: who comes from now on is the first of the next write.
+func (j *Journal) seal() {
+	j.gather.Lock()
+	defer j.gather.Unlock()
+	j.gathering = nil
+}
+
+// commit takes the bytes to the disk. The caller holds write.
+func (j *Journal) commit(b []byte) error {
+	if j.broken != nil {
+		return j.broken
+	}
+	if _, err := j.file.WriteAt(b, j.size); err != nil {
+		return j.takeBack(fmt.Errorf("journal: append: %w", err))
+	}
+	if err := j.datasync(int(j.file.Fd())); err != nil {
+		j.broken = fmt.Errorf("journal: fdatasync of %s: %w: start the service again once its disk is well", j.file.Name(), err)
+		return j.broken
+	}
+	j.size += int64(len(b))
+	return nil
+}
+
+// takeBack removes what a failed write left behind the journal, and returns why it failed.
+func (j *Journal) takeBack(why error) error {
+	if err := j.file.Truncate(j.size); err != nil {
+		j.broken = fmt.Errorf("%w; and its beginning can't be removed: %v", why, err)
+		return j.broken
+	}
+	return why
+}
+
+// Snapshot replaces the snapshot by what write writes, whole batches of version 2, and then drops the journals that are
+// older than the call.
+//
+// write must write a record that holds at least each use that was appended before the call, save those that have
+// expired; a validator that adds a use before it appends it does. Append may be called all the while: what it appends
+// goes to a new journal that stays. Where write or the disk fails, the error is returned and nothing is lost: the old
+// snapshot and all journals are still there.
+func (j *Journal) Snapshot(write func(io.Writer) error) error {
+	j.snapshot.Lock()
+	defer j.snapshot.Unlock()
+	number, err := j.beginNext()
+	if err != nil {
+		return err
+	}
+	err = j.folder.replace(snapshotName, write, wholeBatches)
+	if errors.Is(err, errUnsureNames) {
+		// The kernel tells of such a fault once. A later call must not take its silence for the name of this snapshot.
+		return j.end(err)
+	}
+	if err != nil {
+		return fmt.Errorf("journal: snapshot: %w", err)
+	}
+	return j.folder.removeJournalsBefore(number)
+}
+
+// end lets every later Append and Snapshot fail, since the disk does not say what it holds.
+func (j *Journal) end(why error) error {
+	j.write.Lock()
+	defer j.write.Unlock()
+	if j.broken == nil {
+		j.broken = fmt.Errorf("journal: snapshot: %w: start the service again once its disk is well", why)
+	}
+	return j.broken
+}
+
+// beginNext makes the next journal, lets Append write there from now on, and returns its number.
+func (j *Journal) beginNext() (uint64, error) {
+	j.write.Lock()
+	defer j.write.Unlock()
+	if j.broken != nil {
+		return 0, j.broken
+	}
+	if err := syncFile(j.file); err != nil {
+		j.broken = fmt.Errorf("journal: fsync of %s: %w: start the service again once its disk is well", j.file.Name(), err)
+		return 0, j.broken
+	}
+	next, err := j.folder.ensure(journalName(j.number + 1))
+	if err != nil {
+		return 0, err
+	}
+	j.file.Close() // All of it is on the disk: nothing is lost by an error here.
+	j.file, j.number, j.size = next, j.number+1, 0
+	return j.number, nil
+}
+
+// Place returns the validator's place. The first call makes it at random, and every later one, in this process or
+// another that opens the folder, returns the same.
+func (j *Journal) Place() ([16]byte, error) {
+	j.snapshot.Lock() // Two calls make one place, and none is made after Close.
+	defer j.snapshot.Unlock()
+	if j.isClosed() {
+		return [16]byte{}, ErrClosed
+	}
+	return j.folder.place()
+}
+
+func (j *Journal) isClosed() bool {
+	j.write.Lock()
+	defer j.write.Unlock()
+	return j.broken == ErrClosed
+}
+
+// Close waits for a Snapshot and an Append that are under way, and lets go of the folder. Every later Append and
+// Snapshot returns ErrClosed, and so does a second Close.
+func (j *Journal) Close() error {
+	j.snapshot.Lock()
+	defer j.snapshot.Unlock()
+	j.write.Lock()
+	defer j.write.Unlock()
+	if j.broken == ErrClosed {
+		return ErrClosed
+	}
+	j.broken = ErrClosed
+	err := j.file.Close()
+	if unlock := j.lock.Close(); err == nil {
+		err = unlock
+	}
+	return err
+}

@@ -1,0 +1,665 @@
+package journal
+
+import (
+	"bytes"
+	"encoding/binary"
+	"errors"
+	"fmt"
+	"io"
+	"math/rand"
+	"os"
+	"os/exec"
+	"os/signal"
+	"path/filepath"
+	"strings"
+	"sync"
+	"syscall"
+	"testing"
+	"time"
+)
+
+// batch is a batch of one use, whose key begins with n.
+func batch(n uint64) []byte {
+	b := append([]byte(batchHead), make([]byte, headLen-len(batchHead)+useLen)...)
+	binary.BigEndian.PutUint64(b[5:], 100)
+	binary.BigEndian.PutUint32(b[13:], 1)
+	binary.BigEndian.PutUint64(b[17:], 200)
+	binary.BigEndian.PutUint64(b[25:], n)
+	binary.BigEndian.PutUint64(b[73:], 100)
+	return b
+}
+
+// batches is the batches from the first number up to before the last.
+func batches(first, last uint64) []byte {
+	var b []byte
+	for n := first; n < last; n++ {
+		b = append(b, batch(n)...)
+	}
+	return b
+}
+
+func mustOpen(t *testing.T, dir string) *Journal {
+	t.Helper()
+	j, err := Open(dir)
+	if err != nil {
+		t.Fatal(err)
+	}
+	t.Cleanup(func() { j.Close() })
+	return j
+}
+
+func mustAppend(t *testing.T, j *Journal, b []byte) {
+	t.Helper()
+	if err := j.Append(b); err != nil {
+		t.Fatal(err)
+	}
+}
+
+func mustClose(t *testing.T, j *Journal) {
+	t.Helper()
+	if err := j.Close(); err != nil {
+		t.Fatal(err)
+	}
+}
+
+// writes gives a Snapshot these bytes.
+func writes(b []byte) func(io.Writer) error {
+	return func(w io.Writer) error {
+		_, err := w.Write(b)
+		return err
+	}
+}
+
+func wantMessages(t *testing.T, j *Journal, want []byte) {
+	t.Helper()
+	if got := j.Messages(); !bytes.Equal(got, want) {
+		t.Fatalf("%d bytes of messages, want %d", len(got), len(want))
+	}
+}
+
+func names(t *testing.T, dir string) string {
+	t.Helper()
+	entries, err := os.ReadDir(dir)
+	if err != nil {
+		t.Fatal(err)
+	}
+	var all []string
+	for _, e := range entries {
+		all = append(all, e.Name())
+	}
+	return strings.Join(all, " ")
+}
+
+func TestKeepsWhatWasAppended(t *testing.T) {
+	dir := filepath.Join(t.TempDir(), "state")
+	j := mustOpen(t, dir)
+	wantMessages(t, j, nil)
+	for n := uint64(0); n < 10; n++ {
+		mustAppend(t, j, batch(n))
+	}
+	if got := j.Size(); got != 820 {
+		t.Fatalf("size %d, want 820", got)
+	}
+	mustClose(t, j)
+	j = mustOpen(t, dir)
+	wantMessages(t, j, batches(0, 10))
+	wantMessages(t, j, nil) // They are handed over once.
+	if got := names(t, dir); got != "journal.1 lock" {
+		t.Fatal(got)
+	}
+}
+
+func TestSnapshotReplacesWhatIsOlder(t *testing.T) {
+	dir := t.TempDir()
+	j := mustOpen(t, dir)
+	mustAppend(t, j, batches(0, 5))
+	err := j.Snapshot(func(w io.Writer) error {
+		mustAppend(t, j, batch(7)) // An Append while the snapshot is written is not held up, and is not lost.
+		return writes(batches(3, 5))(w)
+	})
+	if err != nil {
+		t.Fatal(err)
+	}
+	mustAppend(t, j, batch(8))
+	if got := names(t, dir); got != "journal.2 lock snapshot" {
+		t.Fatal(got)
+	}
+	mustClose(t, j)
+	want := append(append(batches(3, 5), batch(7)...), batch(8)...)
+	wantMessages(t, mustOpen(t, dir), want)
+}
+
+func TestFailedSnapshotLosesNothing(t *testing.T) {
+	dir := t.TempDir()
+	j := mustOpen(t, dir)
+	mustAppend(t, j, batches(0, 5))
+	if err := j.Snapshot(writes(batches(0, 5))); err != nil {
+		t.Fatal(err)
+	}
+	mustAppend(t, j, batch(5))
+	why := errors.New("no memory")
+	if err := j.Snapshot(func(io.Writer) error { return why }); !errors.Is(err, why) {
+		t.Fatal(err)
+	}
+	if err := j.Snapshot(writes([]byte("no batch"))); err == nil {
+		t.Fatal("a snapshot that is no batch was kept")
+	}
+	if err := j.Snapshot(writes(batches(0, 6)[:100])); !errors.Is(err, io.ErrUnexpectedEOF) {
+		t.Fatal(err)
+	}
+	mustAppend(t, j, batch(6))
+	mustClose(t, j)
+	wantMessages(t, mustOpen(t, dir), batches(0, 7))
+	if got := names(t, dir); got != "journal.2 journal.3 journal.4 journal.5 lock snapshot" {
+		t.Fatal(got)
+	}
+}
+
+// failSync lets the fsync of this number fail, counted from 0, of all that come from now on. It returns how many came.
+func failSync(t *testing.T, number int) (count func() int) {
+	t.Helper()
+	n := 0
+	real := syncFile
+	syncFile = func(f *os.File) error {
+		n++
+		if n-1 == number {
+			return syscall.EIO
+		}
+		return real(f)
+	}
+	t.Cleanup(func() { syncFile = real })
+	return func() int { return n }
+}
+
+// Whichever fsync of a snapshot fails, no batch is lost that an Append took before it, while it was written or after it.
+func TestEachFailedSyncOfASnapshotLosesNothing(t *testing.T) {
+	for number, last := 0, false; !last; number++ {
+		t.Run(fmt.Sprint(number), func(t *testing.T) {
+			dir := t.TempDir()
+			j := mustOpen(t, dir)
+			mustAppend(t, j, batches(0, 3))
+			if err := j.Snapshot(writes(batches(0, 3))); err != nil {
+				t.Fatal(err)
+			}
+			acknowledged := batches(0, 4)
+			mustAppend(t, j, batch(3))
+			n := uint64(4)
+			add := func() error {
+				err := j.Append(batch(n))
+				if err == nil {
+					acknowledged = append(acknowledged, batch(n)...)
+				}
+				n++
+				return err
+			}
+			count := failSync(t, number)
+			err := j.Snapshot(func(w io.Writer) error { add(); return writes(acknowledged)(w) })
+			if last = count() <= number; last != (err == nil) {
+				t.Fatalf("%d of %d: %v", number, count(), err)
+			}
+			if last {
+				return
+			}
+			broken := add() != nil
+			again := j.Snapshot(writes(acknowledged))
+			if broken != (again != nil) {
+				t.Fatalf("appending is over: %v, and the next snapshot says %v", broken, again)
+			}
+			add()
+			mustClose(t, j)
+			found := mustOpen(t, dir).Messages()
+			for i := 0; i < len(acknowledged); i += 82 {
+				if !bytes.Contains(found, acknowledged[i:i+82]) {
+					t.Errorf("batch %d is lost", i/82)
+				}
+			}
+		})
+	}
+}
+
+// A snapshot whose name the disk may not have must not let the journals go, also where a later fsync says nothing.
+func TestAFolderThatCannotBeForcedToTheDiskIsTheEnd(t *testing.T) {
+	dir := t.TempDir()
+	j := mustOpen(t, dir)
+	mustAppend(t, j, batches(0, 3))
+	const ofTheRenamed = 3 // behind those of the journal, of the folder for the next journal, and of the new snapshot
+	failSync(t, ofTheRenamed)
+	for i := 0; i < 2; i++ {
+		if err := j.Snapshot(writes(batches(0, 3))); !errors.Is(err, errUnsureNames) || !strings.Contains(err.Error(), "start the service again") {
+			t.Errorf("snapshot %d: %v", i, err)
+		}
+	}
+	if err := j.Append(batch(3)); !errors.Is(err, errUnsureNames) {
+		t.Errorf("append: %v", err)
+	}
+	if got := names(t, dir); got != "journal.1 journal.2 lock snapshot" {
+		t.Error(got)
+	}
+}
+
+// A snapshot that can't be renamed, or can't begin, leaves all in its place, and Append goes on.
+func TestASnapshotThatCannotBeMadeLosesNothing(t *testing.T) {
+	for what, hinder := range map[string]string{"rename": "snapshot", "the next journal": "journal.2", "the new file": "snapshot.new"} {
+		t.Run(what, func(t *testing.T) {
+			dir := t.TempDir()
+			j := mustOpen(t, dir)
+			mustAppend(t, j, batches(0, 3))
+			if err := os.MkdirAll(filepath.Join(dir, hinder, "not empty"), 0o700); err != nil {
+				t.Fatal(err)
+			}
+			if err := j.Snapshot(writes(batches(0, 3))); err == nil {
+				t.Fatal("it was made")
+			}
+			mustAppend(t, j, batch(3))
+			if err := os.RemoveAll(filepath.Join(dir, hinder)); err != nil {
+				t.Fatal(err)
+			}
+			mustAppend(t, j, batch(4))
+			mustClose(t, j)
+			j = mustOpen(t, dir)
+			wantMessages(t, j, batches(0, 5))
+			if err := j.Snapshot(writes(batches(0, 5))); err != nil {
+				t.Fatal(err)
+			}
+			mustClose(t, j)
+			wantMessages(t, mustOpen(t, dir), batches(0, 5))
+		})
+	}
+}
+
+// A Snapshot that failed behind making the next journal leaves it empty. Where the journal before it went on and was
+// torn by a crash, that is the one to mend.
+func TestCutsATornTailBeforeAnEmptyJournal(t *testing.T) {
+	dir := t.TempDir()
+	for name, content := range map[string][]byte{"journal.3": batches(0, 2), "journal.4": append(batches(2, 4), 'J', 'S'), "journal.5": nil, "journal.6": nil} {
+		if err := os.WriteFile(filepath.Join(dir, name), content, 0o600); err != nil {
+			t.Fatal(err)
+		}
+	}
+	j := mustOpen(t, dir)
+	wantMessages(t, j, batches(0, 4))
+	if j.Cut() != 2 {
+		t.Errorf("%d bytes were cut", j.Cut())
+	}
+	mustAppend(t, j, batch(4))
+	mustClose(t, j)
+	wantMessages(t, mustOpen(t, dir), batches(0, 5))
+	if got := names(t, dir); got != "journal.3 journal.4 lock" {
+		t.Error(got)
+	}
+}
+
+func TestCutsATornTail(t *testing.T) {
+	whole := batches(0, 3)
+	zeros := make([]byte, 200)
+	for cut := 0; cut <= len(whole); cut++ {
+		wantMended(t, whole[:cut], cut/82*82)
+	}
+	wantMended(t, append(batches(0, 3), zeros...), len(whole))                     // a file that grew, but not its content
+	wantMended(t, append(append(batches(0, 2), zeros[:82]...), 1), 2*82)           // a sector that is missing
+	wantMended(t, append(batches(0, 2), append(zeros[:82], batch(5)...)...), 2*82) // and one behind it that is there
+}
+
+// wantMended opens a folder whose last journal has this content, and wants the first bytes of it that are good.
+func wantMended(t *testing.T, content []byte, good int) {
+	t.Helper()
+	dir := t.TempDir()
+	if err := os.WriteFile(filepath.Join(dir, "journal.9"), content, 0o600); err != nil {
+		t.Fatal(err)
+	}
+	j := mustOpen(t, dir)
+	wantMessages(t, j, content[:good])
+	if j.Cut() != int64(len(content)-good) {
+		t.Fatalf("of %d bytes %d were cut, want %d", len(content), j.Cut(), len(content)-good)
+	}
+	mustAppend(t, j, batch(77))
+	mustClose(t, j)
+	j = mustOpen(t, dir)
+	wantMessages(t, j, append(append([]byte{}, content[:good]...), batch(77)...))
+	mustClose(t, j)
+}
+
+func TestRefusesDamageThatNoCrashLeaves(t *testing.T) {
+	flipped := batches(0, 3)
+	flipped[82+17+64] = 9
+	for _, row := range []struct{ damaged, other, says string }{
+		{"snapshot", "journal.1", "snapshot is damaged at byte 82"},
+		{"journal.1", "journal.2", "journal.1 is damaged at byte 82"},
+	} {
+		dir := t.TempDir()
+		for name, content := range map[string][]byte{row.damaged: flipped, row.other: batches(3, 6)} {
+			if err := os.WriteFile(filepath.Join(dir, name), content, 0o600); err != nil {
+				t.Fatal(err)
+			}
+		}
+		if _, err := Open(dir); err == nil || !strings.Contains(err.Error(), row.says) {
+			t.Errorf("%v, want %q", err, row.says)
+		}
+	}
+}
+
+func TestRemovesWhatWasUnfinished(t *testing.T) {
+	dir := t.TempDir()
+	for _, name := range []string{"snapshot.new", "place.new"} {
+		if err := os.WriteFile(filepath.Join(dir, name), []byte("half"), 0o600); err != nil {
+			t.Fatal(err)
+		}
+	}
+	mustOpen(t, dir)
+	if got := names(t, dir); got != "journal.1 lock" {
+		t.Fatal(got)
+	}
+}
+
+func TestAppendRefusesWhatOpenWouldCut(t *testing.T) {
+	late, early := batch(1), batch(1)
+	binary.BigEndian.PutUint64(late[73:], 101)  // accepted after the batch's moment
+	binary.BigEndian.PutUint64(early[17:], 100) // expired by then
+	many := append([]byte{}, batch(1)...)
+	binary.BigEndian.PutUint32(many[13:], mostUses+1)
+	double := append(batch(1), batch(1)[17:]...)
+	binary.BigEndian.PutUint32(double[13:], 2)
+	dir := t.TempDir()
+	j := mustOpen(t, dir)
+	for _, bad := range [][]byte{[]byte("x"), batch(1)[:81], late, early, many, double, append([]byte("JSR\x02\x02"), make([]byte, 8200)...)} {
+		if err := j.Append(bad); err == nil {
+			t.Errorf("%d bytes that are no batch were appended", len(bad))
+		}
+	}
+	mustAppend(t, j, batch(2))
+	mustClose(t, j)
+	wantMessages(t, mustOpen(t, dir), batch(2))
+}
+
+func TestOneProcessHoldsTheFolder(t *testing.T) {
+	dir := t.TempDir()
+	j := mustOpen(t, dir)
+	_, err := Open(dir)
+	if !errors.Is(err, ErrHeld) || !strings.Contains(err.Error(), fmt.Sprintf("held by process %d on ", os.Getpid())) {
+		t.Fatal(err)
+	}
+	mustClose(t, j)
+	mustOpen(t, dir)
+}
+
+func TestClosed(t *testing.T) {
+	j := mustOpen(t, t.TempDir())
+	mustClose(t, j)
+	_, place := j.Place()
+	for _, err := range []error{j.Append(batch(1)), j.Snapshot(writes(nil)), place, j.Close()} {
+		if err != ErrClosed {
+			t.Error(err)
+		}
+	}
+}
+
+func TestManyCallersShareOneSync(t *testing.T) {
+	dir := t.TempDir()
+	j := mustOpen(t, dir)
+	syncs, begun, proceed := 0, make(chan bool), make(chan bool)
+	j.datasync = func(fd int) error {
+		if syncs++; syncs == 1 {
+			begun <- true
+			<-proceed
+		}
+		return syscall.Fdatasync(fd)
+	}
+	var all sync.WaitGroup
+	appends := func(n uint64) {
+		defer all.Done()
+		if err := j.Append(batch(n)); err != nil {
+			t.Error(err)
+		}
+	}
+	all.Add(1)
+	go appends(0)
+	<-begun
+	const callers = 64
+	all.Add(callers)
+	for n := uint64(1); n <= callers; n++ {
+		go appends(n)
+	}
+	for gathered := 0; gathered < callers*82; {
+		time.Sleep(time.Millisecond)
+		j.gather.Lock()
+		if j.gathering != nil {
+			gathered = len(j.gathering.bytes)
+		}
+		j.gather.Unlock()
+	}
+	close(proceed)
+	all.Wait()
+	if syncs != 2 {
+		t.Errorf("%d syncs for 1 caller and then %d at once, want 2", syncs, callers)
+	}
+	mustClose(t, j)
+	if got := len(mustOpen(t, dir).Messages()); got != (callers+1)*82 {
+		t.Errorf("%d bytes", got)
+	}
+}
+
+func TestFailedSyncIsTheEnd(t *testing.T) {
+	j := mustOpen(t, t.TempDir())
+	j.datasync = func(int) error { return syscall.EIO }
+	if err := j.Append(batch(1)); !errors.Is(err, syscall.EIO) {
+		t.Fatal(err)
+	}
+	j.datasync = syscall.Fdatasync // What the kernel says next is worth nothing.
+	if err := j.Append(batch(2)); !errors.Is(err, syscall.EIO) {
+		t.Fatal(err)
+	}
+	if err := j.Snapshot(writes(nil)); !errors.Is(err, syscall.EIO) {
+		t.Fatal(err)
+	}
+}
+
+func TestPlaceIsMadeOnce(t *testing.T) {
+	dir := t.TempDir()
+	j := mustOpen(t, dir)
+	place, err := j.Place()
+	if err != nil || place == [16]byte{} {
+		t.Fatal(place, err)
+	}
+	mustClose(t, j)
+	j = mustOpen(t, dir)
+	if again, err := j.Place(); again != place || err != nil {
+		t.Fatal(again, err)
+	}
+	text, err := os.ReadFile(filepath.Join(dir, "place"))
+	if want := fmt.Sprintf("%x\n", place); string(text) != want || err != nil {
+		t.Fatal(text, err)
+	}
+	if err := os.WriteFile(filepath.Join(dir, "place"), text[:31], 0o600); err != nil {
+		t.Fatal(err)
+	}
+	if _, err := j.Place(); err == nil {
+		t.Fatal("half a place was read")
+	}
+	if other, err := mustOpen(t, t.TempDir()).Place(); other == place || err != nil {
+		t.Fatal("two folders have one place", err)
+	}
+}
+
+// childRole names what this test binary does when a test started it as a process of its own.
+const childRole = "JOURNAL_TEST_CHILD"
+
+func TestMain(m *testing.M) {
+	switch os.Getenv(childRole) {
+	case "":
+		os.Exit(m.Run())
+	case "appender":
+		os.Exit(appender(os.Args[1]))
+	case "full disk":
+		os.Exit(fullDisk(os.Args[1]))
+	}
+}
+
+func child(role, dir string) *exec.Cmd {
+	c := exec.Command(os.Args[0], dir)
+	c.Env = append(os.Environ(), childRole+"="+role)
+	c.Stderr = os.Stderr
+	return c
+}
+
+// appender appends from several goroutines, takes one snapshot after another, and prints a letter and the number of a
+// batch once the batch was appended.
+func appender(dir string) int {
+	j, err := Open(dir)
+	if err != nil {
+		fmt.Fprintln(os.Stderr, err)
+		return 1
+	}
+	var mu sync.Mutex
+	record := j.Messages() // As the validator does, it holds a batch before the journal does.
+	next := uint64(len(record) / 82)
+	take := func() uint64 {
+		mu.Lock()
+		defer mu.Unlock()
+		next++
+		record = append(record, batch(next)...)
+		return next
+	}
+	failed := make(chan error)
+	for i := 0; i < 4; i++ {
+		go func() {
+			for {
+				n := take()
+				if err := j.Append(batch(n)); err != nil {
+					failed <- err
+				}
+				fmt.Printf("%d\n", n)
+			}
+		}()
+	}
+	go func() {
+		for {
+			err := j.Snapshot(func(w io.Writer) error {
+				mu.Lock()
+				now := record[:len(record):len(record)]
+				mu.Unlock()
+				return writes(now)(w)
+			})
+			if err != nil {
+				failed <- err
+			}
+		}
+	}()
+	fmt.Fprintln(os.Stderr, <-failed)
+	return 1
+}
+
+// TestKilledAtAnyMoment kills a process that appends and takes snapshots, again and again, and wants every batch that
+// was ever acknowledged each time.
+func TestKilledAtAnyMoment(t *testing.T) {
+	rounds := 40
+	if testing.Short() {
+		rounds = 5
+	}
+	dir := t.TempDir()
+	acknowledged := map[uint64]bool{}
+	for i := 0; i < rounds; i++ {
+		c := child("appender", dir)
+		out, err := c.StdoutPipe()
+		if err != nil {
+			t.Fatal(err)
+		}
+		if err := c.Start(); err != nil {
+			t.Fatal(err)
+		}
+		moment := time.AfterFunc(time.Duration(20+rand.Intn(100))*time.Millisecond, func() { c.Process.Kill() })
+		text, err := io.ReadAll(out)
+		if err != nil {
+			t.Fatal(err)
+		}
+		c.Wait()
+		if moment.Stop() {
+			t.Fatal("the process ended by itself")
+		}
+		for _, line := range strings.SplitAfter(string(text), "\n") {
+			var n uint64
+			if _, err := fmt.Sscanf(line, "%d\n", &n); err == nil && strings.HasSuffix(line, "\n") {
+				acknowledged[n] = true
+			}
+		}
+		wantAll(t, dir, acknowledged)
+	}
+	if len(acknowledged) < rounds {
+		t.Fatalf("%d batches in %d rounds are too few to say anything", len(acknowledged), rounds)
+	}
+	t.Logf("%d acknowledged batches are there after %d kills", len(acknowledged), rounds)
+}
+
+func wantAll(t *testing.T, dir string, acknowledged map[uint64]bool) {
+	t.Helper()
+	j, err := Open(dir)
+	if err != nil {
+		t.Fatal(err)
+	}
+	defer j.Close()
+	found := map[uint64]bool{}
+	for m := j.Messages(); len(m) > 0; m = m[82:] {
+		found[binary.BigEndian.Uint64(m[25:])] = true
+	}
+	for n := range acknowledged {
+		if !found[n] {
+			t.Fatalf("batch %d was acknowledged and is lost", n)
+		}
+	}
+}
+
+// fullDisk appends until the file may not grow any more, then lets it grow and appends again.
+func fullDisk(dir string) int {
+	j, err := Open(dir)
+	if err != nil {
+		fmt.Fprintln(os.Stderr, err)
+		return 1
+	}
+	signal.Ignore(syscall.SIGXFSZ)
+	var before syscall.Rlimit
+	if err := syscall.Getrlimit(syscall.RLIMIT_FSIZE, &before); err != nil {
+		fmt.Fprintln(os.Stderr, err)
+		return 1
+	}
+	syscall.Setrlimit(syscall.RLIMIT_FSIZE, &syscall.Rlimit{Cur: 1000, Max: before.Max})
+	n := uint64(0)
+	for err == nil {
+		if err = j.Append(batch(n)); err == nil {
+			n++
+		}
+	}
+	refused := j.Append(batch(n))
+	syscall.Setrlimit(syscall.RLIMIT_FSIZE, &before)
+	again := j.Append(batch(n))
+	fmt.Print(n, errors.Is(err, syscall.EFBIG), errors.Is(refused, syscall.EFBIG), again)
+	return 0
+}
+
+func TestFullDiskTakesNothingHalf(t *testing.T) {
+	dir := t.TempDir()
+	out, err := child("full disk", dir).Output()
+	if want := "12 true true <nil>"; string(out) != want || err != nil {
+		t.Fatalf("%q %v, want %q", out, err, want)
+	}
+	j := mustOpen(t, dir)
+	wantMessages(t, j, batches(0, 13))
+	if j.Cut() != 0 {
+		t.Fatalf("%d bytes were left half", j.Cut())
+	}
+}
+
+func BenchmarkAppend(b *testing.B) {
+	j, err := Open(b.TempDir())
+	if err != nil {
+		b.Fatal(err)
+	}
+	defer j.Close()
+	one := batch(1)
+	b.SetParallelism(16)
+	b.RunParallel(func(pb *testing.PB) {
+		for pb.Next() {
+			if err := j.Append(one); err != nil {
+				b.Error(err)
+			}
+		}
+	})
+}

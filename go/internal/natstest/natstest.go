@@ -1,0 +1,61 @@
+// Package natstest starts nats-server with JetStream for a test. What it starts ends with the test.
+package natstest
+
+import (
+	"testing"
+	"time"
+
+	"svid.example/go/internal/broker"
+)
+
+// patience is how long a test waits for what must come.
+const patience = 30 * time.Second
+
+// Start starts one server, with more words on its command line, and waits until JetStream answers.
+func Start(t testing.TB, more ...string) *broker.Server {
+	t.Helper()
+	s, err := broker.New(t.TempDir(), more...)
+	if err != nil {
+		t.Fatal(err)
+	}
+	start(t, s)
+	return s
+}
+
+// Cluster starts n servers as a cluster, and waits until JetStream has a leader.
+func Cluster(t testing.TB, n int) []*broker.Server {
+	t.Helper()
+	dirs := make([]string, n)
+	for i := range dirs {
+		dirs[i] = t.TempDir()
+	}
+	servers, err := broker.NewCluster(dirs)
+	if err != nil {
+		t.Fatal(err)
+	}
+	start(t, servers...)
+	return servers
+}
+
+func start(t testing.TB, servers ...*broker.Server) {
+	t.Helper()
+	for _, s := range servers {
+		t.Cleanup(s.Kill)
+		if err := s.Start(); err != nil {
+			t.Fatal(err)
+		}
+	}
+	for _, s := range servers {
+		Await(t, "JetStream", s.Answers)
+	}
+}
+
+// Await asks every few milliseconds whether something is so, and ends the test where it is not in time.
+func Await(t testing.TB, what string, so func() bool) {
+	t.Helper()
+	for end := time.Now().Add(patience); !so(); time.Sleep(5 * time.Millisecond) {
+		if time.Now().After(end) {
+			t.Fatalf("waited %v for %s", patience, what)
+		}
+	}
+}

@@ -1,0 +1,342 @@
+// Package server is the sidecar svidd without its command line: it judges
+// tokens over HTTP, and keeps what an acceptance owes to the disk and to the
+// group before the answer goes out.
+//
+// An Engine decides, by the proved validator of package svid. A Handler puts it
+// behind /check. The state folder and the group are interfaces here, which
+// packages journal and group implement.
+package server
+
+import (
+	"context"
+	"encoding/json"
+	"errors"
+	"fmt"
+	"io"
+	"sync"
+	"sync/atomic"
+	"time"
+
+	"svid.example/go/svid"
+)
+
+// A Mode is what an acceptance means for the next time that the token comes.
+type Mode string
+
+// The modes.
+const (
+	Once   Mode = "once"   // a token is accepted once by this sidecar; the group hears of it at once
+	Strict Mode = "strict" // a token is accepted once in the whole group
+	Reuse  Mode = "reuse"  // a token is accepted until it expires or is revoked
+)
+
+// ErrNotReady: the sidecar has not yet read its bundles, its record and the
+// group's.
+var ErrNotReady = errors.New("not ready")
+
+// A Journal keeps acceptances on the disk.
+type Journal interface {
+	// Append returns after the batch is on the disk.
+	Append(batch []byte) error
+	// Size is how many bytes were appended since the last snapshot.
+	Size() int64
+	// Snapshot replaces snapshot and journal by what write writes, and loses
+	// nothing that is appended meanwhile.
+	Snapshot(write func(io.Writer) error) error
+}
+
+// A Group carries uses and withdrawals to the other sidecars, and theirs to
+// Engine.Take.
+type Group interface {
+	Ready() <-chan struct{}
+	Tell(ctx context.Context, key [32]byte, batch []byte) error
+	Claim(ctx context.Context, key [32]byte, batch []byte) (won bool, winner []byte, err error)
+	Withdraw(ctx context.Context, key [32]byte, batch []byte) error
+	Taken() uint64
+	Aside() uint64
+}
+
+// Options of an Engine.
+type Options struct {
+	Mode      Mode
+	Audiences []string
+	Longest   uint64 // seconds past now that a token may live
+	Ahead     uint64 // seconds that clocks of the group may differ
+	Step      uint64 // seconds that the clock may go ahead between two ticks; 0 for any
+	Jumped    func() // is called once the clock has been further ahead than Step for a minute; may be nil
+	Place     svid.Place
+	Journal   Journal       // nil keeps nothing on the disk
+	Grouped   bool          // the engine is not ready before it joined a group
+	Wait      time.Duration // for the group's answer to a claim or a withdrawal
+	Now       func() uint64 // nil is svid.Now
+	Log       *Log
+}
+
+// An Engine judges tokens. Its methods may be called by many goroutines at once.
+type Engine struct {
+	Options
+	Metrics   Metrics
+	keyring   *svid.Keyring
+	validator *svid.Validator
+	claims    claims
+	verified  verified // in mode reuse
+	group     atomic.Pointer[joined]
+	untold    chan telling
+
+	loaded   atomic.Bool // the state folder's record is in the validator
+	draining atomic.Bool
+	jumped   atomic.Bool // the clock is further ahead than Options.Step
+	jumpedAt time.Time   // since then; tick alone uses it
+
+	renewing sync.Mutex // held while bundles are replaced
+	bundles  atomic.Pointer[[]byte]
+}
+
+// joined is the group once it is there.
+type joined struct{ Group }
+
+// A telling is a use that the group is to hear of.
+type telling struct {
+	key   svid.TokenKey
+	batch []byte
+}
+
+// mostUntold is how many uses may wait to be told. Behind that they are dropped
+// and counted: the group's summaries bring them later.
+const mostUntold = 1 << 16
+
+// noBundles are the bundles before the first ones are read.
+var noBundles = []byte("{}")
+
+// NewEngine returns an engine that is not ready: it wants SetBundles, Load, and
+// where Options.Grouped is set, Join.
+func NewEngine(o Options) (*Engine, error) {
+	if o.Now == nil {
+		o.Now = svid.Now
+	}
+	if o.Step == 0 {
+		o.Step = svid.NoLimit
+	}
+	keyring, err := svid.NewKeyring(noBundles)
+	if err != nil {
+		return nil, err
+	}
+	validator, err := svid.Open(svid.Options{
+		Audiences: o.Audiences, Bundles: noBundles, Longest: o.Longest,
+		Ahead: o.Ahead, Step: o.Step, Place: o.Place,
+	})
+	if err != nil {
+		keyring.Close()
+		return nil, err
+	}
+	e := &Engine{Options: o, keyring: keyring, validator: validator, untold: make(chan telling, mostUntold)}
+	e.claims.open = make(map[svid.TokenKey]*claim)
+	return e, nil
+}
+
+// Close frees the record. No call may be under way.
+func (e *Engine) Close() {
+	e.keyring.Close()
+	e.validator.Close()
+}
+
+// SetBundles replaces the trust bundles, given by trust domain. On an error the
+// old ones stay.
+func (e *Engine) SetBundles(domains map[string]json.RawMessage) error {
+	bundles, err := json.Marshal(domains)
+	if err != nil {
+		return fmt.Errorf("bundles: %w", err)
+	}
+	e.renewing.Lock()
+	defer e.renewing.Unlock()
+	// The validator first: a key that only the keyring has would be asked for,
+	// and its answer not be believed.
+	if err := e.validator.SetBundles(bundles); err != nil {
+		return err
+	}
+	if err := e.keyring.SetBundles(bundles); err != nil {
+		if old := e.bundles.Load(); old != nil {
+			_ = e.validator.SetBundles(*old) // if that fails too, keys that both have still work
+		}
+		return err
+	}
+	e.bundles.Store(&bundles)
+	e.verified.clear()
+	return nil
+}
+
+// Join lets the engine share its record with a group, to which it was given as
+// the Sink.
+func (e *Engine) Join(g Group) { e.group.Store(&joined{g}) }
+
+// Drain lets Ready answer no from now on. Tokens are still judged.
+func (e *Engine) Drain() { e.draining.Store(true) }
+
+// Ready returns nil if tokens are to be sent here: the engine can judge them, and
+// does not drain.
+func (e *Engine) Ready() error {
+	if e.draining.Load() {
+		return errors.New("draining")
+	}
+	if e.jumped.Load() {
+		return fmt.Errorf("the clock went ahead by more than %d seconds at once", e.Step)
+	}
+	return e.canJudge()
+}
+
+// canJudge returns nil once bundles, the engine's own record and the group's are
+// read.
+func (e *Engine) canJudge() error {
+	switch g := e.group.Load(); {
+	case e.bundles.Load() == nil:
+		return errors.New("no trust bundle was read yet")
+	case !e.loaded.Load():
+		return errors.New("the state folder is being read")
+	case !e.Grouped:
+		return nil
+	case g == nil:
+		return errors.New("the group's broker was not reached yet")
+	default:
+		select {
+		case <-g.Ready():
+			return nil
+		default:
+			return errors.New("the group's bucket is being read")
+		}
+	}
+}
+
+// Check judges a token, and makes an acceptance last as the mode says. The error
+// is nil for an accepted token, a svid.Refusal for a rejected one, and anything
+// else if the token could not be judged, or its acceptance not be kept: it is
+// not accepted then.
+func (e *Engine) Check(ctx context.Context, token string) (svid.Accepted, error) {
+	if err := e.canJudge(); err != nil {
+		return svid.Accepted{}, fmt.Errorf("%w: %v", ErrNotReady, err)
+	}
+	if e.Mode == Reuse {
+		return e.checkReuse(token)
+	}
+	yes, err := e.verify(token)
+	if err != nil {
+		return svid.Accepted{}, err
+	}
+	if e.Mode == Strict {
+		return e.checkStrict(ctx, token, yes)
+	}
+	return e.checkOnce(token, yes)
+}
+
+// verify returns the question that the token's signature answers. A token that the
+// keyring rejects goes on without an answered question, for the validator to say
+// which refusal comes first. It can't be accepted.
+func (e *Engine) verify(token string) ([]svid.Question, error) {
+	yes, err := e.keyring.Verify(token)
+	var refusal svid.Refusal
+	if err != nil && !errors.As(err, &refusal) {
+		return nil, err
+	}
+	return yes, nil
+}
+
+// checkOnce accepts a token once at this sidecar. At each step:
+//
+//  1. Check adds the use to the record in memory, under the validator's lock. Of
+//     all requests with this token exactly one is accepted by it; the others are
+//     Replayed, whatever becomes of that one. Nothing is on the disk. A crash
+//     here forgets the use, and nobody was answered 200.
+//  2. Append returns once the use is on the disk. If it fails, the answer is 503;
+//     memory has the use, so the token stays rejected until a restart, and it was
+//     never answered 200. A crash behind this step finds the use again at the
+//     start (Load), before the first request is judged.
+//  3. The group is told, without waiting. What does not reach it now is repaired
+//     by summaries. Until it has heard, another sidecar may accept the token, and
+//     then the report of each lists the token.
+//  4. Only now the answer is 200.
+func (e *Engine) checkOnce(token string, yes []svid.Question) (svid.Accepted, error) {
+	accepted, err := e.validator.Check(e.Now(), token, yes)
+	if err != nil {
+		return svid.Accepted{}, err
+	}
+	batch := accepted.Use.Batch()
+	if err := e.keep(batch); err != nil {
+		return svid.Accepted{}, err
+	}
+	e.tell(accepted.Use.Key, batch)
+	return accepted, nil
+}
+
+// keep returns once the batch is on the disk, where there is a state folder.
+func (e *Engine) keep(batch []byte) error {
+	if e.Journal == nil {
+		return nil
+	}
+	if err := e.Journal.Append(batch); err != nil {
+		e.Metrics.JournalFailures.Add(1)
+		return fmt.Errorf("the acceptance could not be kept: %w", err)
+	}
+	return nil
+}
+
+// tell lets the group hear of a use, soon.
+func (e *Engine) tell(key svid.TokenKey, batch []byte) {
+	if !e.Grouped {
+		return
+	}
+	select {
+	case e.untold <- telling{key, batch}:
+	default:
+		e.Metrics.Untold.Add(1)
+	}
+}
+
+// Withdraw revokes the token of this key, which expires at exp, here and in the
+// group. An error that says the group was not told leaves the token revoked here;
+// the same call can be made again.
+func (e *Engine) Withdraw(ctx context.Context, key svid.TokenKey, exp uint64) (svid.Use, error) {
+	if err := e.canJudge(); err != nil {
+		return svid.Use{}, fmt.Errorf("%w: %v", ErrNotReady, err)
+	}
+	use, err := e.validator.Withdraw(e.Now(), key, exp)
+	if err != nil {
+		return svid.Use{}, err
+	}
+	batch := use.Batch()
+	if err := e.keep(batch); err != nil {
+		return svid.Use{}, err
+	}
+	if g := e.group.Load(); g != nil {
+		ctx, cancel := context.WithTimeout(ctx, e.Wait)
+		defer cancel()
+		if err := g.Withdraw(ctx, key, batch); err != nil {
+			return svid.Use{}, fmt.Errorf("revoked here, but the group was not told; try again: %w", err)
+		}
+	}
+	e.Metrics.Withdrawals.Add(1)
+	e.Log.Event("withdrawn", "key", key.String(), "exp", exp)
+	return use, nil
+}
+
+// Find returns the key and expiry of a token for these audiences whose signature
+// is good and that has not expired, whether it was used or not.
+func (e *Engine) Find(token string) (svid.Use, error) {
+	bundles := e.bundles.Load()
+	if bundles == nil {
+		return svid.Use{}, ErrNotReady
+	}
+	// A validator with an empty record, so that the token is judged as if it were new.
+	fresh, err := svid.Open(svid.Options{
+		Audiences: e.Audiences, Bundles: *bundles, Longest: svid.NoLimit,
+		Ahead: e.Ahead, Step: svid.NoLimit, Place: e.Place,
+	})
+	if err != nil {
+		return svid.Use{}, err
+	}
+	defer fresh.Close()
+	yes, err := e.verify(token)
+	if err != nil {
+		return svid.Use{}, err
+	}
+	judged, err := fresh.Judge(e.Now(), token, yes)
+	return judged.Use, err
+}

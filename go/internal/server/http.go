@@ -1,0 +1,157 @@
+package server
+
+import (
+	"encoding/json"
+	"errors"
+	"net/http"
+	"strconv"
+	"strings"
+	"time"
+
+	"svid.example/go/svid"
+)
+
+// MaxHeader is how many bytes the headers of a request may have: room for the
+// longest token, and for what a proxy adds.
+const MaxHeader = 2 * svid.MaxToken
+
+// refusalOf finds the refusal in an error.
+func refusalOf(err error) (svid.Refusal, bool) {
+	var r svid.Refusal
+	ok := errors.As(err, &r)
+	return r, ok
+}
+
+// Handler answers /check and every path under it, /metrics, /healthz and /readyz.
+// It does not clean paths and never redirects: a proxy puts the path of its own
+// request behind /check, whatever that is.
+func (e *Engine) Handler() http.Handler {
+	return http.HandlerFunc(func(w http.ResponseWriter, r *http.Request) {
+		switch path := r.URL.Path; {
+		case path == "/check" || strings.HasPrefix(path, "/check/"):
+			e.serveCheck(w, r)
+		case path == "/metrics":
+			w.Header().Set("Content-Type", "text/plain; version=0.0.4; charset=utf-8")
+			_ = e.WriteMetrics(w)
+		case path == "/healthz":
+			_, _ = w.Write([]byte("ok\n"))
+		case path == "/readyz":
+			if err := e.Ready(); err != nil {
+				http.Error(w, err.Error(), http.StatusServiceUnavailable)
+				return
+			}
+			_, _ = w.Write([]byte("ready\n"))
+		default:
+			http.NotFound(w, r)
+		}
+	})
+}
+
+// serveCheck judges the bearer token of a request. It answers:
+//
+//	200  X-Spiffe-Id, X-Svid-Audience and X-Svid-Expires say for whom and for how long
+//	401  WWW-Authenticate as RFC 6750 has it, and a JSON body with the refusal
+//	503  the token could not be judged; it is not accepted
+func (e *Engine) serveCheck(w http.ResponseWriter, r *http.Request) {
+	from := time.Now()
+	w.Header().Set("Cache-Control", "no-store")
+	token, problem := bearer(r.Header)
+	if problem != nil {
+		e.Metrics.noToken.Add(1)
+		problem.write(w)
+		return
+	}
+	accepted, err := e.Check(r.Context(), token)
+	took := time.Since(from)
+	e.Metrics.observe(err, took)
+	e.logDecision(from, took, token, accepted, err)
+	if err != nil {
+		answerTo(err).write(w)
+		return
+	}
+	w.Header().Set("X-Spiffe-Id", accepted.ID)
+	w.Header().Set("X-Svid-Audience", e.audience(token))
+	w.Header().Set("X-Svid-Expires", strconv.FormatUint(accepted.Use.Expires, 10))
+	w.WriteHeader(http.StatusOK)
+}
+
+// bearer finds the token of a request (RFC 6750, section 2.1).
+func bearer(h http.Header) (string, *answer) {
+	values := h["Authorization"]
+	if len(values) == 0 {
+		return "", &answer{status: http.StatusUnauthorized, result: "refused", reason: "NoToken"}
+	}
+	scheme, token, _ := strings.Cut(values[0], " ")
+	token = strings.Trim(token, " ")
+	if len(values) > 1 || !strings.EqualFold(scheme, "Bearer") || token == "" {
+		return "", &answer{status: http.StatusUnauthorized, result: "refused", reason: "NotBearer", code: "invalid_request"}
+	}
+	return token, nil
+}
+
+// An answer is one that accepts nothing.
+type answer struct {
+	status int
+	result string // "refused" or "unavailable"
+	reason string
+	code   string // the error code of RFC 6750, section 3.1; "" where no token was given
+}
+
+func answerTo(err error) *answer {
+	if refusal, ok := refusalOf(err); ok {
+		return &answer{http.StatusUnauthorized, "refused", refusal.String(), "invalid_token"}
+	}
+	return &answer{status: http.StatusServiceUnavailable, result: "unavailable", reason: err.Error()}
+}
+
+func (a *answer) write(w http.ResponseWriter) {
+	body, err := json.Marshal(map[string]string{"result": a.result, "reason": a.reason})
+	if err != nil {
+		body = []byte(`{}`)
+	}
+	switch {
+	case a.status != http.StatusUnauthorized:
+		w.Header().Set("Retry-After", "1")
+	case a.code == "":
+		w.Header().Set("WWW-Authenticate", "Bearer")
+	default:
+		w.Header().Set("WWW-Authenticate", `Bearer error="`+a.code+`", error_description="`+a.reason+`"`)
+	}
+	w.Header().Set("Content-Type", "application/json")
+	w.WriteHeader(a.status)
+	_, _ = w.Write(append(body, '\n'))
+}
+
+// audience is the first of the engine's audiences that an accepted token names.
+func (e *Engine) audience(token string) string {
+	if len(e.Audiences) == 1 {
+		return e.Audiences[0] // or the token would not be accepted
+	}
+	var said unverified
+	said.readAudience(members(payload(token)))
+	return said.audience(e.Audiences)
+}
+
+// logDecision writes the line of a judged token, without the token.
+func (e *Engine) logDecision(at time.Time, took time.Duration, token string, accepted svid.Accepted, err error) {
+	refusal, refused := refusalOf(err)
+	level := Decisions
+	if err != nil && !refused {
+		level = Errors
+	}
+	if !e.Log.Writes(level) {
+		return
+	}
+	said := readUnverified(token)
+	d := decision{Time: timestamp(at), Place: e.Place.String(), Micros: took.Microseconds()}
+	switch {
+	case err == nil:
+		d.Event, d.Subject, d.KeyID = "accepted", accepted.ID, said.KeyID
+		d.Aud, d.Expires, d.Key = said.audience(e.Audiences), accepted.Use.Expires, accepted.Use.Key.String()
+	case refused:
+		d.Event, d.Reason, d.Claimed = "refused", refusal.String(), said.short()
+	default:
+		d.Event, d.Reason, d.Claimed = "unavailable", err.Error(), said.short()
+	}
+	e.Log.line(d)
+}

@@ -1,0 +1,85 @@
+package server
+
+import (
+	"crypto/sha256"
+	"sync"
+
+	"svid.example/go/svid"
+)
+
+// mostVerified is how many tokens a generation of verified has: some 4 MB.
+const mostVerified = 1 << 15
+
+// verified keeps which question the signature of a token answers, for mode reuse, where a token comes again and again: it
+// need not be verified each time. What is kept is no verdict. The validator judges the token each time, and counts an
+// answer only if its question is of a key that it has at that moment. So a kept answer can't outlive its key; and since a
+// question is a digest over the token's own signed bytes and signature, it is of no use for another token.
+type verified struct {
+	mu         sync.Mutex
+	epoch      uint64 // counts the bundles that there were
+	young, old map[tokenName]svid.Question
+}
+
+// A tokenName is the digest of a whole token.
+type tokenName [sha256.Size]byte
+
+func nameOf(token string) tokenName { return sha256.Sum256([]byte(token)) }
+
+// get finds the answered question of a token. epoch is for put.
+func (v *verified) get(name tokenName) (question svid.Question, epoch uint64, ok bool) {
+	v.mu.Lock()
+	defer v.mu.Unlock()
+	if question, ok = v.young[name]; ok {
+		return question, v.epoch, true
+	}
+	if question, ok = v.old[name]; ok {
+		v.add(name, question) // It stays for another generation.
+	}
+	return question, v.epoch, ok
+}
+
+// put keeps an answered question, unless the bundles were renewed since get.
+func (v *verified) put(epoch uint64, name tokenName, question svid.Question) {
+	v.mu.Lock()
+	defer v.mu.Unlock()
+	if epoch == v.epoch {
+		v.add(name, question)
+	}
+}
+
+func (v *verified) add(name tokenName, question svid.Question) {
+	if v.young == nil || len(v.young) == mostVerified {
+		v.young, v.old = make(map[tokenName]svid.Question), v.young
+	}
+	v.young[name] = question
+}
+
+// clear forgets all, since the bundles are other ones.
+func (v *verified) clear() {
+	v.mu.Lock()
+	defer v.mu.Unlock()
+	v.epoch++
+	v.young, v.old = nil, nil
+}
+
+// checkReuse judges a token, and adds nothing to the record.
+func (e *Engine) checkReuse(token string) (svid.Accepted, error) {
+	name := nameOf(token)
+	question, epoch, ok := e.verified.get(name)
+	if ok {
+		accepted, err := e.validator.Judge(e.Now(), token, []svid.Question{question})
+		if err != svid.BadSignature {
+			return accepted, err
+		}
+		// The key is not among the validator's any more, or is written otherwise: another one may have signed the token.
+	}
+	yes, err := e.verify(token)
+	if err != nil {
+		return svid.Accepted{}, err
+	}
+	accepted, err := e.validator.Judge(e.Now(), token, yes)
+	if err == nil && len(yes) == 1 {
+		e.verified.put(epoch, name, yes[0])
+	}
+	return accepted, err
+}

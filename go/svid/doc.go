@@ -1,0 +1,36 @@
+// Package svid accepts and rejects SPIFFE JWT-SVIDs, and keeps the record of
+// the tokens that were used or revoked.
+//
+// It is a binding of the C library libsvid, whose decisions are proved. A
+// service holds two things:
+//
+//   - A [Keyring] has the trust bundles. It finds the keys that may have signed
+//     a token, and verifies the signature with Go's standard library.
+//   - A [Validator] has the record. It judges a token whose signature is
+//     verified, and remembers that it was used.
+//
+// One check is two calls:
+//
+//	yes, err := keyring.Verify(token)              // signatures, in parallel
+//	accepted, err := validator.Check(svid.Now(), token, yes) // the verdict
+//
+// An error that is a [Refusal] says why the token is rejected, and
+// errors.Is(err, svid.Replayed) tests for one reason. Any other error means
+// that the token could not be judged: it was not accepted, and the caller may
+// try again.
+//
+// Words: a use is the fact that a token was accepted once, or revoked. A record
+// is a set of uses that have not expired, and a moment, the latest time that it
+// has seen. A message carries a record or a part of it to other validators. All
+// times are whole seconds since 1970.
+//
+// Building needs cgo, and of this repository the file include/svid.h and the
+// libsvid.a under dist for the machine.
+package svid
+
+// #include "svid.h"
+import "C"
+
+// Version returns the version of the C library: 10,000 times the major number,
+// 100 times the minor number, and the patch.
+func Version() uint32 { return uint32(C.svid_version()) }

@@ -1,0 +1,105 @@
+package svid
+
+// #include "svid.h"
+import "C"
+
+import (
+	"errors"
+	"fmt"
+)
+
+// Errors that are about no token. After each of them the token, or the message,
+// was not accepted.
+var (
+	// ErrNoMemory: malloc returned NULL. The call can be made again.
+	ErrNoMemory = errors.New("svid: out of memory")
+	// ErrClosed: the Validator or Keyring is closed.
+	ErrClosed = errors.New("svid: the handle is closed")
+	// ErrGone: the token to be revoked has expired.
+	ErrGone = errors.New("svid: the token has expired, so there is nothing to revoke")
+	// ErrTooFar: a message tells of a time more than Options.Ahead seconds past now.
+	ErrTooFar = errors.New("svid: the message is from further in the future than clocks may differ")
+	// ErrJump: now is more than Options.Step seconds past the record's moment.
+	ErrJump = errors.New("svid: the clock went further than one step may")
+	// ErrTooMuch: an input of messages has more than MaxMessages bytes.
+	ErrTooMuch = errors.New("svid: more than 67108864 bytes of messages in one call")
+	// ErrNotSummary: the input is not one summary.
+	ErrNotSummary = errors.New("svid: not one summary")
+	// ErrBatch: a message is not a batch of version 2.
+	ErrBatch = errors.New("svid: not a batch of version 2")
+	// ErrAudience: an audience is not UTF-8, is empty, or holds a line break.
+	ErrAudience = errors.New("svid: an audience must be UTF-8 text without line breaks, and not empty")
+	// ErrBundles: the bundles are not one JSON object.
+	ErrBundles = errors.New("svid: the bundles are not one JSON object from trust domains to JWK sets")
+)
+
+// A BundleError says which trust domain of the bundles is at fault.
+type BundleError struct {
+	Reason string // "Domain": the name is no trust domain name; "Keys": its value is no JWK set
+	Index  int    // of the name among all names in rising byte order, from 0
+}
+
+// Error names the reason and the index.
+func (e *BundleError) Error() string {
+	what := "the name is no trust domain name"
+	if e.Reason == "Keys" {
+		what = "the value is no object with a list \"keys\""
+	}
+	return fmt.Sprintf("svid: bundles: %s (trust domain %d in rising order, from 0)", what, e.Index)
+}
+
+// A MessageError says why bytes are no row of messages.
+type MessageError struct {
+	Reason  string // as docs/FORMATS.md names it: "Magic" to "Truncated"
+	Message int    // which message is at fault, from 1
+	Place   int    // the byte of that message at which the faulty field begins, from 0
+}
+
+// Error names the reason and where it is.
+func (e *MessageError) Error() string {
+	return fmt.Sprintf("svid: message %d, byte %d: %s", e.Message, e.Place, e.Reason)
+}
+
+var messageReasons = map[C.uint32_t]string{
+	C.SVID_MAGIC:       "Magic",
+	C.SVID_KIND:        "Kind",
+	C.SVID_COUNT:       "Count",
+	C.SVID_USE_KIND:    "UseKind",
+	C.SVID_USE_EXPIRED: "UseExpired",
+	C.SVID_USE_FUTURE:  "UseFuture",
+	C.SVID_USE_ORDER:   "UseOrder",
+	C.SVID_TRUNCATED:   "Truncated",
+}
+
+var statusErrors = map[C.uint32_t]error{
+	C.SVID_NO_MEMORY:          ErrNoMemory,
+	C.SVID_CLOSED:             ErrClosed,
+	C.SVID_GONE:               ErrGone,
+	C.SVID_TOO_FAR:            ErrTooFar,
+	C.SVID_JUMP:               ErrJump,
+	C.SVID_TOO_MUCH:           ErrTooMuch,
+	C.SVID_NOT_SUMMARY:        ErrNotSummary,
+	C.SVID_BUNDLES_NOT_OBJECT: ErrBundles,
+	C.SVID_OWN_NOT_UTF8:       ErrAudience,
+}
+
+// failure is the error of a status, or nil for SVID_OK.
+func failure(status C.uint32_t, told *C.svid_told) error {
+	switch {
+	case status == C.SVID_OK:
+		return nil
+	case status >= C.SVID_TOO_LONG && status <= C.SVID_REPLAYED:
+		return Refusal(status)
+	case status == C.SVID_BUNDLES_DOMAIN:
+		return &BundleError{Reason: "Domain", Index: int(told.place)}
+	case status == C.SVID_BUNDLES_KEYS:
+		return &BundleError{Reason: "Keys", Index: int(told.place)}
+	}
+	if reason, ok := messageReasons[status]; ok {
+		return &MessageError{Reason: reason, Message: int(told.message), Place: int(told.place)}
+	}
+	if err, ok := statusErrors[status]; ok {
+		return err
+	}
+	return fmt.Errorf("svid: the library answered status %d", uint32(status))
+}

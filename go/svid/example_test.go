@@ -1,0 +1,121 @@
+package svid_test
+
+import (
+	"errors"
+	"fmt"
+	"log"
+
+	"svid.example/go/svid"
+)
+
+// A service checks a token: the keyring verifies the signature, and the
+// validator accepts the token once.
+func Example() {
+	bundles := example.Bundles() // {"example.org":{"keys":[..]}}
+	keyring, err := svid.NewKeyring(bundles)
+	if err != nil {
+		log.Fatal(err)
+	}
+	defer keyring.Close()
+	place, err := svid.NewPlace()
+	if err != nil {
+		log.Fatal(err)
+	}
+	validator, err := svid.Open(svid.Options{
+		Audiences: []string{"ledger"}, Bundles: bundles,
+		Longest: 3600, Ahead: 10, Step: 86400, Place: place,
+	})
+	if err != nil {
+		log.Fatal(err)
+	}
+	defer validator.Close()
+
+	now := uint64(1767225600) // svid.Now() in a service
+	token := example.Token("ES256", map[string]any{
+		"sub": "spiffe://example.org/web", "aud": "ledger", "exp": now + 300,
+	})
+	for i := 0; i < 2; i++ {
+		yes, err := keyring.Verify(token)
+		if err != nil {
+			fmt.Println(err)
+			continue
+		}
+		accepted, err := validator.Check(now, token, yes)
+		switch {
+		case err == nil:
+			fmt.Println(accepted.ID, accepted.Use.Expires)
+		case errors.Is(err, svid.Replayed):
+			fmt.Println("used before")
+		default:
+			fmt.Println(err)
+		}
+	}
+	// Output:
+	// spiffe://example.org/web 1767225900
+	// used before
+}
+
+// Two validators share their record: what one accepted, the other rejects.
+func ExampleValidator_Take() {
+	here, err := svid.Open(options(1))
+	if err != nil {
+		log.Fatal(err)
+	}
+	defer here.Close()
+	there, err := svid.Open(options(2))
+	if err != nil {
+		log.Fatal(err)
+	}
+	defer there.Close()
+	keyring, err := svid.NewKeyring(example.Bundles())
+	if err != nil {
+		log.Fatal(err)
+	}
+	defer keyring.Close()
+
+	token := example.Token("RS256", claims("example"))
+	yes, err := keyring.Verify(token)
+	if err != nil {
+		log.Fatal(err)
+	}
+	accepted, err := here.Check(moment, token, yes)
+	if err != nil {
+		log.Fatal(err)
+	}
+	if err := there.Take(moment, accepted.Use.Batch()); err != nil { // by any broker, file or socket
+		log.Fatal(err)
+	}
+	_, err = there.Check(moment, token, yes)
+	fmt.Println(err)
+	// Output: svid: token rejected: Replayed
+}
+
+// A token is revoked before it expires, by the key that an acceptance gave.
+func ExampleValidator_Withdraw() {
+	validator, err := svid.Open(options(1))
+	if err != nil {
+		log.Fatal(err)
+	}
+	defer validator.Close()
+	keyring, err := svid.NewKeyring(example.Bundles())
+	if err != nil {
+		log.Fatal(err)
+	}
+	defer keyring.Close()
+
+	token := example.Token("PS256", claims("example"))
+	yes, err := keyring.Verify(token)
+	if err != nil {
+		log.Fatal(err)
+	}
+	judged, err := validator.Judge(moment, token, yes)
+	if err != nil {
+		log.Fatal(err)
+	}
+	if _, err := validator.Withdraw(moment, judged.Use.Key, judged.Use.Expires); err != nil {
+		log.Fatal(err)
+	}
+	_, err = validator.Check(moment, token, yes)
+	fmt.Println(errors.Is(err, svid.Withdrawn))
+	// Output: true
+}

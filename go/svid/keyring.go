@@ -1,0 +1,202 @@
+package svid
+
+/*
+#include "svid.h"
+
+static uint32_t ask(svid_validator *v, _GoString_ token, uint8_t *out, size_t out_len, svid_told *told) {
+    return svid_validator_ask(v, (const uint8_t *)_GoStringPtr(token), _GoStringLen(token), out, out_len, told);
+}
+*/
+import "C"
+
+import (
+	"encoding/base64"
+	"encoding/binary"
+	"runtime"
+	"strings"
+	"sync"
+)
+
+// A Question asks whether one key made the signature of one token. It is a
+// SHA-256 digest over the key, the algorithm, the signed bytes and the
+// signature, so an answer can't be taken for that of another token or key.
+type Question [32]byte
+
+// A Candidate is a key that may have signed a token.
+type Candidate struct {
+	Question  Question
+	Algorithm string // as the token's header names it: "ES256"
+	Key       *Key
+}
+
+// A Keyring has trust bundles, finds the keys that may have signed a token, and
+// verifies signatures. It shares no lock with a Validator, and its methods may
+// be called by many goroutines at once. Each key is parsed once.
+type Keyring struct {
+	mu     sync.RWMutex // held for reading while an asker of bundles is in use
+	askers chan *asker
+	keys   *keyCache
+}
+
+// An asker is a handle of the library that only lists candidate keys. There is
+// one for each processor, since a handle serves one call at a time.
+type asker struct {
+	handle C.svid_validator
+	told   C.svid_told
+	rows   []byte
+}
+
+// NewKeyring returns a keyring of trust bundles: a JSON object from trust domain
+// names to JWK sets. Errors: ErrBundles, a *BundleError, ErrNoMemory.
+func NewKeyring(bundles []byte) (*Keyring, error) {
+	askers, err := openAskers(bundles)
+	if err != nil {
+		return nil, err
+	}
+	return &Keyring{askers: askers, keys: newKeyCache()}, nil
+}
+
+func openAskers(bundles []byte) (chan *asker, error) {
+	askers := make(chan *asker, runtime.GOMAXPROCS(0))
+	for len(askers) < cap(askers) {
+		a := &asker{rows: make([]byte, 4096)}
+		terms := C.svid_terms{}
+		status := C.svid_validator_open(&a.handle, &terms, nil, 0, start(bundles), C.size_t(len(bundles)), &a.told)
+		if err := failure(status, &a.told); err != nil {
+			closeAskers(askers)
+			return nil, err
+		}
+		askers <- a
+	}
+	return askers, nil
+}
+
+// closeAskers closes every asker; none may be in use.
+func closeAskers(askers chan *asker) {
+	for n := len(askers); n > 0; n-- {
+		a := <-askers
+		C.svid_validator_close(&a.handle)
+		askers <- a
+	}
+}
+
+// SetBundles replaces the trust bundles. Give the Validator the same. On an
+// error the old bundles stay.
+func (k *Keyring) SetBundles(bundles []byte) error {
+	askers, err := openAskers(bundles)
+	if err != nil {
+		return err
+	}
+	k.mu.Lock()
+	defer k.mu.Unlock()
+	closeAskers(k.askers)
+	k.askers, k.keys = askers, newKeyCache()
+	return nil
+}
+
+// Close frees what the library holds. Later calls answer ErrClosed.
+func (k *Keyring) Close() {
+	k.mu.Lock()
+	defer k.mu.Unlock()
+	closeAskers(k.askers)
+}
+
+// Candidates returns the keys that may have signed the token: those of the
+// subject's trust domain, of the algorithm's type, and of the header's kid where
+// it has one. The error is a Refusal, TooLong to Jti, UnknownDomain or NoKey, if
+// the token is rejected whatever its signature is.
+func (k *Keyring) Candidates(token string) ([]Candidate, error) {
+	k.mu.RLock()
+	defer k.mu.RUnlock()
+	a := <-k.askers
+	defer func() { k.askers <- a }()
+	rows, err := a.ask(token)
+	if err != nil {
+		return nil, err
+	}
+	var candidates []Candidate
+	for len(rows) > 0 {
+		var c Candidate
+		rows = rows[copy(c.Question[:], rows):]
+		var name, key []byte
+		name, rows = field(rows)
+		key, rows = field(rows)
+		c.Algorithm, c.Key = algorithmName(name), k.keys.get(key)
+		candidates = append(candidates, c)
+	}
+	return candidates, nil
+}
+
+// ask returns the library's rows about the token. They are good until the next ask.
+func (a *asker) ask(token string) ([]byte, error) {
+	for {
+		status := C.ask(&a.handle, token, start(a.rows), C.size_t(len(a.rows)), &a.told)
+		if status == C.SVID_TOO_SHORT {
+			a.rows = make([]byte, a.told.len)
+			continue
+		}
+		if err := failure(status, &a.told); err != nil {
+			return nil, err
+		}
+		return a.rows[:a.told.len], nil
+	}
+}
+
+// field cuts a text with its length before it from the rows.
+func field(rows []byte) (text, rest []byte) {
+	n := binary.BigEndian.Uint32(rows)
+	return rows[4 : 4+n], rows[4+n:]
+}
+
+// MaxCandidates is how many candidate keys Verify tries, so that a trust domain with
+// thousands of keys can't make a token without a kid cost seconds.
+const MaxCandidates = 64
+
+// Verify verifies the token's signature with each candidate key, and with at most
+// the first MaxCandidates, until one made it, and returns that key's question for Validator.Check. It returns no
+// question and no error if no candidate made the signature: the validator then
+// rejects the token as BadSignature, or for what comes before that. The error is
+// that of Candidates.
+func (k *Keyring) Verify(token string) ([]Question, error) {
+	candidates, err := k.Candidates(token)
+	if err != nil {
+		return nil, err
+	}
+	end := strings.LastIndexByte(token, '.')
+	signature, err := base64.RawURLEncoding.Strict().DecodeString(token[end+1:])
+	if err != nil {
+		return nil, SignatureSpelling
+	}
+	if len(candidates) > MaxCandidates {
+		candidates = candidates[:MaxCandidates]
+	}
+	for _, c := range candidates {
+		if c.Key.Verify(c.Algorithm, token[:end], signature) == nil {
+			return []Question{c.Question}, nil
+		}
+	}
+	return nil, nil
+}
+
+// A keyCache has each key of the bundles parsed once, by its JSON text: a kid is
+// not unique. It holds no more keys than the bundles do.
+type keyCache struct {
+	mu   sync.RWMutex
+	keys map[string]*Key
+}
+
+func newKeyCache() *keyCache { return &keyCache{keys: make(map[string]*Key)} }
+
+func (c *keyCache) get(text []byte) *Key {
+	c.mu.RLock()
+	key := c.keys[string(text)]
+	c.mu.RUnlock()
+	if key != nil {
+		return key
+	}
+	key = parseKey(text)
+	c.mu.Lock()
+	defer c.mu.Unlock()
+	c.keys[key.text] = key
+	return key
+}

@@ -1,0 +1,143 @@
+package svid_test
+
+import (
+	"bytes"
+	"encoding/binary"
+	"math/rand"
+	"testing"
+
+	"svid.example/go/svid"
+)
+
+// fill gives a validator n uses that expire from 1 second on.
+func fill(t testing.TB, v *svid.Validator, seed int64, n int) {
+	t.Helper()
+	random := rand.New(rand.NewSource(seed))
+	for i := 0; i < n; i++ {
+		u := svid.Use{Expires: moment + 1 + uint64(random.Intn(1000)), At: moment - uint64(random.Intn(2)), Place: svid.Place{9}}
+		random.Read(u.Key[:])
+		if err := v.Take(moment, u.Batch()); err != nil {
+			t.Fatal(err)
+		}
+	}
+}
+
+// The summary of a walk is the core's own, byte for byte.
+func TestWalkSummaryIsTheCores(t *testing.T) {
+	for _, n := range []int{0, 1, 5000} {
+		v := open(t, 1)
+		if err := v.Tick(moment); err != nil {
+			t.Fatal(err)
+		}
+		fill(t, v, 1, n)
+		for _, settle := range []uint64{0, 7} {
+			walked, err := v.WalkSummary(settle)
+			if err != nil {
+				t.Fatal(err)
+			}
+			if err := v.Tick(moment + settle); err != nil {
+				t.Fatal(err)
+			}
+			if core, err := v.Summary(); err != nil || !bytes.Equal(walked, core) {
+				t.Errorf("%d uses, %d seconds on: the summaries differ (%v)", n, settle, err)
+			}
+		}
+	}
+}
+
+// What an answer of a walk brings is what was missing, and none of it is new to who answered.
+func TestWalkAnswerBringsWhatIsMissing(t *testing.T) {
+	here, there, both := open(t, 1), open(t, 2), open(t, 3)
+	for _, v := range []*svid.Validator{here, there, both} {
+		fill(t, v, 1, 3000)
+	}
+	fill(t, there, 2, 40)
+	fill(t, both, 2, 40)
+	fill(t, here, 3, 7)
+	fill(t, both, 3, 7)
+	ask := func(from, to *svid.Validator, most int) []byte {
+		t.Helper()
+		summary, err := from.WalkSummary(0)
+		if err != nil {
+			t.Fatal(err)
+		}
+		answer, err := to.WalkAnswer(moment, 10, summary, most)
+		if err != nil {
+			t.Fatal(err)
+		}
+		if err := from.Take(moment, answer); err != nil {
+			t.Fatal(err)
+		}
+		return answer
+	}
+	const all = 1 << 20
+	// The core's own answer to the same summary brings the same record.
+	summary, err := here.Summary()
+	if err != nil {
+		t.Fatal(err)
+	}
+	core, err := there.Answer(moment, summary)
+	if err != nil {
+		t.Fatal(err)
+	}
+	if walked := ask(here, there, all); len(walked) < 40*65 || len(walked)-len(core) > 17 {
+		t.Errorf("an answer of %d bytes; the core's has %d", len(walked), len(core))
+	}
+	if !bytes.Equal(save(t, here), save(t, both)) {
+		t.Error("something is missing")
+	}
+	if err := there.Take(moment, save(t, here)); err != nil {
+		t.Fatal(err)
+	}
+	if answer := ask(here, there, all); len(answer) != 0 {
+		t.Errorf("equal records, and an answer of %d bytes", len(answer))
+	}
+	// Small answers bring all of it by and by.
+	empty := open(t, 4)
+	rounds := 0
+	for ; !bytes.Equal(save(t, empty), save(t, both)); rounds++ {
+		if answer := ask(empty, there, 4000); len(answer) > 8000 || rounds > 500 {
+			t.Fatalf("round %d: %d bytes", rounds, len(answer))
+		}
+	}
+	if rounds < 20 {
+		t.Errorf("%d rounds", rounds)
+	}
+}
+
+func TestWalkAnswerRejectsWhatIsNoSummary(t *testing.T) {
+	v := open(t, 1)
+	summary, err := v.WalkSummary(0)
+	if err != nil {
+		t.Fatal(err)
+	}
+	at := func(moment uint64) []byte {
+		s := append([]byte(nil), summary...)
+		binary.BigEndian.PutUint64(s[5:], moment)
+		return s
+	}
+	for _, row := range []struct {
+		what    string
+		summary []byte
+		want    error
+	}{
+		{"nothing", nil, svid.ErrNotSummary},
+		{"a batch", svid.Use{Expires: 2, At: 1}.Batch(), svid.ErrNotSummary},
+		{"a byte more", append(at(moment), 0), svid.ErrNotSummary},
+		{"too far", at(moment + 11), svid.ErrTooFar},
+		{"the greatest moment", at(^uint64(0)), svid.ErrTooFar},
+		{"just not too far", at(moment + 10), nil},
+		{"long ago", at(0), nil},
+	} {
+		if _, err := v.WalkAnswer(moment, 10, row.summary, 1000); err != row.want {
+			t.Errorf("%s: %v", row.what, err)
+		}
+	}
+	v.Close()
+	if _, err := v.WalkSummary(0); err != svid.ErrClosed {
+		t.Errorf("closed: %v", err)
+	}
+	if _, err := v.WalkAnswer(moment, 10, summary, 1000); err != svid.ErrClosed {
+		t.Errorf("closed: %v", err)
+	}
+}

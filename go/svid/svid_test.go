@@ -1,0 +1,712 @@
+package svid_test
+
+import (
+	"bytes"
+	"crypto/ecdsa"
+	"crypto/elliptic"
+	"crypto/rand"
+	"encoding/base64"
+	"encoding/json"
+	"errors"
+	"fmt"
+	"log"
+	"strings"
+	"sync"
+	"sync/atomic"
+	"testing"
+
+	"svid.example/go/internal/issuer"
+	"svid.example/go/svid"
+)
+
+const (
+	moment  = 1_767_225_600
+	longest = 3600
+)
+
+var example = newIssuer()
+
+func newIssuer() *issuer.Issuer {
+	i, err := issuer.New("example.org")
+	if err != nil {
+		log.Fatal(err)
+	}
+	return i
+}
+
+func claims(jti string) map[string]any {
+	return map[string]any{"sub": "spiffe://example.org/web", "aud": "ledger", "exp": moment + 300, "jti": jti}
+}
+
+func options(place byte) svid.Options {
+	return svid.Options{
+		Audiences: []string{"ledger", "audit"}, Bundles: example.Bundles(),
+		Longest: longest, Ahead: 10, Step: 86400, Place: svid.Place{place},
+	}
+}
+
+func open(t testing.TB, place byte) *svid.Validator {
+	t.Helper()
+	v, err := svid.Open(options(place))
+	if err != nil {
+		t.Fatal(err)
+	}
+	t.Cleanup(v.Close)
+	return v
+}
+
+func keyring(t testing.TB, bundles []byte) *svid.Keyring {
+	t.Helper()
+	k, err := svid.NewKeyring(bundles)
+	if err != nil {
+		t.Fatal(err)
+	}
+	t.Cleanup(k.Close)
+	return k
+}
+
+// verified is the token's question, answered by its signature.
+func verified(t testing.TB, k *svid.Keyring, token string) []svid.Question {
+	t.Helper()
+	yes, err := k.Verify(token)
+	if err != nil || len(yes) != 1 {
+		t.Fatalf("Verify: %d questions, error %v", len(yes), err)
+	}
+	return yes
+}
+
+func TestEachAlgorithmAccepts(t *testing.T) {
+	v, k := open(t, 1), keyring(t, example.Bundles())
+	for _, algorithm := range issuer.Algorithms {
+		token := example.Token(algorithm, claims(algorithm))
+		accepted, err := v.Check(moment, token, verified(t, k, token))
+		if err != nil || accepted.ID != "spiffe://example.org/web" || accepted.Use.Expires != moment+300 {
+			t.Errorf("%s: %+v, %v", algorithm, accepted, err)
+		}
+	}
+}
+
+// Every bit of a signature counts, in every algorithm.
+func TestABrokenSignatureIsNoneOfAnyKey(t *testing.T) {
+	v, k := open(t, 1), keyring(t, example.Bundles())
+	for _, algorithm := range issuer.Algorithms {
+		token := example.Token(algorithm, claims(algorithm))
+		end := strings.LastIndexByte(token, '.') + 1
+		signature, err := base64.RawURLEncoding.DecodeString(token[end:])
+		if err != nil {
+			t.Fatal(err)
+		}
+		broken := map[string][]byte{
+			"first bit": flip(signature, 0), "last bit": flip(signature, len(signature)*8-1),
+			"one byte less": signature[:len(signature)-1], "one byte more": append(append([]byte(nil), signature...), 0),
+		}
+		for what, s := range broken {
+			bad := token[:end] + base64.RawURLEncoding.EncodeToString(s)
+			yes, err := k.Verify(bad)
+			if err != nil || len(yes) != 0 {
+				t.Errorf("%s, %s: %d questions, error %v", algorithm, what, len(yes), err)
+			}
+			if _, err := v.Check(moment, bad, yes); !errors.Is(err, svid.BadSignature) {
+				t.Errorf("%s, %s: %v", algorithm, what, err)
+			}
+		}
+	}
+}
+
+func flip(b []byte, bit int) []byte {
+	c := append([]byte(nil), b...)
+	c[bit/8] ^= 0x80 >> (bit % 8)
+	return c
+}
+
+// RFC 7515, A.3: a key and a signature that someone else made.
+func TestSignatureOfRFC7515(t *testing.T) {
+	const jwk = `{"kty":"EC","crv":"P-256","x":"f83OJ3D2xF1Bg8vub9tLe1gHMzV76e8Tus9uPHvRVEU","y":"x_FEzRu9m36HLN_tue659LNpXW6pCyStikYjKIWI5a0"}`
+	const signed = "eyJhbGciOiJFUzI1NiJ9.eyJpc3MiOiJqb2UiLA0KICJleHAiOjEzMDA4MTkzODAsDQogImh0dHA6Ly9leGFtcGxlLmNvbS9pc19yb290Ijp0cnVlfQ"
+	const signature = "DtEhU3ljbEg8L38VWAfUAqOyKAM6-Xx-F4GawxaepmXFCgfTjDxw5djxLa8ISlSApmWQxfKTUJqPP3-Kg6NU1Q"
+	key, err := svid.ParseKey([]byte(jwk))
+	if err != nil {
+		t.Fatal(err)
+	}
+	made, err := base64.RawURLEncoding.DecodeString(signature)
+	if err != nil {
+		t.Fatal(err)
+	}
+	if err := key.Verify("ES256", signed, made); err != nil {
+		t.Error(err)
+	}
+	if err := key.Verify("ES256", signed+"A", made); !errors.Is(err, svid.ErrSignature) {
+		t.Errorf("another text: %v", err)
+	}
+	if err := key.Verify("none", signed, nil); !errors.Is(err, svid.ErrKey) {
+		t.Errorf("no algorithm: %v", err)
+	}
+}
+
+func TestASaltOfAnotherLengthIsRejected(t *testing.T) {
+	k := keyring(t, example.Bundles())
+	for salt, want := range map[int]int{32: 1, 31: 0, 33: 0, 1: 0, 64: 0} {
+		if yes, err := k.Verify(example.Salted(claims("a"), salt)); err != nil || len(yes) != want {
+			t.Errorf("salt of %d bytes: %d questions, error %v", salt, len(yes), err)
+		}
+	}
+}
+
+// A key is used with the algorithm that fits its curve, and with the one that its JWK names.
+func TestAKeyOfAnotherCurveOrAlgorithmIsRejected(t *testing.T) {
+	var set struct{ Keys []map[string]string }
+	if err := json.Unmarshal(example.JWKSet(), &set); err != nil {
+		t.Fatal(err)
+	}
+	for _, key := range set.Keys {
+		key["kid"] = "one"
+	}
+	token := func(algorithm string) string {
+		header := fmt.Sprintf(`{"alg":%q,"kid":"one"}`, algorithm)
+		payload, err := json.Marshal(claims("a"))
+		if err != nil {
+			t.Fatal(err)
+		}
+		return example.Sign(algorithm, header, string(payload))
+	}
+	for _, algorithm := range issuer.Algorithms {
+		for _, key := range set.Keys {
+			fits := key["kty"] == "RSA" && algorithm[0] != 'E' ||
+				key["crv"] == map[string]string{"ES256": "P-256", "ES384": "P-384", "ES512": "P-521"}[algorithm] && key["crv"] != ""
+			for _, named := range []string{"", algorithm, "HS256"} {
+				delete(key, "alg")
+				if named != "" {
+					key["alg"] = named
+				}
+				bundles, err := json.Marshal(map[string]any{"example.org": map[string]any{"keys": []any{key}}})
+				if err != nil {
+					t.Fatal(err)
+				}
+				k, err := svid.NewKeyring(bundles)
+				if err != nil {
+					t.Fatal(err)
+				}
+				yes, _ := k.Verify(token(algorithm))
+				if want := fits && named != "HS256"; (len(yes) == 1) != want {
+					t.Errorf("%s with a key %s %s for %q: %d questions", algorithm, key["kty"], key["crv"], named, len(yes))
+				}
+				k.Close()
+			}
+		}
+	}
+}
+
+// Of many keys that may have signed a token a bounded number is tried.
+func TestOfManyCandidatesTheFirstAreTried(t *testing.T) {
+	other, err := issuer.New("example.org")
+	if err != nil {
+		t.Fatal(err)
+	}
+	key := func(of *issuer.Issuer) json.RawMessage {
+		var set struct{ Keys []json.RawMessage }
+		if err := json.Unmarshal(of.JWKSet(), &set); err != nil {
+			t.Fatal(err)
+		}
+		return set.Keys[1] // of ES256
+	}
+	token := example.Sign("ES256", `{"alg":"ES256"}`, string(mustJSON(claims("a"))))
+	for place, want := range map[int]int{0: 1, svid.MaxCandidates - 1: 1, svid.MaxCandidates: 0} {
+		var keys []json.RawMessage
+		for len(keys) < svid.MaxCandidates+1 {
+			if len(keys) == place {
+				keys = append(keys, key(example))
+			} else {
+				keys = append(keys, key(other))
+			}
+		}
+		k := keyring(t, mustJSON(map[string]any{"example.org": map[string]any{"keys": keys}}))
+		if all, err := k.Candidates(token); err != nil || len(all) != svid.MaxCandidates+1 {
+			t.Fatalf("%d candidates, %v", len(all), err)
+		}
+		if yes, err := k.Verify(token); err != nil || len(yes) != want {
+			t.Errorf("the key at place %d: %d questions, %v", place, len(yes), err)
+		}
+	}
+}
+
+func TestKeysThatCannotBeUsed(t *testing.T) {
+	p256, err := ecdsa.GenerateKey(elliptic.P256(), rand.Reader)
+	if err != nil {
+		t.Fatal(err)
+	}
+	ec := func(name, value string) string {
+		key := issuer.ECKey("a", &p256.PublicKey)
+		key[name] = value
+		text, err := json.Marshal(key)
+		if err != nil {
+			t.Fatal(err)
+		}
+		return string(text)
+	}
+	modulus := func(bytes int) string {
+		n := make([]byte, bytes)
+		n[0], n[bytes-1] = 0x80, 1
+		return base64.RawURLEncoding.EncodeToString(n)
+	}
+	zero := base64.RawURLEncoding.EncodeToString(make([]byte, 32))
+	for what, jwk := range map[string]string{
+		"no JSON":             `{`,
+		"a type of its own":   `{"kty":"oct","k":"AA"}`,
+		"RSA of 1,024 bits":   `{"kty":"RSA","n":"` + modulus(128) + `","e":"AQAB"}`,
+		"RSA of 16,392 bits":  `{"kty":"RSA","n":"` + modulus(2049) + `","e":"AQAB"}`,
+		"exponent 1":          `{"kty":"RSA","n":"` + modulus(256) + `","e":"AQ"}`,
+		"exponent 2":          `{"kty":"RSA","n":"` + modulus(256) + `","e":"Ag"}`,
+		"exponent 2^32+1":     `{"kty":"RSA","n":"` + modulus(256) + `","e":"AQAAAAE"}`,
+		"no exponent":         `{"kty":"RSA","n":"` + modulus(256) + `"}`,
+		"padding":             `{"kty":"RSA","n":"` + modulus(256) + `","e":"AQAB=="}`,
+		"a number":            `{"kty":"RSA","n":"` + modulus(256) + `","e":65537}`,
+		"names in capitals":   `{"KTY":"RSA","N":"` + modulus(256) + `","E":"AQAB"}`,
+		"a curve of its own":  ec("crv", "secp256k1"),
+		"a longer curve":      ec("crv", "P-384"),
+		"a short coordinate":  ec("x", "AA"),
+		"a point off a curve": ec("x", zero),
+		"not base64url":       ec("x", strings.Repeat("+", 43)),
+	} {
+		if _, err := svid.ParseKey([]byte(jwk)); !errors.Is(err, svid.ErrKey) {
+			t.Errorf("%s: %v", what, err)
+		}
+	}
+}
+
+// Each of the 25 refusals, with the token and the state that it is the answer to.
+func TestEachRefusal(t *testing.T) {
+	const es = "ES256"
+	good := `{"alg":"ES256","kid":"ec-256"}`
+	sign := func(header, payload string) string { return example.Sign(es, header, payload) }
+	with := func(name string, value any) string {
+		c := claims("a")
+		c[name] = value
+		return example.Token(es, c)
+	}
+	signed := with("jti", "b")
+	for _, row := range []struct {
+		want  svid.Refusal
+		token string
+	}{
+		{svid.TooLong, strings.Repeat("a", svid.MaxToken+1)},
+		{svid.NotThreeParts, "a.b"},
+		{svid.HeaderSpelling, "a=.b.c"},
+		{svid.HeaderNotObject, sign(`[]`, `{}`)},
+		{svid.Crit, sign(`{"alg":"ES256","crit":[]}`, `{}`)},
+		{svid.Alg, sign(`{"alg":"none"}`, `{}`)},
+		{svid.Typ, sign(`{"alg":"ES256","typ":"at+jwt"}`, `{}`)},
+		{svid.Kid, sign(`{"alg":"ES256","kid":1}`, `{}`)},
+		{svid.PayloadSpelling, strings.SplitN(signed, ".", 2)[0] + ".=.c"},
+		{svid.PayloadNotObject, sign(good, `[]`)},
+		{svid.SignatureSpelling, signed[:strings.LastIndexByte(signed, '.')+1]},
+		{svid.Sub, with("sub", "web")},
+		{svid.Aud, with("aud", []string{})},
+		{svid.Exp, with("exp", "soon")},
+		{svid.Nbf, with("nbf", -1)},
+		{svid.Jti, with("jti", 7)},
+		{svid.NotAudience, with("aud", "other")},
+		{svid.Expired, with("exp", moment)},
+		{svid.NotYet, with("nbf", moment+1)},
+		{svid.TooLongLived, with("exp", moment+longest+1)},
+		{svid.UnknownDomain, with("sub", "spiffe://example.com/web")},
+		{svid.NoKey, sign(`{"alg":"ES256","kid":"other"}`, string(mustJSON(claims("a"))))},
+		{svid.BadSignature, signed[:len(signed)-8] + "AAAAAAAA"},
+		{svid.Withdrawn, with("jti", "withdrawn")},
+		{svid.Replayed, with("jti", "used")},
+	} {
+		v, k := open(t, 1), keyring(t, example.Bundles())
+		switch row.want {
+		case svid.Withdrawn:
+			judged, err := v.Judge(moment, row.token, verified(t, k, row.token))
+			if err != nil {
+				t.Fatal(err)
+			}
+			if _, err := v.Withdraw(moment, judged.Use.Key, judged.Use.Expires); err != nil {
+				t.Fatal(err)
+			}
+		case svid.Replayed:
+			if _, err := v.Check(moment, row.token, verified(t, k, row.token)); err != nil {
+				t.Fatal(err)
+			}
+		}
+		if got := refuse(v, k, row.token); got != row.want {
+			t.Errorf("%v, and got %v", row.want, got)
+		}
+	}
+}
+
+// refuse checks a token as a service does.
+func refuse(v *svid.Validator, k *svid.Keyring, token string) error {
+	yes, _ := k.Verify(token) // a refusal comes again, in its place among the others
+	_, err := v.Check(moment, token, yes)
+	return err
+}
+
+func mustJSON(v any) []byte {
+	text, err := json.Marshal(v)
+	if err != nil {
+		panic(err)
+	}
+	return text
+}
+
+func TestRefusalsAreErrors(t *testing.T) {
+	all := svid.Refusals()
+	if len(all) != 25 || all[0] != svid.TooLong || all[24] != svid.Replayed {
+		t.Fatalf("refusals: %v", all)
+	}
+	for i, r := range all {
+		wrapped := fmt.Errorf("checking: %w", r)
+		for j, other := range all {
+			if errors.Is(wrapped, other) != (i == j) {
+				t.Errorf("errors.Is(%v, %v)", r, other)
+			}
+		}
+		var found svid.Refusal
+		if !errors.As(wrapped, &found) || found != r {
+			t.Errorf("errors.As: %v", found)
+		}
+	}
+	if got := svid.Replayed.Error(); got != "svid: token rejected: Replayed" {
+		t.Error(got)
+	}
+	if got := svid.Refusal(7).String(); got != "Refusal(7)" {
+		t.Error(got)
+	}
+}
+
+func TestJudgeAddsNothing(t *testing.T) {
+	v, k := open(t, 1), keyring(t, example.Bundles())
+	token := example.Token("ES256", claims("a"))
+	yes := verified(t, k, token)
+	judged, err := v.Judge(moment, token, yes)
+	if err != nil {
+		t.Fatal(err)
+	}
+	accepted, err := v.Check(moment, token, yes)
+	if err != nil || accepted != judged {
+		t.Errorf("judged %+v, checked %+v, %v", judged, accepted, err)
+	}
+	if _, err := v.Judge(moment, token, yes); err != svid.Replayed {
+		t.Error(err)
+	}
+}
+
+// A claimed use is the one that the record gains, whenever the check comes.
+func TestCheckClaimedAddsTheClaimedUse(t *testing.T) {
+	v, k := open(t, 1), keyring(t, example.Bundles())
+	token := example.Token("ES256", claims("a"))
+	yes := verified(t, k, token)
+	judged, err := v.Judge(moment, token, yes)
+	if err != nil {
+		t.Fatal(err)
+	}
+	batch := judged.Use.Batch()
+	if accepted, err := v.CheckClaimed(moment+5, token, yes, batch); err != nil || accepted.ID != judged.ID {
+		t.Fatalf("%+v, %v", accepted, err)
+	}
+	if _, err := v.CheckClaimed(moment+5, token, yes, batch); err != svid.Replayed {
+		t.Errorf("again: %v", err)
+	}
+	saved := save(t, v)
+	if !bytes.Contains(saved, batch[17:]) || len(saved) != len(batch) {
+		t.Errorf("the record is %x, the claim %x", saved, batch)
+	}
+}
+
+func save(t testing.TB, v *svid.Validator) []byte {
+	t.Helper()
+	var out bytes.Buffer
+	if err := v.Save(&out); err != nil {
+		t.Fatal(err)
+	}
+	return out.Bytes()
+}
+
+func TestMessagesCarryTheRecord(t *testing.T) {
+	a, b, k := open(t, 1), open(t, 2), keyring(t, example.Bundles())
+	used, withdrawn := example.Token("ES256", claims("used")), example.Token("ES256", claims("withdrawn"))
+	if err := refuse(a, k, used); err != nil {
+		t.Fatal(err)
+	}
+	judged, err := a.Judge(moment, withdrawn, verified(t, k, withdrawn))
+	if err != nil {
+		t.Fatal(err)
+	}
+	gone, err := a.Withdraw(moment, judged.Use.Key, judged.Use.Expires)
+	if err != nil || !gone.Withdrawn {
+		t.Fatalf("%+v, %v", gone, err)
+	}
+	// One use by its batch, the other by summary and answer.
+	if err := b.Take(moment, gone.Batch()); err != nil {
+		t.Fatal(err)
+	}
+	if err := refuse(b, k, withdrawn); err != svid.Withdrawn {
+		t.Errorf("withdrawn: %v", err)
+	}
+	summary, err := b.Summary()
+	if err != nil {
+		t.Fatal(err)
+	}
+	answer, err := a.Answer(moment, summary)
+	if err != nil {
+		t.Fatal(err)
+	}
+	if err := b.Take(moment, answer); err != nil {
+		t.Fatal(err)
+	}
+	if err := refuse(b, k, used); err != svid.Replayed {
+		t.Errorf("used: %v", err)
+	}
+	if !bytes.Equal(save(t, a), save(t, b)) {
+		t.Error("the records differ")
+	}
+}
+
+func TestSaveWritesALargeRecordInPieces(t *testing.T) {
+	const uses = 10_000
+	v := open(t, 1)
+	for i := 0; i < uses; i++ {
+		u := svid.Use{Key: svid.TokenKey{byte(i >> 8), byte(i)}, Expires: moment + 100, At: moment, Place: svid.Place{2}}
+		if err := v.Take(moment, u.Batch()); err != nil {
+			t.Fatal(err)
+		}
+	}
+	saved := save(t, v)
+	other := open(t, 3)
+	pieces := svid.Split(saved, 300_000)
+	if len(pieces) != 3 {
+		t.Errorf("%d pieces", len(pieces))
+	}
+	for _, piece := range pieces {
+		if err := other.Take(moment, piece); err != nil {
+			t.Fatal(err)
+		}
+	}
+	if !bytes.Equal(save(t, other), saved) || len(saved) < uses*65 {
+		t.Error("the records differ")
+	}
+}
+
+func TestIsBatch(t *testing.T) {
+	one := svid.Use{Expires: 2, At: 1}.Batch()
+	none, two := append([]byte(nil), one[:17]...), append(append([]byte(nil), one...), one[17:]...)
+	none[16], two[16] = 0, 2
+	many := append([]byte(nil), one...)
+	many[13] = 255
+	for what, row := range map[string]struct {
+		message []byte
+		want    bool
+	}{
+		"one use": {one, true}, "no use": {none, true}, "two uses": {two, true},
+		"nothing": {nil, false}, "half": {one[:81], false}, "a byte more": {append(one[:82:82], 0), false}, "two batches": {append(one[:82:82], one...), false},
+		"another kind": {append([]byte("JSR\x02\x02"), one[5:]...), false}, "version 1": {append([]byte("JSR\x01\x01"), one[5:]...), false},
+		"a count of billions": {many, false}, "a head alone": {one[:17], false}, "half a head": {one[:16], false},
+	} {
+		if got := svid.IsBatch(row.message); got != row.want {
+			t.Errorf("%s: %v", what, got)
+		}
+	}
+}
+
+func TestSplitLeavesWhatIsNoMessageToTake(t *testing.T) {
+	batch := svid.Use{Expires: 2, At: 1}.Batch()
+	two := append(append([]byte(nil), batch...), batch...)
+	for _, row := range []struct {
+		what     string
+		messages []byte
+		most     int
+		want     []int
+	}{
+		{"nothing", nil, 100, nil},
+		{"two, one at a time", two, 82, []int{82, 82}},
+		{"two at once", two, 164, []int{164}},
+		{"longer than the most", two, 1, []int{82, 82}},
+		{"torn", two[:100], 82, []int{82, 18}},
+		{"garbage", []byte("garbage that is no message"), 5, []int{26}},
+	} {
+		var got []int
+		for _, piece := range svid.Split(row.messages, row.most) {
+			got = append(got, len(piece))
+		}
+		if fmt.Sprint(got) != fmt.Sprint(row.want) {
+			t.Errorf("%s: %v", row.what, got)
+		}
+	}
+}
+
+func TestErrorsThatAreAboutNoToken(t *testing.T) {
+	bad := options(1)
+	bad.Audiences = []string{"a\nb"}
+	if _, err := svid.Open(bad); !errors.Is(err, svid.ErrAudience) {
+		t.Errorf("audience: %v", err)
+	}
+	bad = options(1)
+	bad.Audiences = []string{"\xff"}
+	if _, err := svid.Open(bad); !errors.Is(err, svid.ErrAudience) {
+		t.Errorf("audience: %v", err)
+	}
+	if _, err := svid.NewKeyring([]byte("[]")); !errors.Is(err, svid.ErrBundles) {
+		t.Errorf("bundles: %v", err)
+	}
+	var bundle *svid.BundleError
+	if _, err := svid.NewKeyring([]byte(`{"a":{"keys":[]},"B":{}}`)); !errors.As(err, &bundle) || bundle.Reason != "Domain" || bundle.Index != 0 {
+		t.Errorf("bundles: %v", err)
+	}
+	v := open(t, 1)
+	if err := v.SetBundles([]byte(`{"a":{"keys":[]},"b":{}}`)); !errors.As(err, &bundle) || bundle.Reason != "Keys" || bundle.Index != 1 {
+		t.Errorf("bundles: %v", err)
+	}
+	if err := v.Tick(moment); err != nil {
+		t.Error(err)
+	}
+	if err := v.Tick(moment + 86401); err != svid.ErrJump {
+		t.Errorf("jump: %v", err)
+	}
+	if _, err := v.Withdraw(moment, svid.TokenKey{}, moment); err != svid.ErrGone {
+		t.Errorf("gone: %v", err)
+	}
+	var message *svid.MessageError
+	if err := v.Take(moment, []byte("garbage")); !errors.As(err, &message) || message.Reason != "Magic" || message.Message != 1 {
+		t.Errorf("garbage: %v", err)
+	}
+	far := svid.Use{Expires: moment + 100, At: moment + 11}
+	if err := v.Take(moment, far.Batch()); err != svid.ErrTooFar {
+		t.Errorf("far: %v", err)
+	}
+	if err := v.Take(moment, make([]byte, svid.MaxMessages+1)); err == nil {
+		t.Error("64 MiB and a byte were taken")
+	}
+	if _, err := v.Answer(moment, far.Batch()); err != svid.ErrNotSummary {
+		t.Errorf("summary: %v", err)
+	}
+	v.Close()
+	v.Close()
+	if _, err := v.Check(moment, "a.b.c", nil); err != svid.ErrClosed {
+		t.Errorf("closed: %v", err)
+	}
+	if err := v.Save(&bytes.Buffer{}); err != svid.ErrClosed {
+		t.Errorf("closed: %v", err)
+	}
+	k := keyring(t, example.Bundles())
+	k.Close()
+	if _, err := k.Verify("a.b.c"); err != svid.ErrClosed {
+		t.Errorf("closed: %v", err)
+	}
+}
+
+func TestParseTokenKey(t *testing.T) {
+	key := svid.TokenKey{1, 0xab}
+	if got, err := svid.ParseTokenKey(strings.ToUpper(key.String())); err != nil || got != key {
+		t.Errorf("%v, %v", got, err)
+	}
+	for _, bad := range []string{"", "00", key.String() + "0", strings.Repeat("g", 64)} {
+		if _, err := svid.ParseTokenKey(bad); err == nil {
+			t.Errorf("%q was read", bad)
+		}
+	}
+}
+
+// Each token that many goroutines check at once is accepted once, while bundles are renewed.
+func TestATokenIsAcceptedOnceAmongMany(t *testing.T) {
+	v, k := open(t, 1), keyring(t, example.Bundles())
+	for round := 0; round < 20; round++ {
+		token := example.Token("ES256", claims(fmt.Sprint(round)))
+		var accepted, replayed int32
+		var group sync.WaitGroup
+		for i := 0; i < 32; i++ {
+			group.Add(1)
+			go func() {
+				defer group.Done()
+				switch err := refuse(v, k, token); err {
+				case nil:
+					atomic.AddInt32(&accepted, 1)
+				case svid.Replayed:
+					atomic.AddInt32(&replayed, 1)
+				default:
+					t.Error(err)
+				}
+			}()
+		}
+		if err := k.SetBundles(example.Bundles()); err != nil {
+			t.Fatal(err)
+		}
+		if err := v.SetBundles(example.Bundles()); err != nil {
+			t.Fatal(err)
+		}
+		group.Wait()
+		if accepted != 1 || replayed != 31 {
+			t.Fatalf("accepted %d times, rejected as used %d times", accepted, replayed)
+		}
+	}
+}
+
+func BenchmarkVerify(b *testing.B) {
+	k := keyring(b, example.Bundles())
+	for _, algorithm := range []string{"RS256", "ES256", "PS256"} {
+		token := example.Token(algorithm, claims("a"))
+		b.Run(algorithm, func(b *testing.B) {
+			for i := 0; i < b.N; i++ {
+				verified(b, k, token)
+			}
+		})
+	}
+}
+
+func BenchmarkCandidates(b *testing.B) {
+	k := keyring(b, example.Bundles())
+	token := example.Token("ES256", claims("a"))
+	b.ReportAllocs()
+	for i := 0; i < b.N; i++ {
+		if _, err := k.Candidates(token); err != nil {
+			b.Fatal(err)
+		}
+	}
+}
+
+func BenchmarkCheckReplayed(b *testing.B) {
+	v, k := open(b, 1), keyring(b, example.Bundles())
+	token := example.Token("ES256", claims("a"))
+	yes := verified(b, k, token)
+	b.ReportAllocs()
+	for i := 0; i < b.N; i++ {
+		_, _ = v.Check(moment, token, yes)
+	}
+}
+
+// Uses reads what Save writes, and says where bytes are no batches.
+func TestUsesReadsARecord(t *testing.T) {
+	v := open(t, 1)
+	used := svid.Use{Key: svid.TokenKey{1}, Expires: moment + 5, At: moment - 1, Place: svid.Place{7}}
+	gone := svid.Use{Key: svid.TokenKey{2}, Expires: moment + 6, At: moment, Place: svid.Place{8}, Withdrawn: true}
+	for _, u := range []svid.Use{gone, used} {
+		if err := v.Take(moment, u.Batch()); err != nil {
+			t.Fatal(err)
+		}
+		if key, ok := svid.KeyOfBatch(u.Batch()); !ok || key != u.Key {
+			t.Errorf("KeyOfBatch: %v %v", key, ok)
+		}
+	}
+	saved := save(t, v)
+	at, uses, err := svid.Uses(append(used.Batch(), saved...))
+	if err != nil || at != moment || len(uses) != 3 || uses[0] != used || uses[1] != used || uses[2] != gone {
+		t.Errorf("%d %v %v", at, uses, err)
+	}
+	if _, ok := svid.KeyOfBatch(saved); ok {
+		t.Error("KeyOfBatch of two uses")
+	}
+	var message *svid.MessageError
+	if _, _, err := svid.Uses(saved[:100]); !errors.As(err, &message) || message.Reason != "Truncated" || message.Place != 100 {
+		t.Errorf("torn: %v", err)
+	}
+	if _, _, err := svid.Uses([]byte("JSR")); !errors.Is(err, svid.ErrBatch) {
+		t.Errorf("three bytes: %v", err)
+	}
+	summary, err := v.Summary()
+	if err != nil {
+		t.Fatal(err)
+	}
+	if _, _, err := svid.Uses(summary); !errors.Is(err, svid.ErrBatch) {
+		t.Errorf("a summary: %v", err)
+	}
+}

@@ -1,0 +1,313 @@
+package svid
+
+/*
+#cgo CFLAGS: -I${SRCDIR}/../../include
+#cgo linux,amd64 LDFLAGS: ${SRCDIR}/../../dist/x86_64/libsvid.a
+#cgo linux,arm64 LDFLAGS: ${SRCDIR}/../../dist/aarch64/libsvid.a
+#include "svid.h"
+
+// The token goes to C as the Go string that it is, without a copy.
+static uint32_t check(svid_validator *v, uint64_t now, const svid_question *yes, size_t yes_len, _GoString_ token,
+                      uint8_t *out, size_t out_len, svid_use *used, svid_told *told) {
+    return svid_validator_check(v, now, yes, yes_len, (const uint8_t *)_GoStringPtr(token), _GoStringLen(token),
+                                out, out_len, used, told);
+}
+static uint32_t judge(svid_validator *v, uint64_t now, const svid_question *yes, size_t yes_len, _GoString_ token,
+                      uint8_t *out, size_t out_len, svid_use *used, svid_told *told) {
+    return svid_validator_judge(v, now, yes, yes_len, (const uint8_t *)_GoStringPtr(token), _GoStringLen(token),
+                                out, out_len, used, told);
+}
+*/
+import "C"
+
+import (
+	"fmt"
+	"io"
+	"strings"
+	"sync"
+	"unsafe"
+)
+
+// NoLimit, as Options.Longest, Options.Ahead or Options.Step, sets no limit.
+const NoLimit = ^uint64(0)
+
+// Options say what a validator is for. Only Audiences, Bundles and Place must
+// be given; but a Longest of 0 rejects every token, and so does no audience.
+type Options struct {
+	// Audiences are the names by which tokens may call this service.
+	Audiences []string
+	// Bundles are the trust bundles: a JSON object from trust domain names to
+	// JWK sets. Give the Keyring the same.
+	Bundles []byte
+	// Longest is how many seconds past the record's moment a token may expire.
+	// It bounds the memory of the record. NoLimit for any.
+	Longest uint64
+	// Ahead is how many seconds a message's moment may lie past this
+	// validator's clock.
+	Ahead uint64
+	// Step is how many seconds the clock may go ahead between two calls; past
+	// that they answer ErrJump, so that a wrong clock doesn't expire the whole
+	// record. NoLimit for any. The first time that a new record is told is
+	// never a jump.
+	Step uint64
+	// Place names this validator among all that share its record. Two
+	// validators of one place accept a token twice.
+	Place Place
+}
+
+// An Accepted token.
+type Accepted struct {
+	ID  string // the SPIFFE ID of its subject
+	Use Use    // what the record gained by it, or would gain
+}
+
+// A Validator judges tokens, and keeps the record of those that were used or
+// revoked. All its methods may be called by many goroutines at once: each call
+// holds one lock for its whole length, which is microseconds, except where the
+// method says otherwise.
+type Validator struct {
+	mu     sync.Mutex
+	handle C.svid_validator
+	// What a call writes, kept here so that it needs no new memory. Guarded by mu.
+	told C.svid_told
+	used C.svid_use
+	id   [C.SVID_ID_ROOM]byte
+}
+
+// Open returns a validator with an empty record. To go on with a saved record,
+// Take it. Errors: ErrAudience, ErrBundles, a *BundleError, ErrNoMemory.
+func Open(o Options) (*Validator, error) {
+	own, err := audienceLines(o.Audiences)
+	if err != nil {
+		return nil, err
+	}
+	terms := C.svid_terms{longest: C.uint64_t(o.Longest), ahead: C.uint64_t(o.Ahead), step: C.uint64_t(o.Step)}
+	for i, b := range o.Place {
+		terms.place[i] = C.uint8_t(b)
+	}
+	v := &Validator{}
+	status := C.svid_validator_open(&v.handle, &terms, start(own), C.size_t(len(own)),
+		start(o.Bundles), C.size_t(len(o.Bundles)), &v.told)
+	if err := failure(status, &v.told); err != nil {
+		return nil, err
+	}
+	return v, nil
+}
+
+// audienceLines writes audiences one a line, as the library wants them.
+func audienceLines(audiences []string) ([]byte, error) {
+	for _, a := range audiences {
+		if a == "" || strings.ContainsAny(a, "\r\n") {
+			return nil, fmt.Errorf("%w: %q", ErrAudience, a)
+		}
+	}
+	return []byte(strings.Join(audiences, "\n")), nil
+}
+
+// start is the address of the first byte, and nil where there is none.
+func start(b []byte) *C.uint8_t {
+	if len(b) == 0 {
+		return nil
+	}
+	return (*C.uint8_t)(unsafe.Pointer(&b[0]))
+}
+
+// Close frees the record and all else that the library holds. Later calls
+// answer ErrClosed. Closing twice is fine.
+func (v *Validator) Close() {
+	v.mu.Lock()
+	defer v.mu.Unlock()
+	C.svid_validator_close(&v.handle)
+}
+
+// SetBundles replaces the trust bundles. The record stays, so a token that was
+// used before is still rejected. On an error the old bundles stay.
+func (v *Validator) SetBundles(bundles []byte) error {
+	v.mu.Lock()
+	defer v.mu.Unlock()
+	status := C.svid_validator_bundles(&v.handle, start(bundles), C.size_t(len(bundles)), &v.told)
+	return failure(status, &v.told)
+}
+
+// Check judges the token, and if it accepts it, adds the use to the record, so
+// that the token is rejected from then on as Replayed. yes are the questions of
+// Keyring.Verify. The record advances to now first, and the token is judged at
+// the record's moment, which may be later.
+//
+// The error is a Refusal if the token is rejected, and else ErrJump,
+// ErrNoMemory or ErrClosed.
+func (v *Validator) Check(now uint64, token string, yes []Question) (Accepted, error) {
+	v.mu.Lock()
+	defer v.mu.Unlock()
+	status := C.check(&v.handle, C.uint64_t(now), questions(yes), C.size_t(len(yes)), token,
+		start(v.id[:]), C.size_t(len(v.id)), &v.used, &v.told)
+	return v.accepted(status)
+}
+
+// Judge answers what Check would answer, and adds nothing to the record: a later
+// Check may still accept the token.
+func (v *Validator) Judge(now uint64, token string, yes []Question) (Accepted, error) {
+	v.mu.Lock()
+	defer v.mu.Unlock()
+	return v.judge(now, token, yes)
+}
+
+func (v *Validator) judge(now uint64, token string, yes []Question) (Accepted, error) {
+	status := C.judge(&v.handle, C.uint64_t(now), questions(yes), C.size_t(len(yes)), token,
+		start(v.id[:]), C.size_t(len(v.id)), &v.used, &v.told)
+	return v.accepted(status)
+}
+
+// CheckClaimed is the Check of a token whose use was made public before, by a
+// batch of one use: it judges the token, and if it accepts it, adds exactly
+// that use. (Check would add a use with the time of its own call, so that the
+// record and the claim would tell of two uses.) The batch must come from the
+// use of Judge for this token.
+func (v *Validator) CheckClaimed(now uint64, token string, yes []Question, batch []byte) (Accepted, error) {
+	v.mu.Lock()
+	defer v.mu.Unlock()
+	accepted, err := v.judge(now, token, yes)
+	if err != nil {
+		return Accepted{}, err
+	}
+	if err := v.take(now, batch); err != nil {
+		return Accepted{}, err
+	}
+	return accepted, nil
+}
+
+// accepted reads what a check or a judgment left. The caller holds the lock.
+func (v *Validator) accepted(status C.uint32_t) (Accepted, error) {
+	if err := failure(status, &v.told); err != nil {
+		return Accepted{}, err
+	}
+	return Accepted{ID: string(v.id[:v.told.len]), Use: v.use(false)}, nil
+}
+
+func (v *Validator) use(withdrawn bool) Use {
+	return Use{
+		Key:       *(*TokenKey)(unsafe.Pointer(&v.used.key)),
+		Expires:   uint64(v.used.exp),
+		At:        uint64(v.used.at),
+		Place:     *(*Place)(unsafe.Pointer(&v.used.place)),
+		Withdrawn: withdrawn,
+	}
+}
+
+// questions is the address of the first question, and nil where there is none.
+func questions(yes []Question) *C.svid_question {
+	if len(yes) == 0 {
+		return nil
+	}
+	return (*C.svid_question)(unsafe.Pointer(&yes[0]))
+}
+
+// Withdraw revokes the token of this key, which expires at exp, and returns the
+// use that the record gained. The token is rejected as Withdrawn from now on,
+// also by validators that take the use. Errors: ErrGone, ErrJump, ErrNoMemory.
+func (v *Validator) Withdraw(now uint64, key TokenKey, exp uint64) (Use, error) {
+	v.mu.Lock()
+	defer v.mu.Unlock()
+	status := C.svid_validator_withdraw(&v.handle, C.uint64_t(now), (*C.svid_key)(unsafe.Pointer(&key)),
+		C.uint64_t(exp), &v.used, &v.told)
+	if err := failure(status, &v.told); err != nil {
+		return Use{}, err
+	}
+	return v.use(true), nil
+}
+
+// Tick advances the record to now, and drops what has expired by then.
+// Errors: ErrJump.
+func (v *Validator) Tick(now uint64) error {
+	v.mu.Lock()
+	defer v.mu.Unlock()
+	status := C.svid_validator_tick(&v.handle, C.uint64_t(now), &v.told)
+	return failure(status, &v.told)
+}
+
+// Take adds what messages tell: those of other validators, or a saved record.
+// Taking a message twice, or in another order, makes no difference. The lock is
+// held for about two microseconds for each use; Split cuts many messages into
+// pieces.
+//
+// ErrTooFar: the messages tell of a time more than Options.Ahead seconds past
+// now, and nothing was added. ErrTooMuch or a *MessageError: these are no
+// messages, and nothing happened. ErrNoMemory: a part may be added, and the same
+// messages can be taken again. ErrJump.
+func (v *Validator) Take(now uint64, messages []byte) error {
+	v.mu.Lock()
+	defer v.mu.Unlock()
+	return v.take(now, messages)
+}
+
+func (v *Validator) take(now uint64, messages []byte) error {
+	status := C.svid_validator_take(&v.handle, C.uint64_t(now), start(messages), C.size_t(len(messages)), &v.told)
+	return failure(status, &v.told)
+}
+
+// savePiece is how many bytes of messages Save has written at a time: the lock
+// is held for as long as that takes.
+const savePiece = batchHeadLen + 4096*useLen
+
+// Save writes the whole record as messages, piece by piece. Other calls may be
+// made in between: the pieces together hold each use that the record had when
+// Save began and that is live when it ends.
+func (v *Validator) Save(w io.Writer) error {
+	piece := make([]byte, savePiece)
+	for part := (C.svid_part{}); part.done == 0; {
+		n, err := v.part(&part, piece)
+		if err != nil {
+			return err
+		}
+		if _, err := w.Write(piece[:n]); err != nil {
+			return fmt.Errorf("svid: writing the record: %w", err)
+		}
+	}
+	return nil
+}
+
+func (v *Validator) part(part *C.svid_part, out []byte) (int, error) {
+	v.mu.Lock()
+	defer v.mu.Unlock()
+	status := C.svid_validator_parts(&v.handle, part, start(out), C.size_t(len(out)), &v.told)
+	if err := failure(status, &v.told); err != nil {
+		return 0, err
+	}
+	return int(v.told.len), nil
+}
+
+// Summary returns a message of 8,205 bytes, by which another validator's Answer
+// finds what is missing here. The lock is held while the whole record is digested:
+// most of a second for a million uses, where WalkSummary is the better choice.
+func (v *Validator) Summary() ([]byte, error) {
+	v.mu.Lock()
+	defer v.mu.Unlock()
+	out := make([]byte, C.SVID_SUMMARY_LEN)
+	status := C.svid_validator_summary(&v.handle, start(out), C.size_t(len(out)), &v.told)
+	if err := failure(status, &v.told); err != nil {
+		return nil, err
+	}
+	return out, nil
+}
+
+// Answer returns messages with the uses that the validator which wrote the
+// summary may lack. The record advances to now, and to the summary's moment.
+// The lock is held for up to three times as long as for Summary: see WalkAnswer.
+// Errors: ErrNotSummary, ErrTooFar, ErrTooMuch, a *MessageError, ErrJump, ErrNoMemory.
+func (v *Validator) Answer(now uint64, summary []byte) ([]byte, error) {
+	v.mu.Lock()
+	defer v.mu.Unlock()
+	out := make([]byte, 4096)
+	for {
+		status := C.svid_validator_answer(&v.handle, C.uint64_t(now), start(summary), C.size_t(len(summary)),
+			start(out), C.size_t(len(out)), &v.told)
+		if status == C.SVID_TOO_SHORT {
+			out = make([]byte, v.told.len)
+			continue
+		}
+		if err := failure(status, &v.told); err != nil {
+			return nil, err
+		}
+		return out[:v.told.len], nil
+	}
+}

@@ -1,0 +1,5 @@
+/* What svid.h takes of the C library, for a module that has none. */
+#define UINT64_MAX __UINT64_MAX__
+typedef __UINT8_TYPE__ uint8_t;
+typedef __UINT32_TYPE__ uint32_t;
+typedef __UINT64_TYPE__ uint64_t;

@@ -1,0 +1,109 @@
+// What the library says of a token. Everything here is a function of its input: the page draws what comes out.
+
+import { bundlesOf, compact, entriesOf, passedOver } from "./bundles.js";
+import { parse } from "./json.js";
+import { namesOf, refusalOf, REFUSALS } from "./refusals.js";
+import { recordOf } from "./record.js";
+import { partsOf } from "./token.js";
+import { answer } from "./verify.js";
+
+const decoder = new TextDecoder();
+const OK = 0;
+const OF_RECORD = new Set(["Withdrawn", "Replayed"]);
+
+/**
+ * Judges a token, and gathers why.
+ *
+ * @param {Library} library
+ * @param input `token`, `bundles` and `domain` (of a bundle that stands alone), `own` (audiences), `now`, `longest` (or undefined), `place`
+ *   of this validator, and `record`, of `readRecord`
+ * @returns `{ parts, names, bundles, fault, keys, yes, judgedAt, verdict }`: `fault` is that of the bundles, and then nothing is judged;
+ *   `verdict` is `{ status, refusal, passed, why, marks, id, exp, key }`, where `passed` counts the refusals that do not hold, and `exp` and
+ *   `key` are there for a token that is accepted or that only the record refuses
+ */
+export async function examine(library, input) {
+  const parts = partsOf(input.token);
+  const names = namesOf(parts, library);
+  const bundles = bundlesOf(input.bundles.trim() ? input.bundles : "{}", input.domain || names.domain || "");
+  const asked = withValidator(library, input, bundles, (validator) => validator.ask(input.token));
+  if (asked.status !== OK) return { parts, names, bundles, fault: asked };
+  const rows = await answered(asked.value.rows, parts);
+  const yes = rows.filter((it) => it.answer.is === "good").map((it) => it.question);
+  const judgedAt = later(input.now, input.record.moment);
+  const { value: judged } = withRecord(library, input, bundles, (validator) => validator.judge(input.now, yes, input.token));
+  const verdict = explained(judged, { ...input, parts, library, now: judgedAt });
+  if (OF_RECORD.has(verdict.refusal)) {
+    // (its use is the one that a validator without a record would add)
+    const { key, exp } = withValidator(library, input, bundles, (it) => it.judge(judgedAt, yes, input.token)).value;
+    Object.assign(verdict, { key, exp });
+  }
+  return { parts, names, bundles, keys: keysOf(rows, bundles, names, asked.value.status === OK), yes, judgedAt, verdict };
+}
+
+/** Checks a token that `examine` accepted: the record with its use, as messages. */
+export function use(library, input, { bundles, yes }) {
+  return changed(library, input, bundles, (validator) => validator.check(input.now, yes, input.token).status);
+}
+
+/** Withdraws a token that `examine` accepted, or found to be used: the record with the withdrawal, as messages. */
+export function withdraw(library, input, { bundles, verdict }) {
+  return changed(library, input, bundles, (validator) => validator.withdraw(input.now, verdict.key, verdict.exp));
+}
+
+/** The record that messages come to: as `recordOf`, and `messages`. They must be messages. */
+export function readRecord(library, messages) {
+  return { messages, ...recordOf(decoder.decode(library.report(messages).bytes)) };
+}
+
+function withValidator(library, { own, longest, place }, bundles, body) {
+  return library.withValidator({ longest, place }, own.join("\n"), bundles, body);
+}
+
+function withRecord(library, input, bundles, body) {
+  return withValidator(library, input, bundles, (validator) => {
+    expectOk(validator.take(0n, input.record.messages).status);
+    return body(validator);
+  });
+}
+
+function changed(library, input, bundles, body) {
+  return withRecord(library, input, bundles, (validator) => {
+    expectOk(body(validator));
+    const told = validator.tell();
+    expectOk(told.status);
+    return told.bytes;
+  }).value;
+}
+
+function expectOk(status) {
+  if (status !== OK) throw new Error(`the library answered ${status}`);
+}
+
+function later(a, b) {
+  return a > b ? a : b;
+}
+
+async function answered(rows, parts) {
+  const signed = `${parts[0].text}.${parts[1]?.text}`;
+  return Promise.all(rows.map(async (row) => ({ ...row, answer: await answer(row, signed, parts[2].bytes) })));
+}
+
+function explained(judged, known) {
+  const refusal = refusalOf(judged.status);
+  if (judged.status === OK) return { ...judged, passed: REFUSALS.length, why: "", marks: [] };
+  if (!refusal) throw new Error(`the library answered ${judged.status}`);
+  return { status: judged.status, refusal: refusal.name, passed: REFUSALS.indexOf(refusal), ...refusal.holds(known) };
+}
+
+// Each entry of the bundle: its answer where it is a candidate, or why it was passed over. A candidate is known by its compact text. One
+// that the library names and no entry fits would be shown by itself.
+function keysOf(rows, bundles, names, wasAsked) {
+  const left = [...rows];
+  const entries = entriesOf(bundles, names.domain).map((entry) => {
+    const reason = passedOver(entry, bundles, names), text = bundles.slice(entry.from, entry.to);
+    if (reason !== undefined) return { entry, text, reason };
+    const found = left.findIndex((it) => it.key === compact(entry));
+    return found === -1 ? { entry, text, reason: wasAsked ? "the library does not name it" : undefined } : { entry, text, row: left.splice(found, 1)[0] };
+  });
+  return [...entries, ...left.map((row) => ({ entry: parse(row.key), text: row.key, row }))];
+}

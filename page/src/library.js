@@ -1,0 +1,247 @@
+// The library svid as a WebAssembly module: the calls of include/svid.h that the page makes. A length, a time and a place in memory are
+// BigInts here, as they have 64 bits; a status is a number.
+
+const TOLD = 32, ID = 24, TERMS = 40, USE = 64, VALIDATOR = 16, DIGEST = 32;
+const ID_ROOM = 2048;
+const ANY = 2n ** 64n - 1n;
+const OK = 0, TOO_SHORT = 1;
+
+const encoder = new TextEncoder();
+const decoder = new TextDecoder();
+const bytesOf = (it) => (typeof it === "string" ? encoder.encode(it) : it);
+
+/** A module that has no memory left for what a call is lent, or that stopped in an earlier call. */
+export class LibraryStopped extends Error {}
+
+/** The calls of one instance of the module. */
+export class Library {
+  /** @param {WebAssembly.Module} module */
+  constructor(module) {
+    const asked = WebAssembly.Module.imports(module);
+    if (asked.length) throw new Error(`the module asks its host for ${asked.map((it) => it.name).join(", ")}`);
+    this.module = module;
+    this.calls = new WebAssembly.Instance(module, {}).exports;
+  }
+
+  /** Compiles and starts a module. */
+  static async load(bytes) {
+    return new Library(await WebAssembly.compile(bytes));
+  }
+
+  /** The version of the library, as "1.0.0". */
+  version() {
+    const number = this.calls.svid_version();
+    return [Math.floor(number / 10000), Math.floor(number / 100) % 100, number % 100].join(".");
+  }
+
+  /** Reads a SPIFFE ID: `{ status, place, domainLength, pathLength }`, in bytes. */
+  parseId(text) {
+    return this.within((memory) => {
+      const out = memory.room(ID);
+      const status = this.calls.svid_id_parse(...memory.lend(text), out);
+      const [place, domainLength, pathLength] = memory.words(out, 3).map(Number);
+      return { status, place, domainLength, pathLength };
+    });
+  }
+
+  /** What both inputs tell, as messages: `{ status, input, message, place, bytes }`. */
+  join(a, b, now = 0n) {
+    return this.text((memory, ...out) => this.calls.svid_join(...memory.lend(a), ...memory.lend(b), now, ...out));
+  }
+
+  /** What messages tell, for people to read: as `join`. */
+  report(messages, now = 0n) {
+    return this.text((memory, ...out) => this.calls.svid_report(...memory.lend(messages), now, ...out));
+  }
+
+  /**
+   * Opens a validator, passes it to `body`, and closes it.
+   * @returns `{ status, place }` where the bundles or audiences are refused, and else `{ status: 0, value }` with what `body` returned
+   */
+  withValidator({ longest = ANY, place }, own, bundles, body) {
+    return this.within((memory) => {
+      const handle = memory.zeroed(VALIDATOR);
+      const terms = memory.room(TERMS);
+      memory.setWords(terms, [longest, ANY, ANY]);
+      memory.set(terms + 24n, place);
+      const told = memory.zeroed(TOLD);
+      const status = this.calls.svid_validator_open(handle, terms, ...memory.lend(own), ...memory.lend(bundles), told);
+      if (status !== OK) return { status, place: Number(memory.words(told, 4)[3]) };
+      try {
+        return { status, value: body(new Validator(this, handle)) };
+      } finally {
+        this.calls.svid_validator_close(handle);
+      }
+    });
+  }
+
+  /** Makes a call that writes text, and makes it again where its room was too short. */
+  text(call) {
+    for (let size = 0; ; ) {
+      const said = this.within((memory) => {
+        const out = memory.room(size), told = memory.zeroed(TOLD);
+        const status = call(memory, out, BigInt(size), told);
+        const [length, input, message, place] = memory.words(told, 4).map(Number);
+        return { status, length, input, message, place, bytes: status === OK ? memory.seen(out, length) : null };
+      });
+      if (said.status !== TOO_SHORT) return said;
+      size = said.length;
+    }
+  }
+
+  /** Lends memory to a call, and takes it back. */
+  within(body) {
+    const memory = new Lent(this.calls);
+    const result = body(memory);
+    // (not where the call trapped: this instance makes no other call then)
+    memory.freeAll();
+    return result;
+  }
+}
+
+/** A validator that is open, within `Library.withValidator`. */
+class Validator {
+  constructor(library, handle) {
+    this.library = library;
+    this.calls = library.calls;
+    this.handle = handle;
+  }
+
+  /**
+   * The keys that may have signed a token.
+   * @returns `{ status, rows }`; a row has `question`, 64 hexadecimal digits, `alg`, and `key`, the key as JSON
+   */
+  ask(token) {
+    const said = this.library.text((memory, ...out) => this.calls.svid_validator_ask(this.handle, ...memory.lend(token), ...out));
+    return { status: said.status, rows: said.status === OK ? rowsOf(said.bytes) : [] };
+  }
+
+  /** What `check` would say; the record gains nothing. */
+  judge(now, yes, token) {
+    return this.verdict(this.calls.svid_validator_judge, now, yes, token);
+  }
+
+  /**
+   * Checks a token at a time. `yes` are the questions whose answer is yes.
+   * @returns `{ status }`, and where that is 0 `{ status, id, exp, at, key }`, the key as 32 bytes
+   */
+  check(now, yes, token) {
+    return this.verdict(this.calls.svid_validator_check, now, yes, token);
+  }
+
+  verdict(call, now, yes, token) {
+    return this.library.within((memory) => {
+      const out = memory.room(ID_ROOM), used = memory.zeroed(USE), told = memory.zeroed(TOLD);
+      const questions = memory.room(DIGEST * yes.length);
+      memory.set(questions, bytesOfHex(yes.join("")));
+      const status = call(this.handle, now, questions, BigInt(yes.length), ...memory.lend(token), out, BigInt(ID_ROOM), used, told);
+      if (status !== OK) return { status };
+      const [exp, at] = memory.words(used, 2);
+      return { status, id: decoder.decode(memory.seen(out, memory.words(told, 1)[0])), exp, at, key: memory.seen(used + 16n, DIGEST) };
+    });
+  }
+
+  /** Withdraws the token of a key: its status. */
+  withdraw(now, key, exp) {
+    return this.library.within((memory) => {
+      const lent = memory.room(DIGEST);
+      memory.set(lent, key);
+      return this.calls.svid_validator_withdraw(this.handle, now, lent, exp, memory.zeroed(USE), memory.zeroed(TOLD));
+    });
+  }
+
+  /** Takes messages: `{ status, input, message, place }`. */
+  take(now, messages) {
+    return this.library.within((memory) => {
+      const told = memory.zeroed(TOLD);
+      const status = this.calls.svid_validator_take(this.handle, now, ...memory.lend(messages), told);
+      const [, input, message, place] = memory.words(told, 4).map(Number);
+      return { status, input, message, place };
+    });
+  }
+
+  /** The whole record as messages: `{ status, bytes }`. */
+  tell() {
+    return this.library.text((_, ...out) => this.calls.svid_validator_tell(this.handle, ...out));
+  }
+}
+
+/** Memory of the module that is lent to a call. */
+class Lent {
+  constructor(calls) {
+    this.calls = calls;
+    this.rooms = [];
+  }
+
+  room(size) {
+    const at = this.calls.room(BigInt(size));
+    if (at === 0n) throw new LibraryStopped("the module has no more memory");
+    this.rooms.push(at);
+    return at;
+  }
+
+  zeroed(size) {
+    const at = this.room(size);
+    this.view(at, size).fill(0);
+    return at;
+  }
+
+  /** A pointer and a length, as a call takes an input. */
+  lend(input) {
+    const bytes = bytesOf(input), at = this.room(bytes.length);
+    this.set(at, bytes);
+    return [at, BigInt(bytes.length)];
+  }
+
+  // (anew each time, since a call may make the memory grow, which takes away its buffer)
+  view(at, length) {
+    return new Uint8Array(this.calls.memory.buffer, Number(at), Number(length));
+  }
+
+  set(at, bytes) {
+    this.view(at, bytes.length).set(bytes);
+  }
+
+  seen(at, length) {
+    return this.view(at, length).slice();
+  }
+
+  words(at, count) {
+    return [...new BigUint64Array(this.calls.memory.buffer, Number(at), count)];
+  }
+
+  setWords(at, words) {
+    new BigUint64Array(this.calls.memory.buffer, Number(at), words.length).set(words);
+  }
+
+  freeAll() {
+    for (const it of this.rooms) this.calls.free_room(it);
+  }
+}
+
+// The rows of svid_validator_ask.
+function rowsOf(bytes) {
+  const view = new DataView(bytes.buffer, bytes.byteOffset, bytes.length), rows = [];
+  let at = 0;
+  const field = () => {
+    const length = view.getUint32(at);
+    at += 4 + length;
+    return decoder.decode(bytes.subarray(at - length, at));
+  };
+  while (at < bytes.length) {
+    const question = hexOf(bytes.subarray(at, at + DIGEST));
+    at += DIGEST;
+    rows.push({ question, alg: field(), key: field() });
+  }
+  return rows;
+}
+
+/** Bytes as hexadecimal digits. */
+export function hexOf(bytes) {
+  return Array.from(bytes, (it) => it.toString(16).padStart(2, "0")).join("");
+}
+
+/** Hexadecimal digits as bytes. */
+export function bytesOfHex(text) {
+  return Uint8Array.from(text.match(/../g) ?? [], (it) => parseInt(it, 16));
+}

@@ -1,0 +1,319 @@
+// The page: what is in its fields, what the library says of it, and what a person does.
+
+import { domainsOf, isOneBundle } from "./bundles.js";
+import { byId, fill, make } from "./dom.js";
+import { examine, readRecord, use, withdraw } from "./examine.js";
+import { drawChecks, drawKeys, drawParts, drawToken, makeChecks } from "./explain.js";
+import { parse } from "./json.js";
+import { hexOf, Library } from "./library.js";
+import { areMessages, changesOf, contentsOf, MESSAGE_FAULTS } from "./record.js";
+import { timeOf } from "./refusals.js";
+import { partsOf } from "./token.js";
+import { agoOf, clock, dateOf, readTime, spanOf } from "./time.js";
+import { Timeline } from "./timeline.js";
+
+const TICK = 1000, STEPS = 1000n, AHEAD = 10n;
+const NOTHING = new Uint8Array();
+const fields = ["token", "bundles", "domain", "own", "time", "longest"];
+const value = (id) => byId(id).value;
+
+const bytes = Uint8Array.from(atob(byId("module").textContent.trim()), (it) => it.charCodeAt(0));
+let library = await Library.load(bytes);
+const place = crypto.getRandomValues(new Uint8Array(16));
+const timeline = new Timeline();
+let record = readRecord(library, NOTHING);
+let shown; // what was examined last: `{ input, result }`
+let asked = 0;
+let gained = new Set(); // the names of the uses that the record gained last
+let recordShown, keyShown;
+
+// ---- What is in the fields ----
+
+const isLive = () => byId("live").getAttribute("aria-pressed") === "true";
+
+function says(id, text, isBad = false) {
+  const hint = byId(`${id}-said`);
+  hint.textContent = text;
+  hint.classList.toggle("bad", isBad);
+  byId(id).setAttribute("aria-invalid", String(isBad));
+}
+
+// The time in its field, or that of the clock; undefined where it is none.
+function readNow() {
+  const now = isLive() ? clock() : readTime(value("time"));
+  if (isLive() && document.activeElement !== byId("time")) byId("time").value = String(now);
+  says("time", now === undefined ? "Write seconds since 1970, or a date as 2026-01-31T12:00Z." : dateOf(now) + (isLive() ? "" : `, ${agoOf(now, clock())}`), now === undefined);
+  return now;
+}
+
+// The longest life, undefined for any; NaN where the field has no number.
+function readLongest() {
+  const text = value("longest").trim(), isFine = text === "" || /^\d{1,19}$/.test(text);
+  says("longest", isFine ? "" : "Write digits, or nothing.", !isFine);
+  if (!isFine) return NaN;
+  return text ? BigInt(text) : undefined;
+}
+
+// Why nothing can be judged by an input, if so.
+function faultOfInput({ now, longest }) {
+  if (now === undefined) return "The time can't be read.";
+  return Number.isNaN(longest) ? "The longest life can't be read." : undefined;
+}
+
+function readInput() {
+  return {
+    token: value("token").trim(),
+    bundles: value("bundles"),
+    domain: value("domain").trim(),
+    own: value("own").split("\n").map((it) => it.trim()).filter(Boolean),
+    now: readNow(),
+    longest: readLongest(),
+    place,
+    record,
+  };
+}
+
+// ---- What is shown ----
+
+/** Examines what is in the fields, and shows it. A later call takes the place of an earlier one that has not ended. */
+async function refresh() {
+  const mine = ++asked;
+  document.documentElement.dataset.busy = "true";
+  try {
+    const input = readInput(), why = faultOfInput(input);
+    const result = why ? undefined : await examine(library, input);
+    if (mine !== asked) return;
+    shown = { input, result };
+    if (why) drawNothing(why);
+    else draw(shown);
+  } catch (error) {
+    if (mine !== asked) return;
+    await restart(error);
+  }
+  if (mine === asked) delete document.documentElement.dataset.busy;
+}
+
+// A module that stopped is not called again: a new one takes its place. The record is not in the module.
+async function restart(error) {
+  library = await Library.load(bytes);
+  shown = undefined;
+  drawNothing(`The library stopped: ${error.message}. What is in the fields may be too large; change it to try again.`);
+}
+
+function drawNothing(why) {
+  drawRecord("");
+  for (const id of ["use", "withdraw"]) byId(id).setAttribute("aria-disabled", "true");
+  drawVerdict("none", "Not judged", why);
+  drawChecks(undefined);
+}
+
+function draw({ input, result }) {
+  const { parts, names, keys = [], fault, verdict, judgedAt = input.now } = result;
+  const marks = input.token && verdict ? verdict.marks : [];
+  const own = value("token"), from = own.length - own.trimStart().length;
+  drawToken({ token: own, parts: parts.map((it) => ({ from: it.from + from, to: it.to + from })), marks: marks.map(([a, b]) => [a + from, b + from]) });
+  drawParts({ parts, marks, now: judgedAt });
+  drawBundles(input, result);
+  drawSlider(parts, input.now);
+  drawKeys({ token: input.token, keys: input.token ? keys : [], names });
+  drawChecks(input.token && !fault ? verdict.passed : undefined, verdict?.why);
+  drawResult(input, result);
+  drawRecord(input.token ? hexOf(verdict?.key ?? NOTHING) : "");
+}
+
+function drawResult({ token, now }, { fault, verdict, judgedAt }) {
+  const isAccepted = verdict?.status === 0;
+  byId("use").setAttribute("aria-disabled", String(!isAccepted));
+  byId("withdraw").setAttribute("aria-disabled", String(!isAccepted && verdict?.refusal !== "Replayed"));
+  if (!token) return drawVerdict("none", "Paste a token", "Its parts, the verdict and the reason appear here.");
+  if (fault) return drawVerdict("none", "Not judged", "The trust bundles can't be read.");
+  const late = judgedAt > now ? ` Judged at ${dateOf(judgedAt)}, the time that the record has seen.` : "";
+  if (!isAccepted) return drawVerdict("refused", `Refused: ${verdict.refusal}`, verdict.why + late);
+  return drawVerdict("accepted", "Accepted", `${verdict.id} until ${dateOf(verdict.exp)}, ${agoOf(verdict.exp, judgedAt)}.${late}`);
+}
+
+function drawVerdict(kind, said, why) {
+  byId("verdict").dataset.verdict = kind;
+  if (byId("verdict-said").textContent !== said) byId("verdict-said").textContent = said;
+  byId("verdict-why").textContent = why;
+}
+
+function drawBundles({ bundles }, result) {
+  const isOne = isOneBundle(bundles);
+  byId("domain-row").hidden = !isOne;
+  byId("domain").placeholder = result.names.domain ?? "example.org";
+  if (result.fault) return says("bundles", faultOf(result), true);
+  const domains = domainsOf(result.bundles);
+  return says("bundles", bundles.trim() ? `${domains.length} trust ${domains.length === 1 ? "domain" : "domains"}: ${domains.slice(0, 3).join(", ")}${domains.length > 3 ? ", …" : ""}` : "As SPIRE prints a bundle, or an object of many.");
+}
+
+function faultOf({ fault, bundles }) {
+  const name = JSON.stringify(domainsOf(bundles)[fault.place] ?? "");
+  if (fault.status === 32) return `${name} is no name of a trust domain.`;
+  if (fault.status === 33) return `${name} has no list of keys.`;
+  try {
+    parse(bundles);
+    return "This is JSON, but no object.";
+  } catch ({ at, message }) {
+    const line = bundles.slice(0, at).split("\n");
+    return `No JSON: in line ${line.length}, at character ${line.at(-1).length + 1}, ${message}.`;
+  }
+}
+
+// ---- The slider around the times of the token ----
+
+// From a tenth of the token's life before it to a tenth after it.
+function spanOfLife(parts) {
+  const exp = timeOf(parts, "exp"), begin = timeOf(parts, "nbf") ?? timeOf(parts, "iat");
+  if (exp === undefined) return undefined;
+  const from = begin !== undefined && begin < exp ? begin : exp > 3600n ? exp - 3600n : 0n;
+  const margin = (exp - from) / 10n + 1n;
+  return { low: from > margin ? from - margin : 0n, high: exp + margin };
+}
+
+function drawSlider(parts, now) {
+  const life = spanOfLife(parts), slider = byId("slider");
+  slider.disabled = !life;
+  const at = (time) => Number(((time - life.low) * STEPS) / (life.high - life.low));
+  if (life && document.activeElement !== slider) slider.value = String(Math.min(Math.max(at(now), 0), Number(STEPS)));
+  if (life) slider.setAttribute("aria-valuetext", dateOf(now));
+  const marks = ["nbf", "exp"].map((name) => [name, life && timeOf(parts, name)]).filter(([, time]) => time !== undefined && time >= life.low && time <= life.high);
+  fill(byId("slider-marks"), marks.map(([name, time]) => {
+    const it = make("span", {}, name);
+    it.style.left = `${at(time) / 10}%`;
+    return it;
+  }));
+}
+
+function slides() {
+  const life = spanOfLife(partsOf(value("token").trim()));
+  setLive(false);
+  byId("time").value = String(life.low + ((life.high - life.low) * BigInt(value("slider"))) / STEPS);
+  refresh();
+}
+
+function setLive(isOn) {
+  byId("live").setAttribute("aria-pressed", String(isOn));
+}
+
+// ---- The record ----
+
+// Draws the record where it or the row of the token is another than before.
+function drawRecord(key) {
+  if (record === recordShown && key === keyShown) return;
+  recordShown = record;
+  keyShown = key;
+  const { uses, rows, moment } = record;
+  const withdrawals = uses.filter((it) => it.isWithdrawal).length, twice = rows.filter((it) => it.isTwice).length;
+  const count = (n, one, many) => `${n.toLocaleString("en")} ${n === 1 ? one : many}`;
+  const counts = [count(uses.length - withdrawals, "use", "uses"), count(withdrawals, "withdrawal", "withdrawals"), count(twice, "key used twice", "keys used twice")];
+  byId("record-said").textContent = moment ? `It has seen ${dateOf(moment)}. ${counts.join(", ")}.` : "It has seen no time yet.";
+  for (const id of ["save", "forget"]) byId(id).setAttribute("aria-disabled", String(!moment && !uses.length));
+  timeline.show(record, gained, key);
+}
+
+function setRecord(messages, words) {
+  const before = record;
+  record = readRecord(library, messages);
+  const change = changesOf(before, record), { known, lost } = change;
+  gained = change.gained;
+  const clockText = record.moment > before.moment ? ` Its clock went ${before.moment ? `from ${dateOf(before.moment)} ` : ""}to ${dateOf(record.moment)}.` : "";
+  const [fresh, old, gone] = [gained.size, known, lost].map((it) => it.toLocaleString("en"));
+  tellChange(`${words}: ${fresh} new, ${old} known${lost ? `, ${gone} expired and dropped` : ""}.${clockText}${aheadText()}`);
+  return refresh();
+}
+
+// What a validator with a usual setting says of a time that it should not have seen yet.
+function aheadText() {
+  const ahead = record.moment - clock();
+  return ahead > AHEAD ? ` That is ${spanOf(ahead)} ahead of this computer's clock: a validator that allows ${AHEAD} seconds refuses such a message.` : "";
+}
+
+function tellChange(text, isBad = false) {
+  byId("record-change").append(make("p", { class: isBad ? "bad" : undefined }, text));
+}
+
+function takeMessages(name, content) {
+  const joined = library.join(record.messages, content);
+  if (joined.status !== 0) {
+    const where = joined.status === 3 ? "" : ` In message ${joined.message}, at byte ${joined.place}.`;
+    return tellChange(`${name} was not taken: ${MESSAGE_FAULTS[joined.status] ?? `status ${joined.status}`}.${where}`, true);
+  }
+  const found = contentsOf(content);
+  const kinds = [[found[2], "batch", "batches", " of version 2"], [found[1], "batch", "batches", " of version 1"], [found.summaries, "summary", "summaries", ", which tell of no use"]];
+  const words = kinds.filter(([n]) => n).map(([n, one, many, what]) => `${n} ${n === 1 ? one : many}${what}`).join(", ");
+  return setRecord(joined.bytes, `${name} (${words || "no message"})`);
+}
+
+// ---- What a person does ----
+
+async function takeFile(file) {
+  const content = new Uint8Array(await file.arrayBuffer());
+  if (areMessages(content)) return takeMessages(file.name, content);
+  const text = new TextDecoder().decode(content).trim();
+  if (text.startsWith("{")) return put("bundles", text);
+  if (/^[\w.-]*$/.test(text)) return put("token", text);
+  return takeMessages(file.name, content);
+}
+
+async function takeFiles(files) {
+  fill(byId("record-change"));
+  for (const it of files) await takeFile(it);
+}
+
+function put(id, text) {
+  byId(id).value = text;
+  return refresh();
+}
+
+function loadExample() {
+  const samples = JSON.parse(byId("samples").textContent);
+  for (const id of ["token", "bundles", "own"]) byId(id).value = samples[id];
+  return refresh();
+}
+
+function changes(make, words) {
+  fill(byId("record-change"));
+  return setRecord(make(), words);
+}
+
+function save() {
+  const link = make("a", { href: URL.createObjectURL(new Blob([record.messages])), download: "record.messages" });
+  link.click();
+  URL.revokeObjectURL(link.href);
+}
+
+// A button that is not to be pressed now keeps the focus, and does nothing.
+function press(id, action) {
+  byId(id).addEventListener("click", () => byId(id).getAttribute("aria-disabled") === "true" || action());
+}
+
+function listen() {
+  for (const id of fields) byId(id).addEventListener("input", () => (id === "time" && setLive(false), refresh()));
+  byId("inputs").addEventListener("submit", (event) => event.preventDefault());
+  byId("slider").addEventListener("input", slides);
+  press("live", () => (setLive(!isLive()), refresh()));
+  press("example", loadExample);
+  press("open", () => byId("files").click());
+  press("use", () => changes(() => use(library, shown.input, shown.result), "The use of this token"));
+  press("withdraw", () => changes(() => withdraw(library, shown.input, shown.result), "The withdrawal of this token"));
+  press("save", save);
+  press("forget", () => changes(() => NOTHING, "The empty record"));
+  byId("files").addEventListener("change", async () => {
+    await takeFiles(byId("files").files);
+    byId("files").value = "";
+  });
+  addEventListener("dragover", (event) => (event.preventDefault(), (byId("drop").hidden = false)));
+  addEventListener("dragleave", (event) => event.relatedTarget || (byId("drop").hidden = true));
+  addEventListener("drop", (event) => {
+    event.preventDefault();
+    byId("drop").hidden = true;
+    takeFiles(event.dataTransfer.files);
+  });
+  setInterval(() => isLive() && refresh(), TICK);
+}
+
+makeChecks();
+listen();
+byId("about").textContent = `svid ${library.version()}; the module has ${bytes.length.toLocaleString("en")} bytes and asks its host for nothing.`;
+await refresh();

@@ -1,0 +1,193 @@
+// The 25 refusals in the order in which the library looks for them: what each asks, and, where one holds, why and where in the token.
+// Which one holds says the library alone.
+
+import { member, stringAt } from "./json.js";
+import { agoOf, dateOf, spanOf } from "./time.js";
+
+const FIRST_STATUS = 101;
+const WHOLE = [0, Infinity];
+
+/** @typedef {object} Case what a token was judged by: `token`, `parts`, `own` (audiences), `now`, `longest`, `library` */
+
+/** Each refusal: its name, what a token must be to pass it, and `holds(case)`, which tells why it holds and the places that do not fit. */
+export const REFUSALS = [
+  { name: "TooLong", asks: "It has at most 65,536 bytes", holds: tooLong },
+  { name: "NotThreeParts", asks: "It has three parts", holds: notThreeParts },
+  { name: "HeaderSpelling", asks: "The header is base64url", holds: (it) => misspelt(it, 0, "header") },
+  { name: "HeaderNotObject", asks: "The header is a JSON object", holds: (it) => notObject(it, 0, "header") },
+  { name: "Crit", asks: "It has no crit", holds: (it) => wrong(it, 0, "crit", "names extensions that must be understood, and svid has none") },
+  { name: "Alg", asks: "alg is one of the nine of JWT-SVID", holds: (it) => wrong(it, 0, "alg", "is none of RS, PS or ES with 256, 384 or 512") },
+  { name: "Typ", asks: "typ is JWT or JOSE, if it is there", holds: (it) => wrong(it, 0, "typ", "is neither JWT nor JOSE") },
+  { name: "Kid", asks: "kid is a text, if it is there", holds: (it) => wrong(it, 0, "kid", "is no text") },
+  { name: "PayloadSpelling", asks: "The payload is base64url", holds: (it) => misspelt(it, 1, "payload") },
+  { name: "PayloadNotObject", asks: "The payload is a JSON object", holds: (it) => notObject(it, 1, "payload") },
+  { name: "SignatureSpelling", asks: "The signature is base64url", holds: signatureMisspelt },
+  { name: "Sub", asks: "sub is a SPIFFE ID", holds: noId },
+  { name: "Aud", asks: "aud is a text, or a list of texts", holds: (it) => wrong(it, 1, "aud", "is neither a text nor a list of one or more texts") },
+  { name: "Exp", asks: "exp is a number in digits", holds: (it) => wrong(it, 1, "exp", "is no number in digits alone, below 2^64") },
+  { name: "Nbf", asks: "nbf is one too, if it is there", holds: (it) => wrong(it, 1, "nbf", "is no number in digits alone, below 2^64") },
+  { name: "Jti", asks: "jti is a text, if it is there", holds: (it) => wrong(it, 1, "jti", "is no text") },
+  { name: "NotAudience", asks: "aud names this service", holds: notAudience },
+  { name: "Expired", asks: "It has not expired", holds: expired },
+  { name: "NotYet", asks: "It is valid already", holds: notYet },
+  { name: "TooLongLived", asks: "It does not live too long", holds: tooLongLived },
+  { name: "UnknownDomain", asks: "Its trust domain is known", holds: unknownDomain },
+  { name: "NoKey", asks: "A key may have signed it", holds: noKey },
+  { name: "BadSignature", asks: "Such a key verifies it", holds: badSignature },
+  { name: "Withdrawn", asks: "It was not withdrawn", holds: withdrawn },
+  { name: "Replayed", asks: "It was not used before", holds: replayed },
+];
+
+/** The groups that the refusals make, each by the name of its first. */
+export const GROUPS = {
+  TooLong: "Form", Sub: "Claims", NotAudience: "This service, at this time", UnknownDomain: "Signature", Withdrawn: "Record of used tokens",
+};
+
+/** The refusal that a status is, if it is one. */
+export function refusalOf(status) {
+  return REFUSALS[status - FIRST_STATUS];
+}
+
+/** The JSON of a part, where it is an object. */
+export function objectOf(parts, part) {
+  const node = parts.length === 3 ? parts[part].json.node : undefined;
+  return node?.kind === "object" ? node : undefined;
+}
+
+/** The trust domain of a token, its algorithm and the name of its key, as far as they can be told. */
+export function namesOf(parts, library) {
+  const header = objectOf(parts, 0), payload = objectOf(parts, 1);
+  const id = stringAt(payload, "sub");
+  const parsed = id === undefined ? undefined : library.parseId(id);
+  const domain = parsed?.status === 0 ? id.slice(9, 9 + parsed.domainLength) : undefined;
+  return { id, domain, alg: stringAt(header, "alg"), kid: stringAt(header, "kid") };
+}
+
+const said = (why, ...marks) => ({ why, marks });
+
+function tooLong({ token }) {
+  return said(`It has ${new TextEncoder().encode(token).length.toLocaleString("en")} bytes.`, [65536, token.length]);
+}
+
+function notThreeParts({ token, parts }) {
+  const count = parts.length - 1;
+  if (!token) return said("There is no token.");
+  const behind = count > 2 ? [[parts[2].to, token.length]] : [WHOLE];
+  return said(`It has ${count === 0 ? "no period" : count === 1 ? "one period" : `${count} periods`}, so it is no token in compact form.`, ...behind);
+}
+
+function misspelt({ parts }, which, name) {
+  const part = parts[which], at = part.badAt ?? 0, bad = [...part.text.slice(at, at + 2)][0] ?? "";
+  const isLast = at === part.text.length - 1 && /[\w-]/.test(bad);
+  const why = isLast ? "Its last character has bits that are left over, or one too few." : `${JSON.stringify(bad)} is no character of base64url.`;
+  return said(`The ${name} is misspelt at character ${at + 1}. ${why}`, [part.from + at, part.from + at + bad.length]);
+}
+
+function signatureMisspelt(it) {
+  const part = it.parts[2];
+  return part.text ? misspelt(it, 2, "signature") : said("The signature is empty.", [part.from - 1, part.from]);
+}
+
+function notObject({ parts }, which, name) {
+  const part = parts[which], { fault } = part.json;
+  if (!part.text) return said(`The ${name} is empty.`, [Math.max(part.from - 1, 0), part.to + 1]);
+  if (!fault) return said(`The ${name} is JSON, but no object.`, [part.from, part.to]);
+  // (the last character, where the text ends too early)
+  const from = Math.min(part.charactersOf(fault.at, fault.at + 1)[0], part.to - 1);
+  return said(`The ${name} is no JSON: at character ${fault.at + 1}, ${fault.message}.`, [from, part.to]);
+}
+
+// The places of a member in the token; of the whole part where it is not there.
+function placeOf({ parts }, which, name) {
+  const part = parts[which], found = member(objectOf(parts, which), name);
+  return found ? part.charactersOf(found.from, found.to) : [part.from, part.to];
+}
+
+function wrong(it, which, name, fault) {
+  const isThere = member(objectOf(it.parts, which), name);
+  return said(isThere ? `${name} ${fault}.` : `There is no ${name}.`, placeOf(it, which, name));
+}
+
+const ID_FAULTS = {
+  21: () => "it has more than 2,048 bytes",
+  22: () => "it does not begin with spiffe://",
+  23: () => "its trust domain is empty",
+  24: (at) => `${at} may not stand in a trust domain`,
+  25: () => "its trust domain has more than 255 bytes",
+  26: () => "a segment of its path is empty",
+  27: (at) => `a segment of its path is ${at}`,
+  28: (at) => `${at} may not stand in a path`,
+};
+
+function noId(it) {
+  const id = stringAt(objectOf(it.parts, 1), "sub");
+  if (id === undefined) return wrong(it, 1, "sub", "is no text");
+  const { status, place } = it.library.parseId(id);
+  const bad = new TextDecoder().decode(new TextEncoder().encode(id).subarray(place)).match(/^\.*|^./u)[0] || [...id].at(-1);
+  const rest = new TextDecoder().decode(new TextEncoder().encode(id).subarray(place));
+  return said(`sub is no SPIFFE ID: ${ID_FAULTS[status](JSON.stringify(status === 27 ? bad : [...rest][0] ?? ""))}.`, placeOf(it, 1, "sub"));
+}
+
+/** The audiences of a token. */
+export function audiencesOf(parts) {
+  const node = member(objectOf(parts, 1), "aud")?.value;
+  if (node?.kind === "string") return [node.value];
+  return node?.kind === "array" ? node.items.filter((it) => it.kind === "string").map((it) => it.value) : [];
+}
+
+/** A claim that is a time, if it is one. */
+export function timeOf(parts, name) {
+  const node = member(objectOf(parts, 1), name)?.value;
+  return node?.kind === "number" && /^\d{1,20}$/.test(node.text) ? BigInt(node.text) : undefined;
+}
+
+const list = (names) => names.map((it) => JSON.stringify(it)).join(", ");
+
+function notAudience(it) {
+  const mine = it.own.length ? `and this service is ${list(it.own)}` : "and this service has no name here";
+  return said(`The token is for ${list(audiencesOf(it.parts))}, ${mine}.`, placeOf(it, 1, "aud"));
+}
+
+function expired(it) {
+  const exp = timeOf(it.parts, "exp");
+  return said(`It expired at ${dateOf(exp)}, ${exp === it.now ? "this very second" : agoOf(exp, it.now)}.`, placeOf(it, 1, "exp"));
+}
+
+function notYet(it) {
+  const nbf = timeOf(it.parts, "nbf");
+  return said(`It is valid from ${dateOf(nbf)} on, ${agoOf(nbf, it.now)}.`, placeOf(it, 1, "nbf"));
+}
+
+function tooLongLived(it) {
+  const left = timeOf(it.parts, "exp") - it.now;
+  return said(`It expires ${agoOf(timeOf(it.parts, "exp"), it.now)}, and ${spanOf(it.longest)} are allowed (${left} s, and ${it.longest} s).`, placeOf(it, 1, "exp"));
+}
+
+function unknownDomain(it) {
+  return said(`The bundles have no trust domain ${JSON.stringify(namesOf(it.parts, it.library).domain)}.`, placeOf(it, 1, "sub"));
+}
+
+function noKey(it) {
+  const { kid } = namesOf(it.parts, it.library);
+  const named = kid === undefined ? "" : ` with the kid ${JSON.stringify(kid)}`;
+  const name = kid === undefined ? "alg" : "kid";
+  return said(`The bundle has no key for this algorithm${named}. The keys below say why each was passed over.`, placeOf(it, 0, name));
+}
+
+function badSignature({ parts }) {
+  return said("No key that may have signed it verifies the signature.", [parts[2].from, parts[2].to]);
+}
+
+// (by its key, which is made of the trust domain and the jti, or of what is signed where there is none)
+function keyPlace(it) {
+  const jti = stringAt(objectOf(it.parts, 1), "jti");
+  return jti ? placeOf(it, 1, "jti") : [0, it.parts[1].to];
+}
+
+function withdrawn(it) {
+  return said("The record below has a withdrawal of this token.", keyPlace(it));
+}
+
+function replayed(it) {
+  return said("The record below has a use of this token already.", keyPlace(it));
+}

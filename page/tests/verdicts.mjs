@@ -1,0 +1,255 @@
+// What the page says of tokens, in any browser: each refusal by a token of its own, each algorithm, each reason to pass a key over.
+
+import assert from "node:assert/strict";
+import { after, before, test } from "node:test";
+import { ALGORITHMS, base64url, makeKey, sign } from "./tokens.mjs";
+
+const NOW = 1767225600;
+const SUB = "spiffe://example.org/billing/api";
+const GOOD = { sub: SUB, aud: "ledger", exp: NOW + 300, jti: "one" };
+const ORDER = ["TooLong", "NotThreeParts", "HeaderSpelling", "HeaderNotObject", "Crit", "Alg", "Typ", "Kid", "PayloadSpelling", "PayloadNotObject", "SignatureSpelling", "Sub", "Aud", "Exp", "Nbf", "Jti",
+  "NotAudience", "Expired", "NotYet", "TooLongLived", "UnknownDomain", "NoKey", "BadSignature", "Withdrawn", "Replayed"];
+
+let browser, page, key;
+
+const bundlesOf = (...entries) => JSON.stringify({ "example.org": { keys: entries } });
+const fresh = () => ({ bundles: bundlesOf(key.entry), domain: "", own: "ledger", time: String(NOW), longest: "" });
+const header = { alg: "ES256", kid: "key-ES256" };
+const signed = (change = {}, head = header) => sign(key, head, { ...GOOD, ...change });
+
+async function shown() {
+  return page.run(() => ({
+    said: document.getElementById("verdict-said").textContent,
+    why: document.getElementById("verdict-why").textContent,
+    states: [...document.querySelectorAll("#checks [data-state]")].map((it) => it.dataset.state),
+    marked: [...document.querySelectorAll("#token-shown mark")].map((it) => it.textContent).join(""),
+    members: [...document.querySelectorAll("#parts .marked")].map((it) => it.querySelector("dt")?.textContent ?? "signature"),
+  }));
+}
+
+async function unsigned(head, payload, signature = "c2ln") {
+  return [head, payload].map((it) => base64url(typeof it === "string" ? it : JSON.stringify(it))).join(".") + `.${signature}`;
+}
+
+// What marked characters of a token decode to, with what shares their first and last group of four.
+function decodedAt(token, marked) {
+  const at = token.indexOf(marked), part = token.lastIndexOf(".", at) + 1;
+  assert.ok(marked && at !== -1, "nothing is marked");
+  const from = part + ((at - part) & ~3);
+  return Buffer.from(token.slice(from, at + marked.length), "base64url").toString();
+}
+
+// A refusal: the token, what stands in other fields, what of the token is marked (a text, or the member that it is), and words of the reason.
+const REFUSED = {
+  TooLong: { token: async () => `${"A".repeat(65536)}BCD`, marked: "BCD", why: /65,539 bytes/ },
+  NotThreeParts: { token: async () => "e30.e30.c2ln.more", marked: ".more", why: /3 periods/ },
+  HeaderSpelling: { token: async () => "e3*0.e30.c2ln", marked: "*", why: /character 3/ },
+  HeaderNotObject: { token: async () => unsigned('{"alg" "ES256"}', GOOD), marked: base64url('{"alg" "ES256"}').slice(9), why: /at character 8, a colon/ },
+  Crit: { token: async () => signed({}, { ...header, crit: [] }), member: "crit", why: /extensions/ },
+  Alg: { token: async () => signed({}, { alg: "HS256" }), member: "alg", why: /none of RS, PS or ES/ },
+  Typ: { token: async () => signed({}, { ...header, typ: "at+jwt" }), member: "typ", why: /neither JWT nor JOSE/ },
+  Kid: { token: async () => signed({}, { ...header, kid: 7 }), member: "kid", why: /kid is no text/ },
+  PayloadSpelling: { token: async () => `${base64url(JSON.stringify(header))}.e31.c2ln`, marked: "1", why: /payload is misspelt at character 3.*left over/ },
+  PayloadNotObject: { token: async () => unsigned(header, "[1]"), marked: base64url("[1]"), why: /JSON, but no object/ },
+  SignatureSpelling: { token: async () => unsigned(header, GOOD, ""), marked: ".", why: /signature is empty/ },
+  Sub: { token: async () => signed({ sub: "spiffe://example.org/a//b" }), member: "sub", why: /a segment of its path is empty/ },
+  Aud: { token: async () => signed({ aud: [] }), member: "aud", why: /neither a text nor a list/ },
+  Exp: { token: async () => sign(key, header, `{"sub":"${SUB}","aud":"ledger","exp":1e10}`), member: "exp", why: /no number in digits alone/ },
+  Nbf: { token: async () => signed({ nbf: "soon" }), member: "nbf", why: /nbf is no number/ },
+  Jti: { token: async () => signed({ jti: 1 }), member: "jti", why: /jti is no text/ },
+  NotAudience: { token: async () => signed({ aud: ["other", "third"] }), member: "aud", why: /for "other", "third", and this service is "ledger"/ },
+  Expired: { token: async () => signed({ exp: NOW - 240 }), member: "exp", why: /expired at .*, 4 min ago/ },
+  NotYet: { token: async () => signed({ nbf: NOW + 60 }), member: "nbf", why: /valid from .*, in 1 min/ },
+  TooLongLived: { token: async () => signed(), fields: { longest: "299" }, member: "exp", why: /300 s, and 299 s/ },
+  UnknownDomain: { token: async () => signed({ sub: "spiffe://other.example/x" }), member: "sub", why: /no trust domain "other.example"/ },
+  NoKey: { token: async () => signed({}, { ...header, kid: "other" }), member: "kid", why: /with the kid "other"/ },
+  BadSignature: { token: async () => (await signed()).replace(/.{4}$/, "AAAA"), member: "signature", why: /No key/ },
+  Withdrawn: { token: async () => signed({ jti: "two" }), press: "withdraw", member: "jti", why: /a withdrawal/ },
+  Replayed: { token: async () => signed({ jti: "three" }), press: "use", member: "jti", why: /a use of this token/ },
+};
+
+/** Tests what the page says in a browser, which `start` starts. */
+export function testVerdicts(start) {
+  before(async () => {
+    browser = await start();
+    page = await browser.open(process.env.SVID_PAGE);
+    key = await makeKey("ES256");
+  });
+  after(() => browser?.close());
+
+  test("every refusal has a token here", () => assert.deepEqual(Object.keys(REFUSED), ORDER));
+
+  for (const [name, { token, fields = {}, press, marked, member, why }] of Object.entries(REFUSED)) {
+    test(`a token is refused as ${name}`, async () => {
+      const text = await token();
+      await page.write({ ...fresh(), ...fields, token: text });
+      if (press) {
+        assert.equal((await shown()).said, "Accepted");
+        await page.click(press);
+      }
+      const it = await shown(), place = ORDER.indexOf(name);
+      assert.equal(it.said, `Refused: ${name}`);
+      assert.match(it.why, why);
+      assert.deepEqual(it.states, ORDER.map((_, n) => (n < place ? "passed" : n === place ? "holds" : "later")));
+      if (marked) assert.equal(it.marked, marked);
+      if (member) {
+        assert.deepEqual(it.members, [member]);
+        assert.match(decodedAt(text, it.marked), new RegExp(member === "signature" ? "" : `"${member}":`));
+      }
+      await page.click("forget");
+    });
+  }
+
+  for (const alg of ALGORITHMS) {
+    test(`${alg}: a good signature is accepted, and a bad one is not`, async () => {
+      const mine = await makeKey(alg, `k é😀 ${alg}`), text = await sign(mine, { alg, kid: mine.kid }, GOOD);
+      await page.write({ ...fresh(), bundles: bundlesOf(key.entry, mine.entry), token: text });
+      assert.equal((await shown()).said, "Accepted");
+      const at = text.length - 20;
+      await page.write({ token: text.slice(0, at) + (text[at] === "A" ? "B" : "A") + text.slice(at + 1) });
+      assert.equal((await shown()).said, "Refused: BadSignature");
+    });
+  }
+
+  test("each reason to pass a key over is told, and each answer of a key", async () => {
+    const other = await makeKey("ES256", "key-ES256"), curve = await makeKey("ES384", "key-ES256"), rsa = await makeKey("RS256", "key-ES256");
+    const omit = (name) => Object.fromEntries(Object.entries(key.entry).filter(([it]) => it !== name));
+    const rows = [
+      ["7", /passed over: it is no object/],
+      [JSON.stringify(omit("use")), /it has no use/],
+      [JSON.stringify({ ...key.entry, use: "x509-svid" }), /its use is "x509-svid", and not jwt-svid/],
+      [JSON.stringify(omit("kid")), /it has no kid/],
+      [JSON.stringify({ ...key.entry, kid: 1 }), /its kid is no text/],
+      [JSON.stringify(omit("kty")), /it has no kty/],
+      [JSON.stringify({ ...key.entry, kty: "OKP" }), /its kty is "OKP", and neither RSA nor EC/],
+      [JSON.stringify(key.entry).replace("{", '{"n":1.5,'), /the number 1.5, which is no whole number/],
+      [JSON.stringify(key.entry).replace("{", '{"n":18446744073709551616,'), /the number 18446744073709551616, which/],
+      [JSON.stringify({ ...key.entry, more: "m".repeat(66000) }), /more than 65,536 bytes/],
+      [JSON.stringify(rsa.entry), /its kty is RSA, and ES256 needs EC/],
+      [JSON.stringify({ ...key.entry, kid: "other" }), /its kid is not that of the token, "key-ES256"/],
+      [JSON.stringify(other.entry), /^does not verify the signature/],
+      [JSON.stringify(curve.entry), /^can't be used: its curve is P-384, and ES256 needs P-256/],
+      [JSON.stringify({ ...key.entry, x: "AA" }), /^can't be used: /],
+      [JSON.stringify(key.entry).replace("{", '{"n":18446744073709551615,"z":-9223372036854775808,'), /^verifies the signature/],
+      [JSON.stringify(key.entry), /^verifies the signature/],
+    ];
+    await page.write({ ...fresh(), bundles: `{"example.org":{"keys":[${rows.map(([it]) => it).join(",")}]}}`, token: await signed() });
+    const said = await page.run(() => [...document.querySelectorAll("#keys summary")].map((it) => it.textContent));
+    assert.equal(said.length, rows.length);
+    rows.forEach(([, wanted], n) => assert.match(said[n], wanted));
+    assert.equal((await shown()).said, "Accepted");
+  });
+
+  test("a key that is too weak, or is of another algorithm, verifies nothing", async () => {
+    const rsa = await makeKey("RS256", "key"), small = await makeKey("RS256", "key", 1024), ec = await makeKey("ES256", "key");
+    const number = (bytes) => base64url(Buffer.from(bytes));
+    const cases = {
+      "RS256": [rsa, [
+        [{}, /^verifies the signature/],
+        [{ alg: "RS256" }, /^verifies the signature/],
+        [{ alg: "RS512" }, /^can't be used: its alg is "RS512", and that of the token is RS256/],
+        [{ alg: null }, /^can't be used: its alg is null/],
+        [{ n: small.entry.n }, /^can't be used: its modulus has 1,024 bits, and must have from 2,048 to 16,384/],
+        [{ n: number([1, ...Array(2048).fill(1)]) }, /^can't be used: its modulus has 16,385 bits/],
+        [{ n: undefined }, /^can't be used: its n is no base64url/],
+        [{ e: number([1]) }, /^can't be used: its exponent is no odd number/],
+        [{ e: number([2]) }, /^can't be used: its exponent/],
+        [{ e: number([1, 0, 0, 0, 1]) }, /^can't be used: its exponent/],
+        [{ e: "" }, /^can't be used: its exponent/],
+        [{ e: "AQAB==" }, /^can't be used: its e is no base64url/],
+        [{ e: 65537 }, /^can't be used: its e is no base64url/],
+      ]],
+      "ES256": [ec, [
+        [{}, /^verifies the signature/],
+        [{ x: `AA${ec.entry.x}` }, /^can't be used: its x /],
+        [{ y: ec.entry.y.slice(0, 42) }, /^can't be used: its y (is no base64url|has 31 bytes, and P-256 needs 32)/],
+        [{ x: base64url(Buffer.alloc(32)) }, /^can't be used: /],
+        [{ crv: "secp256k1" }, /^can't be used: its curve is secp256k1/],
+      ]],
+    };
+    for (const [alg, [mine, changes]] of Object.entries(cases)) {
+      await page.write({ ...fresh(), bundles: bundlesOf(...changes.map(([change]) => ({ ...mine.entry, ...change }))), token: await sign(mine, { alg, kid: "key" }, GOOD) });
+      const said = await page.run(() => [...document.querySelectorAll("#keys summary")].map((it) => it.textContent));
+      changes.forEach(([change, wanted], n) => assert.match(said[n], wanted, `${alg} ${JSON.stringify(change).slice(0, 60)}`));
+    }
+    await page.write({ ...fresh(), bundles: bundlesOf(small.entry), token: await sign(small, { alg: "RS256", kid: "key" }, GOOD) });
+    assert.equal((await shown()).said, "Refused: BadSignature");
+  });
+
+  test("a token that was used can be withdrawn, and one that is refused for another reason can't", async () => {
+    const disabled = (id) => page.run((it) => document.getElementById(it).getAttribute("aria-disabled"), id);
+    await page.write({ ...fresh(), token: await signed({ jti: "four" }) });
+    await page.click("use");
+    assert.equal((await shown()).said, "Refused: Replayed");
+    assert.deepEqual([await disabled("use"), await disabled("withdraw")], ["true", "false"]);
+    await page.click("withdraw");
+    assert.equal((await shown()).said, "Refused: Withdrawn");
+    assert.deepEqual([await disabled("use"), await disabled("withdraw")], ["true", "true"]);
+    assert.match(await page.text("record-said"), /1 use, 1 withdrawal, 0 keys used twice/);
+    await page.click("forget");
+  });
+
+  test("a bundle as SPIRE prints it is taken, of the trust domain that stands in the field or in the token", async () => {
+    const spire = JSON.stringify({ keys: [{ ...key.entry, use: "x509-svid", kid: undefined, x5c: ["MII"] }, key.entry], spiffe_sequence: 7, spiffe_refresh_hint: 300 }, null, 4);
+    await page.write({ ...fresh(), bundles: spire, token: await signed() });
+    assert.equal((await shown()).said, "Accepted");
+    assert.equal(await page.run(() => document.getElementById("domain-row").hidden), false);
+    await page.write({ domain: "other.example" });
+    assert.equal((await shown()).said, "Refused: UnknownDomain");
+    await page.write({ bundles: bundlesOf(key.entry) });
+    assert.equal(await page.run(() => document.getElementById("domain-row").hidden), true);
+  });
+
+  test("bundles that can't be read are told by their place", async () => {
+    const wanted = [["{", /line 1, at character 2/], ["[]", /no object/], ['{"a":{"keys":[]},"B":{"keys":[]}}', /"B" is no name of a trust domain/], ['{"a":{"keys":1}}', /"a" has no list of keys/]];
+    for (const [bundles, why] of wanted) {
+      await page.write({ ...fresh(), bundles, token: await signed() });
+      assert.equal((await shown()).said, "Not judged");
+      assert.match(await page.text("bundles-said"), why);
+    }
+  });
+
+  test("the token is judged at the time of its field, or at that of the record where it is later", async () => {
+    await page.write({ ...fresh(), token: await signed({ nbf: NOW - 60 }) });
+    for (const [time, said] of [[NOW - 61, "Refused: NotYet"], [NOW - 60, "Accepted"], ["2026-01-01T00:04:59Z", "Accepted"], [NOW + 300, "Refused: Expired"]]) {
+      await page.write({ time: String(time) });
+      assert.equal((await shown()).said, said, String(time));
+    }
+    await page.write({ time: String(NOW + 100) });
+    await page.click("use");
+    await page.write({ time: String(NOW - 1000) });
+    const it = await shown();
+    assert.equal(it.said, "Refused: Replayed");
+    assert.match(it.why, /Judged at .*the time that the record has seen/);
+    await page.click("forget");
+    await page.write({ time: "yesterday" });
+    assert.match(await page.text("time-said"), /Write seconds/);
+    assert.deepEqual([(await shown()).said, await page.text("verdict-why")], ["Not judged", "The time can't be read."]);
+    await page.write({ time: String(NOW), longest: "an hour" });
+    assert.deepEqual([(await shown()).said, await page.text("verdict-why")], ["Not judged", "The longest life can't be read."]);
+    assert.ok((await shown()).states.every((it) => it === "later"));
+  });
+
+  test("a second check of a token says Replayed, and the slider goes from before the token until after it", async () => {
+    await page.write({ ...fresh(), token: await signed({ nbf: NOW }) });
+    const slide = (it) => page.run((value) => {
+      const slider = document.getElementById("slider");
+      slider.value = value;
+      slider.dispatchEvent(new InputEvent("input", { bubbles: true }));
+    }, it).then(() => page.settled());
+    for (const [at, said] of [[0, "Refused: NotYet"], [500, "Accepted"], [1000, "Refused: Expired"]]) {
+      await slide(at);
+      assert.equal((await shown()).said, said);
+    }
+    await slide(500);
+    await page.click("use");
+    assert.equal((await shown()).said, "Refused: Replayed");
+    assert.match(await page.text("rows"), /this token/);
+    await page.click("forget");
+  });
+
+  test("nothing was asked of a server, and nothing was complained of", async () => {
+    assert.deepEqual(await page.requests(), []);
+    assert.deepEqual(await page.complaints(), []);
+  });
+}

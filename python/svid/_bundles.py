@@ -1,0 +1,118 @@
+"""Trust bundles: where they come from, and the one JSON text of them that the C library reads."""
+
+from __future__ import annotations
+
+import json
+import os
+import pathlib
+from collections.abc import Iterator, Mapping
+from typing import Any, Union
+
+from .errors import BadBundles
+
+Path = Union[str, "os.PathLike[str]"]
+Bundle = Union[Mapping[str, Any], bytes, Path]
+"""The bundle of one trust domain, a JWK set: as a dict, as JSON text (bytes), or a file with it."""
+Bundles = Union[Mapping[str, Bundle], bytes, Path]
+"""The bundles of all trust domains.
+
+- A dict from trust domain names to bundles.
+- JSON text (bytes) of an object from trust domain names to JWK sets.
+- A path of a file: either such an object, or one bundle as SPIRE writes it, and then the file has
+  the name of its trust domain, as `example.org.json`.
+- A path of a folder: the bundle of each trust domain is a file in it, as `example.org.json`.
+"""
+
+
+class Source:
+    """Where bundles come from: it can be read again, and tells whether its files have changed."""
+
+    def __init__(self, given: Bundles) -> None:
+        self._given = os.fspath(given) if isinstance(given, os.PathLike) else given
+        if isinstance(given, str) and given.lstrip().startswith("{"):
+            raise TypeError("a str of bundles names a file or a folder: encode JSON text as bytes")
+
+    def stamp(self) -> object:
+        """What is another value once a file of the bundles is another one, or has changed.
+
+        Raises OSError for a file that is not there.
+        """
+        return [(str(path), _stamp(path)) for path in self._paths()]
+
+    def read(self) -> bytes:
+        """The bundles as the C library takes them. Raises BadBundles and OSError."""
+        if isinstance(self._given, bytes):
+            return self._given
+        if isinstance(self._given, Mapping):
+            return _joined(self._given)
+        path = pathlib.Path(self._given)
+        if path.is_dir():
+            return _joined({file.stem: file for file in _files(path)})
+        text = path.read_bytes()
+        if isinstance(_object(text, str(path)).get("keys"), list):
+            return _joined({path.stem: text})
+        return text
+
+    def _paths(self) -> Iterator[pathlib.Path]:
+        given = self._given.values() if isinstance(self._given, Mapping) else [self._given]
+        for value in given:
+            if isinstance(value, (str, os.PathLike)):
+                path = pathlib.Path(value)
+                yield path
+                if path.is_dir():
+                    yield from _files(path)
+
+
+def from_workload_api(bundles: Mapping[str, bytes]) -> dict[str, dict[str, Any]]:
+    """The bundles of a JWTBundlesResponse of the SPIFFE Workload API, as `Validator` takes them.
+
+    There a trust domain is named by its SPIFFE ID ("spiffe://example.org"), and SPIRE writes its
+    keys without `use`, since all of them are for JWT-SVIDs. Raises BadBundles where a value is no
+    JWK set.
+    """
+    return {name.removeprefix("spiffe://"): _with_use(name, it) for name, it in bundles.items()}
+
+
+def _with_use(name: str, text: bytes) -> dict[str, Any]:
+    keys = _object(text, name).get("keys")
+    if not isinstance(keys, list):
+        raise BadBundles(f"{name}: not a JWK set")
+    return {"keys": [{"use": "jwt-svid", **it} if isinstance(it, dict) else it for it in keys]}
+
+
+def _joined(bundles: Mapping[str, Bundle]) -> bytes:
+    members = (json.dumps(name).encode() + b":" + _text(name, it) for name, it in bundles.items())
+    return b"{" + b",".join(members) + b"}"
+
+
+def _text(name: str, bundle: Bundle) -> bytes:
+    """The JSON text of one bundle: as it stands, since it is the C library that reads it."""
+    if isinstance(bundle, Mapping):
+        try:
+            return json.dumps(dict(bundle), allow_nan=False).encode()
+        except (TypeError, ValueError, RecursionError) as error:
+            raise BadBundles(f"the bundle of {name} is no JSON: {error}") from error
+    text = bundle if isinstance(bundle, bytes) else pathlib.Path(bundle).read_bytes()
+    _object(text, f"the bundle of {name}")
+    return text
+
+
+def _object(text: bytes, what: str) -> dict[str, Any]:
+    """The JSON object that a text is, and nothing beside it."""
+    try:
+        value = json.loads(text.decode())
+    except (ValueError, RecursionError) as error:
+        raise BadBundles(f"{what}: no JSON: {error}") from error
+    if not isinstance(value, dict):
+        raise BadBundles(f"{what}: no JSON object")
+    return value
+
+
+def _files(folder: pathlib.Path) -> list[pathlib.Path]:
+    """The bundles of a folder: the files whose names end in `.json` and don't begin with `.`."""
+    return sorted(file for file in folder.glob("*.json") if not file.name.startswith("."))
+
+
+def _stamp(path: pathlib.Path) -> tuple[int, int, int]:
+    found = path.stat()
+    return found.st_ino, found.st_mtime_ns, found.st_size

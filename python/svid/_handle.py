@@ -1,0 +1,250 @@
+"""One `svid_validator` of the C library, with the lock that orders its calls."""
+
+from __future__ import annotations
+
+import binascii
+import ctypes
+import os
+import struct
+import threading
+import weakref
+from collections.abc import Callable, Iterator
+from typing import Any
+
+from . import _library as lib
+from ._signatures import Verifies
+from .errors import (
+    REFUSALS,
+    BadBundles,
+    BadMessages,
+    Closed,
+    Forked,
+    Gone,
+    Jump,
+    Refused,
+    TooFar,
+)
+from .records import Accepted, Use
+
+_USE = struct.Struct("=QQ32s16s")
+_ROW = struct.Struct(">32sI5sI")  # a question, the algorithm, the length of the key
+_ROW_SIZE = _ROW.size
+_QUICK_ASK = lib.quick.svid_validator_ask
+CHECK = lib.quick.svid_validator_check, lib.library.svid_validator_check
+JUDGE = lib.quick.svid_validator_judge, lib.library.svid_validator_judge
+_LONG = 8192  # a token of so many bytes may take some milliseconds to read: other threads go on
+_URL_SAFE = bytes.maketrans(b"-_", b"+/")
+_ROOM = 65_536
+
+_Call = Callable[..., int]
+
+
+class _LeftBehind:
+    """What a fork has in place of the lock."""
+
+    def __enter__(self) -> None:
+        raise Forked
+
+    def __exit__(self, *_: object) -> None:
+        """Is not called."""
+
+
+class Handle:
+    """An open validator of the C library. A call holds the lock for as long as the library runs.
+
+    All times are whole seconds since 1970, and `now` is the time of the call. Every call may raise
+    Closed, Forked, and MemoryError where the library has no memory; every call with `now` may raise
+    Jump, and every call that takes messages TooFar and BadMessages.
+    """
+
+    def __init__(
+        self, *, longest: int, ahead: int, step: int, place: bytes, own: bytes, bundles: bytes
+    ) -> None:
+        """Opens it. Raises BadBundles."""
+        self._lock: threading.Lock | _LeftBehind = threading.Lock()
+        self._words = (ctypes.c_uint64 * 2)()
+        self._told = lib.Told()
+        self._room = bytearray(_ROOM)
+        self._used = bytearray(_USE.size)
+        self._at = lib.address(self._words)
+        self._told_at = lib.address(self._told)
+        self._room_at = lib.address(self._room)
+        self._used_at = lib.address(self._used)
+        terms = lib.Terms(longest, ahead, step, (ctypes.c_uint8 * 16)(*place))
+        self._read(lib.library.svid_validator_open, lib.address(terms), own, len(own), bundles)
+        self._freeing = weakref.finalize(self, _close, self._words)
+        self._freeing.atexit = False  # a thread that outlives the interpreter may be in a call
+        _handles.add(self)
+
+    def close(self) -> None:
+        """Frees what the validator holds. Does nothing to a closed one, and nothing in a fork."""
+        if self._freeing.alive:
+            with self._lock:
+                self._freeing()
+
+    def leave(self) -> None:
+        """Leaves it to the parent process: the fork may have come while a thread was in a call."""
+        self._freeing.detach()
+        self._lock = _LeftBehind()
+
+    def renew(self, bundles: bytes) -> None:
+        """Replaces the bundles. Raises BadBundles, and then the old ones stay."""
+        self._read(lib.library.svid_validator_bundles, bundles)
+
+    def ask(self, token: bytes) -> bytes:
+        """A row for each key that may have signed the token.
+
+        Raises the refusals of a token that need no audience, time, signature and record.
+        """
+        size = len(token)
+        call = _QUICK_ASK if size < _LONG else lib.library.svid_validator_ask
+        with self._lock:
+            status = call(self._at, token, size, self._room_at, _ROOM, self._told_at)
+            if status == lib.OK:
+                return bytes(self._room[: self._told.len])
+            return self._rest(status, call, token, size)
+
+    def check(
+        self, calls: tuple[_Call, ...], now: int, token: bytes, verifies: Verifies
+    ) -> Accepted:
+        """Judges a token by CHECK or JUDGE: the first of the calls is for short tokens.
+
+        The lock is free while a signature is verified. Raises Refused.
+        """
+        try:
+            yes = _first_yes(self.ask(token), token, verifies)
+        except Refused:
+            yes = b""  # another reason may come before this one, and `now` is to be told
+        room, used, told, size = self._room_at, self._used_at, self._told_at, len(token)
+        call = calls[size >= _LONG]
+        with self._lock:
+            status = call(self._at, now, yes, len(yes) // 32, token, size, room, _ROOM, used, told)
+            if status != lib.OK:
+                raise self._fault(status)
+            subject = self._room[: self._told.len].decode("ascii")
+            expires, at, key, place = _USE.unpack(self._used)
+        return Accepted(subject, Use(expires, key, place, at))
+
+    def withdraw(self, now: int, key: bytes, expires: int) -> Use:
+        """Withdraws the token with this key of 32 bytes. Raises Gone."""
+        with self._lock:
+            lent = (now, key, expires, self._used_at, self._told_at)
+            status = lib.library.svid_validator_withdraw(self._at, *lent)
+            if status != lib.OK:
+                raise self._fault(status)
+            expires, at, key, place = _USE.unpack(self._used)
+        return Use(expires, key, place, at, withdrawn=True)
+
+    def tick(self, now: int) -> None:
+        """Advances the record."""
+        self._run(lib.library.svid_validator_tick, now)
+
+    def take(self, now: int, messages: bytes) -> None:
+        """Joins the record with what the messages tell."""
+        self._run(lib.library.svid_validator_take, now, messages, len(messages))
+
+    def parts(self, uses: int) -> Iterator[bytes]:
+        """The record, a batch of at most so many uses at a time, with the lock free in between."""
+        part, room = lib.Part(), bytearray(lib.BATCH_HEAD_LEN + lib.USE_LEN * uses)
+        lent = (lib.address(part), lib.address(room), len(room))
+        while not part.done:
+            written = self._run(lib.library.svid_validator_parts, *lent)
+            yield bytes(room[:written])
+
+    def summary(self) -> bytes:
+        """The summary of the record."""
+        return self._written(lib.library.svid_validator_summary)
+
+    def answer(self, now: int, summary: bytes) -> bytes:
+        """The answer to the summary of another validator."""
+        return self._written(lib.library.svid_validator_answer, now, summary, len(summary))
+
+    def _read(self, call: _Call, *lent: Any) -> None:
+        """Makes a call that reads bundles, the last that it is lent."""
+        try:
+            self._run(call, *lent, len(lent[-1]))
+        except BadMessages as error:
+            raise BadBundles(f"the bundles are more than {lib.INPUT_MOST:,} bytes") from error
+
+    def _run(self, call: _Call, *lent: Any) -> int:
+        """Makes a call, and gives the length that it tells."""
+        with self._lock:
+            status = call(self._at, *lent, self._told_at)
+            if status != lib.OK:
+                raise self._fault(status)
+            return self._told.len
+
+    def _written(self, call: _Call, *lent: Any) -> bytes:
+        """What a call writes, in a room that is long enough."""
+        with self._lock:
+            status = call(self._at, *lent, self._room_at, _ROOM, self._told_at)
+            if status == lib.OK:
+                return bytes(self._room[: self._told.len])
+            return self._rest(status, call, *lent)
+
+    def _rest(self, status: int, call: _Call, *lent: Any) -> bytes:
+        """What a call writes that had this status, with the lock held: now in a longer room."""
+        if status != lib.TOO_SHORT:
+            raise self._fault(status)
+        room = bytearray(self._told.len)
+        status = call(self._at, *lent, lib.address(room), len(room), self._told_at)
+        if status != lib.OK:
+            raise self._fault(status)
+        return bytes(room)
+
+    def _fault(self, status: int) -> Exception:
+        return fault(status, self._told)
+
+
+def fault(status: int, told: lib.Told) -> Exception:
+    """The exception for a status that is not OK."""
+    if status in REFUSALS:
+        return REFUSALS[status]()
+    if status in _FAULTS:
+        return _FAULTS[status]()
+    if status in lib.MESSAGE_FAULTS:
+        return BadMessages(lib.MESSAGE_FAULTS[status], told.message, told.place)
+    if status in lib.BUNDLE_FAULTS:
+        return BadBundles(lib.BUNDLE_FAULTS[status].format(told.place))
+    return RuntimeError(f"libsvid answered {status}, which include/svid.h does not explain")
+
+
+_FAULTS: dict[int, type[Exception]] = {
+    lib.NO_MEMORY: MemoryError,
+    lib.CLOSED: Closed,
+    lib.GONE: Gone,
+    lib.TOO_FAR: TooFar,
+    lib.JUMP: Jump,
+}
+
+
+def _close(words: ctypes.Array[ctypes.c_uint64]) -> None:
+    lib.library.svid_validator_close(lib.address(words))
+
+
+def _leave_all() -> None:
+    for handle in list(_handles):
+        handle.leave()
+
+
+_handles: weakref.WeakSet[Handle] = weakref.WeakSet()
+os.register_at_fork(after_in_child=_leave_all)
+
+
+def _first_yes(rows: bytes, token: bytes, verifies: Verifies) -> bytes:
+    """The first question of the rows whose answer is yes, or nothing."""
+    signed, _, signature = token.rpartition(b".")
+    signature = decoded(signature)
+    at = 0
+    while at < len(rows):
+        question: bytes
+        question, _, alg, size = _ROW.unpack_from(rows, at)
+        at += _ROW_SIZE + size
+        if verifies(alg.decode(), rows[at - size : at], signed, signature):
+            return question
+    return b""
+
+
+def decoded(part: bytes) -> bytes:
+    """The bytes of a part of a token whose spelling the library has judged."""
+    return binascii.a2b_base64(part.translate(_URL_SAFE) + b"==")

@@ -1,0 +1,157 @@
+"""The C library libsvid: where it is, and the calls of include/svid.h that this package makes.
+
+A pointer to a room, a structure or a validator is an address (`ctypes.addressof`), and an input is
+`bytes` with its length.
+"""
+
+from __future__ import annotations
+
+import ctypes
+import os
+import pathlib
+from ctypes import c_char, c_char_p, c_size_t, c_uint8, c_uint32, c_uint64, c_void_p
+from typing import Any, TypeVar
+
+_Library = TypeVar("_Library", ctypes.CDLL, ctypes.PyDLL)
+
+OK = 0
+TOO_SHORT = 1
+NO_MEMORY = 2
+TOO_MUCH = 3
+NOT_SUMMARY = 4
+CLOSED = 5
+GONE = 7
+TOO_FAR = 8
+JUMP = 9
+
+MESSAGE_FAULTS = {
+    TOO_MUCH: "TooMuch",
+    NOT_SUMMARY: "NotSummary",
+    11: "Magic",
+    12: "Kind",
+    13: "Count",
+    14: "UseKind",
+    15: "UseExpired",
+    16: "UseFuture",
+    17: "UseOrder",
+    18: "Truncated",
+}
+"""Why bytes are no messages, by status."""
+
+BUNDLE_FAULTS = {
+    31: "the bundles are no JSON object",
+    32: "the name of a trust domain is none: number {} (from 0) of the names in rising order",
+    33: "a trust domain has no list `keys`: number {} (from 0) of the names in rising order",
+}
+"""Why bundles are refused, by status."""
+
+ID_ROOM = 2048
+BATCH_HEAD_LEN = 17
+USE_LEN = 65
+USES_IN_A_BATCH = 65_536
+INPUT_MOST = 67_108_864
+NO_LIMIT = 2**64 - 1
+
+
+class Told(ctypes.Structure):
+    """`svid_told`: what a call tells beside its status."""
+
+    _fields_ = [
+        ("len", c_size_t),
+        ("input", c_size_t),
+        ("message", c_size_t),
+        ("place", c_size_t),
+    ]
+    len: int
+    input: int
+    message: int
+    place: int
+
+
+class Terms(ctypes.Structure):
+    """`svid_terms`: what a validator is given for its whole life."""
+
+    _fields_ = [
+        ("longest", c_uint64),
+        ("ahead", c_uint64),
+        ("step", c_uint64),
+        ("place", c_uint8 * 16),
+    ]
+
+
+class Part(ctypes.Structure):
+    """`svid_part`: how far the record is written."""
+
+    _fields_ = [
+        ("begun", c_uint64),
+        ("done", c_uint64),
+        ("withdrawn", c_uint64),
+        ("exp", c_uint64),
+        ("at", c_uint64),
+        ("key", c_uint8 * 32),
+        ("place", c_uint8 * 16),
+    ]
+    done: int
+
+
+_MAJOR = 1
+_LENT = [c_char_p, c_size_t]
+_OUT = [c_void_p, c_size_t]
+_TOLD = [c_void_p]
+_VALIDATOR = [c_void_p]
+_NOW = [c_uint64]
+_CHECK = [*_VALIDATOR, *_NOW, *_LENT, *_LENT, *_OUT, c_void_p, *_TOLD]
+_CALLS = {
+    "svid_report": [*_LENT, *_NOW, *_OUT, *_TOLD],
+    "svid_validator_answer": [*_VALIDATOR, *_NOW, *_LENT, *_OUT, *_TOLD],
+    "svid_validator_ask": [*_VALIDATOR, *_LENT, *_OUT, *_TOLD],
+    "svid_validator_bundles": [*_VALIDATOR, *_LENT, *_TOLD],
+    "svid_validator_check": _CHECK,
+    "svid_validator_judge": _CHECK,
+    "svid_validator_open": [*_VALIDATOR, c_void_p, *_LENT, *_LENT, *_TOLD],
+    "svid_validator_parts": [*_VALIDATOR, c_void_p, *_OUT, *_TOLD],
+    "svid_validator_summary": [*_VALIDATOR, *_OUT, *_TOLD],
+    "svid_validator_take": [*_VALIDATOR, *_NOW, *_LENT, *_TOLD],
+    "svid_validator_tick": [*_VALIDATOR, *_NOW, *_TOLD],
+    "svid_validator_withdraw": [*_VALIDATOR, *_NOW, c_char_p, c_uint64, c_void_p, *_TOLD],
+    "svid_version": [],
+}
+
+
+def _path() -> str:
+    """The library that LIBSVID names, or the one in this package, or the system's."""
+    beside = pathlib.Path(__file__).with_name("libsvid.so")
+    return os.environ.get("LIBSVID") or (str(beside) if beside.exists() else "libsvid.so.0")
+
+
+def address(room: Any) -> c_void_p:
+    """Where a structure or a writable buffer is. Whoever has the address keeps the room alive."""
+    return c_void_p(ctypes.addressof(c_char.from_buffer(room)))
+
+
+def _load(path: str, kind: type[_Library]) -> _Library:
+    """The library with the types of its calls."""
+    try:
+        library = kind(path)
+    except OSError as error:
+        raise ImportError(
+            f"the C library of svid can't be loaded: {error}. Install the wheel for your machine, "
+            "or let LIBSVID name libsvid.so"
+        ) from error
+    for name, takes in _CALLS.items():
+        call = getattr(library, name)
+        call.argtypes = takes
+        call.restype = c_uint32
+    library.svid_validator_close.argtypes = _VALIDATOR
+    library.svid_validator_close.restype = None
+    version: int = library.svid_version()
+    if version // 10_000 != _MAJOR:
+        raise ImportError(f"{path} has version {version}, and this package needs {_MAJOR}xxxx")
+    return library
+
+
+library = _load(_path(), ctypes.CDLL)
+"""The library. A call lets other threads run Python in the meantime."""
+
+quick = _load(_path(), ctypes.PyDLL)
+"""The same library for calls of some microseconds: no other thread runs Python in the meantime."""

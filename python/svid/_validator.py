@@ -1,0 +1,305 @@
+"""The validator."""
+
+from __future__ import annotations
+
+import hashlib
+import json
+import logging
+import math
+import os
+import pathlib
+import tempfile
+import threading
+import time
+from collections.abc import Callable, Iterable, Iterator
+from typing import Union
+
+from . import _library as lib
+from ._bundles import Bundles, Path, Source
+from ._handle import CHECK, JUDGE, Handle, decoded, fault
+from ._signatures import Verifier, Verifies
+from .errors import Error, NoKey, UnknownDomain
+from .records import Accepted, Report, Use
+
+_LOG = logging.getLogger("svid")
+_YEAR_5138 = 100_000_000_000
+
+Token = Union[str, bytes]
+
+
+class Validator:
+    """Checks JWT-SVIDs, and remembers which were used.
+
+    ::
+
+        with svid.Validator(audiences=["ledger"], bundles="/etc/svid/bundles") as validator:
+            accepted = validator.check(token)
+            print(accepted.spiffe_id)
+
+    Make one for each process, after the process was forked. Any number of threads may use it: one
+    lock orders the calls of the C library. `check` holds it for some microseconds, and `take`,
+    `answer` and `summary` for longer, the larger the record is. Signatures are verified, and files
+    are read, without the lock. A signal handler may not use it, since it may interrupt a call.
+
+    Every `now` is the time of the call in seconds since 1970, by default that of the system's
+    clock. One of 100,000,000,000 or more, as milliseconds are, raises ValueError.
+    Tokens are judged at the record's moment, the greatest time that it has seen.
+
+    Each method raises Closed after `close`, Forked in a process that was forked from the one that
+    made the validator, and MemoryError where there is no memory; each with `now` may raise Jump.
+    """
+
+    def __init__(
+        self,
+        *,
+        audiences: str | Iterable[str],
+        bundles: Bundles,
+        longest: int | None = None,
+        ahead: int = 10,
+        step: int | None = None,
+        place: bytes | None = None,
+        refresh: float | None = 10.0,
+        verifies: Verifies | None = None,
+    ) -> None:
+        """Makes a validator whose record is empty.
+
+        audiences: this service's own names. A token is for it where one of them is in `aud`.
+        bundles: the keys of each trust domain; see `svid.Bundles`.
+        longest: how many seconds a token may still live; a token that expires later is refused as
+            TooLongLived. None is no limit. It bounds how long a use stays in the record.
+        ahead: how many seconds a message's moment may lie past `now`: a little more than clocks
+            differ.
+        step: a `now` more than so many seconds past the record's moment raises Jump, so that a
+            wrong clock does not expire the record. None is no limit. After a longer pause you need
+            a new validator, so set it to more than the longest time without a call.
+        place: 16 bytes that name this validator among all that share its record; by default random
+            ones. Two validators of one place accept a token twice.
+        refresh: how many seconds may pass before files of bundles are looked at again, by the next
+            check. None is never. Where they can't be read, the bundles stay as they are, and the
+            logger "svid" has a warning.
+        verifies: verifies signatures in place of the package `cryptography`; see `svid.Verifies`.
+
+        Raises BadBundles, OSError for a file of bundles, and ValueError and TypeError for arguments
+        that can't be.
+        """
+        place = os.urandom(16) if place is None else place
+        if len(place) != 16:
+            raise ValueError("place has 16 bytes")
+        if refresh is not None and not refresh >= 0:
+            raise ValueError("refresh is a number of seconds, or None")
+        self._verifies = verifies or Verifier()
+        self._source = Source(bundles)
+        self._stamp = self._source.stamp()
+        self._refresh = math.inf if refresh is None else refresh
+        self._look_at = time.monotonic() + self._refresh
+        self._renewing = threading.Lock()
+        self._handle = Handle(
+            longest=_limit("longest", longest),
+            ahead=_limit("ahead", ahead),
+            step=_limit("step", step),
+            place=place,
+            own=_lines(audiences),
+            bundles=self._source.read(),
+        )
+
+    def __enter__(self) -> Validator:
+        return self
+
+    def __exit__(self, *_: object) -> None:
+        self.close()
+
+    def close(self) -> None:
+        """Frees the record and the bundles. Closing twice does nothing."""
+        self._handle.close()
+
+    def check(self, token: Token, now: float | None = None) -> Accepted:
+        """Accepts a token, once. Raises the subclass of Refused that says why not."""
+        return self._checked(CHECK, token, now)
+
+    def judge(self, token: Token, now: float | None = None) -> Accepted:
+        """Answers what `check` would, but the record gains no use: `check` may still accept it."""
+        return self._checked(JUDGE, token, now)
+
+    def withdraw(self, token: Token, now: float | None = None) -> Use:
+        """Withdraws a token until it expires: from now on it is refused as Withdrawn.
+
+        Send the `message` of what it returns to the other validators. It verifies no signature: the
+        token is withdrawn that has this trust domain and `jti`, or this text where it has no `jti`.
+        Raises Gone for an expired token, and Refused for what is no JWT-SVID (TooLong to Jti).
+        """
+        token = _bytes(token)
+        try:
+            self._handle.ask(token)
+        except (UnknownDomain, NoKey):
+            pass  # it is a JWT-SVID all the same
+        return self.withdraw_key(*_key(token), now)
+
+    def withdraw_key(self, key: bytes, expires: int, now: float | None = None) -> Use:
+        """Withdraws the token with this key of 32 bytes (`Use.key`), which expires at `expires`.
+
+        Raises Gone if it has expired.
+        """
+        if len(key) != 32:
+            raise ValueError("a key has 32 bytes")
+        return self._handle.withdraw(_seconds(now), _lent(key), _limit("expires", expires))
+
+    def tick(self, now: float | None = None) -> None:
+        """Advances the record to `now`, and drops what has expired by then."""
+        self._handle.tick(_seconds(now))
+
+    def take(self, messages: bytes, now: float | None = None) -> None:
+        """Takes messages of other validators: `Use.message`, `parts` and `answer` make them.
+
+        Taking a message twice, or in another order, makes no difference. Raises TooFar and
+        BadMessages, and then takes none of them. At most 67,108,864 bytes.
+        """
+        self._handle.take(_seconds(now), _lent(messages))
+
+    def parts(self, uses: int = 65_536) -> Iterator[bytes]:
+        """The record as messages, each of at most so many uses (1 to 65,536), of 65 bytes a use.
+
+        You may make other calls in between. Together they have each use that the record had at the
+        first of them, and that is still live at the last.
+        """
+        if not 1 <= uses <= lib.USES_IN_A_BATCH:
+            raise ValueError("uses is from 1 to 65,536")
+        return self._handle.parts(uses)
+
+    def summary(self) -> bytes:
+        """A message of 8,205 bytes, for a validator that is to `answer` what is missing here."""
+        return self._handle.summary()
+
+    def answer(self, summary: bytes, now: float | None = None) -> bytes:
+        """Answers the summary of another validator: messages with the uses that it may lack.
+
+        Raises TooFar, and BadMessages where it is no summary.
+        """
+        return self._handle.answer(_seconds(now), _lent(summary))
+
+    def report(self) -> Report:
+        """What the record holds, and which tokens were accepted more than once.
+
+        It is for people and for tests: it makes an object for each use. Raises BadMessages
+        ("TooMuch") for a record of more than 1,032,439 uses.
+        """
+        return Report.parse(_report(b"".join(self.parts())))
+
+    def save(self, path: Path) -> None:
+        """Writes the record to a file, which has the old record or the new one, whole, at any time.
+
+        Raises OSError.
+        """
+        target = pathlib.Path(path)
+        made, name = tempfile.mkstemp(prefix=target.name + ".", dir=target.parent)
+        try:
+            with open(made, "wb") as file:
+                for part in self.parts():
+                    file.write(part)
+                file.flush()
+                os.fsync(file.fileno())
+            os.replace(name, target)
+        except BaseException:
+            os.unlink(name)
+            raise
+
+    def load(self, path: Path, now: float | None = None) -> None:
+        """Takes the record of a file that `save` wrote. Raises OSError, TooFar and BadMessages."""
+        with open(path, "rb") as file:
+            while head := file.read(lib.BATCH_HEAD_LEN):
+                uses = min(int.from_bytes(head[13:], "big"), lib.USES_IN_A_BATCH + 1)
+                self.take(head + file.read(lib.USE_LEN * uses), now)
+
+    def renew(self, bundles: Bundles | None = None) -> None:
+        """Replaces the bundles, by default by what their files have now. The record stays.
+
+        Raises BadBundles, and OSError for a file of bundles; then the old ones stay.
+        """
+        with self._renewing:
+            source = self._source if bundles is None else Source(bundles)
+            stamp = source.stamp()
+            self._handle.renew(source.read())
+            self._source, self._stamp = source, stamp
+            if isinstance(self._verifies, Verifier):
+                self._verifies.forget()
+
+    def _checked(
+        self, calls: tuple[Callable[..., int], ...], token: Token, now: float | None
+    ) -> Accepted:
+        """What `check` or `judge` answers, by these calls of the C library."""
+        if time.monotonic() >= self._look_at:
+            self._look()
+        return self._handle.check(calls, _seconds(now), _bytes(token), self._verifies)
+
+    def _look(self) -> None:
+        """Reads the files of the bundles again where they have changed."""
+        self._look_at = time.monotonic() + self._refresh
+        try:
+            if self._source.stamp() != self._stamp:
+                self.renew()
+        except (OSError, Error) as error:
+            _LOG.warning("the bundles stay as they are: %s", error)
+
+
+def _bytes(token: Token) -> bytes:
+    """A token's bytes; text that is not ASCII gives such that no token has."""
+    if isinstance(token, str):
+        return token.encode("utf-8", "surrogatepass")
+    if isinstance(token, bytes):
+        return token
+    raise TypeError(f"a token is str or bytes, and not {type(token).__name__}")
+
+
+def _lent(data: bytes) -> bytes:
+    """Bytes as the library takes them."""
+    if isinstance(data, (bytes, bytearray, memoryview)):
+        return bytes(data)
+    raise TypeError(f"messages and keys are bytes, and not {type(data).__name__}")
+
+
+def _key(token: bytes) -> tuple[bytes, int]:
+    """The key of a well-formed token, and when it expires (docs/FORMATS.md, "Key of a token")."""
+    signed, payload = token.rpartition(b".")[0], token.split(b".")[1]
+    claims = json.loads(decoded(payload))
+    domain, jti = claims["sub"][9:].partition("/")[0].encode(), claims.get("jti", "").encode()
+    text = b"\0" + signed
+    if jti:
+        text = b"\1" + len(domain).to_bytes(4, "big") + domain + jti
+    return hashlib.sha256(text).digest(), claims["exp"]
+
+
+def _seconds(now: float | None) -> int:
+    if now is None:
+        return int(time.time())
+    if not isinstance(now, (int, float)):
+        raise TypeError(f"now is a number of seconds, and not {type(now).__name__}")
+    if not 0 <= now < _YEAR_5138:
+        raise ValueError(f"now is in seconds since 1970, below {_YEAR_5138:,}: {now} is not")
+    return int(now)
+
+
+def _limit(name: str, seconds: int | None) -> int:
+    if seconds is None:
+        return lib.NO_LIMIT
+    if not 0 <= seconds <= lib.NO_LIMIT:
+        raise ValueError(f"{name} is a number of seconds from 0 to 2^64-1")
+    return int(seconds)
+
+
+def _lines(audiences: str | Iterable[str]) -> bytes:
+    """The audiences as the library takes them, one a line."""
+    names = [audiences] if isinstance(audiences, str) else list(audiences)
+    if not names or any(not name or set(name) & set("\r\n") for name in names):
+        raise ValueError("audiences are one or more names, none of them empty or with a line end")
+    return "\n".join(names).encode()
+
+
+def _report(messages: bytes) -> str:
+    told, room = lib.Told(), bytearray(1)
+    while True:
+        lent = (messages, len(messages), 0, lib.address(room), len(room))
+        status = lib.library.svid_report(*lent, lib.address(told))
+        if status == lib.OK:
+            return room[: told.len].decode()
+        if status != lib.TOO_SHORT:
+            raise fault(status, told)
+        room = bytearray(told.len)

@@ -1,0 +1,43 @@
+"""ASGI middleware: lets in requests with a good token, and puts its SPIFFE ID into the scope."""
+
+from __future__ import annotations
+
+from collections.abc import Awaitable, Callable, MutableMapping
+from typing import Any
+
+from ._bearer import admit
+from ._validator import Validator
+
+Scope = MutableMapping[str, Any]
+Message = MutableMapping[str, Any]
+Receive = Callable[[], Awaitable[Message]]
+Send = Callable[[Message], Awaitable[None]]
+App = Callable[[Scope, Receive, Send], Awaitable[None]]
+
+
+class SvidMiddleware:
+    """Checks the bearer token of each request and each websocket, and calls `app` if it is good.
+
+    There `scope["spiffe_id"]` is the SPIFFE ID of the token's subject, a str. Any other request is
+    answered with status 401, and any other websocket is closed before it is accepted. A check runs
+    on the event loop: it takes little more than to verify one signature.
+    """
+
+    def __init__(self, app: App, validator: Validator) -> None:
+        self.app = app
+        self.validator = validator
+
+    async def __call__(self, scope: Scope, receive: Receive, send: Send) -> None:
+        if scope["type"] == "lifespan":
+            return await self.app(scope, receive, send)
+        given = [value for name, value in scope["headers"] if name.lower() == b"authorization"]
+        header = given[0].decode("latin-1") if len(given) == 1 else None
+        spiffe_id, challenge = admit(self.validator, header)
+        if spiffe_id is not None:
+            await self.app({**scope, "spiffe_id": spiffe_id}, receive, send)
+        elif scope["type"] == "websocket":
+            await send({"type": "websocket.close", "code": 1008})
+        else:
+            headers = [(b"www-authenticate", challenge.encode()), (b"content-length", b"0")]
+            await send({"type": "http.response.start", "status": 401, "headers": headers})
+            await send({"type": "http.response.body"})

@@ -1,0 +1,239 @@
+"""What a validator raises.
+
+`Refused` and its 25 subclasses say why a token is refused. The others say why a call did nothing::
+
+    Error
+    ├── Refused          the token is refused: one subclass for each reason
+    ├── Closed           the validator is closed
+    ├── Forked           the validator was made before a fork, by the parent process
+    ├── Jump             `now` is further past the record's moment than `step` allows
+    ├── Gone             the token to withdraw has expired
+    ├── TooFar           a message's moment is further past `now` than `ahead` allows
+    ├── BadBundles       the trust bundles can't be read
+    └── BadMessages      bytes of another validator are no messages
+
+A call that has no memory raises `MemoryError`. It accepted no token, and you can make it again.
+"""
+
+from __future__ import annotations
+
+
+class Error(Exception):
+    """The base of all errors of this package."""
+
+
+class Closed(Error):
+    """The validator is closed. Make a new one."""
+
+    def __init__(self) -> None:
+        super().__init__("the validator is closed: make a new one")
+
+
+class Forked(Error):
+    """The validator was made before a fork. Make one in each process, after the fork.
+
+    Two processes with one validator would accept each token twice.
+    """
+
+    def __init__(self) -> None:
+        super().__init__(
+            "the validator was made by another process, before a fork: make one in each process"
+        )
+
+
+class Jump(Error, ValueError):
+    """`now` is more than `step` seconds past the record's moment. Nothing happened.
+
+    If the clock is right, the validator was idle for longer than `step`: save its record, make a
+    new validator, and load the record into it.
+    """
+
+    def __init__(self) -> None:
+        super().__init__("now is more than `step` seconds past the record's moment")
+
+
+class Gone(Error, ValueError):
+    """The token has expired, so there is nothing to withdraw."""
+
+    def __init__(self) -> None:
+        super().__init__("the token has expired: there is nothing to withdraw")
+
+
+class TooFar(Error, ValueError):
+    """The messages tell of a time more than `ahead` seconds past `now`. None of them was taken."""
+
+    def __init__(self) -> None:
+        super().__init__("the messages tell of a time more than `ahead` seconds past now")
+
+
+class BadBundles(Error, ValueError):
+    """The trust bundles can't be read. A validator that has bundles keeps the ones that it has."""
+
+
+class BadMessages(Error, ValueError):
+    """The bytes are no messages of a validator. None of them was taken.
+
+    `reason` is a name of docs/FORMATS.md, as "Truncated"; or "TooMuch" for more than 67,108,864
+    bytes, or "NotSummary". `message` is which of the messages is bad, counted from 1, and `place`
+    the number of the bad byte in it, counted from 0; both are 0 for "TooMuch" and "NotSummary".
+    """
+
+    def __init__(self, reason: str, message: int, place: int) -> None:
+        super().__init__(reason, message, place)
+        self.reason = reason
+        self.message = message
+        self.place = place
+
+    def __str__(self) -> str:
+        if self.message == 0:
+            return self.reason
+        return f"{self.reason} in message {self.message} at byte {self.place}"
+
+
+class Refused(Error):
+    """The token is refused, and the record has gained no use. The subclass says why.
+
+    A token has the first reason that holds, in the order of the subclasses below.
+    `name` is the name that the program `svid` prints, as "Replayed". Nothing of the token is in the
+    error, so you can log it.
+    """
+
+    @property
+    def name(self) -> str:
+        """The name of the reason."""
+        return type(self).__name__
+
+    def __str__(self) -> str:
+        return f"{self.name}: {type(self).__doc__}"
+
+
+class TooLong(Refused):
+    """The token has more than 65,536 bytes."""
+
+
+class NotThreeParts(Refused):
+    """The token has not exactly two periods."""
+
+
+class HeaderSpelling(Refused):
+    """The header is not base64url."""
+
+
+class HeaderNotObject(Refused):
+    """The header is no JSON object."""
+
+
+class Crit(Refused):
+    """The header has a member `crit`."""
+
+
+class Alg(Refused):
+    """`alg` is none of the nine algorithms RS256 to RS512, ES256 to ES512 and PS256 to PS512."""
+
+
+class Typ(Refused):
+    """`typ` is there, and is neither "JWT" nor "JOSE"."""
+
+
+class Kid(Refused):
+    """`kid` is there, and is no string."""
+
+
+class PayloadSpelling(Refused):
+    """The payload is not base64url."""
+
+
+class PayloadNotObject(Refused):
+    """The payload is no JSON object."""
+
+
+class SignatureSpelling(Refused):
+    """The signature is empty, or not base64url."""
+
+
+class Sub(Refused):
+    """`sub` is no SPIFFE ID."""
+
+
+class Aud(Refused):
+    """`aud` is neither a string nor a list of one or more strings."""
+
+
+class Exp(Refused):
+    """`exp` is no whole number from 0 to 2^64-1, written with digits alone."""
+
+
+class Nbf(Refused):
+    """`nbf` is there, and is no whole number from 0 to 2^64-1."""
+
+
+class Jti(Refused):
+    """`jti` is there, and is no string."""
+
+
+class NotAudience(Refused):
+    """No value of `aud` is one of the validator's audiences."""
+
+
+class Expired(Refused):
+    """The token has expired: `exp` is not greater than the record's moment."""
+
+
+class NotYet(Refused):
+    """The token is not valid yet: `nbf` is greater than the record's moment."""
+
+
+class TooLongLived(Refused):
+    """The token expires more than `longest` seconds past the record's moment."""
+
+
+class UnknownDomain(Refused):
+    """The bundles have no trust domain of this name."""
+
+
+class NoKey(Refused):
+    """The trust domain has no key that fits `alg` and `kid`."""
+
+
+class BadSignature(Refused):
+    """No key that fits made the signature."""
+
+
+class Withdrawn(Refused):
+    """The token was withdrawn."""
+
+
+class Replayed(Refused):
+    """The token was accepted before, here or by a validator whose messages were taken."""
+
+
+_REFUSED: tuple[type[Refused], ...] = (
+    TooLong,
+    NotThreeParts,
+    HeaderSpelling,
+    HeaderNotObject,
+    Crit,
+    Alg,
+    Typ,
+    Kid,
+    PayloadSpelling,
+    PayloadNotObject,
+    SignatureSpelling,
+    Sub,
+    Aud,
+    Exp,
+    Nbf,
+    Jti,
+    NotAudience,
+    Expired,
+    NotYet,
+    TooLongLived,
+    UnknownDomain,
+    NoKey,
+    BadSignature,
+    Withdrawn,
+    Replayed,
+)
+
+REFUSALS: dict[int, type[Refused]] = dict(enumerate(_REFUSED, start=101))
+"""Each reason for which a token is refused, by the number that the C library has for it."""

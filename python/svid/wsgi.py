@@ -1,0 +1,34 @@
+"""WSGI middleware: lets in requests with a good token, and puts its SPIFFE ID into the environ."""
+
+from __future__ import annotations
+
+from collections.abc import Callable, Iterable
+from typing import Any
+
+from ._bearer import admit
+from ._validator import Validator
+
+Environ = dict[str, Any]
+StartResponse = Callable[..., Any]
+App = Callable[[Environ, StartResponse], Iterable[bytes]]
+
+
+class SvidMiddleware:
+    """Checks the bearer token of each request, and calls `app` if it is good.
+
+    There `environ["svid.spiffe_id"]` is the SPIFFE ID of the token's subject, a str. Any other
+    request is answered with status 401. Servers with several threads may use it.
+    """
+
+    def __init__(self, app: App, validator: Validator) -> None:
+        self.app = app
+        self.validator = validator
+
+    def __call__(self, environ: Environ, start_response: StartResponse) -> Iterable[bytes]:
+        spiffe_id, challenge = admit(self.validator, environ.get("HTTP_AUTHORIZATION"))
+        if spiffe_id is not None:
+            return self.app({**environ, "svid.spiffe_id": spiffe_id}, start_response)
+        start_response(
+            "401 Unauthorized", [("WWW-Authenticate", challenge), ("Content-Length", "0")]
+        )
+        return []

@@ -1,0 +1,200 @@
+"""Bundles: every form in which they are given, and how they are renewed."""
+
+import json
+import logging
+import os
+import pathlib
+
+import pytest
+import svid
+from making import NOW, bundle, entry, private_key, token, validator, verdict
+
+KEY = private_key("ES256")
+JWKS = {"keys": [entry(KEY, "k1")]}
+ACCEPTED = f"accepted spiffe://example.org/billing/api {NOW + 300}"
+# As `spire-server bundle show -format spiffe` writes it: with the X.509 authorities too.
+SPIRE = {
+    "keys": [
+        {"use": "x509-svid", "kty": "RSA", "n": "AQAB", "e": "AQAB", "x5c": ["MIID"]},
+        entry(KEY, "k1"),
+    ],
+    "spiffe_sequence": 3,
+    "spiffe_refresh_hint": 300,
+}
+
+
+def says(bundles, made=None, **terms):
+    with validator(bundles, **terms) as checks:
+        return verdict(checks, made or token())
+
+
+def test_a_dict():
+    assert says({"example.org": JWKS}) == ACCEPTED
+    assert says({"other.example": JWKS}) == "refused UnknownDomain"
+    assert says({"example.org": {"keys": []}}) == "refused NoKey"
+
+
+def test_a_dict_of_what_bundles_may_be(tmp_path):
+    path = tmp_path / "any name"
+    path.write_text(json.dumps(SPIRE))
+    for value in SPIRE, json.dumps(SPIRE).encode(), path, str(path):
+        given = {"other.example": {"keys": None}, "example.org": value}
+        assert says(given) == ACCEPTED
+
+
+def test_json_text():
+    assert says(json.dumps({"example.org": SPIRE}).encode()) == ACCEPTED
+
+
+def test_a_file_of_all_bundles(tmp_path):
+    path = tmp_path / "bundles.json"
+    path.write_text(json.dumps({"example.org": SPIRE, "keys": JWKS}))
+    assert says(path) == says(str(path)) == ACCEPTED
+
+
+def test_a_file_that_spire_writes(tmp_path):
+    path = tmp_path / "example.org.json"
+    path.write_text(json.dumps(SPIRE, indent=4) + "\n")
+    assert says(path) == ACCEPTED
+    path = path.rename(tmp_path / "bundle.json")
+    assert says(path) == "refused UnknownDomain"
+
+
+def test_a_folder(tmp_path):
+    (tmp_path / "example.org.json").write_text(json.dumps(SPIRE))
+    (tmp_path / "other.example.json").write_text('{"keys":[]}')
+    (tmp_path / ".example.org.json").write_text("being written")
+    (tmp_path / "README").write_text("not a bundle")
+    assert says(tmp_path) == ACCEPTED
+    assert says(tmp_path, token(sub="spiffe://other.example/a")) == "refused NoKey"
+
+
+def test_an_empty_folder_knows_nobody(tmp_path):
+    assert says(tmp_path) == "refused UnknownDomain"
+
+
+def test_the_workload_api():
+    plain = {name: it for name, it in entry(KEY, "k1").items() if name != "use"}
+    text = json.dumps({"keys": [plain, {**plain, "use": "x509-svid"}, 7]}).encode()
+    given = svid.from_workload_api({"spiffe://example.org": text})
+    assert says(given) == ACCEPTED
+    assert says({"example.org": text}) == "refused NoKey"
+    for bad in b"", b"[]", b"{}", b'{"keys":{}}', b"\xff":
+        with pytest.raises(svid.BadBundles):
+            svid.from_workload_api({"spiffe://example.org": bad})
+
+
+@pytest.mark.parametrize(
+    "given",
+    [
+        b"",
+        b"[]",
+        b'{"example.org":[]}',
+        b'{"Example.org":{"keys":[]}}',
+        {"example.org": {"kyes": []}},
+        {"example.org/web": {"keys": []}},
+        {"example.org": b"{} , "},
+        {"example.org": b'{"keys":[]},"other.example":{"keys":[]}'},
+        {"example.org": b"[" * 100_000},
+        {"example.org": {"keys": [float("nan")]}},
+        {"example.org": {"keys": [object()]}},
+        {"example.org": b'{"keys":[NaN]}'},
+        {"example.org": "\ufeff{}".encode()},
+    ],
+)
+def test_what_is_no_bundle(given):
+    with pytest.raises(svid.BadBundles) as raised:
+        validator(given)
+    assert str(raised.value)
+
+
+@pytest.mark.parametrize("given", [None, 7, [JWKS], '{"example.org": {"keys": []}}', {"a": 7}])
+def test_what_is_of_no_kind(given):
+    with pytest.raises(TypeError):
+        svid.Validator(audiences="ledger", bundles=given)
+
+
+def test_a_file_that_is_missing(tmp_path):
+    for given in tmp_path / "none", {"example.org": tmp_path / "none"}:
+        with pytest.raises(FileNotFoundError):
+            validator(given)
+
+
+def test_renewing():
+    with validator() as checks:
+        made = token(jti="1")
+        checks.check(made, NOW)
+        checks.renew({"example.org": {"keys": [entry(private_key("ES256", 1), "k1")]}})
+        assert verdict(checks, token(jti="2")) == "refused BadSignature"
+        checks.renew(json.dumps(bundle(entry(KEY, "k1"))).encode())
+        assert verdict(checks, made) == "refused Replayed"
+        assert verdict(checks, token(jti="2")) == ACCEPTED
+
+
+def test_bundles_that_are_refused_leave_the_old_ones(tmp_path):
+    with validator() as checks:
+        for bad in b"", {"example.org": 7}, tmp_path / "none":
+            with pytest.raises((svid.BadBundles, TypeError, FileNotFoundError)):
+                checks.renew(bad)
+        checks.renew()
+        assert verdict(checks, token()) == ACCEPTED
+
+
+def rewrite(path, text):
+    """Replaces a file as an agent does: by another one, renamed."""
+    new = path.with_suffix(".new")
+    new.write_text(text)
+    os.replace(new, path)
+
+
+def test_files_that_change_are_read_again(tmp_path):
+    path = tmp_path / "example.org.json"
+    path.write_text(json.dumps({"keys": []}))
+    with validator(tmp_path, refresh=0) as checks:
+        assert verdict(checks, token()) == "refused NoKey"
+        rewrite(path, json.dumps(SPIRE))
+        assert verdict(checks, token()) == ACCEPTED
+        path.unlink()
+        assert verdict(checks, token(jti="2")) == "refused UnknownDomain"
+
+
+@pytest.mark.parametrize("refresh", [None, 3600])
+def test_files_are_not_looked_at_before_it_is_time(tmp_path, refresh):
+    path = tmp_path / "example.org.json"
+    path.write_text(json.dumps({"keys": []}))
+    with validator(path, refresh=refresh) as checks:
+        rewrite(path, json.dumps(SPIRE))
+        assert verdict(checks, token()) == "refused NoKey"
+        checks.renew()
+        assert verdict(checks, token()) == ACCEPTED
+
+
+def test_a_file_that_gets_bad_is_told_and_not_used(tmp_path, caplog):
+    path = tmp_path / "example.org.json"
+    path.write_text(json.dumps(SPIRE))
+    with validator(path, refresh=0) as checks:
+        rewrite(path, "{")
+        with caplog.at_level(logging.WARNING, "svid"):
+            assert verdict(checks, token(jti="1")) == ACCEPTED
+            path.unlink()
+            assert verdict(checks, token(jti="2")) == ACCEPTED
+        assert [it.name for it in caplog.records] == ["svid"] * 2
+        rewrite(path, json.dumps({"keys": []}))
+        assert verdict(checks, token(jti="3")) == "refused NoKey"
+
+
+def test_a_folder_of_links_that_change_at_once(tmp_path):
+    """As a Kubernetes ConfigMap is mounted: the files are links into a folder that is replaced."""
+    for name, text in ("1", '{"keys":[]}'), ("2", json.dumps(SPIRE)):
+        (tmp_path / name).mkdir()
+        (tmp_path / name / "example.org.json").write_text(text)
+    data = tmp_path / "data"
+    data.symlink_to("1")
+    mount = tmp_path / "mount"
+    mount.mkdir()
+    (mount / "example.org.json").symlink_to("../data/example.org.json")
+    with validator(mount, refresh=0) as checks:
+        assert verdict(checks, token()) == "refused NoKey"
+        pathlib.Path(tmp_path / "new").symlink_to("2")
+        os.replace(tmp_path / "new", data)
+        assert verdict(checks, token()) == ACCEPTED

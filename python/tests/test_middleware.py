@@ -1,0 +1,183 @@
+"""The middlewares, by the examples, each with a client of its own."""
+
+import asyncio
+import http.client
+import importlib.util
+import json
+import pathlib
+import subprocess
+import sys
+import time
+
+import pytest
+from making import bundle, entry, private_key, token, validator
+from starlette.applications import Starlette
+from starlette.responses import PlainTextResponse
+from starlette.routing import Route, WebSocketRoute
+from starlette.testclient import TestClient
+from starlette.websockets import WebSocketDisconnect
+
+import svid
+from svid.asgi import SvidMiddleware
+from svid.wsgi import SvidMiddleware as WsgiMiddleware
+
+EXAMPLES = pathlib.Path(__file__).parent.parent / "examples"
+HELLO = "hello spiffe://example.org/billing/api"
+
+
+def fresh(**members):
+    """A token of now."""
+    return token(**{"exp": int(time.time()) + 300, "jti": None, **members})
+
+
+@pytest.fixture
+def bundles(tmp_path, monkeypatch):
+    path = tmp_path / "bundles.json"
+    path.write_text(json.dumps(bundle(entry(private_key("ES256"), "k1"))))
+    monkeypatch.setenv("SVID_BUNDLES", str(path))
+
+
+REFUSED = [
+    ({}, "Bearer"),
+    ({"Authorization": ""}, "Bearer"),
+    ({"Authorization": "Basic YTpi"}, "Bearer"),
+    ({"Authorization": "Bearer"}, "NotThreeParts"),
+    ({"Authorization": "Bearer a,Bearer b"}, "NotThreeParts"),
+    ({"Authorization": "Bearer " + token(exp=1)}, "Expired"),
+    ({"Authorization": "Bearer \x80.\xff.\xfe"}, "HeaderSpelling"),
+]
+
+
+def challenge(name):
+    """What the header WWW-Authenticate says of a refusal, or of no token."""
+    if name == "Bearer":
+        return name
+    return f'Bearer error="invalid_token", error_description="{name}"'
+
+
+def load(name):
+    """An example, as a module."""
+    spec = importlib.util.spec_from_file_location(name, EXAMPLES / f"{name}.py")
+    module = importlib.util.module_from_spec(spec)
+    spec.loader.exec_module(module)
+    return module
+
+
+def test_starlette(bundles):
+    with TestClient(load("starlette_app").app) as client:
+        made = "bearer " + fresh(jti="1")
+        answer = client.get("/", headers={"Authorization": made})
+        assert (answer.status_code, answer.text) == (200, HELLO)
+        answer = client.get("/", headers={"Authorization": made})
+        assert answer.headers["WWW-Authenticate"] == challenge("Replayed")
+        for headers, name in REFUSED:
+            answer = client.get("/", headers={k: v.encode("latin-1") for k, v in headers.items()})
+            assert (answer.status_code, answer.text) == (401, "")
+            assert answer.headers["WWW-Authenticate"] == challenge(name)
+
+
+@pytest.fixture
+def server(bundles):
+    """The port of the example by wsgiref."""
+    words = [sys.executable, EXAMPLES / "wsgiref_app.py", "0"]
+    with subprocess.Popen(words, stdout=subprocess.PIPE, stderr=subprocess.DEVNULL) as served:
+        try:
+            yield int(served.stdout.readline().split()[-1])
+        finally:
+            served.terminate()
+
+
+def test_wsgiref(server):
+    def get(headers):
+        connection = http.client.HTTPConnection("127.0.0.1", server, timeout=60)
+        connection.request("GET", "/", headers=headers)
+        answer = connection.getresponse()
+        return answer.status, answer.read().decode(), answer.getheader("WWW-Authenticate")
+
+    made = {"Authorization": "Bearer " + fresh(jti="1")}
+    assert get(made) == (200, HELLO, None)
+    assert get(made) == (401, "", challenge("Replayed"))
+    for headers, name in REFUSED:
+        assert get(headers) == (401, "", challenge(name))
+
+
+def test_websockets():
+    async def greet(websocket):
+        await websocket.accept()
+        await websocket.send_text("hello " + websocket.scope["spiffe_id"])
+        await websocket.close()
+
+    with validator() as checks:
+        app = SvidMiddleware(Starlette(routes=[WebSocketRoute("/", greet)]), checks)
+        client = TestClient(app)
+        made = {"Authorization": "Bearer " + fresh()}
+        with client.websocket_connect("/", headers=made) as websocket:
+            assert websocket.receive_text() == HELLO
+        with pytest.raises(WebSocketDisconnect), client.websocket_connect("/", headers=made):
+            pass
+
+
+def run(app, scope):
+    """What an ASGI app sends."""
+    sent = []
+
+    async def send(message):
+        sent.append(message)
+
+    asyncio.run(app(scope, None, send))
+    return sent
+
+
+def test_two_tokens_in_one_request_are_none():
+    made = [(b"Authorization", b"Bearer " + fresh(jti=it).encode()) for it in "12"]
+    with validator() as checks:
+        sent = run(SvidMiddleware(None, checks), {"type": "http", "headers": made})
+        assert sent[0]["status"] == 401
+        assert checks.report().uses == ()
+
+
+def test_the_server_starts_and_stops_without_a_token():
+    seen = []
+
+    async def app(scope, receive, send):
+        seen.append(scope)
+
+    with validator() as checks:
+        run(SvidMiddleware(app, checks), {"type": "lifespan"})
+    assert seen == [{"type": "lifespan"}]
+
+
+def test_an_error_of_the_application_is_its_own():
+    """A token that the application refuses is no refusal of the middleware."""
+
+    def fails(*_):
+        raise svid.Expired
+
+    async def fails_later(*_):
+        raise svid.Expired
+
+    with validator() as checks:
+        made = "Bearer " + fresh(jti="1")
+        with pytest.raises(svid.Expired):
+            WsgiMiddleware(fails, checks)({"HTTP_AUTHORIZATION": made}, None)
+        headers = [(b"authorization", ("Bearer " + fresh(jti="2")).encode())]
+        with pytest.raises(svid.Expired):
+            run(SvidMiddleware(fails_later, checks), {"type": "http", "headers": headers})
+
+
+def test_the_caller_of_a_request_sees_no_change():
+    with validator() as checks:
+        environ = {"HTTP_AUTHORIZATION": "Bearer " + fresh()}
+        seen = []
+        WsgiMiddleware(lambda it, _: seen.append(it) or [], checks)(environ, None)
+        assert list(environ) == ["HTTP_AUTHORIZATION"]
+        assert seen[0]["svid.spiffe_id"] == HELLO[6:]
+
+
+def test_a_closed_validator_lets_nobody_in():
+    checks = validator()
+    checks.close()
+    app = Starlette(routes=[Route("/", lambda _: PlainTextResponse("in"))])
+    client = TestClient(SvidMiddleware(app, checks), raise_server_exceptions=False)
+    answer = client.get("/", headers={"Authorization": "Bearer " + fresh()})
+    assert (answer.status_code, answer.text) == (500, "")

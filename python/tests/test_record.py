@@ -1,0 +1,349 @@
+"""The record: what it gains, how it is shared and kept, and what the clock does to it."""
+
+import dataclasses
+import time
+
+import pytest
+import svid
+from making import NOW, token, validator, verdict
+
+ACCEPTED = f"accepted spiffe://example.org/billing/api {NOW + 300}"
+
+
+def test_an_acceptance():
+    with validator(place=b"p" * 16) as checks:
+        accepted = checks.check(token(jti="1"), NOW)
+    assert accepted.spiffe_id == "spiffe://example.org/billing/api"
+    assert (accepted.trust_domain, accepted.path) == ("example.org", "/billing/api")
+    assert accepted.expires == accepted.use.expires == NOW + 300
+    assert (accepted.use.at, accepted.use.place) == (NOW, b"p" * 16)
+    assert len(accepted.use.key) == 32 and not accepted.use.withdrawn
+    assert dataclasses.is_dataclass(accepted) and dataclasses.is_dataclass(accepted.use)
+
+
+def test_a_subject_without_a_path():
+    with validator() as checks:
+        accepted = checks.check(token(sub="spiffe://example.org"), NOW)
+    assert (accepted.trust_domain, accepted.path) == ("example.org", "")
+
+
+def test_judging_adds_nothing():
+    with validator() as checks:
+        made = token()
+        judged = checks.judge(made, NOW)
+        assert checks.report().uses == ()
+        assert checks.check(made, NOW) == judged
+        with pytest.raises(svid.Replayed):
+            checks.judge(made, NOW)
+
+
+def test_the_clock_of_the_system_is_the_default():
+    soon = int(time.time())
+    with validator() as checks:
+        use = checks.check(token(exp=soon + 300)).use
+        with pytest.raises(svid.Expired):
+            checks.check(token(exp=soon - 1))
+    assert soon <= use.at <= soon + 60
+
+
+@pytest.mark.parametrize(
+    "now", [NOW * 1000, -1, 1e11, float("nan"), float("inf"), 2**64, 10**30]
+)
+def test_a_moment_that_is_none(now):
+    with validator() as checks:
+        for call in (
+            checks.tick,
+            lambda it: checks.check(token(), it),
+            lambda it: checks.take(b"", it),
+        ):
+            with pytest.raises(ValueError):
+                call(now)
+        assert checks.report().moment == 0
+        with pytest.raises(TypeError):
+            checks.tick("1")
+
+
+def test_a_moment_has_whole_seconds():
+    with validator() as checks:
+        assert checks.check(token(), NOW + 0.9).use.at == NOW
+
+
+def test_a_jump_of_the_clock_does_nothing():
+    with validator(step=86_400) as checks:
+        made = token(exp=NOW + 999_999)
+        checks.check(token(), NOW)
+        with pytest.raises(svid.Jump):
+            checks.check(made, NOW + 86_401)
+        assert checks.report().moment == NOW
+        assert checks.check(made, NOW + 86_400).use.at == NOW + 86_400
+
+
+def test_a_clock_that_is_set_back_judges_at_the_record():
+    with validator() as checks:
+        checks.tick(NOW + 300)
+        assert verdict(checks, token()) == "refused Expired"
+
+
+def test_a_token_that_is_none_tells_the_time_too():
+    with validator() as checks:
+        for which, junk in enumerate(["junk", token(header={"kid": "k2"})]):
+            assert verdict(checks, junk, NOW + which).startswith("refused No")
+            assert checks.report().moment == NOW + which
+
+
+def test_a_withdrawal_by_the_text():
+    with validator() as checks, validator() as other:
+        made = token(jti="1")
+        use = checks.withdraw(made, NOW)
+        assert use.withdrawn and use.expires == NOW + 300
+        assert verdict(checks, made) == "refused Withdrawn"
+        other.take(use.message, NOW)
+        assert verdict(other, made) == "refused Withdrawn"
+        assert other.report().uses == (use,)
+
+
+@pytest.mark.parametrize("jti", [None, "", "é\u0000\U0001f600"])
+def test_a_withdrawal_has_the_key_of_the_use(jti):
+    with validator() as checks:
+        made = token(jti=jti)
+        accepted = checks.check(made, NOW).use
+        assert checks.withdraw(made, NOW).key == accepted.key
+
+
+def test_a_withdrawal_by_the_key():
+    with validator() as checks:
+        made = token()
+        use = checks.judge(made, NOW).use
+        checks.withdraw_key(use.key, use.expires, NOW)
+        assert verdict(checks, made) == "refused Withdrawn"
+        with pytest.raises(ValueError):
+            checks.withdraw_key(b"short", NOW + 1, NOW)
+        with pytest.raises(ValueError):
+            checks.withdraw_key(use.key, -1, NOW)
+
+
+def test_a_token_of_others_is_withdrawn_too():
+    with validator() as checks:
+        checks.withdraw(token(sub="spiffe://unknown.example/a"), NOW)
+        checks.withdraw(token(header={"kid": "unknown"}, jti="2"), NOW)
+        assert len(checks.report().uses) == 2
+
+
+def test_what_is_not_withdrawn():
+    with validator() as checks:
+        with pytest.raises(svid.Gone):
+            checks.withdraw(token(exp=NOW), NOW)
+        with pytest.raises(svid.NotThreeParts):
+            checks.withdraw("no token", NOW)
+        with pytest.raises(svid.Jti):
+            checks.withdraw(token(jti=1), NOW)
+        assert checks.report().uses == ()
+
+
+def test_one_tells_another():
+    with validator() as a, validator() as b:
+        one, two = token(jti="1"), token(jti="2")
+        b.take(a.check(one, NOW).use.message, NOW)
+        assert verdict(b, one) == "refused Replayed"
+        assert verdict(b, two) == ACCEPTED
+        a.take(b"".join(b.parts()), NOW)
+        assert verdict(a, two) == "refused Replayed"
+        assert a.report().uses == b.report().uses
+
+
+@pytest.mark.parametrize("kind", [bytes, bytearray, memoryview])
+def test_messages_of_every_kind_of_bytes(kind):
+    with validator() as a, validator() as b:
+        use = a.check(token(), NOW).use
+        b.take(kind(use.message), NOW)
+        b.take(kind(a.answer(kind(b.summary()), NOW)), NOW)
+        b.withdraw_key(kind(use.key), use.expires, NOW)
+        assert len(b.report().uses) == 2
+
+
+def test_messages_that_are_no_bytes():
+    with validator() as checks:
+        for call in checks.take, checks.answer, lambda it: checks.withdraw_key(it, NOW):
+            for other in "a" * 32, 32, None, ["a"] * 32:
+                with pytest.raises(TypeError):
+                    call(other)
+
+
+def test_a_summary_and_its_answer():
+    with validator() as a, validator() as b:
+        for jti in range(20):
+            a.check(token(jti=str(jti)), NOW)
+        summary = b.summary()
+        assert len(summary) == 8205
+        b.take(a.answer(summary, NOW), NOW)
+        assert b.report() == a.report()
+        assert len(a.answer(b.summary(), NOW)) == 17
+        with pytest.raises(svid.BadMessages) as raised:
+            a.answer(b"".join(b.parts()), NOW)
+        assert str(raised.value) == "NotSummary"
+
+
+def test_an_answer_that_is_longer_than_the_room():
+    with validator(verifies=lambda *_: True) as a, validator() as b:
+        for jti in range(1200):
+            a.check(token(jti=str(jti)), NOW)
+        answer = a.answer(b.summary(), NOW)
+        assert len(answer) > 65_536
+        b.take(answer, NOW)
+        assert len(b.report().uses) == 1200
+
+
+@pytest.mark.parametrize("uses", [1, 7, 65_536])
+def test_parts(uses):
+    with validator() as a, validator() as b:
+        for jti in range(20):
+            a.check(token(jti=str(jti)), NOW)
+        parts = list(a.parts(uses))
+        assert max(map(len, parts)) <= 17 + 65 * uses
+        for part in reversed(parts):
+            b.take(part, NOW)
+        assert a.report() == b.report()
+
+
+@pytest.mark.parametrize("uses", [0, -1, 65_537])
+def test_parts_of_no_size(uses):
+    with validator() as checks, pytest.raises(ValueError):
+        checks.parts(uses)
+
+
+def test_uses_that_come_between_parts():
+    with validator() as checks:
+        for jti in range(4):
+            checks.check(token(jti=str(jti)), NOW)
+        before = checks.report().uses
+        parts = checks.parts(1)
+        told = [next(parts)]
+        checks.check(token(jti="new"), NOW)
+        told += parts
+        with validator() as other:
+            other.take(b"".join(told), NOW)
+            assert set(before) <= set(other.report().uses)
+
+
+def test_an_empty_record_is_one_part():
+    with validator() as checks:
+        assert list(checks.parts()) == [b"JSR\x02\x01" + bytes(12)]
+        assert checks.report() == svid.Report(0, (), {})
+
+
+def test_a_report_of_a_token_used_twice():
+    with validator() as a, validator() as b:
+        made = token()
+        uses = {a.check(made, NOW).use, b.check(made, NOW + 1).use}
+        a.take(b"".join(b.parts()), NOW + 1)
+        report = a.report()
+        assert report.moment == NOW + 1 and set(report.uses) == uses
+        assert report.twice == {next(iter(uses)).key: 2}
+
+
+@pytest.mark.parametrize(
+    "messages, fault",
+    [
+        (b"JSR\x09", ("Magic", 1, 0)),
+        (b"JSR\x02\x07", ("Kind", 1, 4)),
+        (b"JSR\x02\x01" + bytes(12) + b"JSR", ("Truncated", 2, 3)),
+        (bytes(67_108_865), ("Magic", 1, 0)),
+        ((b"JSR\x02\x01" + bytes(12)) * 3_947_581, ("TooMuch", 0, 0)),
+    ],
+    ids=["magic", "kind", "truncated", "too much, and bad", "too much"],
+)
+def test_bytes_that_are_no_messages(messages, fault):
+    with validator() as checks:
+        with pytest.raises(svid.BadMessages) as raised:
+            checks.take(messages, NOW)
+        assert (raised.value.reason, raised.value.message, raised.value.place) == fault
+        assert checks.report().moment == 0
+
+
+def test_messages_from_too_far_ahead():
+    with validator(ahead=10) as a, validator() as b:
+        use = b.check(token(), NOW + 11).use
+        with pytest.raises(svid.TooFar):
+            a.take(use.message, NOW)
+        with pytest.raises(svid.TooFar):
+            a.answer(b.summary(), NOW)
+        a.take(use.message, NOW + 1)
+        assert a.report().uses == (use,)
+
+
+def test_a_record_that_is_kept(tmp_path):
+    kept = tmp_path / "kept"
+    with validator() as a:
+        made = token()
+        a.check(made, NOW)
+        a.save(kept)
+        with validator() as b:
+            b.load(kept, NOW)
+            assert verdict(b, made) == "refused Replayed"
+            b.check(token(jti="2"), NOW)
+            b.save(str(kept))
+            a.load(str(kept), NOW)
+            assert a.report() == b.report()
+    assert [it.name for it in tmp_path.iterdir()] == ["kept"]
+
+
+def test_a_save_that_fails_leaves_the_old_one(tmp_path):
+    kept = tmp_path / "kept"
+    kept.write_bytes(b"old")
+    checks = validator()
+    checks.close()
+    with pytest.raises(svid.Closed):
+        checks.save(kept)
+    assert kept.read_bytes() == b"old" and list(tmp_path.iterdir()) == [kept]
+    with validator() as checks, pytest.raises(OSError):
+        checks.save(tmp_path / "none" / "kept")
+
+
+@pytest.mark.parametrize("cut", [1, 16, 18, 81])
+def test_a_damaged_save(tmp_path, cut):
+    kept = tmp_path / "kept"
+    with validator() as checks:
+        kept.write_bytes(checks.check(token(), NOW).use.message[:cut])
+        with pytest.raises(svid.BadMessages) as raised:
+            checks.load(kept, NOW)
+        assert raised.value.reason == "Truncated"
+    with validator() as checks, pytest.raises(OSError):
+        checks.load(tmp_path / "none")
+
+
+def test_a_save_of_several_batches(tmp_path):
+    kept = tmp_path / "kept"
+    with validator() as a, validator() as b:
+        for jti in range(5):
+            a.check(token(jti=str(jti)), NOW)
+        kept.write_bytes(b"".join(a.parts(2)))
+        b.load(kept, NOW)
+        assert a.report() == b.report()
+
+
+@pytest.mark.parametrize(
+    "terms, error",
+    [
+        ({"audiences": []}, ValueError),
+        ({"audiences": ["a", ""]}, ValueError),
+        ({"audiences": ["a\nb"]}, ValueError),
+        ({"audiences": ["a\r"]}, ValueError),
+        ({"audiences": ["\udc80"]}, ValueError),
+        ({"audiences": [1]}, TypeError),
+        ({"audiences": None}, TypeError),
+        ({"place": b"short"}, ValueError),
+        ({"longest": -1}, ValueError),
+        ({"ahead": 2**64}, ValueError),
+        ({"step": -1}, ValueError),
+        ({"refresh": -1}, ValueError),
+    ],
+)
+def test_terms_that_are_none(terms, error):
+    with pytest.raises(error):
+        validator(**terms)
+
+
+def test_one_audience_is_one_name():
+    with validator(audiences="ledger") as checks:
+        assert verdict(checks, token(aud="ledger")) == ACCEPTED
+        assert verdict(checks, token(aud="l")) == "refused NotAudience"

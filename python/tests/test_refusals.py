@@ -1,0 +1,158 @@
+"""Each of the 25 refusals, by a token that has it, and the errors of the other calls."""
+
+import pickle
+
+import pytest
+import svid
+from making import NOW, b64, claims, entry, private_key, signed, token, validator
+from svid.errors import REFUSALS
+
+KEY = private_key("ES256")
+HEADER = b'{"alg":"ES256","kid":"k1"}'
+PAYLOAD = b'{"sub":"spiffe://example.org/billing/api","aud":["ledger"],"exp":1767225900}'
+
+
+def text(header=HEADER, payload=PAYLOAD):
+    return signed("ES256", KEY, header, payload)
+
+
+def parts(place, part):
+    """A good token with another part."""
+    given = text().split(".")
+    given[place] = part
+    return ".".join(given)
+
+
+REFUSED = {
+    "TooLong": "a" * 65_537,
+    "NotThreeParts": "a.b",
+    "HeaderSpelling": parts(0, "e30="),
+    "HeaderNotObject": text(header=b"[]"),
+    "Crit": text(header=b'{"alg":"ES256","crit":["exp"]}'),
+    "Alg": text(header=b'{"alg":"none"}'),
+    "Typ": text(header=b'{"alg":"ES256","typ":"at+jwt"}'),
+    "Kid": text(header=b'{"alg":"ES256","kid":1}'),
+    "PayloadSpelling": parts(1, "*"),
+    "PayloadNotObject": text(payload=b"7"),
+    "SignatureSpelling": parts(2, ""),
+    "Sub": token(sub="billing"),
+    "Aud": token(aud=[]),
+    "Exp": token(exp=None),
+    "Nbf": token(nbf=1.5),
+    "Jti": token(jti=5),
+    "NotAudience": token(aud="other"),
+    "Expired": token(exp=NOW),
+    "NotYet": token(nbf=NOW + 1),
+    "TooLongLived": token(exp=NOW + 3601),
+    "UnknownDomain": token(sub="spiffe://other.example/api"),
+    "NoKey": token(header={"kid": "k2"}),
+    "BadSignature": token(key=private_key("ES256", 1)),
+    "Withdrawn": token(jti="withdrawn"),
+    "Replayed": token(jti="used"),
+}
+
+
+@pytest.fixture
+def checks():
+    with validator(longest=3600) as made:
+        made.check(REFUSED["Replayed"], NOW)
+        made.withdraw(REFUSED["Withdrawn"], NOW)
+        yield made
+
+
+def test_every_refusal_has_a_token():
+    assert [it.__name__ for it in REFUSALS.values()] == list(REFUSED) and len(REFUSED) == 25
+
+
+@pytest.mark.parametrize("name", REFUSED)
+@pytest.mark.parametrize("spelled", [str, str.encode])
+def test_refusal(checks, name, spelled):
+    before = checks.report()
+    for ask in checks.check, checks.judge:
+        with pytest.raises(svid.Refused) as raised:
+            ask(spelled(REFUSED[name]), NOW)
+        assert type(raised.value) is getattr(svid, name)
+        assert raised.value.name == name
+        assert str(raised.value).startswith(name + ": ")
+    assert checks.report() == before
+
+
+def test_refusals_say_what_is_wrong_and_nothing_of_the_token():
+    for kind in REFUSALS.values():
+        refused = kind()
+        assert kind.__doc__ and "\n" not in kind.__doc__
+        assert str(pickle.loads(pickle.dumps(refused))) == str(refused)
+
+
+@pytest.mark.parametrize(
+    "junk",
+    ["", ".", "..", "...", "\0", "é", "\udc80", b"\xff.\xfe.\xfd", "a" * 10_000_000, b"." * 65_536],
+    ids=range(10),
+)
+def test_junk_is_refused(checks, junk):
+    with pytest.raises(svid.Refused):
+        checks.check(junk, NOW)
+
+
+def test_the_longest_token_is_judged(checks):
+    head, payload, signature = text().split(".")
+    padded = '{"pad":"' + "a" * 48_900 + '",' + str(claims()).replace("'", '"')[1:]
+    long = signed("ES256", KEY, HEADER, padded.encode())
+    assert 65_000 < len(long) <= 65_536
+    assert checks.check(long, NOW).spiffe_id == "spiffe://example.org/billing/api"
+
+
+@pytest.mark.parametrize("other", [None, 7, bytearray(b"a.b.c"), ["a"]])
+def test_a_token_is_text_or_bytes(checks, other):
+    with pytest.raises(TypeError):
+        checks.check(other, NOW)
+
+
+def test_closed():
+    checks = validator()
+    checks.close()
+    checks.close()
+    calls = [
+        lambda: checks.check(token()),
+        lambda: checks.judge("x"),
+        lambda: checks.withdraw(token()),
+        lambda: checks.withdraw_key(b"k" * 32, NOW),
+        checks.tick,
+        lambda: checks.take(b""),
+        lambda: list(checks.parts()),
+        checks.summary,
+        lambda: checks.answer(b""),
+        checks.report,
+        checks.renew,
+    ]
+    for call in calls:
+        with pytest.raises(svid.Closed):
+            call()
+
+
+def test_a_validator_closes_with_its_block_and_with_an_error():
+    with pytest.raises(KeyError), validator() as checks:
+        raise KeyError
+    with pytest.raises(svid.Closed):
+        checks.check(token(), NOW)
+
+
+def test_a_verifier_that_fails_changes_nothing():
+    def fails(*_):
+        raise ConnectionError("no verifier")
+
+    with validator(verifies=fails) as checks:
+        with pytest.raises(ConnectionError):
+            checks.check(token(), NOW)
+        assert checks.report().uses == ()
+
+
+def test_a_verifier_is_asked_of_the_key_and_the_signature():
+    asked = []
+    with validator(verifies=lambda *it: asked.append(it) or True) as checks:
+        made = token()
+        checks.check(made, NOW)
+    [(alg, key, signing_input, signature)] = asked
+    assert (alg, signing_input) == ("ES256", made.rpartition(".")[0].encode())
+    assert b64(signature) == made.rpartition(".")[2]
+    assert svid._bundles._object(key, "") == entry(KEY, "k1")

@@ -1,0 +1,195 @@
+"""Threads, forks and the end of a program."""
+
+import multiprocessing
+import os
+import subprocess
+import sys
+import threading
+
+import pytest
+import svid
+from making import NOW, SUBJECT, bundle, entry, private_key, token, validator, verdict
+
+THREADS = 8
+
+
+def in_threads(work):
+    """Runs work(number) in threads at once, and raises what one of them raised."""
+    raised, gate = [], threading.Barrier(THREADS)
+
+    def run(number):
+        try:
+            gate.wait()
+            work(number)
+        except BaseException as error:  # noqa: B902
+            raised.append(error)
+
+    threads = [threading.Thread(target=run, args=(number,)) for number in range(THREADS)]
+    for it in threads:
+        it.start()
+    for it in threads:
+        it.join()
+    if raised:
+        raise raised[0]
+
+
+def test_a_token_is_accepted_by_one_thread():
+    tokens = [token(jti=str(it)) for it in range(100)]
+    said = []
+    with validator() as checks:
+        in_threads(lambda _: said.extend((it, verdict(checks, it)) for it in tokens))
+    for it in tokens:
+        answers = sorted(answer for which, answer in said if which == it)
+        assert answers == [f"accepted {SUBJECT} {NOW + 300}"] + ["refused Replayed"] * (THREADS - 1)
+
+
+def test_threads_get_their_own_answers():
+    """Each thread has subjects and keys of its own, and none gets those of another."""
+    with validator() as checks:
+
+        def work(number):
+            for which in range(50):
+                subject = f"spiffe://example.org/{'a' * (number * 100 + 1)}"
+                made = token(sub=subject, jti=f"{number} {which}", exp=NOW + 100 + number)
+                accepted = checks.check(made, NOW)
+                assert (accepted.spiffe_id, accepted.expires) == (subject, NOW + 100 + number)
+                with pytest.raises(svid.NotAudience):
+                    checks.check(token(aud=str(number)), NOW)
+
+        in_threads(work)
+        assert len(checks.report().uses) == THREADS * 50
+
+
+def test_all_calls_at_once(tmp_path):
+    first, second = (bundle(entry(private_key("ES256", it), "k1")) for it in range(2))
+    with validator(first) as checks, validator(first) as other:
+
+        def work(number):
+            for which in range(20):
+                one = token(key=private_key("ES256", which % 2), jti=f"{number} {which}")
+                try:
+                    other.take(checks.check(one, NOW).use.message, NOW)
+                except svid.BadSignature:
+                    pass
+                checks.renew(second if which % 2 else first)
+                checks.take(b"".join(other.parts(7)), NOW)
+                checks.take(other.answer(checks.summary(), NOW), NOW)
+                checks.withdraw(one, NOW)
+                checks.save(tmp_path / f"{number}")
+                checks.report()
+
+        in_threads(work)
+        withdrawn = [it for it in checks.report().uses if it.withdrawn]
+        assert len(withdrawn) == THREADS * 20
+
+
+def test_closing_while_others_check():
+    tokens = [token(jti=str(it)) for it in range(200)]
+    checks = validator()
+
+    def work(number):
+        if number == 0:
+            verdict(checks, tokens[0])
+            return checks.close()
+        with pytest.raises(svid.Closed):
+            while True:
+                for it in tokens:
+                    verdict(checks, it)
+
+    in_threads(work)
+
+
+def test_a_verifier_that_uses_the_validator():
+    """The lock is free while a signature is verified."""
+    with validator(verifies=lambda *_: len(checks.report().uses) == 0) as checks:
+        checks.check(token(), NOW)
+        with pytest.raises(svid.BadSignature):
+            checks.check(token(jti="2"), NOW)
+
+
+def forked(work):
+    """What work() says in a fork of this process."""
+    reader, writer = multiprocessing.Pipe(duplex=False)
+
+    def child():
+        try:
+            writer.send(work())
+        except svid.Error as error:
+            writer.send(type(error).__name__)
+        os._exit(0)
+
+    made = multiprocessing.get_context("fork").Process(target=child)
+    made.start()
+    assert reader.poll(60)
+    said = reader.recv()
+    made.join(60)
+    assert made.exitcode == 0
+    return said
+
+
+def test_a_fork_does_not_go_on_with_a_validator():
+    with validator() as checks:
+        made = token()
+        assert forked(lambda: verdict(checks, made)) == "Forked"
+        assert forked(checks.report) == "Forked"
+        assert forked(checks.close) is None
+        assert verdict(checks, made).startswith("accepted")
+
+
+def test_a_fork_makes_its_own():
+    with validator():
+        assert forked(lambda: verdict(validator(), token())).startswith("accepted")
+
+
+def test_a_fork_while_a_thread_is_in_a_call():
+    """The fork does not wait for a lock that only the thread would free."""
+    with validator() as checks:
+        held, free = threading.Event(), threading.Event()
+
+        def hold():
+            with checks._handle._lock:
+                held.set()
+                free.wait(60)
+
+        thread = threading.Thread(target=hold)
+        thread.start()
+        held.wait(60)
+        try:
+            assert forked(checks.report) == "Forked"
+        finally:
+            free.set()
+            thread.join()
+        checks.report()
+
+
+def test_a_program_that_ends_without_closing():
+    """While a thread is in a call, too."""
+    text = """
+import threading, svid
+kept = svid.Validator(audiences="a", bundles=b"{}")
+def work():
+    while True:
+        kept.summary()
+for _ in range(4):
+    threading.Thread(target=work, daemon=True).start()
+svid.Validator(audiences="a", bundles=b"{}")
+for _ in range(50):
+    kept.summary()
+print("end")
+"""
+    ran = subprocess.run([sys.executable, "-c", text], capture_output=True, timeout=60, check=False)
+    assert (ran.returncode, ran.stdout, ran.stderr) == (0, b"end\n", b"")
+
+
+def test_validators_that_are_dropped_are_freed():
+    """Each has bundles of a megabyte: 300 that stayed would be 300 megabytes."""
+    text = """
+import svid
+key = b'{"kty":"EC","use":"jwt-svid","kid":"%s"}' % (b"k" * 60_000)
+bundles = b'{"a":{"keys":[%s]}}' % b",".join([key] * 16)
+for _ in range(300):
+    svid.Validator(audiences="a", bundles=bundles)
+print(open("/proc/self/status").read().partition("VmHWM:")[2].split()[0])
+"""
+    ran = subprocess.run([sys.executable, "-c", text], capture_output=True, timeout=60, check=True)
+    assert int(ran.stdout) < 100_000  # kilobytes, the most that this process had

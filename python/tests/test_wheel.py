@@ -1,0 +1,127 @@
+"""The wheel in a fresh virtual environment that has Debian's python3-cryptography alone."""
+
+import os
+import pathlib
+import shutil
+import subprocess
+import sys
+import zipfile
+
+import pytest
+from making import NOW, bundle, entry, private_key, token
+
+import svid
+
+PYTHON = pathlib.Path(__file__).parent.parent
+DEBIAN = pathlib.Path("/usr/lib/python3/dist-packages")
+CRYPTOGRAPHY = ["cryptography", "cryptography-*", "_cffi_backend*"]  # and what it depends on
+CHECK = """
+import sys, json, svid
+from svid import _library
+bundles, now, token = sys.argv[1:]
+with svid.Validator(audiences="ledger", bundles=bundles.encode()) as validator:
+    print(validator.check(token, int(now)).spiffe_id)
+    try:
+        validator.check(token, int(now))
+    except svid.Replayed as why:
+        print(why.name)
+print(_library.library._name)
+print(*sorted({it.partition(".")[0] for it in sys.modules} & {"jwt", "setuptools", "starlette"}))
+"""
+
+
+def run(*words, **more):
+    ran = subprocess.run(words, capture_output=True, check=False, **more)
+    assert ran.returncode == 0, ran.stderr.decode()
+    return ran.stdout.decode()
+
+
+@pytest.fixture(scope="module")
+def wheel(tmp_path_factory):
+    """The wheel, built without a network from a copy of this folder."""
+    room = tmp_path_factory.mktemp("wheel")
+    shutil.copytree(PYTHON, room / "python")
+    words = ["wheel", "--no-build-isolation", "--no-deps", "--no-index", "--wheel-dir", room]
+    run(sys.executable, "-m", "pip", *words, room / "python")
+    [made] = room.glob("*.whl")
+    return made
+
+
+def test_what_is_in_it(wheel):
+    assert wheel.name == "svid-0.3.0-py3-none-linux_x86_64.whl"
+    with zipfile.ZipFile(wheel) as file:
+        names = {name for name in file.namelist() if ".dist-info/" not in name}
+        library = file.read("svid/libsvid.so")
+    sources = {f"svid/{it.name}" for it in (PYTHON / "svid").iterdir() if it.is_file()}
+    assert names == sources | {"svid/libsvid.so"}
+    assert "svid/py.typed" in names
+    assert library == pathlib.Path(os.environ["LIBSVID"]).read_bytes()
+
+
+def test_a_fresh_environment(wheel, tmp_path):
+    run(sys.executable, "-m", "venv", tmp_path / "venv")
+    python = tmp_path / "venv" / "bin" / "python"
+    run(python, "-m", "pip", "install", "--no-index", "--no-deps", wheel)
+    [packages] = tmp_path.glob("venv/lib/python3*/site-packages")
+    for pattern in CRYPTOGRAPHY:
+        for file in DEBIAN.glob(pattern):
+            (packages / file.name).symlink_to(file)
+    clean = {"PATH": "/usr/bin:/bin", "PYTHONDONTWRITEBYTECODE": "1"}
+    bundles = svid._bundles._joined(bundle(entry(private_key("ES256"), "k1"))).decode()
+    words = [python, "-I", "-c", CHECK, bundles, str(NOW), token()]
+    said = run(*words, env=clean, cwd=tmp_path).splitlines()
+    assert said[:2] == ["spiffe://example.org/billing/api", "Replayed"]
+    assert said[2:] == [str(packages / "svid" / "libsvid.so"), ""]
+    run(python, "-m", "pip", "check", env=clean)
+
+
+def test_a_source_distribution_has_the_library_too(tmp_path):
+    shutil.copytree(PYTHON, tmp_path / "python")
+    run(sys.executable, "setup.py", "-q", "sdist", "--dist-dir", tmp_path, cwd=tmp_path / "python")
+    shutil.unpack_archive(tmp_path / "svid-0.3.0.tar.gz", tmp_path)
+    source = tmp_path / "svid-0.3.0"
+    library = (source / "svid" / "libsvid.so").read_bytes()
+    assert library == pathlib.Path(os.environ["LIBSVID"]).read_bytes()
+    environment = {it: value for it, value in os.environ.items() if it != "LIBSVID"}
+    words = ["wheel", "--no-build-isolation", "--no-deps", "--no-index", "--wheel-dir", tmp_path]
+    run(sys.executable, "-m", "pip", *words, source, env=environment)
+    [made] = tmp_path.glob("*.whl")
+    with zipfile.ZipFile(made) as file:
+        assert file.read("svid/libsvid.so") == library
+
+
+def test_the_library_of_the_system(tmp_path):
+    """Where the package has none, as in a checkout, and ./install put one there."""
+    (tmp_path / "libsvid.so.0").symlink_to(os.environ["LIBSVID"])
+    environment = {**os.environ, "LIBSVID": "", "LD_LIBRARY_PATH": str(tmp_path)}
+    said = run(sys.executable, "-c", "import svid; print(svid.Validator.__name__)", env=environment)
+    assert said == "Validator\n"
+
+
+@pytest.mark.parametrize("path", ["/none/libsvid.so", __file__])
+def test_a_library_that_is_none(path):
+    environment = {**os.environ, "LIBSVID": path}
+    words = [sys.executable, "-c", "import svid"]
+    ran = subprocess.run(words, env=environment, capture_output=True, check=False)
+    assert ran.returncode == 1
+    assert b"ImportError: the C library of svid can't be loaded" in ran.stderr
+
+
+def test_the_wheel_is_typed(wheel, tmp_path):
+    """A program that uses the package is checked against its types, where it is wrong too."""
+    shutil.unpack_archive(wheel, tmp_path / "packages", "zip")
+    (tmp_path / "good.py").write_text(
+        "import svid\n"
+        "def who(checks: svid.Validator, token: str) -> str:\n"
+        "    return checks.check(token).spiffe_id\n"
+    )
+    (tmp_path / "bad.py").write_text(
+        "import svid\n"
+        "def who(checks: svid.Validator) -> int:\n"
+        "    return checks.check(7).spiffe_id\n"
+    )
+    environment = {**os.environ, "MYPYPATH": str(tmp_path / "packages")}
+    words = [sys.executable, "-m", "mypy", "--strict", "--cache-dir", tmp_path / "cache"]
+    run(*words, tmp_path / "good.py", env=environment)
+    ran = subprocess.run([*words, tmp_path / "bad.py"], env=environment, capture_output=True)
+    assert ran.stdout.count(b"error:") == 2, ran.stdout.decode()
