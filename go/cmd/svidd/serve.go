@@ -30,6 +30,9 @@ const (
 	idleWait = 2 * time.Minute
 	// clockStep is how many seconds the clock may go ahead at once, as it does where the machine was suspended.
 	clockStep = 600
+	// spareHeap is how many bytes of garbage gather, beside as many as are in use, before they are collected. Only a few
+	// megabytes are in use, since the record is in the library's memory: without it they are collected twenty times a second.
+	spareHeap = 48 << 20
 )
 
 // errClock ends the sidecar: the next one begins with the clock as it is.
@@ -61,7 +64,7 @@ func serve(args []string, std stdio) int {
 	signal.Notify(signals, syscall.SIGHUP, syscall.SIGTERM, syscall.SIGINT)
 	defer signal.Stop(signals)
 	log := server.NewLog(std.err, logLevels[o.log])
-	s := &sidecar{options: o, log: log, failed: make(chan error, 1)}
+	s := &sidecar{options: o, log: log, failed: make(chan error, 1), spare: make([]byte, spareHeap)}
 	if err := s.run(signals); err != nil {
 		log.Error("end", err)
 		return exitFailed
@@ -77,6 +80,7 @@ type sidecar struct {
 	journal *journal.Journal // nil without --state
 	watcher *bundles.Watcher
 	failed  chan error // what ends the sidecar
+	spare   []byte     // counts as in use, and costs only addresses, since nobody writes to it
 
 	joining sync.Mutex
 	group   *group.Group // nil until it is joined
