@@ -74,7 +74,7 @@ func BenchmarkClaim(b *testing.B) {
 	b.RunParallel(func(pb *testing.PB) {
 		for pb.Next() {
 			i := <-next
-			if won, _, err := g.Claim(patience(b), key(i), batch(key(i), g.options.Place)); !won || err != nil {
+			if won, _, err := g.Claim(patience(b), soon(), key(i), batch(key(i), g.options.Place)); !won || err != nil {
 				b.Error(won, err)
 			}
 		}

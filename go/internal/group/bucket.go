@@ -18,7 +18,9 @@ type bucket struct {
 // openBucket makes the bucket, or opens the one that is there if it keeps what it is given. It tries until ctx ends.
 func (g *Group) openBucket(ctx context.Context) (b bucket, err error) {
 	said := ""
-	err = persist(ctx, "group: open the bucket", func(attempt context.Context) (bool, error) {
+	err = persist(ctx, "group: open the bucket", func() (bool, error) {
+		attempt, cancel := context.WithTimeout(ctx, attemptWait)
+		defer cancel()
 		info, err := g.js.StreamInfo(g.stream, nats.Context(attempt))
 		if errors.Is(err, nats.ErrStreamNotFound) {
 			err = g.makeBucket()

@@ -81,6 +81,8 @@ type Group struct {
 	subject string // what its keys' subjects begin with
 	conn    *nats.Conn
 	js      nats.JetStreamContext
+	out     *publisher
+	names   names
 
 	taking sync.Mutex // one call at a time goes to the sink
 	sink   Sink
@@ -157,7 +159,7 @@ func (g *Group) connect(ctx context.Context) error {
 		nats.ErrorHandler(func(_ *nats.Conn, _ *nats.Subscription, err error) { g.log("broker says", "why", err) }),
 	}, g.options.Connect...)
 	said := ""
-	return persist(ctx, "group: connect", func(context.Context) (bool, error) {
+	return persist(ctx, "group: connect", func() (bool, error) {
 		nc, err := nats.Connect(strings.Join(g.options.Servers, ","), options...)
 		if err != nil {
 			g.logChange(&said, "broker not reached", err)
@@ -168,18 +170,21 @@ func (g *Group) connect(ctx context.Context) error {
 			nc.Close()
 			return true, err
 		}
-		g.conn, g.js = nc, js
+		out, err := newPublisher(nc)
+		if err != nil {
+			nc.Close()
+			return true, err
+		}
+		g.conn, g.js, g.out = nc, js, out
 		return true, nil
 	})
 }
 
-// persist calls try until it says that it is done, or ctx ends. Each call has a context of its own that ends after
-// attemptWait. The error behind the end of ctx holds both that end and what the last try said.
-func persist(ctx context.Context, what string, try func(context.Context) (done bool, err error)) error {
+// persist calls try until it says that it is done, or ctx ends. Each call must end by itself after about attemptWait, or
+// with ctx. The error behind the end of ctx holds both that end and what the last try said.
+func persist(ctx context.Context, what string, try func() (done bool, err error)) error {
 	for {
-		attempt, cancel := context.WithTimeout(ctx, attemptWait)
-		done, err := try(attempt)
-		cancel()
+		done, err := try()
 		if done {
 			return err
 		}
@@ -215,10 +220,9 @@ func (g *Group) Withdraw(ctx context.Context, key [keyLen]byte, batch []byte) er
 }
 
 func (g *Group) put(ctx context.Context, kind string, key [keyLen]byte, batch []byte) error {
-	m := nats.NewMsg(fmt.Sprintf("%s%s.%x.%x", g.subject, kind, key, g.options.Place))
-	m.Data = batch
-	return persist(ctx, "group: tell", func(attempt context.Context) (bool, error) {
-		_, err := g.js.PublishMsg(m, nats.Context(attempt))
+	m := &nats.Msg{Subject: g.subject + kind + "." + hex.EncodeToString(key[:]) + "." + hex.EncodeToString(g.options.Place[:]), Data: batch}
+	return persist(ctx, "group: tell", func() (bool, error) {
+		err := g.out.publish(ctx, attemptWait, m)
 		return err == nil || errors.Is(err, nats.ErrMaxPayload), err
 	})
 }

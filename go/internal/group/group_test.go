@@ -93,6 +93,9 @@ func options(place byte, urls ...string) Options {
 	return Options{Servers: urls, Name: "test", Place: [16]byte{place}, TTL: time.Hour}
 }
 
+// soon is when a claim is given up.
+func soon() time.Time { return time.Now().Add(time.Minute) }
+
 func patience(t testing.TB) context.Context {
 	ctx, cancel := context.WithTimeout(context.Background(), 30*time.Second)
 	t.Cleanup(cancel)
@@ -162,7 +165,7 @@ func TestKeysOfTheBucket(t *testing.T) {
 	if err := a.Withdraw(patience(t), key(2), batch(key(2), a.place)); err != nil {
 		t.Fatal(err)
 	}
-	if won, _, err := a.Claim(patience(t), key(3), batch(key(3), a.place)); !won || err != nil {
+	if won, _, err := a.Claim(patience(t), soon(), key(3), batch(key(3), a.place)); !won || err != nil {
 		t.Fatal(won, err)
 	}
 	kv, err := a.js.KeyValue("test")
@@ -201,7 +204,7 @@ func wantOneWinner(t *testing.T, members []*member, n int, ctx context.Context) 
 	outcomes := make(chan outcome)
 	for i := 0; i < 2*len(members); i++ {
 		go func(m *member) {
-			won, winner, err := m.Claim(ctx, key(n), batch(key(n), m.place))
+			won, winner, err := m.Claim(ctx, soon(), key(n), batch(key(n), m.place))
 			outcomes <- outcome{won, m, winner, err}
 		}(members[i/2])
 	}
@@ -318,7 +321,7 @@ func TestClaimWhoseAnswerIsLost(t *testing.T) {
 			first := make(chan outcome)
 			p.hold(true)
 			go func() {
-				won, _, err := a.Claim(patience(t), key(1), b)
+				won, _, err := a.Claim(patience(t), soon(), key(1), b)
 				first <- outcome{won, err}
 			}()
 			awaitHeld(t, other, b) // It is stored, and its maker does not know.
@@ -326,7 +329,7 @@ func TestClaimWhoseAnswerIsLost(t *testing.T) {
 			if o := <-first; !o.won || o.err != nil {
 				t.Fatal("a call lost against itself: ", o.won, o.err)
 			}
-			won, winner, err := a.Claim(patience(t), key(1), b)
+			won, winner, err := a.Claim(patience(t), soon(), key(1), b)
 			if won || err != nil || !bytes.Equal(winner, b) {
 				t.Fatal("a second call with an equal batch: ", won, winner, err)
 			}
@@ -340,7 +343,7 @@ func TestClaimWithoutABroker(t *testing.T) {
 	s.Kill()
 	ctx, cancel := context.WithTimeout(context.Background(), 300*time.Millisecond)
 	defer cancel()
-	won, _, err := a.Claim(ctx, key(1), batch(key(1), a.place))
+	won, _, err := a.Claim(ctx, soon(), key(1), batch(key(1), a.place))
 	if won || !errors.Is(err, context.DeadlineExceeded) {
 		t.Fatal(won, err)
 	}
@@ -349,7 +352,7 @@ func TestClaimWithoutABroker(t *testing.T) {
 	}
 	natstest.Await(t, "the loss", func() bool { return !a.Connected() })
 	restart(t, s)
-	if won, _, err := a.Claim(patience(t), key(2), batch(key(2), a.place)); !won || err != nil {
+	if won, _, err := a.Claim(patience(t), soon(), key(2), batch(key(2), a.place)); !won || err != nil {
 		t.Fatal("after the broker came back: ", won, err)
 	}
 }
@@ -421,7 +424,7 @@ func replicas(m *member) int {
 func TestDeletedClaimIsWonByNobody(t *testing.T) {
 	s := natstest.Start(t)
 	a := join(t, options(1, s.URL))
-	if won, _, err := a.Claim(patience(t), key(1), batch(key(1), a.place)); !won || err != nil {
+	if won, _, err := a.Claim(patience(t), soon(), key(1), batch(key(1), a.place)); !won || err != nil {
 		t.Fatal(won, err)
 	}
 	kv, err := a.js.KeyValue("test")
@@ -431,7 +434,7 @@ func TestDeletedClaimIsWonByNobody(t *testing.T) {
 	if err := kv.Delete(fmt.Sprintf("c.%x", key(1))); err != nil {
 		t.Fatal(err)
 	}
-	if won, _, err := a.Claim(patience(t), key(1), batch(key(1), a.place)); won || !errors.Is(err, ErrDeleted) {
+	if won, _, err := a.Claim(patience(t), soon(), key(1), batch(key(1), a.place)); won || !errors.Is(err, ErrDeleted) {
 		t.Fatal(won, err)
 	}
 	if a.Aside() != 0 {

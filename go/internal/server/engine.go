@@ -50,7 +50,7 @@ type Journal interface {
 type Group interface {
 	Ready() <-chan struct{}
 	Tell(ctx context.Context, key [32]byte, batch []byte) error
-	Claim(ctx context.Context, key [32]byte, batch []byte) (won bool, winner []byte, err error)
+	Claim(ctx context.Context, end time.Time, key [32]byte, batch []byte) (won bool, winner []byte, err error)
 	Withdraw(ctx context.Context, key [32]byte, batch []byte) error
 	Taken() uint64
 	Aside() uint64
@@ -130,7 +130,7 @@ func NewEngine(o Options) (*Engine, error) {
 		return nil, err
 	}
 	e := &Engine{Options: o, keyring: keyring, validator: validator, untold: make(chan telling, mostUntold)}
-	e.claims.open = make(map[svid.TokenKey]*claim)
+	e.claims.open, e.claims.unseen = make(map[svid.TokenKey]*claim), make(map[svid.TokenKey][]byte)
 	return e, nil
 }
 

@@ -60,7 +60,7 @@ func (e *Engine) Load(messages []byte) error {
 // Take gives the record a message of the group. An error says that it is put
 // aside: it is no message, or of a time further ahead than Options.Ahead.
 func (e *Engine) Take(message []byte) error {
-	if e.Mode == Strict && e.claims.shows(message) {
+	if e.Mode == Strict && e.claims.own(message) {
 		return nil
 	}
 	err := e.validator.Take(e.Now(), message)
@@ -84,9 +84,12 @@ func (e *Engine) TakeAll(messages [][]byte) error {
 		if !svid.IsBatch(m) {
 			return errByThemselves
 		}
-		if e.Mode != Strict || !e.claims.shows(m) {
+		if e.Mode != Strict || !e.claims.own(m) {
 			together = append(together, m...)
 		}
+	}
+	if len(together) == 0 {
+		return nil
 	}
 	return e.validator.Take(e.Now(), together)
 }

@@ -100,7 +100,7 @@ func (t *tie) Tell(_ context.Context, _ [32]byte, batch []byte) error {
 func (t *tie) Withdraw(_ context.Context, _ [32]byte, batch []byte) error { return t.show(batch) }
 
 // Claim shows a won claim to every member before it answers, as a quick watch does.
-func (t *tie) Claim(ctx context.Context, key [32]byte, batch []byte) (bool, []byte, error) {
+func (t *tie) Claim(ctx context.Context, _ time.Time, key [32]byte, batch []byte) (bool, []byte, error) {
 	t.mu.Lock()
 	winner, lost := t.values[key]
 	if !lost {
@@ -980,6 +980,77 @@ func TestAnOpenClaimAmongOthers(t *testing.T) {
 	}
 	if _, uses, err := svid.Uses(saved(t, e)); err != nil || len(uses) != 2 {
 		t.Errorf("%d uses, %v", len(uses), err)
+	}
+}
+
+// The bucket's copy of a won claim, which comes behind the answer, is not taken once more; and nothing is kept of the claim.
+func TestTheCopyOfAWonClaim(t *testing.T) {
+	all, b := strict(t, 1)
+	e := all[0]
+	b.members = nil // shows nothing by itself
+	if err := check(e, token("a")); err != nil {
+		t.Fatal(err)
+	}
+	var claimed []byte
+	for _, claimed = range b.values {
+	}
+	if n := len(e.claims.unseen); n != 1 {
+		t.Errorf("%d copies are due, want 1", n)
+	}
+	before := saved(t, e)
+	for _, what := range []string{"the copy", "the copy, again"} {
+		if aside := takeAll(e, claimed, claimed); aside != 0 || !bytes.Equal(saved(t, e), before) {
+			t.Errorf("%s: %d aside, or the record changed", what, aside)
+		}
+	}
+	if n := len(e.claims.unseen) + len(e.claims.open); n != 0 {
+		t.Errorf("%d claims are kept", n)
+	}
+	if err := check(e, token("a")); err != svid.Replayed {
+		t.Error(err)
+	}
+}
+
+// A claim that was not added to the record is taken from the bucket's copy, whenever that comes.
+func TestTheCopyOfAClaimThatWasGivenUp(t *testing.T) {
+	for _, early := range []bool{true, false} {
+		all, b := strict(t, 1)
+		e, members := all[0], b.members
+		if !early {
+			b.members = nil
+		}
+		members[0].fault = errors.New("time is up")
+		if err := check(e, token("a")); !errors.Is(err, members[0].fault) {
+			t.Fatal(err)
+		}
+		if !early {
+			for _, claimed := range b.values {
+				if err := e.Take(claimed); err != nil {
+					t.Error(err)
+				}
+			}
+		}
+		if err := check(e, token("a")); err != svid.Replayed {
+			t.Errorf("early %v: %v", early, err)
+		}
+		if e.Metrics.ClaimsLost.Load() != 0 {
+			t.Error("the record did not have the use")
+		}
+	}
+}
+
+// Copies that never come keep a bounded number of claims.
+func TestCopiesThatNeverCome(t *testing.T) {
+	var c claims
+	c.open, c.unseen = make(map[svid.TokenKey]*claim), make(map[svid.TokenKey][]byte)
+	for i := 0; i < mostUnseen+10; i++ {
+		mine, _ := c.begin(svid.Use{Key: svid.TokenKey{byte(i), byte(i >> 8), byte(i >> 16)}})
+		if c.end(mine, true) {
+			t.Fatal("a batch that the record has is to be taken")
+		}
+	}
+	if len(c.unseen) != mostUnseen || len(c.open) != 0 {
+		t.Errorf("%d unseen, %d open", len(c.unseen), len(c.open))
 	}
 }
 

@@ -6,6 +6,7 @@ import (
 	"errors"
 	"fmt"
 	"sync"
+	"time"
 
 	"svid.example/go/svid"
 )
@@ -38,8 +39,7 @@ var ErrClaimed = errors.New("the token is claimed in the group by a value that i
 // Who loses in step 3 takes the winner's use, and its own validator rejects the
 // token. It never accepts, whatever the winner's value is.
 func (e *Engine) checkStrict(ctx context.Context, token string, yes []svid.Question) (svid.Accepted, error) {
-	ctx, cancel := context.WithTimeout(ctx, e.Wait)
-	defer cancel()
+	end := time.Now().Add(e.Wait)
 	for {
 		judged, err := e.validator.Judge(e.Now(), token, yes)
 		if err != nil {
@@ -47,21 +47,32 @@ func (e *Engine) checkStrict(ctx context.Context, token string, yes []svid.Quest
 		}
 		mine, other := e.claims.begin(judged.Use)
 		if mine != nil {
-			return e.claim(ctx, mine, token, yes)
+			return e.claim(ctx, end, mine, token, yes)
 		}
-		select {
-		case <-other.done:
-		case <-ctx.Done():
-			return svid.Accepted{}, fmt.Errorf("waiting for the claim of another request: %w", ctx.Err())
+		if err := other.await(ctx, end); err != nil {
+			return svid.Accepted{}, err
 		}
 	}
 }
 
+// await waits for the outcome of another request's claim.
+func (c *claim) await(ctx context.Context, end time.Time) error {
+	ctx, cancel := context.WithDeadline(ctx, end)
+	defer cancel()
+	select {
+	case <-c.done:
+		return nil
+	case <-ctx.Done():
+		return fmt.Errorf("waiting for the claim of another request: %w", ctx.Err())
+	}
+}
+
 // claim does steps 3 to 5 of checkStrict.
-func (e *Engine) claim(ctx context.Context, mine *claim, token string, yes []svid.Question) (svid.Accepted, error) {
-	defer e.endClaim(mine)
+func (e *Engine) claim(ctx context.Context, end time.Time, mine *claim, token string, yes []svid.Question) (svid.Accepted, error) {
+	added := false // to the record
+	defer func() { e.endClaim(mine, added) }()
 	g := e.group.Load()
-	won, winner, err := g.Claim(ctx, mine.key, mine.batch)
+	won, winner, err := g.Claim(ctx, end, mine.key, mine.batch)
 	switch {
 	case err != nil:
 		e.Metrics.ClaimsFailed.Add(1)
@@ -75,6 +86,7 @@ func (e *Engine) claim(ctx context.Context, mine *claim, token string, yes []svi
 	if err != nil {
 		return svid.Accepted{}, err
 	}
+	added = true
 	if err := e.keep(mine.batch); err != nil {
 		return svid.Accepted{}, err
 	}
@@ -94,10 +106,10 @@ func (e *Engine) lost(winner []byte, token string, yes []svid.Question) error {
 }
 
 // endClaim lets the requests that wait for this claim begin again. If the bucket
-// showed the claim's own use meanwhile (Engine.Take), the record gains it now: the
-// winner has added it, but who does not know that it won has not.
-func (e *Engine) endClaim(c *claim) {
-	if e.claims.end(c) {
+// showed the claim's use meanwhile (Engine.Take), and the record has not gained it
+// by winning, it gains it now: who does not know that it won has not added it.
+func (e *Engine) endClaim(c *claim, added bool) {
+	if e.claims.end(c, added) {
 		if err := e.validator.Take(e.Now(), c.batch); err != nil {
 			e.Log.Error("take", err)
 		}
@@ -105,10 +117,16 @@ func (e *Engine) endClaim(c *claim) {
 	close(c.done)
 }
 
-// claims are the claims of this sidecar whose outcome is open, one a token.
+// mostUnseen is how many won claims are remembered until the bucket shows them. The
+// record takes what is behind that as the use of another sidecar, which costs more.
+const mostUnseen = 1 << 16
+
+// claims are this sidecar's own claims, as far as the bucket's copies of them need
+// care.
 type claims struct {
-	mu   sync.Mutex
-	open map[svid.TokenKey]*claim
+	mu     sync.Mutex
+	open   map[svid.TokenKey]*claim // whose outcome is open, one a token
+	unseen map[svid.TokenKey][]byte // batches that the record has, and that the bucket has not shown yet
 }
 
 type claim struct {
@@ -130,28 +148,35 @@ func (c *claims) begin(use svid.Use) (mine, other *claim) {
 	return mine, nil
 }
 
-// end closes a claim, and says whether the bucket has shown its batch.
-func (c *claims) end(mine *claim) (seen bool) {
+// end closes a claim. added says whether the record has its batch; end says whether
+// it must take it now, since the bucket has shown it and will not do so again.
+func (c *claims) end(mine *claim, added bool) (take bool) {
 	c.mu.Lock()
 	defer c.mu.Unlock()
 	delete(c.open, mine.key)
-	return mine.seen
+	if added && !mine.seen && len(c.unseen) < mostUnseen {
+		c.unseen[mine.key] = mine.batch
+	}
+	return mine.seen && !added
 }
 
-// shows says whether a message is the batch of an open claim. Such a message must
-// not reach the record before the claim ends: the winner's own check would find
-// the token used.
-func (c *claims) shows(message []byte) bool {
+// own says whether a message is the batch of an own claim, which the record has
+// already, or must not have yet: while a claim is open, its winner's own check would
+// find the token used.
+func (c *claims) own(message []byte) bool {
 	key, ok := svid.KeyOfBatch(message)
 	if !ok {
 		return false
 	}
 	c.mu.Lock()
 	defer c.mu.Unlock()
-	open := c.open[key]
-	if open == nil || !bytes.Equal(open.batch, message) {
-		return false
+	if open := c.open[key]; open != nil && bytes.Equal(open.batch, message) {
+		open.seen = true
+		return true
 	}
-	open.seen = true
-	return true
+	if bytes.Equal(c.unseen[key], message) {
+		delete(c.unseen, key)
+		return true
+	}
+	return false
 }
