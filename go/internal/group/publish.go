@@ -56,7 +56,8 @@ func newPublisher(conn *nats.Conn) (*publisher, error) {
 	return p, nil
 }
 
-// publish returns nil once the broker has stored the value. It waits as long as wait, and no longer than ctx. The error is that of the broker where it refused the value; after any other one it may be stored or not.
+// publish returns nil once the broker has stored the value. It waits as long as wait, and no longer than ctx. The error is
+// that of the broker where it refused the value; after any other one it may be stored or not.
 func (p *publisher) publish(ctx context.Context, wait time.Duration, m *nats.Msg) error {
 	it := p.add(m)
 	timer := time.NewTimer(wait)
