@@ -32,7 +32,7 @@ const (
 	clockStep = 600
 	// spareHeap is how many bytes of garbage gather, beside as many as are in use, before they are collected. Only a few
 	// megabytes are in use, since the record is in the library's memory: without it they are collected twenty times a second.
-	spareHeap = 48 << 20
+	spareHeap = 32 << 20
 )
 
 // errClock ends the sidecar: the next one begins with the clock as it is.
