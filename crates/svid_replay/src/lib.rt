@@ -50,6 +50,7 @@
 mod batch;
 mod batch_fault;
 mod buckets;
+mod expiry;
 mod filter;
 mod flaw;
 mod front;
@@ -58,8 +59,8 @@ mod key_first;
 mod keys;
 pub mod laws;
 mod layout;
-mod numbers;
 mod parts;
+mod prefixes;
 mod record;
 mod room;
 mod run;
@@ -71,7 +72,6 @@ mod store;
 mod summary;
 mod token_use;
 mod twice;
-mod until;
 mod use_list;
 mod walk;
 

@@ -41,7 +41,7 @@ pub(crate) fn insert_use(uses: &mut Vec<Use>, new: Use) -> Result<(), AllocError
     ensures ok { OnOk result (uses_in uses.new.items ≡ with (uses_in uses.old.items) new) }
     ensures err { OnErr result (uses.new.items ≡ uses.old.items) }
     ensures held { IsTrue (holds (uses_in uses.old.items) new) → IsOk result }
-    ensures known { (words : List ℕ) → HasBits words new.key → AllByRecursion (λ u. HasBits words u.key) uses.old.items → AllByRecursion (λ u. HasBits words u.key) uses.new.items }
+    ensures known { (key_filter : List ℕ) → HasBits key_filter new.key → AllByRecursion (λ u. HasBits key_filter u.key) uses.old.items → AllByRecursion (λ u. HasBits key_filter u.key) uses.new.items }
 {
     match uses.binary_search(&new) {
         Ok(_) => Ok(()),

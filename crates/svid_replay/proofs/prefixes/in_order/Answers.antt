@@ -1,6 +1,6 @@
 use Rattle.std.proofs.lemmas.List.Sorted.{IsNonDecreasingBy-from_sort}
-use Rattle.svid_replay.proofs.NumbersLemmas.{same_numbers}
-use Rattle.svid_replay.proofs.numbers.in_order.Goals as goal
+use Rattle.svid_replay.proofs.PrefixesLemmas.{same_numbers}
+use Rattle.svid_replay.proofs.prefixes.in_order.Goals as goal
 
 pub returns-clause-rising : goal.returns-clause-rising
 returns-clause-rising c = IsNonDecreasingBy-from_sort (λ n. n) _ c.sort_unstable.ensures.sorted
