@@ -47,6 +47,7 @@
 //! ```
 #![tactic(auto)]
 
+mod ahead;
 mod batch;
 mod batch_fault;
 mod buckets;
@@ -75,6 +76,7 @@ mod twice;
 mod use_list;
 mod walk;
 
+pub use ahead::Ahead;
 pub use batch::Batch;
 pub use batch_fault::BatchFault;
 pub use flaw::{Flaw, flaw_of};

@@ -9,8 +9,9 @@ ghost use Rattle.svid_replay.specs.Sets.{holds, rising};
 ghost use Rattle.svid_replay.specs.Twice.{IsTwice, twice_of, used, uses_of};
 ghost use Rattle.svid_replay.specs.Use.{IsRising, IsUse};
 ghost use Rattle.svid_replay.specs.Uses.{count, has_use_of, has_withdrawal_of, next_above, no_uses};
-ghost use Rattle.svid_replay.specs.Walks.{next_few};
+ghost use Rattle.svid_replay.specs.Walks.{IsAhead, next_few};
 
+use crate::ahead::Ahead;
 use crate::buckets::{digests_of, stale_uses};
 use crate::filter::no_keys;
 use crate::parts::cut;
@@ -96,11 +97,13 @@ impl<S: UseStore> Record<S> {
         self.store.next_after(after)
     }
 
-    // the next uses, as many as the room takes
-    pub(crate) fn next_uses(&self, after: Option<Use>, room: &mut Room)
-        ensures { room.new ≡ next_few self.now.uses after }
+    // the next uses, as many as the room takes, from what is known of them on
+    pub(crate) fn next_ahead(&self, after: Option<Use>, ahead: &mut Ahead, room: &mut Room)
+        requires { IsAhead self.now.uses ahead.old }
+        ensures next { room.new ≡ next_few self.now.uses after }
+        ensures ahead { IsAhead self.now.uses ahead.new }
     {
-        self.store.next_uses(after, room);
+        self.store.next_ahead(after, ahead, room);
     }
 
     /// The record, to be walked: from the use that the walk answered last, its `next_after` mostly takes few steps

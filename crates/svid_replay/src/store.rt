@@ -2,9 +2,10 @@ ghost use Rattle.std.specs.Prelude.{◌≡◌, ◌↔◌, ◌+◌, false, IsTrue
 ghost use Rattle.svid_replay.specs.Sets.{holds, with, with_all};
 ghost use Rattle.svid_replay.specs.Use.{IsRising};
 ghost use Rattle.svid_replay.specs.Uses.{Uses, count, has_use_of, has_withdrawal_of, live, next_above, no_uses};
-ghost use Rattle.svid_replay.specs.Walks.{next_few};
+ghost use Rattle.svid_replay.specs.Walks.{IsAhead, next_few};
 
 use crate::Use;
+use crate::ahead::Ahead;
 use crate::room::Room;
 use std::alloc::AllocError;
 
@@ -93,5 +94,16 @@ pub trait UseStore {
             room.push(used);
             last = Some(used);
         }
+    }
+
+    /// The next uses, as `next_uses` has them. `ahead` is new, or is as an earlier such call left it and the set did
+    /// not change since. A set that is made of parts then begins with what was next in each of them.
+    fn next_ahead(&self, after: Option<Use>, ahead: &mut Ahead, room: &mut Room)
+        requires { IsAhead (content self.now) ahead.old }
+        ensures next { room.new ≡ next_few (content self.now) after }
+        ensures ahead { IsAhead (content self.now) ahead.new }
+    {
+        let _ = ahead;
+        self.next_uses(after, room);
     }
 }

@@ -12,7 +12,7 @@ use Rattle.std.proofs.lemmas.List.Folds.{list_any-append, sum_by-replicate}
 use Rattle.std.proofs.lemmas.List.Kept.{IsStrictlySortedBy-filter}
 use Rattle.std.proofs.lemmas.List.Sums.{sum_by-cons, sum_by-set}
 use Rattle.std.proofs.lemmas.List.Edits.{map_over_more}
-use Rattle.std.specs.List.{AllByRecursion, flat_map, list_any, slice_get, slice_index}
+use Rattle.std.specs.List.{AllByRecursion, flat_map, list_any, range_with_len, slice_get, slice_index}
 use Rattle.std.specs.List.Sorted.{IsStrictlySortedBy}
 use Rattle.std.specs.Cmp.Lexicographic.{slice_cmp}
 use Rattle.std.specs.Ordering.{bool_cmp, eq_by_cmp, is_eq, is_lt, nat_cmp, ordering_reverse, ordering_then}
@@ -20,12 +20,15 @@ use Rattle.std.specs.declared.cmp.Ordering.{Ordering}
 use Rattle.std.specs.declared.cmp.Ordering.TheVariants.{Less, Greater}
 use Rattle.svid_replay.specs.declared.token_use.Use.{Use}
 use Rattle.svid_replay.specs.Batches.{is_after}
-use Rattle.svid_replay.specs.Buckets.{bucket_of}
+use Rattle.svid_replay.specs.Buckets.{bucket, bucket_of}
 use Rattle.svid_replay.specs.Runs.{all_of, least_from, least_of}
 use Rattle.svid_replay.specs.Sets.{holds, rising, with, with_all}
 use Rattle.svid_replay.specs.Twice.{has_key, withdraws}
 use Rattle.svid_replay.specs.Use.{IsRising, use_cmp}
 use Rattle.svid_replay.specs.Uses.{Uses, count, live, next_above, no_uses, uses_in}
+use Rattle.svid_replay.specs.Walks.{IsAhead, heads_in, is_at}
+use Rattle.svid_replay.specs.declared.ahead.Ahead.{Ahead}
+use Rattle.svid_replay.proofs.BucketsLemmas.{bucket_holds_its_uses}
 use Rattle.svid_replay.proofs.IndexedLemmas.{same_key}
 use Rattle.svid_replay.proofs.ListLemmas.{any_none, each_weaker}
 use Rattle.svid_replay.proofs.RunsLemmas.{count-with, has_in_runs, next_in_all}
@@ -417,6 +420,50 @@ heads_are ss after apart long = record {
     in_list [] i u e = let none : None ≡ Some u = e in cc
     in_list (s ∷ ss) zero u e = refl
     in_list (s ∷ ss) (suc i) u e = in_list ss i u e
+
+-- a shard is a bucket of the whole set
+shard_is_bucket : (ss : List Uses) → AreApart ss → (b : ℕ) → shard ss b ≡ bucket b (all_in ss)
+shard_is_bucket ss apart b = same_uses (shard ss b) (bucket b (all_in ss)) (λ u.
+    let whole = holds (all_in ss) u in
+    elim (nat_eq (bucket_of u) b) as (λ t. nat_eq (bucket_of u) b ≡ t → holds (shard ss b) u ≡ holds (bucket b (all_in ss)) u) [
+      | true ↦ λ e. ap (λ k. holds (shard ss k) u) (sym (eqb-true (bucket_of u) b e)) ∙ sym (holds_all ss apart u) ∙ sym (bucket_holds_its_uses b (all_in ss) u ∙ ap (λ t. whole && t) e ∙ and_true whole)
+      | false ↦ λ e. false_from_ne_true (holds (shard ss b) u) (λ h. eqb-false (bucket_of u) b e (apart b u h)) ∙ sym (bucket_holds_its_uses b (all_in ss) u ∙ ap (λ t. whole && t) e ∙ and_false whole)
+    ] refl)
+  where
+    and_true : (b : Bool) → (b && true) ≡ b
+    and_true true = refl
+    and_true false = refl
+
+    and_false : (b : Bool) → (b && false) ≡ false
+    and_false true = refl
+    and_false false = refl
+
+-- what is told of each shard, and of each number of a shard
+each_shard : {X : Type 0} (f : Uses → X) (g : ℕ → X) (n : ℕ) (ss : List Uses) → ((i : ℕ) → f (shard ss i) ≡ g (n + i)) → map f ss ≡ map g (range_with_len n (length ss))
+each_shard f g n [] same = refl
+each_shard f g n (s ∷ ss) same =
+    let here : n + 0 ≡ n = omega arith in
+    (λ j. (same 0 ∙ ap g here) j ∷ each_shard f g (n + 1) ss (λ i. let there : n + suc i ≡ n + 1 + i = omega arith in same (suc i) ∙ ap g there) j)
+
+pub heads_all : (ss : List Uses) (after : Option Use) → AreApart ss → length ss ≡ 256 → heads_of ss after ≡ heads_in (all_in ss) after
+unfolding heads_in
+heads_all ss after apart long =
+    let next = λ (s : Uses). next_above s after in
+    let of = λ (b : ℕ). next (bucket b (all_in ss)) in
+    each_shard next of 0 ss (λ i. let here : i ≡ 0 + i = omega arith in ap next (shard_is_bucket ss apart i) ∙ ap of here) ∙ ap (λ n. map of (range_with_len 0 n)) long
+
+-- heads that are known, behind the same use
+at_same : (a b : Option Use) → is_at a b ≡ true → a ≡ b
+at_same None None e = refl
+at_same None (Some v) e = absurd (false≢true e)
+at_same (Some u) None e = absurd (false≢true e)
+at_same (Some u) (Some v) e = ap Some (use_exact u v (equal _ e))
+
+pub known_heads : (ss : List Uses) (ahead : Ahead) (after : Option Use) → AreApart ss → length ss ≡ 256 → IsAhead (all_in ss) ahead → (ahead.known && is_at ahead.after after) ≡ true → (ahead.known ≡ true) × (ahead.after ≡ after) × (ahead.heads ≡ heads_of ss after)
+known_heads ss ahead after apart long is behind =
+    let (known, at) = both ahead.known (is_at ahead.after after) behind in
+    let same = at_same ahead.after after at in
+    (known, same, is known ∙ ap (heads_in (all_in ss)) same ∙ sym (heads_all ss after apart long))
 
 -- a look for a use, one step on
 pub not_here : (sought u : Use) (us : List Use) (after : Option Use) → IsRising us → find (is_after after) us ≡ Some u → eq_by_cmp use_cmp sought u ≡ false → list_any (eq_by_cmp use_cmp sought) (filter (is_after (Some u)) us) ≡ list_any (eq_by_cmp use_cmp sought) (filter (is_after after) us)

@@ -1,13 +1,13 @@
 //! Stores side by side, each for the uses whose key begins with the store's number.
-ghost use Rattle.std.specs.Prelude.{◌≡◌, ◌+◌, ◌^◌, ◌<◌, ◌≤◌, [], None, map, length, slice_index, IsTrue, IsOk, IfOk, OnOk, OnErr};
+ghost use Rattle.std.specs.Prelude.{◌≡◌, ◌+◌, ◌^◌, ◌<◌, ◌≤◌, [], None, map, length, true, slice_index, IsTrue, IsOk, IfOk, OnOk, OnErr};
 ghost use Rattle.svid_replay.specs.Buckets.{bucket_of};
 ghost use Rattle.svid_replay.specs.Sets.{holds};
 ghost use Rattle.svid_replay.specs.Uses.{live, next_above};
-ghost use Rattle.svid_replay.specs.Walks.{next_few};
+ghost use Rattle.svid_replay.specs.Walks.{IsAhead, next_few};
 ghost use Rattle.svid_shards.specs.Shards.{AreApart, AreHeads, IsPut, all_in, expires_before, heads_of, least_in, shard, total_of};
 
 use std::alloc::AllocError;
-use svid_replay::{Room, Use, UseStore};
+use svid_replay::{Ahead, Room, Use, UseStore};
 
 /// How many shards there are: one for each first byte of a key.
 pub(crate) const SHARDS: usize = 256;
@@ -145,19 +145,44 @@ pub(crate) fn next_after<S: UseStore>(shards: &[S], after: Option<Use>) -> Optio
     least(&heads_of(shards, after))
 }
 
-// Puts into an empty room what comes next in all shards.
-pub(crate) fn next_uses<S: UseStore>(shards: &[S], after: Option<Use>, room: &mut Room)
+// Looks up what comes next in each shard, where that is not known.
+fn look_ahead<S: UseStore>(shards: &[S], after: Option<Use>, ahead: &mut Ahead)
     requires long { length shards.now ≡ 256 }
     requires apart { AreApart (map S.content shards.now) }
-    requires empty { room.old ≡ [] }
-    ensures { room.new ≡ next_few (all_in (map S.content shards.now)) after }
+    requires ahead { IsAhead (all_in (map S.content shards.now)) ahead.old }
+    ensures known { ahead.new.known ≡ true }
+    ensures after { ahead.new.after ≡ after }
+    ensures heads { ahead.new.heads ≡ heads_of (map S.content shards.now) after }
 {
-    let mut heads = heads_of(shards, after);
-    while let Some(used) = least(&heads) {
+    if ahead.is_behind(after) {
+        return;
+    }
+    ahead.known = true;
+    ahead.after = after;
+    ahead.heads = heads_of(shards, after);
+}
+
+// Puts into an empty room what comes next in all shards, and notes what comes behind that in each of them.
+pub(crate) fn next_ahead<S: UseStore>(
+    shards: &[S],
+    after: Option<Use>,
+    ahead: &mut Ahead,
+    room: &mut Room,
+)
+    requires long { length shards.now ≡ 256 }
+    requires apart { AreApart (map S.content shards.now) }
+    requires ahead { IsAhead (all_in (map S.content shards.now)) ahead.old }
+    requires empty { room.old ≡ [] }
+    ensures next { room.new ≡ next_few (all_in (map S.content shards.now)) after }
+    ensures ahead { IsAhead (all_in (map S.content shards.now)) ahead.new }
+{
+    look_ahead(shards, after, ahead);
+    while let Some(used) = least(&ahead.heads) {
         if !room.push(used) {
             return;
         }
         let place = shard_of(&used.key);
-        heads[place] = shards[place].next_after(Some(used));
+        ahead.after = Some(used);
+        ahead.heads[place] = shards[place].next_after(Some(used));
     }
 }
