@@ -1,6 +1,7 @@
 //! What a walk over a set of many parts keeps from one room to the next.
 ghost use Rattle.std.specs.Prelude.{◌≡◌, ◌&&◌, false};
-ghost use Rattle.svid_replay.specs.Walks.{is_at};
+ghost use Rattle.svid_replay.specs.Uses.{Uses};
+ghost use Rattle.svid_replay.specs.Walks.{IsAhead, is_at};
 
 use crate::Use;
 use crate::walk::is_same;
@@ -36,7 +37,8 @@ fn is_at(one: Option<Use>, other: Option<Use>) -> bool
 impl Ahead {
     /// Of a walk that has not begun: the heads are not known.
     pub fn new() -> Ahead
-        ensures { result.known ≡ false }
+        ensures unknown { result.known ≡ false }
+        ensures ahead { (s : Uses) → IsAhead s result }
     {
         Ahead {
             known: false,
