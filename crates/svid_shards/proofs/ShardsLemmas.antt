@@ -17,7 +17,7 @@ use Rattle.std.specs.List.Sorted.{IsStrictlySortedBy}
 use Rattle.std.specs.Cmp.Lexicographic.{slice_cmp}
 use Rattle.std.specs.Ordering.{bool_cmp, eq_by_cmp, is_eq, is_lt, nat_cmp, ordering_reverse, ordering_then}
 use Rattle.std.specs.declared.cmp.Ordering.{Ordering}
-use Rattle.std.specs.declared.cmp.Ordering.TheVariants.{Less, Greater}
+use Rattle.std.specs.declared.cmp.Ordering.TheVariants.{Less, Equal, Greater}
 use Rattle.svid_replay.specs.declared.token_use.Use.{Use}
 use Rattle.svid_replay.specs.Batches.{is_after}
 use Rattle.svid_replay.specs.Buckets.{bucket, bucket_of}
@@ -37,7 +37,7 @@ use Rattle.svid_replay.proofs.TestsLemmas.{equal, or-false}
 use Rattle.svid_replay.proofs.UseLemmas.{use_exact, use_total}
 use Rattle.svid_replay.proofs.UsesLemmas.{any-filter, find_kept, found_held, held_in_rising, holds-live, holds-uses_in, next_is, no_uses_hold_none, rising-uses_in, same_uses, uses_in-rising, with_holds_one_more, with-held}
 use Rattle.svid_replay.proofs.WalksLemmas.{HasMore, room_full, room_more, uses_in-turned}
-use Rattle.svid_shards.specs.Shards.{AreApart, AreHeads, ExpireFrom, IsPut, IsSharded, all_in, expires_before, heads_of, least_in, shard, total_of}
+use Rattle.svid_shards.specs.Shards.{AreApart, AreBehind, AreHeads, ExpireFrom, IsPut, IsSharded, all_in, expires_at, expires_before, heads_of, least_in, shard, total_of}
 
 -- shards whose numbers are counted on from n
 AreApartFrom : ℕ → List Uses → Type 0
@@ -410,16 +410,17 @@ least_more heads i at before are within low least is =
     ap (λ b. cond b one other) is ∙ sym (least_by_expiry one other (λ u v e f. omega (arith, low, are.each at u e, are.each i v f)))
     ∙ ap (λ h. least_of h one) least ∙ sym (ap (least_in None) (take_more heads i None (omega (arith, within, are.long))) ∙ least_push None one (take i heads))
 
+-- a head that is there is what comes next in its shard
+head_is : (ss : List Uses) (after : Option Use) (i : ℕ) (u : Use) → get_or (heads_of ss after) i None ≡ Some u → get_or (heads_of ss after) i None ≡ next_above (shard ss i) after
+head_is [] after i u e = let none : None ≡ Some u = e in cc
+head_is (s ∷ ss) after zero u e = refl
+head_is (s ∷ ss) after (suc i) u e = head_is ss after i u e
+
 pub heads_are : (ss : List Uses) (after : Option Use) → AreApart ss → length ss ≡ 256 → AreHeads (heads_of ss after)
 heads_are ss after apart long = record {
   long = length-map ss (λ s. next_above s after) ∙ long;
-  each = λ i u e. apart i u (found_held (shard ss i) (is_after after) u (sym (in_list ss i u e) ∙ e));
+  each = λ i u e. apart i u (found_held (shard ss i) (is_after after) u (sym (head_is ss after i u e) ∙ e));
 }
-  where
-    in_list : (ss : List Uses) (i : ℕ) (u : Use) → get_or (heads_of ss after) i None ≡ Some u → get_or (heads_of ss after) i None ≡ next_above (shard ss i) after
-    in_list [] i u e = let none : None ≡ Some u = e in cc
-    in_list (s ∷ ss) zero u e = refl
-    in_list (s ∷ ss) (suc i) u e = in_list ss i u e
 
 -- a shard is a bucket of the whole set
 shard_is_bucket : (ss : List Uses) → AreApart ss → (b : ℕ) → shard ss b ≡ bucket b (all_in ss)
@@ -464,6 +465,94 @@ known_heads ss ahead after apart long is behind =
     let (known, at) = both ahead.known (is_at ahead.after after) behind in
     let same = at_same ahead.after after at in
     (known, same, is known ∙ ap (heads_in (all_in ss)) same ∙ sym (heads_all ss after apart long))
+
+-- the least behind a use: the first that expires at the same second, from the shard of that use on
+heads_stay : (u : Use) (heads : List (Option Use)) → ((i : ℕ) (v : Use) → get_or heads i None ≡ Some v → is_lt (use_cmp v u) ≡ false) → least_in (Some u) heads ≡ Some u
+heads_stay u [] later = refl
+heads_stay u (None ∷ heads) later = heads_stay u heads (λ i v e. later (suc i) v e)
+heads_stay u (Some v ∷ heads) later = ap (λ b. least_in (cond b (Some v) (Some u)) heads) (later 0 v refl) ∙ heads_stay u heads (λ i w e. later (suc i) w e)
+
+-- each that comes in front of the least is greater
+heads_fall : (u : Use) (least : Option Use) (heads : List (Option Use)) (i : ℕ) → least_of least (Some u) ≡ Some u → get_or heads i None ≡ Some u → ((j : ℕ) (v : Use) → j < i → get_or heads j None ≡ Some v → is_lt (use_cmp u v) ≡ true) → ((j : ℕ) (v : Use) → get_or heads j None ≡ Some v → is_lt (use_cmp v u) ≡ false) → least_in least heads ≡ Some u
+heads_fall u least [] i beaten at greater later = let none : None ≡ Some u = at in cc
+heads_fall u least (h ∷ heads) zero beaten at greater later = ap (λ k. least_in k heads) (ap (least_of least) at ∙ beaten) ∙ heads_stay u heads (λ j v e. later (suc j) v e)
+heads_fall u least (h ∷ heads) (suc i) beaten at greater later =
+    heads_fall u (least_of least h) heads i (both_beaten least h beaten (λ v e. greater 0 v (omega arith) e)) at (λ j v low e. greater (suc j) v (omega (arith, low)) e) (λ j v e. later (suc j) v e)
+  where
+    both_beaten : (a b : Option Use) → least_of a (Some u) ≡ Some u → ((v : Use) → b ≡ Some v → is_lt (use_cmp u v) ≡ true) → least_of (least_of a b) (Some u) ≡ Some u
+    both_beaten None None beaten greater = refl
+    both_beaten None (Some v) beaten greater = ap (λ b. cond b (Some u) (Some v)) (greater v refl)
+    both_beaten (Some w) None beaten greater = beaten
+    both_beaten (Some w) (Some v) beaten greater = elim (is_lt (use_cmp v w)) as (λ b. least_of (cond b (Some v) (Some w)) (Some u) ≡ Some u) [
+      | true ↦ ap (λ b. cond b (Some u) (Some v)) (greater v refl)
+      | false ↦ beaten
+    ]
+
+-- of two uses the one that expires later is greater
+later_is_greater : (u v : Use) → u.exp < v.exp → is_lt (use_cmp u v) ≡ true
+later_is_greater u v low = by_ranked (u.exp < v.exp) (u.exp ≡ v.exp) (v.exp < u.exp) (nat_cmp u.exp v.exp) (ranked u.exp v.exp (nat_cmp u.exp v.exp) refl)
+    (λ e h. ap (λ o. is_lt (ordering_then o (ordering_then (slice_cmp nat_cmp u.key v.key) (ordering_then (slice_cmp nat_cmp u.place v.place) (ordering_then (nat_cmp u.at v.at) (bool_cmp u.withdrawn v.withdrawn)))))) e)
+    (λ e h. absurd (omega (arith, h, low)))
+    (λ e h. absurd (omega (arith, h, low)))
+
+not_turned : (u v : Use) → is_lt (use_cmp u v) ≡ true → is_lt (use_cmp v u) ≡ false
+not_turned u v less = ap is_lt (use_total.antisymm v u) ∙ turned (use_cmp u v) less
+  where
+    turned : (o : Ordering) → is_lt o ≡ true → is_lt (ordering_reverse o) ≡ false
+    turned Less e = refl
+    turned Equal e = absurd (false≢true e)
+    turned Greater e = absurd (false≢true e)
+
+not_itself : (u : Use) → is_lt (use_cmp u u) ≡ false
+not_itself u = false_from_ne_true (is_lt (use_cmp u u)) (λ e. false≢true (sym (not_turned u u e) ∙ e))
+
+greater_no_earlier : (u v : Use) → is_lt (use_cmp u v) ≡ true → u.exp ≤ v.exp
+greater_no_earlier u v less = by_ranked (u.exp < v.exp) (u.exp ≡ v.exp) (v.exp < u.exp) (nat_cmp u.exp v.exp) (ranked u.exp v.exp (nat_cmp u.exp v.exp) refl)
+    (λ e h. omega (arith, h))
+    (λ e h. omega (arith, h))
+    (λ e h. absurd (false≢true (sym (not_turned v u (later_is_greater v u h)) ∙ less)))
+
+-- no head of a shard in front of that of the use expires at its second
+pub none_in_front : (heads : List (Option Use)) (last : Use) → AreHeads heads → AreBehind (Some last) heads → (j : ℕ) → j < bucket_of last → expires_at last.exp (get_or heads j None) ≡ false
+none_in_front heads last are behind j low = at (get_or heads j None) refl
+  where
+    at : (h : Option Use) → get_or heads j None ≡ h → expires_at last.exp h ≡ false
+    at None e = refl
+    at (Some v) e = false_from_ne_true (nat_eq v.exp last.exp) (λ same.
+        let later : nat_lt last.exp v.exp ≡ false = grind (arith, nat_tests) in
+        false≢true (sym later ∙ (sym (less_is_earlier v last (omega (arith, low, are.each j v e))) ∙ behind j v e)))
+
+-- the first that expires at the second of the use is the least
+pub least_found : (heads : List (Option Use)) (last : Use) (i : ℕ) → AreHeads heads → AreBehind (Some last) heads → ((j : ℕ) → j < i → expires_at last.exp (get_or heads j None) ≡ false) → expires_at last.exp (get_or heads i None) ≡ true → get_or heads i None ≡ least_in None heads
+least_found heads last i are behind none here = at (get_or heads i None) refl here
+  where
+    at : (h : Option Use) → get_or heads i None ≡ h → expires_at last.exp h ≡ true → get_or heads i None ≡ least_in None heads
+    at None e here = absurd (false≢true here)
+    at (Some u) e here =
+        let same : u.exp ≡ last.exp = eqb-true u.exp last.exp here in
+        let early = λ (j : ℕ) (v : Use) (is : get_or heads j None ≡ Some v). greater_no_earlier last v (behind j v is) in
+        let greater = λ (j : ℕ) (v : Use) (low : j < i) (is : get_or heads j None ≡ Some v).
+        let other = eqb-false v.exp last.exp (ap (expires_at last.exp) (sym is) ∙ none j low) in
+        later_is_greater u v (omega (arith, same, early j v is, other)) in
+        e ∙ sym (heads_fall u None heads i refl e greater (λ j v is.
+            by_ranked (j < i) (j ≡ i) (i < j) (nat_cmp j i) (ranked j i (nat_cmp j i) refl)
+            (λ o low. not_turned u v (greater j v low is))
+            (λ o eq. let alike : Some v ≡ Some u = sym is ∙ ap (λ n. get_or heads n None) eq ∙ e in let it : v ≡ u = cc in ap (λ w. is_lt (use_cmp w u)) it ∙ not_itself u)
+            (λ o above.
+                let low : bucket_of u < bucket_of v = omega (arith, are.each i u e, are.each j v is, above) in
+                let earlier : nat_lt v.exp u.exp ≡ false = grind (arith, nat_tests, same, early j v is) in
+                less_is_earlier u v low ∙ earlier)))
+
+-- what comes next behind a use is greater
+found_passes : (p : Use → Bool) (us : List Use) (u : Use) → find p us ≡ Some u → p u ≡ true
+found_passes p [] u e = let none : None ≡ Some u = e in cc
+found_passes p (v ∷ us) u e = elim (p v) as (λ b. p v ≡ b → cond b (Some v) (find p us) ≡ Some u → p u ≡ true) [
+    | true ↦ λ is e. let it : v ≡ u = cc in ap p (sym it) ∙ is
+    | false ↦ λ is e. found_passes p us u e
+  ] refl e
+
+pub heads_behind : (ss : List Uses) (after : Option Use) → AreBehind after (heads_of ss after)
+heads_behind ss after = λ i u e. found_passes (is_after after) (rising (shard ss i)) u (sym (head_is ss after i u e) ∙ e)
 
 -- a look for a use, one step on
 pub not_here : (sought u : Use) (us : List Use) (after : Option Use) → IsRising us → find (is_after after) us ≡ Some u → eq_by_cmp use_cmp sought u ≡ false → list_any (eq_by_cmp use_cmp sought) (filter (is_after (Some u)) us) ≡ list_any (eq_by_cmp use_cmp sought) (filter (is_after after) us)

@@ -1,6 +1,7 @@
-use Rattle.std.specs.Prelude.{◌≡◌, ◌≤◌, ℕ, List, [], ◌∷◌, length, map, flat_map, set, slice_index_or, Option, None, Some, Bool, true, false, nat_lt, IsTrue}
+use Rattle.std.specs.Prelude.{◌≡◌, ◌==◌, ◌≤◌, ℕ, List, [], ◌∷◌, length, map, flat_map, set, slice_index_or, Option, None, Some, Bool, true, false, nat_lt, IsTrue}
 use Rattle.std.specs.List.{sum_by}
 use Rattle.svid_replay.specs.declared.token_use.Use.{Use}
+use Rattle.svid_replay.specs.Batches.{is_after}
 use Rattle.svid_replay.specs.Buckets.{bucket_of}
 use Rattle.svid_replay.specs.Runs.{least_of}
 use Rattle.svid_replay.specs.Sets.{holds, rising, with}
@@ -56,3 +57,12 @@ expires_before (Some u) (Some v) = nat_lt u.exp v.exp
 pub record AreHeads (heads : List (Option Use)) : Type 0 where
   pub long : length heads ≡ 256
   pub each : (i : ℕ) (u : Use) → slice_index_or heads i None ≡ Some u → bucket_of u ≡ i
+
+-- each head is greater than this use, where there is one
+abbrev pub AreBehind : Option Use → List (Option Use) → Type 0
+AreBehind last heads = (i : ℕ) (u : Use) → slice_index_or heads i None ≡ Some u → is_after last u ≡ true
+
+-- it is there, and expires at this second
+abbrev pub expires_at : ℕ → Option Use → Bool
+expires_at exp None = false
+expires_at exp (Some u) = u.exp == exp

@@ -4,7 +4,7 @@ ghost use Rattle.svid_replay.specs.Buckets.{bucket_of};
 ghost use Rattle.svid_replay.specs.Sets.{holds};
 ghost use Rattle.svid_replay.specs.Uses.{live, next_above};
 ghost use Rattle.svid_replay.specs.Walks.{IsAhead, next_few};
-ghost use Rattle.svid_shards.specs.Shards.{AreApart, AreHeads, IsPut, all_in, expires_before, heads_of, least_in, shard, total_of};
+ghost use Rattle.svid_shards.specs.Shards.{AreApart, AreBehind, AreHeads, IsPut, all_in, expires_at, expires_before, heads_of, least_in, shard, total_of};
 
 use std::alloc::AllocError;
 use svid_replay::{Ahead, Room, Use, UseStore};
@@ -136,6 +136,33 @@ fn least(heads: &[Option<Use>; SHARDS]) -> Option<Use>
     heads[at]
 }
 
+// Whether it is there, and expires at this second.
+fn expires_at(head: &Option<Use>, exp: u64) -> bool
+    ensures { result ≡ expires_at exp head.now }
+{
+    match head {
+        None => false,
+        Some(used) => used.exp == exp,
+    }
+}
+
+// The least of what comes next in each shard behind a use. Mostly it expires at the same second, and is then the first
+// such from the shard of that use on: so all uses of one second take one look at each shard.
+fn least_behind(heads: &[Option<Use>; SHARDS], last: Option<Use>) -> Option<Use>
+    requires heads { AreHeads heads.now }
+    requires behind { AreBehind last heads.now }
+    ensures { result ≡ least_in None heads.now }
+{
+    if let Some(used) = last {
+        for i in shard_of(&used.key)..SHARDS {
+            if expires_at(&heads[i], used.exp) {
+                return heads[i];
+            }
+        }
+    }
+    least(heads)
+}
+
 // The least use of all shards, or the least that is greater than the one given.
 pub(crate) fn next_after<S: UseStore>(shards: &[S], after: Option<Use>) -> Option<Use>
     requires long { length shards.now ≡ 256 }
@@ -177,7 +204,7 @@ pub(crate) fn next_ahead<S: UseStore>(
     ensures ahead { IsAhead (all_in (map S.content shards.now)) ahead.new }
 {
     look_ahead(shards, after, ahead);
-    while let Some(used) = least(&ahead.heads) {
+    while let Some(used) = least_behind(&ahead.heads, ahead.after) {
         if !room.push(used) {
             return;
         }

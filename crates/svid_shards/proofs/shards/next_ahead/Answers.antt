@@ -6,14 +6,17 @@ use Rattle.svid_replay.specs.Sets.{rising}
 use Rattle.svid_replay.specs.Uses.{next_above}
 use Rattle.svid_replay.proofs.UsesLemmas.{none_left}
 use Rattle.svid_replay.proofs.WalksLemmas.{room_done}
-use Rattle.svid_shards.specs.Shards.{AreHeads, all_in, shard}
-use Rattle.svid_shards.proofs.ShardsLemmas.{full_room, heads_all, heads_are, heads_more, next_found, room_pushed, store_at}
+use Rattle.svid_shards.specs.Shards.{AreBehind, AreHeads, all_in, shard}
+use Rattle.svid_shards.proofs.ShardsLemmas.{full_room, heads_all, heads_are, heads_behind, heads_more, next_found, room_pushed, store_at}
 use Rattle.svid_shards.proofs.shards.next_ahead.Goals as goal
 
-pub least-requires : goal.least-requires
-least-requires g c =
+pub least_behind-requires-clause-heads : goal.least_behind-requires-clause-heads
+least_behind-requires-clause-heads g c =
     let f = g.S.UseStore.content in
     subst AreHeads (sym c.loop-used.invariant.heads) (heads_are (map f c.args.shards.now) c.loop-used.ahead.after c.requires.apart (omega (arith, c.requires.long, length-map c.args.shards.now f)))
+
+pub least_behind-requires-clause-behind : goal.least_behind-requires-clause-behind
+least_behind-requires-clause-behind g c = subst (AreBehind c.loop-used.ahead.after) (sym c.loop-used.invariant.heads) (heads_behind (map g.S.UseStore.content c.args.shards.now) c.loop-used.ahead.after)
 
 pub returns-then-not-push-clause-next : goal.returns-then-not-push-clause-next
 returns-then-not-push-clause-next g c = let so_far = c.loop-used.invariant in full_room _ _ _ _ so_far.parts so_far.few c.if-not-push.ensures.answer c.push.ensures.full
