@@ -4,6 +4,7 @@ ghost use Rattle.svid_replay.specs.Uses.{Uses};
 ghost use Rattle.svid_replay.specs.Walks.{IsAhead, is_at};
 
 use crate::Use;
+use crate::near::Near;
 use crate::walk::is_same;
 
 /// What comes next in each bucket of a set, behind one use of a walk. A bucket has the uses whose keys begin with one
@@ -16,6 +17,8 @@ pub struct Ahead {
     pub after: Option<Use>,
     /// What comes next in each bucket, by the first byte of a key.
     pub heads: [Option<Use>; 256],
+    /// Where each of these was found.
+    pub near: [Near; 256],
 }
 
 // Whether both are the same use, or none.
@@ -44,6 +47,7 @@ impl Ahead {
             known: false,
             after: None,
             heads: [None; 256],
+            near: [Near::new(); 256],
         }
     }
 

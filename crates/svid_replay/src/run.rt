@@ -1,5 +1,5 @@
 //! Uses that rise, as a run of a larger set.
-ghost use Rattle.std.specs.Prelude.{◌≡◌, ◌+◌, ◌++◌, ◌<◌, false, length, drop, filter, max, nat_lt, true, IsTrue, IfOk};
+ghost use Rattle.std.specs.Prelude.{◌≡◌, ◌+◌, ◌++◌, ◌<◌, false, length, drop, filter, max, nat_lt, true, IsTrue, IfOk, Some};
 ghost use Rattle.std.specs.List.{list_any};
 ghost use Rattle.std.specs.Ordering.{eq_by_cmp};
 ghost use Rattle.std.specs.Set.{sorted_merge};
@@ -12,7 +12,7 @@ use crate::Use;
 use crate::expiry::Expiry;
 use crate::filter::{filter_of, may_have};
 use crate::keys::{expired_by_then, keys_of, merge_keys, sweep, tell_key};
-use crate::sorted::{count_expired, drop_front, first_after, has_sought};
+use crate::sorted::{count_expired, drop_front, first_after, first_near, has_sought};
 use std::alloc::{AllocError, Global};
 use std::cmp::Ordering;
 use std::marker::Model;
@@ -186,6 +186,13 @@ impl Run {
         ensures { result ≡ next_above (uses_in self.now) after }
     {
         first_after(self.uses(), after)
+    }
+
+    // What comes next behind the last, which is mostly near a place.
+    pub(crate) fn next_near(&self, last: &Use, near: &mut u32) -> Option<Use>
+        ensures { result ≡ next_above (uses_in self.now) (Some last.now) }
+    {
+        first_near(self.uses(), last, near)
     }
 
     // Moves the start behind the uses that expire by a moment, and answers how many these are. `tidy` gives back their

@@ -6,6 +6,7 @@ ghost use Rattle.svid_replay.specs.Walks.{IsAhead, next_few};
 
 use crate::Use;
 use crate::ahead::Ahead;
+use crate::near::Near;
 use crate::room::Room;
 use std::alloc::AllocError;
 
@@ -79,6 +80,15 @@ pub trait UseStore {
     /// The least use of the set, or the least that is greater than the one given.
     fn next_after(&self, after: Option<Use>) -> Option<Use>
         ensures { result ≡ next_above (content self.now) after };
+
+    /// The least use of the set, or the least that is greater than the one given, where mostly little lies between the
+    /// use that an earlier such call was given and this one. `near` is what that call left, and may be anything.
+    fn next_near(&self, after: Option<Use>, near: &mut Near) -> Option<Use>
+        ensures { result ≡ next_above (content self.now) after }
+    {
+        let _ = near;
+        self.next_after(after)
+    }
 
     /// The next uses of the set, from the least or from the least that is greater than the one given, rising: as
     /// many as the room takes, 64, or all that there are. What was in the room goes.

@@ -535,21 +535,21 @@ least_found heads last i are behind none here = at (get_or heads i None) refl he
         let other = eqb-false v.exp last.exp (ap (expires_at last.exp) (sym is) ∙ none j low) in
         later_is_greater u v (omega (arith, same, early j v is, other)) in
         e ∙ sym (heads_fall u None heads i refl e greater (λ j v is.
-            by_ranked (j < i) (j ≡ i) (i < j) (nat_cmp j i) (ranked j i (nat_cmp j i) refl)
-            (λ o low. not_turned u v (greater j v low is))
-            (λ o eq. let alike : Some v ≡ Some u = sym is ∙ ap (λ n. get_or heads n None) eq ∙ e in let it : v ≡ u = cc in ap (λ w. is_lt (use_cmp w u)) it ∙ not_itself u)
-            (λ o above.
-                let low : bucket_of u < bucket_of v = omega (arith, are.each i u e, are.each j v is, above) in
-                let earlier : nat_lt v.exp u.exp ≡ false = grind (arith, nat_tests, same, early j v is) in
-                less_is_earlier u v low ∙ earlier)))
+        by_ranked (j < i) (j ≡ i) (i < j) (nat_cmp j i) (ranked j i (nat_cmp j i) refl)
+        (λ o low. not_turned u v (greater j v low is))
+        (λ o eq. let alike : Some v ≡ Some u = sym is ∙ ap (λ n. get_or heads n None) eq ∙ e in let it : v ≡ u = cc in ap (λ w. is_lt (use_cmp w u)) it ∙ not_itself u)
+        (λ o above.
+        let low : bucket_of u < bucket_of v = omega (arith, are.each i u e, are.each j v is, above) in
+        let earlier : nat_lt v.exp u.exp ≡ false = grind (arith, nat_tests, same, early j v is) in
+        less_is_earlier u v low ∙ earlier)))
 
 -- what comes next behind a use is greater
 found_passes : (p : Use → Bool) (us : List Use) (u : Use) → find p us ≡ Some u → p u ≡ true
 found_passes p [] u e = let none : None ≡ Some u = e in cc
 found_passes p (v ∷ us) u e = elim (p v) as (λ b. p v ≡ b → cond b (Some v) (find p us) ≡ Some u → p u ≡ true) [
-    | true ↦ λ is e. let it : v ≡ u = cc in ap p (sym it) ∙ is
-    | false ↦ λ is e. found_passes p us u e
-  ] refl e
+  | true ↦ λ is e. let it : v ≡ u = cc in ap p (sym it) ∙ is
+  | false ↦ λ is e. found_passes p us u e
+] refl e
 
 pub heads_behind : (ss : List Uses) (after : Option Use) → AreBehind after (heads_of ss after)
 heads_behind ss after = λ i u e. found_passes (is_after after) (rising (shard ss i)) u (sym (head_is ss after i u e) ∙ e)

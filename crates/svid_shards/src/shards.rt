@@ -12,8 +12,8 @@ use svid_replay::{Ahead, Room, Use, UseStore};
 /// How many shards there are: one for each first byte of a key.
 pub(crate) const SHARDS: usize = 256;
 
-// So many shards are tidied at a time: few, so that a call is short.
-pub(crate) const TIDIED: u8 = 4;
+// So many shards are tidied or compacted at a time: few, so that a call is short.
+pub(crate) const TENDED: u8 = 4;
 
 // The number of the shard that uses of a key lie in.
 pub(crate) fn shard_of(key: &[u8; 32]) -> usize
@@ -74,12 +74,14 @@ pub(crate) fn drop_all_expired<S: UseStore>(shards: &mut Vec<S>, moment: u64) ->
     dropped
 }
 
-// Makes walks over each shard quicker.
-pub(crate) fn compact_all<S: UseStore>(shards: &mut Vec<S>)
+// Makes walks over some shards quicker, the one of this number first; behind the last comes the first.
+pub(crate) fn compact_some<S: UseStore>(shards: &mut Vec<S>, from: u8)
+    requires { length shards.old.items ≡ 256 }
     ensures { map S.content shards.new.items ≡ map S.content shards.old.items }
 {
-    for i in 0..shards.len() {
-        let store = &mut shards[i];
+    for i in 0..TENDED {
+        let place = from.wrapping_add(i) as usize;
+        let store = &mut shards[place];
         store.compact();
     }
 }
@@ -89,7 +91,7 @@ pub(crate) fn tidy_some<S: UseStore>(shards: &mut Vec<S>, from: u8)
     requires { length shards.old.items ≡ 256 }
     ensures { map S.content shards.new.items ≡ map S.content shards.old.items }
 {
-    for i in 0..TIDIED {
+    for i in 0..TENDED {
         let place = from.wrapping_add(i) as usize;
         let store = &mut shards[place];
         store.tidy();
@@ -210,6 +212,6 @@ pub(crate) fn next_ahead<S: UseStore>(
         }
         let place = shard_of(&used.key);
         ahead.after = Some(used);
-        ahead.heads[place] = shards[place].next_after(Some(used));
+        ahead.heads[place] = shards[place].next_near(Some(used), &mut ahead.near[place]);
     }
 }

@@ -36,7 +36,7 @@ loop-used-preserved g c =
     let more = room_pushed ss last _ c.loop-used.room c.push.new.self u next so_far.few so_far.parts c.if-not-push.ensures.answer c.push.ensures.pushed in
     let place = c.shard_of-place.ensures.value in
     let here = store_at f stores c.shard_of-place.result c.index-shards-place.result (omega (arith, c.requires.long, c.shard_of-place.ensures.bound)) c.index-shards-place.is ∙ ap (shard ss) place in
-    let head = c.next_after.ensures ∙ ap (λ s. next_above s (Some u)) here in
+    let head = c.next_near.ensures ∙ ap (λ s. next_above s (Some u)) here in
     record {
       heads = (λ i. set (so_far.heads i) (place i) (head i)) ∙ heads_more ss last u c.requires.apart next;
       few = more.few;
