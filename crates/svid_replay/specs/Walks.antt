@@ -1,5 +1,5 @@
 -- A walk over uses, some of which it has at hand, and of which it may know what comes next in each bucket.
-use Rattle.std.specs.Prelude.{◌≡◌, ◌++◌, Bool, true, false, List, Option, None, Some, filter, map, take}
+use Rattle.std.specs.Prelude.{◌≡◌, ◌++◌, ℕ, Bool, true, false, List, Option, None, Some, filter, map, take}
 use Rattle.std.specs.List.{range_with_len}
 use Rattle.std.specs.Ordering.{eq_by_cmp}
 use Rattle.svid_replay.specs.declared.ahead.Ahead.{Ahead}
@@ -20,9 +20,14 @@ pub record IsStretch (whole some : List Use) : Type 0 where
   pub rest : List Use
   pub parts : whole ≡ front ++ (some ++ rest)
 
--- what comes next in each bucket of a set, behind a use or from the first on
-unfoldable pub heads_in : Uses → Option Use → List (Option Use)
-heads_in s after = map (λ b. next_above (bucket b s) after) (range_with_len 0 256)
+-- when a use expires, if there is one
+abbrev pub exp_if_any : Option Use → Option ℕ
+exp_if_any None = None
+exp_if_any (Some u) = Some u.exp
+
+-- when what comes next in each bucket of a set expires, behind a use or from the first on
+unfoldable pub heads_in : Uses → Option Use → List (Option ℕ)
+heads_in s after = map (λ b. exp_if_any (next_above (bucket b s) after)) (range_with_len 0 256)
 
 -- heads that are known are those of the set
 abbrev pub IsAhead : Uses → Ahead → Type 0

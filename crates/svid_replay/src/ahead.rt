@@ -7,16 +7,17 @@ use crate::Use;
 use crate::near::Near;
 use crate::walk::is_same;
 
-/// What comes next in each bucket of a set, behind one use of a walk. A bucket has the uses whose keys begin with one
-/// byte. A store that is made of parts keeps this from one room to the next, and need not look into each part again.
+/// When what comes next in each bucket of a set expires, behind one use of a walk. A bucket has the uses whose keys begin
+/// with one byte. A store that is made of parts keeps this from one room to the next, and need not look into each part
+/// again.
 #[derive(Debug, Drop)]
 pub struct Ahead {
     /// Whether the heads were looked up.
     pub known: bool,
     /// The use behind which they come, or none for the first uses.
     pub after: Option<Use>,
-    /// What comes next in each bucket, by the first byte of a key.
-    pub heads: [Option<Use>; 256],
+    /// When what comes next in each bucket expires, by the first byte of a key; none where nothing comes.
+    pub heads: [Option<u64>; 256],
     /// Where each of these was found.
     pub near: [Near; 256],
 }

@@ -5,7 +5,7 @@ ghost use Rattle.std.specs.Prelude.{◌≡◌, length};
 /// where little lies between. Whatever stands here, it finds the same.
 #[derive(Clone, Copy, Debug)]
 pub struct Near {
-    pub(crate) places: [u32; 8],
+    pub(crate) places: [u16; 8],
 }
 
 impl Near {

@@ -189,7 +189,7 @@ impl Run {
     }
 
     // What comes next behind the last, which is mostly near a place.
-    pub(crate) fn next_near(&self, last: &Use, near: &mut u32) -> Option<Use>
+    pub(crate) fn next_near(&self, last: &Use, near: &mut u16) -> Option<Use>
         ensures { result ≡ next_above (uses_in self.now) (Some last.now) }
     {
         first_near(self.uses(), last, near)

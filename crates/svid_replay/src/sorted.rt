@@ -135,16 +135,16 @@ fn count_near(uses: &[Use], last: &Use, near: usize) -> usize
 }
 
 // The uses that are greater than the last, where it is mostly near which place they begin.
-fn rest_near<'a>(uses: &'a [Use], last: &Use, near: &mut u32) -> &'a [Use]
+fn rest_near<'a>(uses: &'a [Use], last: &Use, near: &mut u16) -> &'a [Use]
     requires { IsRising uses.now }
     ensures { result.now ≡ filter (is_after (Some last.now)) uses.now }
 {
     let place = count_near(uses, last, *near as usize);
-    *near = u32::try_from(place).unwrap_or(0);
+    *near = u16::try_from(place).unwrap_or(0);
     &uses[place..]
 }
 
-pub(crate) fn first_near(uses: &[Use], last: &Use, near: &mut u32) -> Option<Use>
+pub(crate) fn first_near(uses: &[Use], last: &Use, near: &mut u16) -> Option<Use>
     requires { IsRising uses.now }
     ensures { result ≡ find (is_after (Some last.now)) uses.now }
 {

@@ -26,7 +26,7 @@ use Rattle.svid_replay.specs.Sets.{holds, rising, with, with_all}
 use Rattle.svid_replay.specs.Twice.{has_key, withdraws}
 use Rattle.svid_replay.specs.Use.{IsRising, use_cmp}
 use Rattle.svid_replay.specs.Uses.{Uses, count, live, next_above, no_uses, uses_in}
-use Rattle.svid_replay.specs.Walks.{IsAhead, heads_in, is_at}
+use Rattle.svid_replay.specs.Walks.{IsAhead, exp_if_any, heads_in, is_at}
 use Rattle.svid_replay.specs.declared.ahead.Ahead.{Ahead}
 use Rattle.svid_replay.proofs.BucketsLemmas.{bucket_holds_its_uses}
 use Rattle.svid_replay.proofs.IndexedLemmas.{same_key}
@@ -37,7 +37,7 @@ use Rattle.svid_replay.proofs.TestsLemmas.{equal, or-false}
 use Rattle.svid_replay.proofs.UseLemmas.{use_exact, use_total}
 use Rattle.svid_replay.proofs.UsesLemmas.{any-filter, find_kept, found_held, held_in_rising, holds-live, holds-uses_in, next_is, no_uses_hold_none, rising-uses_in, same_uses, uses_in-rising, with_holds_one_more, with-held}
 use Rattle.svid_replay.proofs.WalksLemmas.{HasMore, room_full, room_more, uses_in-turned}
-use Rattle.svid_shards.specs.Shards.{AreApart, AreBehind, AreHeads, ExpireFrom, IsPut, IsSharded, all_in, expires_at, expires_before, heads_of, least_in, shard, total_of}
+use Rattle.svid_shards.specs.Shards.{AreApart, AreBehind, AreHeads, ExpireFrom, IsPut, IsSharded, all_in, heads_of, is_before, is_second, least_in, shard, total_of}
 
 -- shards whose numbers are counted on from n
 AreApartFrom : ℕ → List Uses → Type 0
@@ -362,12 +362,27 @@ swept_more f stores was moment i dropped went x y so_far low at kept counted =
     past (x ∷ xs) zero d within = refl
     past (x ∷ xs) (suc i) d within = past xs i d (omega arith)
 
+-- a head of those that were looked up
+pub second_at : (next : List (Option Use)) (heads : List (Option ℕ)) (i : ℕ) → heads ≡ map exp_if_any next → get_or heads i None ≡ exp_if_any (get_or next i None)
+second_at next heads i are = ap (λ hs. get_or hs i None) are ∙ get_or-map exp_if_any next i None
+
+pub first_least : (next : List (Option Use)) → get_or next 0 None ≡ least_in None (take 1 next)
+first_least [] = refl
+first_least (h ∷ hs) = refl
+
+-- what holds of each number below one, and of that one
+pub below_more : (P : ℕ → Type 0) (i : ℕ) → ((j : ℕ) → j < i → P j) → P i → (j : ℕ) → j < i + 1 → P j
+below_more P i each here j low = elim (nat_eq j i) as (λ b. nat_eq j i ≡ b → P j) [
+  | true ↦ λ e. subst P (sym (eqb-true j i e)) here
+  | false ↦ λ e. let other = eqb-false j i e in each j (omega (arith, low, other))
+] refl
+
 -- one head more is looked up
 pub head_at : {S : Type 0} (f : S → Uses) (stores : List S) (i : ℕ) (x : S) (after head : Option Use) → i < length stores → x ≡ get_or stores i x → head ≡ next_above (f x) after → head ≡ get_or (heads_of (map f stores) after) i None
 head_at f stores i x after head within at is =
     is ∙ ap (λ s. next_above s after) (store_at f stores i x within at) ∙ sym (mapped_at (λ s. next_above s after) (map f stores) i no_uses None (omega (arith, within, length-map stores f)))
 
-pub filled_more : (heads all : List (Option Use)) (i : ℕ) (head : Option Use) → i < length heads → i < length all → take i heads ≡ take i all → head ≡ get_or all i None → take (i + 1) (set heads i head) ≡ take (i + 1) all
+pub filled_more : (heads all : List (Option ℕ)) (i : ℕ) (head : Option ℕ) → i < length heads → i < length all → take i heads ≡ take i all → head ≡ get_or all i None → take (i + 1) (set heads i head) ≡ take (i + 1) all
 filled_more heads all i head within low filled is =
     take_more_set heads i head within ∙ (λ j. filled j ++ is j ∷ []) ∙ sym (take_more all i None low)
 
@@ -397,13 +412,13 @@ less_is_earlier u v low =
     (λ e h. let is : nat_lt v.exp u.exp ≡ false = grind (arith, nat_tests) in ap all e ∙ ap (λ o. is_lt (rest o)) (keys_apart u.key v.key low) ∙ sym is)
     (λ e h. let is : nat_lt v.exp u.exp ≡ false = grind (arith, nat_tests) in ap all e ∙ sym is)
 
-least_by_expiry : (one other : Option Use) → ((u v : Use) → other ≡ Some u → one ≡ Some v → bucket_of u < bucket_of v) → least_of other one ≡ cond (expires_before one other) one other
+least_by_expiry : (one other : Option Use) → ((u v : Use) → other ≡ Some u → one ≡ Some v → bucket_of u < bucket_of v) → least_of other one ≡ cond (is_before (exp_if_any one) (exp_if_any other)) one other
 least_by_expiry None None apart = refl
 least_by_expiry None (Some u) apart = refl
 least_by_expiry (Some v) None apart = refl
 least_by_expiry (Some v) (Some u) apart = ap (λ b. cond b (Some v) (Some u)) (less_is_earlier u v (apart u v refl refl))
 
-pub least_more : (heads : List (Option Use)) (i at : ℕ) (before : Bool) → AreHeads heads → i < 256 → at < i → get_or heads at None ≡ least_in None (take i heads) → before ≡ expires_before (get_or heads i None) (get_or heads at None) → cond before (get_or heads i None) (get_or heads at None) ≡ least_in None (take (i + 1) heads)
+pub least_more : (heads : List (Option Use)) (i at : ℕ) (before : Bool) → AreHeads heads → i < 256 → at < i → get_or heads at None ≡ least_in None (take i heads) → before ≡ is_before (exp_if_any (get_or heads i None)) (exp_if_any (get_or heads at None)) → cond before (get_or heads i None) (get_or heads at None) ≡ least_in None (take (i + 1) heads)
 least_more heads i at before are within low least is =
     let one = get_or heads i None in
     let other = get_or heads at None in
@@ -446,12 +461,16 @@ each_shard f g n (s ∷ ss) same =
     let here : n + 0 ≡ n = omega arith in
     (λ j. (same 0 ∙ ap g here) j ∷ each_shard f g (n + 1) ss (λ i. let there : n + suc i ≡ n + 1 + i = omega arith in same (suc i) ∙ ap g there) j)
 
-pub heads_all : (ss : List Uses) (after : Option Use) → AreApart ss → length ss ≡ 256 → heads_of ss after ≡ heads_in (all_in ss) after
+map_twice : {X Y Z : Type 0} (f : Y → Z) (g : X → Y) (xs : List X) → map f (map g xs) ≡ map (λ x. f (g x)) xs
+map_twice f g [] = refl
+map_twice f g (x ∷ xs) = ap (λ ys. f (g x) ∷ ys) (map_twice f g xs)
+
+pub heads_all : (ss : List Uses) (after : Option Use) → AreApart ss → length ss ≡ 256 → map exp_if_any (heads_of ss after) ≡ heads_in (all_in ss) after
 unfolding heads_in
 heads_all ss after apart long =
-    let next = λ (s : Uses). next_above s after in
+    let next = λ (s : Uses). exp_if_any (next_above s after) in
     let of = λ (b : ℕ). next (bucket b (all_in ss)) in
-    each_shard next of 0 ss (λ i. let here : i ≡ 0 + i = omega arith in ap next (shard_is_bucket ss apart i) ∙ ap of here) ∙ ap (λ n. map of (range_with_len 0 n)) long
+    map_twice exp_if_any (λ s. next_above s after) ss ∙ each_shard next of 0 ss (λ i. let here : i ≡ 0 + i = omega arith in ap next (shard_is_bucket ss apart i) ∙ ap of here) ∙ ap (λ n. map of (range_with_len 0 n)) long
 
 -- heads that are known, behind the same use
 at_same : (a b : Option Use) → is_at a b ≡ true → a ≡ b
@@ -460,7 +479,7 @@ at_same None (Some v) e = absurd (false≢true e)
 at_same (Some u) None e = absurd (false≢true e)
 at_same (Some u) (Some v) e = ap Some (use_exact u v (equal _ e))
 
-pub known_heads : (ss : List Uses) (ahead : Ahead) (after : Option Use) → AreApart ss → length ss ≡ 256 → IsAhead (all_in ss) ahead → (ahead.known && is_at ahead.after after) ≡ true → (ahead.known ≡ true) × (ahead.after ≡ after) × (ahead.heads ≡ heads_of ss after)
+pub known_heads : (ss : List Uses) (ahead : Ahead) (after : Option Use) → AreApart ss → length ss ≡ 256 → IsAhead (all_in ss) ahead → (ahead.known && is_at ahead.after after) ≡ true → (ahead.known ≡ true) × (ahead.after ≡ after) × (ahead.heads ≡ map exp_if_any (heads_of ss after))
 known_heads ss ahead after apart long is behind =
     let (known, at) = both ahead.known (is_at ahead.after after) behind in
     let same = at_same ahead.after after at in
@@ -513,26 +532,26 @@ greater_no_earlier u v less = by_ranked (u.exp < v.exp) (u.exp ≡ v.exp) (v.exp
     (λ e h. absurd (false≢true (sym (not_turned v u (later_is_greater v u h)) ∙ less)))
 
 -- no head of a shard in front of that of the use expires at its second
-pub none_in_front : (heads : List (Option Use)) (last : Use) → AreHeads heads → AreBehind (Some last) heads → (j : ℕ) → j < bucket_of last → expires_at last.exp (get_or heads j None) ≡ false
+pub none_in_front : (heads : List (Option Use)) (last : Use) → AreHeads heads → AreBehind (Some last) heads → (j : ℕ) → j < bucket_of last → is_second last.exp (exp_if_any (get_or heads j None)) ≡ false
 none_in_front heads last are behind j low = at (get_or heads j None) refl
   where
-    at : (h : Option Use) → get_or heads j None ≡ h → expires_at last.exp h ≡ false
+    at : (h : Option Use) → get_or heads j None ≡ h → is_second last.exp (exp_if_any h) ≡ false
     at None e = refl
     at (Some v) e = false_from_ne_true (nat_eq v.exp last.exp) (λ same.
         let later : nat_lt last.exp v.exp ≡ false = grind (arith, nat_tests) in
         false≢true (sym later ∙ (sym (less_is_earlier v last (omega (arith, low, are.each j v e))) ∙ behind j v e)))
 
 -- the first that expires at the second of the use is the least
-pub least_found : (heads : List (Option Use)) (last : Use) (i : ℕ) → AreHeads heads → AreBehind (Some last) heads → ((j : ℕ) → j < i → expires_at last.exp (get_or heads j None) ≡ false) → expires_at last.exp (get_or heads i None) ≡ true → get_or heads i None ≡ least_in None heads
+pub least_found : (heads : List (Option Use)) (last : Use) (i : ℕ) → AreHeads heads → AreBehind (Some last) heads → ((j : ℕ) → j < i → is_second last.exp (exp_if_any (get_or heads j None)) ≡ false) → is_second last.exp (exp_if_any (get_or heads i None)) ≡ true → get_or heads i None ≡ least_in None heads
 least_found heads last i are behind none here = at (get_or heads i None) refl here
   where
-    at : (h : Option Use) → get_or heads i None ≡ h → expires_at last.exp h ≡ true → get_or heads i None ≡ least_in None heads
+    at : (h : Option Use) → get_or heads i None ≡ h → is_second last.exp (exp_if_any h) ≡ true → get_or heads i None ≡ least_in None heads
     at None e here = absurd (false≢true here)
     at (Some u) e here =
         let same : u.exp ≡ last.exp = eqb-true u.exp last.exp here in
         let early = λ (j : ℕ) (v : Use) (is : get_or heads j None ≡ Some v). greater_no_earlier last v (behind j v is) in
         let greater = λ (j : ℕ) (v : Use) (low : j < i) (is : get_or heads j None ≡ Some v).
-        let other = eqb-false v.exp last.exp (ap (expires_at last.exp) (sym is) ∙ none j low) in
+        let other = eqb-false v.exp last.exp (ap (λ h. is_second last.exp (exp_if_any h)) (sym is) ∙ none j low) in
         later_is_greater u v (omega (arith, same, early j v is, other)) in
         e ∙ sym (heads_fall u None heads i refl e greater (λ j v is.
         by_ranked (j < i) (j ≡ i) (i < j) (nat_cmp j i) (ranked j i (nat_cmp j i) refl)

@@ -1,10 +1,11 @@
 //! Stores side by side, each for the uses whose key begins with the store's number.
-ghost use Rattle.std.specs.Prelude.{◌≡◌, ◌+◌, ◌^◌, ◌<◌, ◌≤◌, [], None, map, length, true, slice_index, IsTrue, IsOk, IfOk, OnOk, OnErr};
+ghost use Rattle.std.specs.Prelude.{◌≡◌, ◌+◌, ◌^◌, ◌<◌, ◌≤◌, [], List, None, Option, map, length, slice_index, slice_index_or, true, IsTrue, IsOk, IfOk, OnOk, OnErr};
 ghost use Rattle.svid_replay.specs.Buckets.{bucket_of};
 ghost use Rattle.svid_replay.specs.Sets.{holds};
 ghost use Rattle.svid_replay.specs.Uses.{live, next_above};
-ghost use Rattle.svid_replay.specs.Walks.{IsAhead, next_few};
-ghost use Rattle.svid_shards.specs.Shards.{AreApart, AreBehind, AreHeads, IsPut, all_in, expires_at, expires_before, heads_of, least_in, shard, total_of};
+ghost use Rattle.svid_replay.specs.Walks.{IsAhead, exp_if_any, next_few};
+ghost use Rattle.svid_replay.specs.declared.token_use.Use.{Use};
+ghost use Rattle.svid_shards.specs.Shards.{AreApart, AreBehind, AreHeads, IsPut, all_in, heads_of, is_before, is_second, least_in, shard, total_of};
 
 use std::alloc::AllocError;
 use svid_replay::{Ahead, Room, Use, UseStore};
@@ -98,67 +99,78 @@ pub(crate) fn tidy_some<S: UseStore>(shards: &mut Vec<S>, from: u8)
     }
 }
 
-// What comes next in each shard.
-fn heads_of<S: UseStore>(shards: &[S], after: Option<Use>) -> [Option<Use>; SHARDS]
+// When a use expires, if there is one.
+fn exp_if_any(used: Option<Use>) -> Option<u64>
+    ensures { result ≡ exp_if_any used }
+{
+    match used {
+        None => None,
+        Some(used) => Some(used.exp),
+    }
+}
+
+// When what comes next in each shard expires.
+fn heads_of<S: UseStore>(shards: &[S], after: Option<Use>) -> [Option<u64>; SHARDS]
     requires { length shards.now ≡ 256 }
-    ensures { result ≡ heads_of (map S.content shards.now) after }
+    ensures { result ≡ map exp_if_any (heads_of (map S.content shards.now) after) }
 {
     let mut heads = [None; SHARDS];
     for i in 0..SHARDS {
-        heads[i] = shards[i].next_after(after);
+        heads[i] = exp_if_any(shards[i].next_after(after));
     }
     heads
 }
 
-// Whether the first is there, and the second is not or expires later.
-fn is_before(one: &Option<Use>, other: &Option<Use>) -> bool
-    ensures { result ≡ expires_before one.now other.now }
+// Whether the first is there, and the second is not or is later.
+fn is_before(one: Option<u64>, other: Option<u64>) -> bool
+    ensures { result ≡ is_before one other }
 {
     match one {
         None => false,
         Some(a) => match other {
             None => true,
-            Some(b) => a.exp < b.exp,
+            Some(b) => a < b,
         },
     }
 }
 
-// The least of what comes next in each shard. Of those that expire at one second it is the first, since shards are in
-// the order of the keys.
-fn least(heads: &[Option<Use>; SHARDS]) -> Option<Use>
-    requires { AreHeads heads.now }
-    ensures { result ≡ least_in None heads.now }
+// The number of the shard that has the least of what comes next. Of those that expire at one second it is the first,
+// since shards are in the order of the keys.
+fn least(heads: &[Option<u64>; SHARDS]) -> usize
+    requires { length heads.now ≡ 256 }
+    ensures bound { result < 256 }
+    ensures least { (next : List (Option Use)) → AreHeads next → heads.now ≡ map exp_if_any next → slice_index_or next result None ≡ least_in None next }
 {
     let mut at = 0;
     for i in 1..SHARDS {
-        if is_before(&heads[i], &heads[at]) {
+        if is_before(heads[i], heads[at]) {
             at = i;
         }
     }
-    heads[at]
+    at
 }
 
-// Whether it is there, and expires at this second.
-fn expires_at(head: &Option<Use>, exp: u64) -> bool
-    ensures { result ≡ expires_at exp head.now }
+// Whether it is this second.
+fn is_second(head: Option<u64>, exp: u64) -> bool
+    ensures { result ≡ is_second exp head }
 {
     match head {
         None => false,
-        Some(used) => used.exp == exp,
+        Some(second) => second == exp,
     }
 }
 
-// The least of what comes next in each shard behind a use. Mostly it expires at the same second, and is then the first
-// such from the shard of that use on: so all uses of one second take one look at each shard.
-fn least_behind(heads: &[Option<Use>; SHARDS], last: Option<Use>) -> Option<Use>
-    requires heads { AreHeads heads.now }
-    requires behind { AreBehind last heads.now }
-    ensures { result ≡ least_in None heads.now }
+// The number of the shard that has the least of what comes next behind a use. Mostly that expires at the same second, and
+// is then the first such from the shard of the use on: so all uses of one second take one look at each shard.
+fn least_behind(heads: &[Option<u64>; SHARDS], last: Option<Use>) -> usize
+    requires { length heads.now ≡ 256 }
+    ensures bound { result < 256 }
+    ensures least { (next : List (Option Use)) → AreHeads next → AreBehind last next → heads.now ≡ map exp_if_any next → slice_index_or next result None ≡ least_in None next }
 {
     if let Some(used) = last {
         for i in shard_of(&used.key)..SHARDS {
-            if expires_at(&heads[i], used.exp) {
-                return heads[i];
+            if is_second(heads[i], used.exp) {
+                return i;
             }
         }
     }
@@ -171,7 +183,7 @@ pub(crate) fn next_after<S: UseStore>(shards: &[S], after: Option<Use>) -> Optio
     requires apart { AreApart (map S.content shards.now) }
     ensures { result ≡ next_above (all_in (map S.content shards.now)) after }
 {
-    least(&heads_of(shards, after))
+    shards[least(&heads_of(shards, after))].next_after(after)
 }
 
 // Looks up what comes next in each shard, where that is not known.
@@ -181,7 +193,7 @@ fn look_ahead<S: UseStore>(shards: &[S], after: Option<Use>, ahead: &mut Ahead)
     requires ahead { IsAhead (all_in (map S.content shards.now)) ahead.old }
     ensures known { ahead.new.known ≡ true }
     ensures after { ahead.new.after ≡ after }
-    ensures heads { ahead.new.heads ≡ heads_of (map S.content shards.now) after }
+    ensures heads { ahead.new.heads ≡ map exp_if_any (heads_of (map S.content shards.now) after) }
 {
     if ahead.is_behind(after) {
         return;
@@ -189,6 +201,19 @@ fn look_ahead<S: UseStore>(shards: &[S], after: Option<Use>, ahead: &mut Ahead)
     ahead.known = true;
     ahead.after = after;
     ahead.heads = heads_of(shards, after);
+}
+
+// What comes next.
+fn next_in<S: UseStore>(shards: &[S], ahead: &mut Ahead) -> Option<Use>
+    requires long { length shards.now ≡ 256 }
+    requires apart { AreApart (map S.content shards.now) }
+    requires heads { ahead.old.heads ≡ map exp_if_any (heads_of (map S.content shards.now) ahead.old.after) }
+    ensures next { result ≡ next_above (all_in (map S.content shards.now)) ahead.old.after }
+    ensures after { ahead.new.after ≡ ahead.old.after }
+    ensures heads { ahead.new.heads ≡ ahead.old.heads }
+{
+    let at = least_behind(&ahead.heads, ahead.after);
+    shards[at].next_near(ahead.after, &mut ahead.near[at])
 }
 
 // Puts into an empty room what comes next in all shards, and notes what comes behind that in each of them.
@@ -206,12 +231,13 @@ pub(crate) fn next_ahead<S: UseStore>(
     ensures ahead { IsAhead (all_in (map S.content shards.now)) ahead.new }
 {
     look_ahead(shards, after, ahead);
-    while let Some(used) = least_behind(&ahead.heads, ahead.after) {
+    while let Some(used) = next_in(shards, ahead) {
         if !room.push(used) {
             return;
         }
         let place = shard_of(&used.key);
+        let then = shards[place].next_near(Some(used), &mut ahead.near[place]);
         ahead.after = Some(used);
-        ahead.heads[place] = shards[place].next_near(Some(used), &mut ahead.near[place]);
+        ahead.heads[place] = exp_if_any(then);
     }
 }
