@@ -16,29 +16,29 @@ complete -c svid -f
 complete -c svid -s h -l help -d 'Print help'
 complete -c svid -n __svid_begins -s V -l version -d 'Print the version'
 
-complete -c svid -n __svid_begins -a check -d 'Check each token of standard input'
-complete -c svid -n __svid_begins -a id -d 'Print the parts of a SPIFFE ID, or why a text is none'
-complete -c svid -n __svid_begins -a report -d 'Print the uses and the keys used twice'
-complete -c svid -n __svid_begins -a merge -d 'Write the record that the inputs come to'
-complete -c svid -n __svid_begins -a summary -d 'Write the summary of that record'
-complete -c svid -n __svid_begins -a answer -d 'Write what a summary lacks'
-complete -c svid -n __svid_begins -a candidates -d 'Print the questions of the keys that may have signed a token'
+complete -c svid -n __svid_begins -a check -d 'Check each token on standard input'
+complete -c svid -n __svid_begins -a id -d 'Print the trust domain and path of a SPIFFE ID'
+complete -c svid -n __svid_begins -a report -d 'Print the uses in a record, and the keys used twice'
+complete -c svid -n __svid_begins -a merge -d 'Combine the records of all inputs'
+complete -c svid -n __svid_begins -a summary -d 'Write a summary of the combined record'
+complete -c svid -n __svid_begins -a answer -d 'Write what another validator lacks, by its summary'
+complete -c svid -n __svid_begins -a candidates -d 'Print one question for each key that could have signed a token'
 complete -c svid -n __svid_begins -a help -d 'Print the help of a command'
 
-complete -c svid -n '__svid_is check' -l bundles -r -F -d 'A file of trust bundles'
-complete -c svid -n '__svid_is check' -l table -r -F -d 'A file of the questions to which a verifier said yes'
-complete -c svid -n '__svid_is check' -l now -x -d 'The moment of the checks, in seconds'
-complete -c svid -n '__svid_is check' -l place -x -d 'What tells this validator from every other one'
-complete -c svid -n '__svid_is check' -l record -r -F -d 'The record that the checks begin with'
-complete -c svid -n '__svid_is check' -l out -r -F -d 'The file that gets the record after the last check'
-complete -c svid -n '__svid_is check' -l longest -x -d 'How many seconds past the moment of the checks, or of the record where that is greater, a token may expire'
+complete -c svid -n '__svid_is check' -l bundles -r -F -d 'A file of trust bundles, as JSON'
+complete -c svid -n '__svid_is check' -l table -r -F -d 'A file of the questions that your verifier answered with yes'
+complete -c svid -n '__svid_is check' -l now -x -d 'The current time, in seconds since 1970'
+complete -c svid -n '__svid_is check' -l place -x -d 'The ID of this validator: 32 hexadecimal digits'
+complete -c svid -n '__svid_is check' -l record -r -F -d 'A file of messages to begin with'
+complete -c svid -n '__svid_is check' -l out -r -F -d 'The file to write the record to'
+complete -c svid -n '__svid_is check' -l longest -x -d 'Reject a token that expires more than so many seconds from now'
 
-complete -c svid -n '__svid_is report' -l now -x -d 'A moment in seconds, to which the record is raised'
+complete -c svid -n '__svid_is report' -l now -x -d 'Advance the record to this time, in seconds since 1970'
 complete -c svid -n '__svid_is report' -F
-complete -c svid -n '__svid_is merge' -l now -x -d 'Drop what has expired by then: a time in seconds'
+complete -c svid -n '__svid_is merge' -l now -x -d 'Advance the record to this time, in seconds since 1970'
 complete -c svid -n '__svid_is merge' -F
 complete -c svid -n '__svid_is summary' -F
-complete -c svid -n '__svid_is answer' -l summary -r -F -d 'A file of one summary'
+complete -c svid -n '__svid_is answer' -l summary -r -F -d 'The summary of the other validator'
 complete -c svid -n '__svid_is answer' -F
-complete -c svid -n '__svid_is candidates' -l bundles -r -F -d 'A file of trust bundles'
+complete -c svid -n '__svid_is candidates' -l bundles -r -F -d 'A file of trust bundles, as JSON'
 complete -c svid -n '__svid_is help' -a "$commands"

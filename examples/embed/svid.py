@@ -13,6 +13,9 @@ class Id(c.Structure):
 class Told(c.Structure):
     _fields_ = [("len", c.c_size_t), ("input", c.c_size_t), ("message", c.c_size_t), ("place", c.c_size_t)]
 
+    def __str__(self):
+        return f"input {self.input} message {self.message} place {self.place}"
+
 
 class Setting(c.Structure):
     _fields_ = [("moment", c.c_uint64), ("longest", c.c_uint64), ("place", c.c_uint8 * 16)]
@@ -55,10 +58,6 @@ def lent(inputs):
     return [it for text in inputs for it in (text, c.c_size_t(len(text)))]
 
 
-def told_text(told):
-    return f"input {told.input} message {told.message} place {told.place}"
-
-
 def call(name, inputs, now=None):
     """What svid_NAME writes of the inputs, at a moment where it takes one."""
     args = lent(inputs) + ([] if now is None else [c.c_uint64(now)])
@@ -69,7 +68,7 @@ def call(name, inputs, now=None):
         if status == OK:
             return out.raw[: told.len]
         if status != TOO_SHORT:
-            raise Refused(f"{status} {told_text(told)}")
+            raise Refused(f"{status} {told}")
         room = told.len
 
 
@@ -79,14 +78,13 @@ def check(setting, own, bundles, questions, messages, token):
     args = lent([own, bundles, questions, messages, token])
     status = lib.svid_check(c.byref(setting), *args, out, c.c_size_t(2048), c.byref(used), c.byref(told))
     if status != OK:
-        raise Refused(f"{status} {told_text(told)}")
+        raise Refused(f"{status} {told}")
     return out.raw[: told.len], used
 
 
 def main(what, rest):
     if what == "id":
-        domain, path = parse(rest[0].encode())
-        return b"domain " + domain + b"\npath " + path + b"\n"
+        return b"domain %s\npath %s\n" % parse(rest[0].encode())
     if what == "check":
         setting = Setting(int(rest[0]), 2**64 - 1, (c.c_uint8 * 16)(*[0xAA] * 16))
         id, used = check(setting, os.fsencode(rest[1]), *[open(it, "rb").read() for it in rest[2:]])

@@ -3,7 +3,7 @@ import ctypes as c
 import os
 import struct
 import threading
-from svid import Key, Part, Refused, Terms, Told, Use, lib, told_text
+from svid import Key, Part, Refused, Terms, Told, Use, lib
 
 BIG = 2**64 - 1
 
@@ -35,7 +35,7 @@ class Validator:
         with self.lock:
             status = getattr(lib, "svid_validator_" + name)(self.handle, *args, c.byref(told))
         if status != 0:
-            raise Refused(status, told_text(told), told.len)
+            raise Refused(status, str(told), told.len)
         return told.len
 
     def _text(self, name, *args, room=65_536):

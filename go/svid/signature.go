@@ -12,6 +12,7 @@ import (
 	"errors"
 	"fmt"
 	"math/big"
+	"strings"
 )
 
 const (
@@ -102,7 +103,8 @@ type Key struct {
 
 // ParseKey reads a JWK of type RSA or EC. The error is ErrKey, with the reason: an RSA
 // key of fewer than 2,048 or more than 16,384 bits, a curve that no algorithm has, a
-// point off its curve, a coordinate of another length than the curve's.
+// point off its curve, a coordinate of another length than the curve's, an alg that
+// is there and is no name of an algorithm.
 func ParseKey(jwk []byte) (*Key, error) {
 	k := parseKey(jwk)
 	if k.fault != nil {
@@ -114,45 +116,57 @@ func ParseKey(jwk []byte) (*Key, error) {
 // parseKey is ParseKey that keeps the fault: a key that can't be used verifies nothing.
 func parseKey(jwk []byte) *Key {
 	k := &Key{text: string(jwk)}
-	var members struct{ Kty, Alg, N, E, Crv, X, Y string }
-	var raw map[string]json.RawMessage
-	if err := json.Unmarshal(jwk, &raw); err != nil {
+	// (By their exact names: a struct's tags would take any case.)
+	var members map[string]json.RawMessage
+	if err := json.Unmarshal(jwk, &members); err != nil {
 		k.fault = fmt.Errorf("%w: %v", ErrKey, err)
 		return k
 	}
-	// (By their exact names: a struct's tags would take any case.)
-	for name, to := range map[string]*string{
-		"kty": &members.Kty, "alg": &members.Alg, "n": &members.N, "e": &members.E,
-		"crv": &members.Crv, "x": &members.X, "y": &members.Y,
-	} {
-		if value, ok := raw[name]; ok && json.Unmarshal(value, to) != nil {
-			k.fault = fmt.Errorf("%w: %s is not a string", ErrKey, name)
-			return k
-		}
-	}
-	k.algorithm = members.Alg
-	switch members.Kty {
-	case "RSA":
-		k.public, k.fault = parseRSA(members.N, members.E)
-	case "EC":
-		k.public, k.fault = parseEC(members.Crv, members.X, members.Y)
-	default:
-		k.fault = fmt.Errorf("%w: kty %q is neither RSA nor EC", ErrKey, members.Kty)
+	k.public, k.fault = parsePublic(members)
+	if _, ok := members["alg"]; ok && k.fault == nil {
+		k.algorithm, k.fault = parseAlgorithm(members)
 	}
 	return k
 }
 
-func parseRSA(n, e string) (crypto.PublicKey, error) {
-	modulus, err := number(n)
+// parsePublic reads the members of the key's type. All others may be anything.
+func parsePublic(members map[string]json.RawMessage) (crypto.PublicKey, error) {
+	kty, err := stringAt(members, "kty")
 	if err != nil {
-		return nil, fmt.Errorf("%w: n: %v", ErrKey, err)
+		return nil, err
+	}
+	switch kty {
+	case "RSA":
+		return parseRSA(members)
+	case "EC":
+		return parseEC(members)
+	}
+	return nil, fmt.Errorf("%w: kty %q is neither RSA nor EC", ErrKey, kty)
+}
+
+// parseAlgorithm reads the alg of a JWK that has one: the name of an algorithm (RFC 7517, section 4.4).
+func parseAlgorithm(members map[string]json.RawMessage) (string, error) {
+	name, err := stringAt(members, "alg")
+	if err != nil {
+		return "", err
+	}
+	if findAlgorithm(name) == nil {
+		return "", fmt.Errorf("%w: alg %q is none of RS256 to PS512", ErrKey, name)
+	}
+	return name, nil
+}
+
+func parseRSA(members map[string]json.RawMessage) (crypto.PublicKey, error) {
+	modulus, err := number(members, "n")
+	if err != nil {
+		return nil, err
 	}
 	if bits := modulus.BitLen(); bits < minRSABits || bits > maxRSABits {
 		return nil, fmt.Errorf("%w: an RSA key of %d bits; it must have from %d to %d", ErrKey, bits, minRSABits, maxRSABits)
 	}
-	exponent, err := number(e)
+	exponent, err := number(members, "e")
 	if err != nil {
-		return nil, fmt.Errorf("%w: e: %v", ErrKey, err)
+		return nil, err
 	}
 	if exponent.BitLen() > 31 || exponent.Cmp(big.NewInt(3)) < 0 || exponent.Bit(0) == 0 {
 		return nil, fmt.Errorf("%w: the exponent is not an odd number from 3 to 2^31-1", ErrKey)
@@ -160,7 +174,11 @@ func parseRSA(n, e string) (crypto.PublicKey, error) {
 	return &rsa.PublicKey{N: modulus, E: int(exponent.Int64())}, nil
 }
 
-func parseEC(crv, x, y string) (crypto.PublicKey, error) {
+func parseEC(members map[string]json.RawMessage) (crypto.PublicKey, error) {
+	crv, err := stringAt(members, "crv")
+	if err != nil {
+		return nil, err
+	}
 	var curve elliptic.Curve
 	for i := range algorithms {
 		if c := algorithms[i].curve; c != nil && c.Params().Name == crv {
@@ -171,13 +189,13 @@ func parseEC(crv, x, y string) (crypto.PublicKey, error) {
 		return nil, fmt.Errorf("%w: crv %q is none of P-256, P-384 and P-521", ErrKey, crv)
 	}
 	var point [2]*big.Int
-	for i, coordinate := range [2]string{x, y} {
-		bytes, err := decode(coordinate)
+	for i, name := range [2]string{"x", "y"} {
+		bytes, err := decode(members, name)
 		if err != nil {
-			return nil, fmt.Errorf("%w: a coordinate: %v", ErrKey, err)
+			return nil, err
 		}
 		if want := fieldLen(curve); len(bytes) != want {
-			return nil, fmt.Errorf("%w: a coordinate has %d bytes; %s wants %d", ErrKey, len(bytes), crv, want)
+			return nil, fmt.Errorf("%w: %s has %d bytes; %s wants %d", ErrKey, name, len(bytes), crv, want)
 		}
 		point[i] = new(big.Int).SetBytes(bytes)
 	}
@@ -187,15 +205,40 @@ func parseEC(crv, x, y string) (crypto.PublicKey, error) {
 	return &ecdsa.PublicKey{Curve: curve, X: point[0], Y: point[1]}, nil
 }
 
-func number(text string) (*big.Int, error) {
-	bytes, err := decode(text)
+// stringAt is a member that is a string. An explicit null is none.
+func stringAt(members map[string]json.RawMessage, name string) (string, error) {
+	value, ok := members[name]
+	if !ok {
+		return "", fmt.Errorf("%w: it has no %s", ErrKey, name)
+	}
+	var text *string
+	if err := json.Unmarshal(value, &text); err != nil || text == nil {
+		return "", fmt.Errorf("%w: %s is not a string", ErrKey, name)
+	}
+	return *text, nil
+}
+
+// number is a member that is a number in base64url (RFC 7518, section 2).
+func number(members map[string]json.RawMessage, name string) (*big.Int, error) {
+	bytes, err := decode(members, name)
 	if err != nil {
 		return nil, err
 	}
 	return new(big.Int).SetBytes(bytes), nil
 }
 
-func decode(text string) ([]byte, error) { return base64.RawURLEncoding.Strict().DecodeString(text) }
+// decode is a member that is base64url without padding. (Go's decoder would pass over line ends.)
+func decode(members map[string]json.RawMessage, name string) ([]byte, error) {
+	text, err := stringAt(members, name)
+	if err != nil {
+		return nil, err
+	}
+	bytes, err := base64.RawURLEncoding.Strict().DecodeString(text)
+	if err != nil || strings.ContainsAny(text, "\r\n") {
+		return nil, fmt.Errorf("%w: %s is not base64url", ErrKey, name)
+	}
+	return bytes, nil
+}
 
 // JSON returns the key's JWK.
 func (k *Key) JSON() string { return k.text }

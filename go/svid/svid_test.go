@@ -196,6 +196,75 @@ func TestAKeyOfAnotherCurveOrAlgorithmIsRejected(t *testing.T) {
 	}
 }
 
+// Members of a key, by algorithm, with which it verifies nothing, and with which it does
+// nevertheless. The packages for Go and Python and the page are tested with the same.
+var (
+	spoiling = map[string][]string{
+		"ES256": {
+			`{"alg":null}`, `{"alg":""}`, `{"alg":"es256"}`, `{"alg":"ES256 "}`, `{"alg":"ES384"}`, `{"alg":"RS256"}`, `{"alg":"none"}`,
+			`{"alg":256}`, `{"alg":false}`, `{"alg":["ES256"]}`, `{"alg":{"ES256":"ES256"}}`,
+			`{"kty":null}`, `{"kty":""}`, `{"kty":"ec"}`, `{"kty":["EC"]}`, `{"kty":"RSA"}`,
+			`{"crv":null}`, `{"crv":""}`, `{"crv":"p-256"}`, `{"crv":256}`, `{"crv":["P-256"]}`, `{"crv":"P-384"}`,
+			`{"use":null}`, `{"use":""}`, `{"use":"sig"}`, `{"use":["jwt-svid"]}`,
+			`{"x":null}`, `{"x":7}`, `{"y":""}`,
+		},
+		"RS256": {
+			`{"alg":null}`, `{"alg":""}`, `{"alg":"rs256"}`, `{"alg":"RS512"}`, `{"alg":"PS256"}`, `{"alg":256}`, `{"alg":["RS256"]}`,
+			`{"kty":null}`, `{"kty":"rsa"}`, `{"kty":"EC"}`, `{"use":null}`,
+			`{"n":null}`, `{"n":7}`, `{"e":null}`, `{"e":65537}`,
+		},
+	}
+	harmless = map[string][]string{
+		"ES256": {
+			`{}`, `{"alg":"ES256"}`, `{"Alg":null}`, `{"ALG":"ES384"}`, `{"n":7,"e":null}`,
+			`{"key_ops":null}`, `{"key_ops":[]}`, `{"key_ops":["sign"]}`, `{"key_ops":"sign"}`, `{"key_ops":7}`,
+		},
+		"RS256": {
+			`{}`, `{"alg":"RS256"}`, `{"Alg":null}`, `{"crv":null}`, `{"crv":7}`, `{"crv":"P-256"}`, `{"x":7,"y":null}`,
+			`{"key_ops":null}`, `{"key_ops":["sign"]}`,
+		},
+	}
+)
+
+func TestMembersOfAKey(t *testing.T) {
+	var set struct{ Keys []map[string]any }
+	if err := json.Unmarshal(example.JWKSet(), &set); err != nil {
+		t.Fatal(err)
+	}
+	verifies := func(algorithm, members string) bool {
+		t.Helper()
+		key := map[string]any{}
+		for _, it := range set.Keys {
+			if it["kid"] == issuer.KeyID(algorithm) {
+				for name, value := range it {
+					key[name] = value
+				}
+			}
+		}
+		if err := json.Unmarshal([]byte(members), &key); err != nil {
+			t.Fatal(err)
+		}
+		k := keyring(t, mustJSON(map[string]any{"example.org": map[string]any{"keys": []any{key}}}))
+		yes, err := k.Verify(example.Sign(algorithm, fmt.Sprintf(`{"alg":%q}`, algorithm), string(mustJSON(claims("a")))))
+		if err != nil && err != svid.NoKey {
+			t.Errorf("%s with a key with %s: %v", algorithm, members, err)
+		}
+		return len(yes) == 1
+	}
+	for _, algorithm := range []string{"ES256", "RS256"} {
+		for _, members := range spoiling[algorithm] {
+			if verifies(algorithm, members) {
+				t.Errorf("%s: a key with %s verifies", algorithm, members)
+			}
+		}
+		for _, members := range harmless[algorithm] {
+			if !verifies(algorithm, members) {
+				t.Errorf("%s: a key with %s verifies nothing", algorithm, members)
+			}
+		}
+	}
+}
+
 // Of many keys that may have signed a token a bounded number is tried.
 func TestOfManyCandidatesTheFirstAreTried(t *testing.T) {
 	other, err := issuer.New("example.org")
@@ -266,6 +335,7 @@ func TestKeysThatCannotBeUsed(t *testing.T) {
 		"a short coordinate":  ec("x", "AA"),
 		"a point off a curve": ec("x", zero),
 		"not base64url":       ec("x", strings.Repeat("+", 43)),
+		"a line end":          ec("x", strings.Repeat("A", 43)+"\n"),
 	} {
 		if _, err := svid.ParseKey([]byte(jwk)); !errors.Is(err, svid.ErrKey) {
 			t.Errorf("%s: %v", what, err)

@@ -68,6 +68,34 @@ const REFUSED = {
   Replayed: { token: async () => signed({ jti: "three" }), press: "use", member: "jti", why: /a use of this token/ },
 };
 
+// Members of a key with which it verifies nothing, and with which it does nevertheless. The packages for Go and Python and the page are tested
+// with the same.
+const SPOILING = {
+  ES256: [
+    { alg: null }, { alg: "" }, { alg: "es256" }, { alg: "ES256 " }, { alg: "ES384" }, { alg: "RS256" }, { alg: "none" },
+    { alg: 256 }, { alg: false }, { alg: ["ES256"] }, { alg: { ES256: "ES256" } },
+    { kty: null }, { kty: "" }, { kty: "ec" }, { kty: ["EC"] }, { kty: "RSA" },
+    { crv: null }, { crv: "" }, { crv: "p-256" }, { crv: 256 }, { crv: ["P-256"] }, { crv: "P-384" },
+    { use: null }, { use: "" }, { use: "sig" }, { use: ["jwt-svid"] },
+    { x: null }, { x: 7 }, { y: "" },
+  ],
+  RS256: [
+    { alg: null }, { alg: "" }, { alg: "rs256" }, { alg: "RS512" }, { alg: "PS256" }, { alg: 256 }, { alg: ["RS256"] },
+    { kty: null }, { kty: "rsa" }, { kty: "EC" }, { use: null },
+    { n: null }, { n: 7 }, { e: null }, { e: 65537 },
+  ],
+};
+const HARMLESS = {
+  ES256: [
+    {}, { alg: "ES256" }, { Alg: null }, { ALG: "ES384" }, { n: 7, e: null },
+    { key_ops: null }, { key_ops: [] }, { key_ops: ["sign"] }, { key_ops: "sign" }, { key_ops: 7 },
+  ],
+  RS256: [
+    {}, { alg: "RS256" }, { Alg: null }, { crv: null }, { crv: 7 }, { crv: "P-256" }, { x: 7, y: null },
+    { key_ops: null }, { key_ops: ["sign"] },
+  ],
+};
+
 /** Tests what the page says in a browser, which `start` starts. */
 export function testVerdicts(start) {
   before(async () => {
@@ -162,6 +190,7 @@ export function testVerdicts(start) {
       "ES256": [ec, [
         [{}, /^verifies the signature/],
         [{ x: `AA${ec.entry.x}` }, /^can't be used: its x /],
+        [{ x: `${ec.entry.x}\n` }, /^can't be used: its x is no base64url/],
         [{ y: ec.entry.y.slice(0, 42) }, /^can't be used: its y (is no base64url|has 31 bytes, and P-256 needs 32)/],
         [{ x: base64url(Buffer.alloc(32)) }, /^can't be used: /],
         [{ crv: "secp256k1" }, /^can't be used: its curve is secp256k1/],
@@ -174,6 +203,16 @@ export function testVerdicts(start) {
     }
     await page.write({ ...fresh(), bundles: bundlesOf(small.entry), token: await sign(small, { alg: "RS256", kid: "key" }, GOOD) });
     assert.equal((await shown()).said, "Refused: BadSignature");
+  });
+
+  test("a key verifies nothing with some members, and others do no harm", async () => {
+    for (const alg of ["ES256", "RS256"]) {
+      const mine = await makeKey(alg, "key"), members = [...SPOILING[alg], ...HARMLESS[alg]];
+      await page.write({ ...fresh(), bundles: bundlesOf(...members.map((it) => ({ ...mine.entry, ...it }))), token: await sign(mine, { alg, kid: "key" }, GOOD) });
+      const said = await page.run(() => [...document.querySelectorAll("#keys summary")].map((it) => it.textContent));
+      assert.equal(said.length, members.length);
+      members.forEach((it, n) => assert.match(said[n], n < SPOILING[alg].length ? /^(can't be used|passed over): / : /^verifies the signature/, `${alg} ${JSON.stringify(it)}`));
+    }
   });
 
   test("a token that was used can be withdrawn, and one that is refused for another reason can't", async () => {

@@ -32,10 +32,10 @@ class Source:
         if isinstance(given, str) and given.lstrip().startswith("{"):
             raise TypeError("a str of bundles names a file or a folder: encode JSON text as bytes")
 
-    def stamp(self) -> object:
+    def stamp(self) -> list[tuple[str, tuple[int, int, int]]]:
         """What is another value once a file of the bundles is another one, or has changed.
 
-        Raises OSError for a file that is not there.
+        It is empty where bundles are in no file. Raises OSError for a file that is not there.
         """
         return [(str(path), _stamp(path)) for path in self._paths()]
 

@@ -21,22 +21,34 @@ from .errors import (
     Forked,
     Gone,
     Jump,
-    Refused,
     TooFar,
 )
 from .records import Accepted, Use
 
 _USE = struct.Struct("=QQ32s16s")
-_ROW = struct.Struct(">32sI5sI")  # a question, the algorithm, the length of the key
+_ROW = struct.Struct(">32s4x5sI")  # a question, the algorithm, the length of the key
 _ROW_SIZE = _ROW.size
-_QUICK_ASK = lib.quick.svid_validator_ask
-CHECK = lib.quick.svid_validator_check, lib.library.svid_validator_check
-JUDGE = lib.quick.svid_validator_judge, lib.library.svid_validator_judge
 _LONG = 8192  # a token of so many bytes may take some milliseconds to read: other threads go on
 _URL_SAFE = bytes.maketrans(b"-_", b"+/")
 _ROOM = 65_536
+_ROOM_SIZE = lib.size(_ROOM)
+_NONE = lib.size(0)
+_ONE = lib.size(1)
 
 _Call = Callable[..., int]
+Calls = tuple[tuple[_Call, _Call], tuple[_Call, _Call]]
+"""How to ask about and to judge a short token, and how a long one."""
+
+_QUICK_ASK: _Call = lib.quick.svid_validator_ask
+_LONG_ASK: _Call = lib.library.svid_validator_ask
+CHECK: Calls = (
+    (_QUICK_ASK, lib.quick.svid_validator_check),
+    (_LONG_ASK, lib.library.svid_validator_check),
+)
+JUDGE: Calls = (
+    (_QUICK_ASK, lib.quick.svid_validator_judge),
+    (_LONG_ASK, lib.library.svid_validator_judge),
+)
 
 
 class _LeftBehind:
@@ -65,6 +77,7 @@ class Handle:
         self._words = (ctypes.c_uint64 * 2)()
         self._told = lib.Told()
         self._room = bytearray(_ROOM)
+        self._view = memoryview(self._room)
         self._used = bytearray(_USE.size)
         self._at = lib.address(self._words)
         self._told_at = lib.address(self._told)
@@ -91,39 +104,38 @@ class Handle:
         """Replaces the bundles. Raises BadBundles, and then the old ones stay."""
         self._read(lib.library.svid_validator_bundles, bundles)
 
-    def ask(self, token: bytes) -> bytes:
-        """A row for each key that may have signed the token.
-
-        Raises the refusals of a token that need no audience, time, signature and record.
-        """
-        size = len(token)
-        call = _QUICK_ASK if size < _LONG else lib.library.svid_validator_ask
+    def ask(self, token: bytes) -> None:
+        """Raises the refusals of a token that need no audience, time, signature and record."""
+        size, room, told = lib.size(len(token)), self._room_at, self._told_at
         with self._lock:
-            status = call(self._at, token, size, self._room_at, _ROOM, self._told_at)
+            status = _LONG_ASK(self._at, token, size, room, _ROOM_SIZE, told)
+            if status not in (lib.OK, lib.TOO_SHORT):
+                raise self._fault(status)
+
+    def check(self, calls: Calls, now: int, token: bytes, verifies: Verifies) -> Accepted:
+        """Judges a token by CHECK or JUDGE. Raises Refused.
+
+        The lock is free while a signature is verified.
+        """
+        ask, judge = calls[0] if len(token) < _LONG else calls[1]
+        at, size, room, told = self._at, lib.size(len(token)), self._room_at, self._told_at
+        with self._lock:
+            status = ask(at, token, size, room, _ROOM_SIZE, told)
             if status == lib.OK:
-                return bytes(self._room[: self._told.len])
-            return self._rest(status, call, token, size)
-
-    def check(
-        self, calls: tuple[_Call, ...], now: int, token: bytes, verifies: Verifies
-    ) -> Accepted:
-        """Judges a token by CHECK or JUDGE: the first of the calls is for short tokens.
-
-        The lock is free while a signature is verified. Raises Refused.
-        """
-        try:
-            yes = _first_yes(self.ask(token), token, verifies)
-        except Refused:
-            yes = b""  # another reason may come before this one, and `now` is to be told
-        room, used, told, size = self._room_at, self._used_at, self._told_at, len(token)
-        call = calls[size >= _LONG]
+                rows = self._view[: self._told.len].tobytes()
+            elif status in REFUSALS:
+                rows = b""  # another reason may come before this one, and `now` is to be told
+            else:
+                rows = self._rest(status, ask, token, size)
+        yes = _first_yes(rows, token, verifies) if rows else b""
+        when, count, used = lib.moment(now), _ONE if yes else _NONE, self._used_at
         with self._lock:
-            status = call(self._at, now, yes, len(yes) // 32, token, size, room, _ROOM, used, told)
+            status = judge(at, when, yes, count, token, size, room, _ROOM_SIZE, used, told)
             if status != lib.OK:
                 raise self._fault(status)
-            subject = self._room[: self._told.len].decode("ascii")
-            expires, at, key, place = _USE.unpack(self._used)
-        return Accepted(subject, Use(expires, key, place, at))
+            subject = self._room[: self._told.len].decode()
+            expires, moment, key, place = _USE.unpack(self._used)
+        return Accepted(subject, Use(expires, key, place, moment))
 
     def withdraw(self, now: int, key: bytes, expires: int) -> Use:
         """Withdraws the token with this key of 32 bytes. Raises Gone."""
@@ -187,7 +199,8 @@ class Handle:
         if status != lib.TOO_SHORT:
             raise self._fault(status)
         room = bytearray(self._told.len)
-        status = call(self._at, *lent, lib.address(room), len(room), self._told_at)
+        size = ctypes.c_size_t(len(room))
+        status = call(self._at, *lent, lib.address(room), size, self._told_at)
         if status != lib.OK:
             raise self._fault(status)
         return bytes(room)
@@ -238,7 +251,7 @@ def _first_yes(rows: bytes, token: bytes, verifies: Verifies) -> bytes:
     at = 0
     while at < len(rows):
         question: bytes
-        question, _, alg, size = _ROW.unpack_from(rows, at)
+        question, alg, size = _ROW.unpack_from(rows, at)
         at += _ROW_SIZE + size
         if verifies(alg.decode(), rows[at - size : at], signed, signature):
             return question

@@ -1,7 +1,7 @@
 """The C library libsvid: where it is, and the calls of include/svid.h that this package makes.
 
-A pointer to a room, a structure or a validator is an address (`ctypes.addressof`), and an input is
-`bytes` with its length.
+A pointer to a room, a structure or a validator is its `address`, and an input is `bytes` with its
+length.
 """
 
 from __future__ import annotations
@@ -100,14 +100,10 @@ _OUT = [c_void_p, c_size_t]
 _TOLD = [c_void_p]
 _VALIDATOR = [c_void_p]
 _NOW = [c_uint64]
-_CHECK = [*_VALIDATOR, *_NOW, *_LENT, *_LENT, *_OUT, c_void_p, *_TOLD]
 _CALLS = {
     "svid_report": [*_LENT, *_NOW, *_OUT, *_TOLD],
     "svid_validator_answer": [*_VALIDATOR, *_NOW, *_LENT, *_OUT, *_TOLD],
-    "svid_validator_ask": [*_VALIDATOR, *_LENT, *_OUT, *_TOLD],
     "svid_validator_bundles": [*_VALIDATOR, *_LENT, *_TOLD],
-    "svid_validator_check": _CHECK,
-    "svid_validator_judge": _CHECK,
     "svid_validator_open": [*_VALIDATOR, c_void_p, *_LENT, *_LENT, *_TOLD],
     "svid_validator_parts": [*_VALIDATOR, c_void_p, *_OUT, *_TOLD],
     "svid_validator_summary": [*_VALIDATOR, *_OUT, *_TOLD],
@@ -116,6 +112,9 @@ _CALLS = {
     "svid_validator_withdraw": [*_VALIDATOR, *_NOW, c_char_p, c_uint64, c_void_p, *_TOLD],
     "svid_version": [],
 }
+_CALLS_OF_A_CHECK = ["svid_validator_ask", "svid_validator_check", "svid_validator_judge"]
+"""ctypes converts no argument of these, which would take a twentieth of a check. Each of them is an
+`address`, `bytes`, a `size` or a `moment`. Give them no `int`: they would see 32 bits of it."""
 
 
 def _path() -> str:
@@ -124,9 +123,16 @@ def _path() -> str:
     return os.environ.get("LIBSVID") or (str(beside) if beside.exists() else "libsvid.so.0")
 
 
-def address(room: Any) -> c_void_p:
-    """Where a structure or a writable buffer is. Whoever has the address keeps the room alive."""
-    return c_void_p(ctypes.addressof(c_char.from_buffer(room)))
+size = c_size_t.from_param
+"""A length, as an argument of the calls of a check."""
+
+moment = c_uint64.from_param
+"""A time in seconds, as an argument of the calls of a check."""
+
+
+def address(room: Any) -> Any:
+    """Where a structure or a writable buffer is, as an argument. It keeps the room alive."""
+    return ctypes.byref(c_char.from_buffer(room))
 
 
 def _load(path: str, kind: type[_Library]) -> _Library:
@@ -142,6 +148,8 @@ def _load(path: str, kind: type[_Library]) -> _Library:
         call = getattr(library, name)
         call.argtypes = takes
         call.restype = c_uint32
+    for name in _CALLS_OF_A_CHECK:
+        getattr(library, name).restype = c_uint32
     library.svid_validator_close.argtypes = _VALIDATOR
     library.svid_validator_close.restype = None
     version: int = library.svid_version()

@@ -11,12 +11,12 @@ import pathlib
 import tempfile
 import threading
 import time
-from collections.abc import Callable, Iterable, Iterator
+from collections.abc import Iterable, Iterator
 from typing import Union
 
 from . import _library as lib
 from ._bundles import Bundles, Path, Source
-from ._handle import CHECK, JUDGE, Handle, decoded, fault
+from ._handle import CHECK, JUDGE, Calls, Handle, decoded, fault
 from ._signatures import Verifier, Verifies
 from .errors import Error, NoKey, UnknownDomain
 from .records import Accepted, Report, Use
@@ -222,13 +222,12 @@ class Validator:
             if isinstance(self._verifies, Verifier):
                 self._verifies.forget()
 
-    def _checked(
-        self, calls: tuple[Callable[..., int], ...], token: Token, now: float | None
-    ) -> Accepted:
+    def _checked(self, calls: Calls, token: Token, now: float | None) -> Accepted:
         """What `check` or `judge` answers, by these calls of the C library."""
-        if time.monotonic() >= self._look_at:
+        if self._stamp and time.monotonic() >= self._look_at:
             self._look()
-        return self._handle.check(calls, _seconds(now), _bytes(token), self._verifies)
+        seconds = int(time.time()) if now is None else _seconds(now)
+        return self._handle.check(calls, seconds, _bytes(token), self._verifies)
 
     def _look(self) -> None:
         """Reads the files of the bundles again where they have changed."""

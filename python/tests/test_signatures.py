@@ -187,6 +187,7 @@ ODD = {
     "a coordinate of no length": ("ES256", {**ES, "x": ""}),
     "a coordinate that is too long": ("ES256", {**ES, "x": "AA" + ES["x"]}),
     "a coordinate with padding": ("ES256", {**ES, "x": ES["x"] + "="}),
+    "a coordinate with a line end": ("ES256", {**ES, "x": ES["x"] + "\n"}),
     "a coordinate that is no text": ("ES256", {**ES, "x": 7}),
     "a coordinate not of base64url": ("ES256", {**ES, "x": "*" + ES["x"][1:]}),
     "another algorithm": ("ES256", {**ES, "alg": "ES384"}),
@@ -209,6 +210,48 @@ def test_keys_that_verify_nothing(what):
         assert verdict(checks, token(alg)) == BAD_SIGNATURE
     with validator(bundle(key, ES, RS)) as checks:
         assert verdict(checks, token(alg)) == ACCEPTED
+
+
+# Members of a key with which it verifies nothing, and with which it does nevertheless. The packages
+# for Go and Python and the page are tested with the same.
+SPOILING = {
+    "ES256": """
+        {"alg":null} {"alg":""} {"alg":"es256"} {"alg":"ES256\\u0020"} {"alg":"ES384"}
+        {"alg":"RS256"} {"alg":"none"} {"alg":256} {"alg":false} {"alg":["ES256"]}
+        {"alg":{"ES256":"ES256"}}
+        {"kty":null} {"kty":""} {"kty":"ec"} {"kty":["EC"]} {"kty":"RSA"}
+        {"crv":null} {"crv":""} {"crv":"p-256"} {"crv":256} {"crv":["P-256"]} {"crv":"P-384"}
+        {"use":null} {"use":""} {"use":"sig"} {"use":["jwt-svid"]}
+        {"x":null} {"x":7} {"y":""}
+        """,
+    "RS256": """
+        {"alg":null} {"alg":""} {"alg":"rs256"} {"alg":"RS512"} {"alg":"PS256"} {"alg":256}
+        {"alg":["RS256"]}
+        {"kty":null} {"kty":"rsa"} {"kty":"EC"} {"use":null}
+        {"n":null} {"n":7} {"e":null} {"e":65537}
+        """,
+}
+HARMLESS = {
+    "ES256": """
+        {} {"alg":"ES256"} {"Alg":null} {"ALG":"ES384"} {"n":7,"e":null}
+        {"key_ops":null} {"key_ops":[]} {"key_ops":["sign"]} {"key_ops":"sign"} {"key_ops":7}
+        """,
+    "RS256": """
+        {} {"alg":"RS256"} {"Alg":null} {"crv":null} {"crv":7} {"crv":"P-256"} {"x":7,"y":null}
+        {"key_ops":null} {"key_ops":["sign"]}
+        """,
+}
+
+
+@pytest.mark.parametrize("alg", ["ES256", "RS256"])
+def test_members_of_a_key(alg):
+    key = {"ES256": ES, "RS256": RS}[alg]
+    for members in SPOILING[alg].split():
+        with validator(bundle({**key, **json.loads(members)})) as checks:
+            assert verdict(checks, token(alg)) in (BAD_SIGNATURE, "refused NoKey"), members
+    for members in HARMLESS[alg].split():
+        with validator(bundle({**key, **json.loads(members)})) as checks:
+            assert verdict(checks, token(alg)) == ACCEPTED, members
 
 
 @pytest.mark.parametrize("exponent", [3, 5, 2**31 - 1, 2**31 + 11, 2**32 + 1])

@@ -4,6 +4,7 @@
 use crate::batch;
 use crate::bundles;
 use crate::check::Validator;
+use crate::clock::clock;
 use crate::inputs;
 use crate::message::Message;
 use crate::record::Known;
@@ -100,28 +101,6 @@ impl Kept {
         uses.sort_unstable();
         batch::write_parts(self.moment, &uses, out)
     }
-}
-
-#[repr(C)]
-struct Timespec {
-    seconds: i64,
-    nanoseconds: i64,
-}
-
-extern "C" {
-    fn clock_gettime(clock: i32, time: *mut Timespec) -> i32;
-}
-
-/// The time of this thread on the processor, in nanoseconds.
-fn clock() -> u64 {
-    const THREAD_CPUTIME: i32 = 3;
-    let mut time = Timespec {
-        seconds: 0,
-        nanoseconds: 0,
-    };
-    // SAFETY: the C library is given room for one `timespec`.
-    unsafe { clock_gettime(THREAD_CPUTIME, &mut time) };
-    time.seconds as u64 * 1_000_000_000 + time.nanoseconds as u64
 }
 
 /// What a call answers, and how many nanoseconds it took.

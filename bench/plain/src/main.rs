@@ -7,6 +7,7 @@ mod base64url;
 mod batch;
 mod bundles;
 mod check;
+mod clock;
 mod fault;
 mod hex;
 mod inputs;
@@ -16,6 +17,7 @@ mod message;
 mod record;
 mod report;
 mod sha256;
+mod stores;
 mod summary;
 #[cfg(test)]
 mod tests;
@@ -106,6 +108,9 @@ fn run(mut words: impl Iterator<Item = String>) -> Result<bool, Box<dyn Error>> 
         live::run(&words.collect::<Vec<_>>(), &mut out)?;
         out.flush()?;
         return Ok(true);
+    }
+    if command == "stores" {
+        return stores::run(&words.collect::<Vec<_>>());
     }
     let words = Words::read(words)?;
     let yes = if command == "check" {

@@ -3,7 +3,8 @@ ghost use Rattle.svid_c.specs.Live.{is_jump};
 
 use svid_check::Validator;
 use svid_keys::{JwtKey, Verifier};
-use svid_replay::IndexedUses;
+use svid_replay::RunUses;
+use svid_shards::ShardedUses;
 use svid_token::Alg;
 
 /// A verifier that says yes to nothing. A validator of C has it: each of its checks brings the answers with it.
@@ -21,7 +22,7 @@ impl Verifier for Nobody {
 }
 
 /// The store of the uses of a validator that C keeps.
-pub(crate) type Store = IndexedUses;
+pub(crate) type Store = ShardedUses<RunUses>;
 
 /// What a handle of C holds: a validator, and how far its clock may go in one step.
 #[derive(Drop)]

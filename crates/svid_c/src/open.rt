@@ -41,7 +41,7 @@ fn begin(
     ensures fault { IfErr result (AreNoBundles bundles.now) }
 {
     let bundles = bundles_of(alloc, bundles)?;
-    let record = Record::new(Store::new(alloc));
+    let record = Record::new(Store::new(alloc)?);
     let place = terms.place;
     Ok(Live {
         validator: Validator::new(

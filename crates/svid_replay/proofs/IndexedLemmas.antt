@@ -113,7 +113,7 @@ least_expired moment [] u e = absurd (true≢false (ap is_some e))
 least_expired moment (v ∷ us) u e =
     elim (nat_lt moment v.exp) as (λ b. nat_lt moment v.exp ≡ b → Some u ≡ cond b None (Some v) → (rest : List Use) × IsLeast moment (v ∷ us) u rest) [
       | true ↦ λ _ is. absurd (true≢false (ap is_some is))
-      | false ↦ λ gone is. let same : v ≡ u = same_use v u (sym is) in (us, record { parts = ap (λ w. w ∷ us) same; expired = subst (λ (w : Use). nat_lt moment w.exp ≡ false) same gone })
+      | false ↦ λ expired_by is. let same : v ≡ u = same_use v u (sym is) in (us, record { parts = ap (λ w. w ∷ us) same; expired = subst (λ (w : Use). nat_lt moment w.exp ≡ false) same expired_by })
     ] refl e
   where
     same_use : (v u : Use) → ◌≡◌ {A = Option Use} (Some v) (Some u) → v ≡ u

@@ -4,7 +4,7 @@ pub mod IndexedLemmas
 pub mod KeysLemmas
 pub mod ListLemmas
 pub mod MergeLemmas
-pub mod NumbersLemmas
+pub mod PrefixesLemmas
 pub mod PartsLemmas
 pub mod RecordsLemmas
 pub mod RunsLemmas

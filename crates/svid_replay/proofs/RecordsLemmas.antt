@@ -162,12 +162,12 @@ taken_live r u v is later false false e held = sym (and-false (nat_lt r.moment v
 
 -- a use that is not live at the record's moment changes nothing
 passed_live : (r : State) (u v : Use) → IsRecord r → nat_lt r.moment u.exp ≡ false → (t h : Bool) → eq_by_cmp use_cmp v u ≡ t → holds r.uses v ≡ h → h ≡ (nat_lt r.moment v.exp && ((t || false) || h))
-passed_live r u v is gone t true e held =
+passed_live r u v is expired_by t true e held =
     let after : r.moment < v.exp = (is.each v held).live in
     let test : nat_lt r.moment v.exp ≡ true = grind (arith, nat_tests) in
     sym (ap (λ l. l && ((t || false) || true)) test ∙ or-true (t || false))
-passed_live r u v is gone true false e held = sym (ap (λ l. l && true) (ap (λ (w : Use). nat_lt r.moment w.exp) (use_exact v u (equal (use_cmp v u) e)) ∙ gone))
-passed_live r u v is gone false false e held = sym (and-false (nat_lt r.moment v.exp))
+passed_live r u v is expired_by true false e held = sym (ap (λ l. l && true) (ap (λ (w : Use). nat_lt r.moment w.exp) (use_exact v u (equal (use_cmp v u) e)) ∙ expired_by))
+passed_live r u v is expired_by false false e held = sym (and-false (nat_lt r.moment v.exp))
 
 at_same : (r : State) (u v : Use) → (nat_lt r.moment v.exp && ((eq_by_cmp use_cmp v u || false) || holds r.uses v)) ≡ (nat_lt (max r.moment r.moment) v.exp && (holds (state_of r.moment (u ∷ [])).uses v || holds r.uses v))
 at_same r u v =
@@ -180,7 +180,7 @@ taken r u s is later grown =
     ap (λ t. holds t v) grown ∙ holds-with use_total use_exact r.uses u v ∙ taken_live r u v is later (eq_by_cmp use_cmp v u) (holds r.uses v) refl refl ∙ at_same r u v)
 
 pub passed : (r : State) (u : Use) → IsRecord r → nat_lt r.moment u.exp ≡ false → r ≡ join r (state_of r.moment (u ∷ []))
-passed r u is gone = is_join r (state_of r.moment (u ∷ [])) r (omega arith) (λ v. passed_live r u v is gone (eq_by_cmp use_cmp v u) (holds r.uses v) refl refl ∙ at_same r u v)
+passed r u is expired_by = is_join r (state_of r.moment (u ∷ [])) r (omega arith) (λ v. passed_live r u v is expired_by (eq_by_cmp use_cmp v u) (holds r.uses v) refl refl ∙ at_same r u v)
 
 pub taken_is_record : (r : State) (u : Use) (s : Uses) → IsRecord r → IsUse u → u.at ≤ r.moment → nat_lt r.moment u.exp ≡ true → s ≡ with r.uses u → IsRecord (record { moment = r.moment; uses = s })
 taken_is_record r u s is fields made later grown =

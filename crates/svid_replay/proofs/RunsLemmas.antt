@@ -21,9 +21,9 @@ use Rattle.std.proofs.lemmas.List.Elements.{filter_passes, recursion_from_All}
 use Rattle.std.proofs.lemmas.List.Kept.{IsStrictlySortedBy-filter}
 use Rattle.std.proofs.lemmas.Bool.{false≢true, false_from_ne_true}
 use Rattle.svid_replay.specs.Batches.{is_after}
-use Rattle.svid_replay.specs.declared.until.Until.{Until}
+use Rattle.svid_replay.specs.declared.expiry.Expiry.{Expiry}
 use Rattle.svid_replay.specs.Indexed.{is_sought}
-use Rattle.svid_replay.specs.Keys.{AreKeys, TellUses, gone_by, is_left, left_of, until_cmp}
+use Rattle.svid_replay.specs.Keys.{AreKeys, TellUses, expired_by_then, is_left, left_of, expiry_cmp}
 use Rattle.svid_replay.proofs.KeysLemmas.{left_is_all, live_left, tell_live, tell_merged, until_exact, until_total}
 use Rattle.svid_replay.proofs.MergeLemmas.{first_alike, merge, merge_has, merge_length, merge_rises, below_all, by_rank}
 use Rattle.std.proofs.lemmas.Cmp.{tied_itself}
@@ -55,13 +55,13 @@ drop_more (suc s) d [] = drop_none (suc s + d) ∙ sym (drop_none d)
 drop_more (suc s) d (x ∷ xs) = let e : suc s + d ≡ suc (s + d) = omega arith in ap (λ n. drop n (x ∷ xs)) e ∙ drop_more s d xs
 
 -- a run whose start has moved behind what is expired
-pub record IsRunCut (items : List Use) (start dropped moment : ℕ) (keyed : Bool) (keys : List Until) (gone : Option ℕ) (words : List ℕ) (told : List Use) : Type 0 where
-  pub is : IsRun items (start + dropped) keyed keys (gone_by gone moment) words
+pub record IsRunCut (items : List Use) (start dropped moment : ℕ) (keyed : Bool) (keys : List Expiry) (expired_by : Option ℕ) (key_filter : List ℕ) (told : List Use) : Type 0 where
+  pub is : IsRun items (start + dropped) keyed keys (expired_by_then expired_by moment) key_filter
   pub left : drop (start + dropped) items ≡ filter (λ u. nat_lt moment u.exp) told
   pub counted : dropped + length (drop (start + dropped) items) ≡ length told
 
-pub run_cut : (items told : List Use) (start dropped moment : ℕ) (keyed : Bool) (keys : List Until) (gone : Option ℕ) (words : List ℕ) → IsRun items start keyed keys gone words → drop start items ≡ told → dropped ≡ prefix_len (λ u. not (nat_lt moment u.exp)) told → IsRunCut items start dropped moment keyed keys gone words told
-run_cut items told start dropped moment keyed keys gone words is view front =
+pub run_cut : (items told : List Use) (start dropped moment : ℕ) (keyed : Bool) (keys : List Expiry) (expired_by : Option ℕ) (key_filter : List ℕ) → IsRun items start keyed keys expired_by key_filter → drop start items ≡ told → dropped ≡ prefix_len (λ u. not (nat_lt moment u.exp)) told → IsRunCut items start dropped moment keyed keys expired_by key_filter told
+run_cut items told start dropped moment keyed keys expired_by key_filter is view front =
     let up : IsRising told = subst IsRising view is.rising in
     let rest : drop (start + dropped) items ≡ drop dropped told = drop_more start dropped items ∙ ap (drop dropped) view in
     let few : prefix_len (λ u. not (nat_lt moment u.exp)) told ≤ length told = prefix_len-le-length (λ u. not (nat_lt moment u.exp)) told in
@@ -73,28 +73,28 @@ run_cut items told start dropped moment keyed keys gone words is view front =
         bound = omega (arith, few, long, front, is.bound);
         rising = left_rises told moment dropped _ up (record { front = front; rest = rest });
         sorted = is.sorted;
-        told = λ kept. subst (TellUses (left_of (gone_by gone moment) keys)) (sym live) (tell_live gone moment keys told (subst (AllByRecursion (λ u. is_left gone u.exp ≡ true)) view is.live) (subst (TellUses (left_of gone keys)) view (is.told kept)));
-        live = subst (AllByRecursion (λ u. is_left (gone_by gone moment) u.exp ≡ true)) (sym live) (live_left gone moment told (subst (AllByRecursion (λ u. is_left gone u.exp ≡ true)) view is.live));
+        told = λ kept. subst (TellUses (left_of (expired_by_then expired_by moment) keys)) (sym live) (tell_live expired_by moment keys told (subst (AllByRecursion (λ u. is_left expired_by u.exp ≡ true)) view is.live) (subst (TellUses (left_of expired_by keys)) view (is.told kept)));
+        live = subst (AllByRecursion (λ u. is_left (expired_by_then expired_by moment) u.exp ≡ true)) (sym live) (live_left expired_by moment told (subst (AllByRecursion (λ u. is_left expired_by u.exp ≡ true)) view is.live));
         some = is.some;
-        known = subst (AllByRecursion (λ u. HasBits words u.key)) (sym (drop_more start dropped items)) (each_drop _ dropped (drop start items) is.known);
+        known = subst (AllByRecursion (λ u. HasBits key_filter u.key)) (sym (drop_more start dropped items)) (each_drop _ dropped (drop start items) is.known);
       };
       left = live;
       counted = omega (arith, ap length rest, less, few, front);
     }
 
-pub run_gone : (items : List Use) (start : ℕ) (keyed : Bool) (keys : List Until) (gone later : Option ℕ) (words : List ℕ) → later ≡ gone → IsRun items start keyed keys gone words → IsRun items start keyed keys later words
-run_gone items start keyed keys gone later words e is = subst (λ g. IsRun items start keyed keys g words) (sym e) is
+pub run_gone : (items : List Use) (start : ℕ) (keyed : Bool) (keys : List Expiry) (expired_by later : Option ℕ) (key_filter : List ℕ) → later ≡ expired_by → IsRun items start keyed keys expired_by key_filter → IsRun items start keyed keys later key_filter
+run_gone items start keyed keys expired_by later key_filter e is = subst (λ g. IsRun items start keyed keys g key_filter) (sym e) is
 
 -- the same with the front taken off, and the keys that are gone
-pub run_moved : (items now : List Use) (start : ℕ) (keyed : Bool) (keys swept : List Until) (gone : Option ℕ) (words : List ℕ) → IsRun items start keyed keys gone words → now ≡ drop start items → swept ≡ left_of gone keys → IsRun now 0 keyed swept None words
-run_moved items now start keyed keys swept gone words is e clean = record {
+pub run_moved : (items now : List Use) (start : ℕ) (keyed : Bool) (keys swept : List Expiry) (expired_by : Option ℕ) (key_filter : List ℕ) → IsRun items start keyed keys expired_by key_filter → now ≡ drop start items → swept ≡ left_of expired_by keys → IsRun now 0 keyed swept None key_filter
+run_moved items now start keyed keys swept expired_by key_filter is e clean = record {
   bound = omega arith;
   rising = subst IsRising (sym e) is.rising;
-  sorted = subst AreKeys (sym clean) (IsStrictlySortedBy-filter until_cmp (λ k. is_left gone k.exp) keys is.sorted);
+  sorted = subst AreKeys (sym clean) (IsStrictlySortedBy-filter expiry_cmp (λ k. is_left expired_by k.exp) keys is.sorted);
   told = λ kept. subst (TellUses (left_of None swept)) (sym e) (subst (λ ks. TellUses ks (drop start items)) (sym (left_is_all swept ∙ clean)) (is.told kept));
   live = each_true _ (λ u. refl) now;
   some = is.some;
-  known = subst (AllByRecursion (λ u. HasBits words u.key)) (sym e) is.known;
+  known = subst (AllByRecursion (λ u. HasBits key_filter u.key)) (sym e) is.known;
 }
 
 -- the uses of all runs
@@ -236,9 +236,9 @@ pub record IsDropped (front gone_front : List Use) (runs gone_runs : List (List 
   pub kept : uses_in (gone_front ++ all_of gone_runs) ≡ live s moment
   pub counted : dropped + count (uses_in (gone_front ++ all_of gone_runs)) ≡ count s
 
-pub runs_dropped : (front left : List Use) (runs rest : List (List Use)) (total expired gone moment : ℕ) (s : Uses) → IsRuns front runs total → uses_in (front ++ all_of runs) ≡ s → IsPruned front moment expired left
-    → all_of rest ≡ live_of moment (all_of runs) → gone + length (all_of rest) ≡ length (all_of runs) → IsDropped front left runs rest total (expired + gone) moment s
-runs_dropped front left runs rest total expired gone moment s is view cut kept counted =
+pub runs_dropped : (front left : List Use) (runs rest : List (List Use)) (total expired expired_by moment : ℕ) (s : Uses) → IsRuns front runs total → uses_in (front ++ all_of runs) ≡ s → IsPruned front moment expired left
+    → all_of rest ≡ live_of moment (all_of runs) → expired_by + length (all_of rest) ≡ length (all_of runs) → IsDropped front left runs rest total (expired + expired_by) moment s
+runs_dropped front left runs rest total expired expired_by moment s is view cut kept counted =
     let front_live : left ≡ live_of moment front = left_is front moment expired left is.rising cut in
     let all_live : left ++ all_of rest ≡ live_of moment (front ++ all_of runs) = (λ i. front_live i ++ kept i) ∙ sym (live_append moment front (all_of runs)) in
     let once = once_filter (λ u. nat_lt moment u.exp) (front ++ all_of runs) (length-append front (all_of runs) ∙ sym is.long ∙ is.once) in
@@ -452,79 +452,79 @@ bits_stay a m n e = same_from_bits _ _ (λ i.
     let now : min (max (bit_at a i) (bit_at m i)) (bit_at n i) ≡ bit_at n i = omega arith in
     bit_at_and (bit_or a m) n i ∙ ap (λ x. min x (bit_at n i)) (bit_at_or a m i) ∙ now)
 
-bits_kept : (words : List ℕ) (at j m n w : ℕ) → w ≡ get_or words at w → bit_and (get_or words j 0) n ≡ n → bit_and (get_or (set words at (bit_or w m)) j 0) n ≡ n
+bits_kept : (key_filter : List ℕ) (at j m n w : ℕ) → w ≡ get_or key_filter at w → bit_and (get_or key_filter j 0) n ≡ n → bit_and (get_or (set key_filter at (bit_or w m)) j 0) n ≡ n
 bits_kept [] at j m n w is e = e
 bits_kept (x ∷ ws) zero zero m n w is e = bits_stay w m n (ap (λ y. bit_and y n) is ∙ e)
 bits_kept (x ∷ ws) zero (suc j) m n w is e = e
 bits_kept (x ∷ ws) (suc at) zero m n w is e = e
 bits_kept (x ∷ ws) (suc at) (suc j) m n w is e = bits_kept ws at j m n w is e
 
-pub bits_in_others : (words : List ℕ) (at m w : ℕ) (other : List ℕ) → w ≡ get_or words at w → HasBits words other → HasBits (set words at (bit_or w m)) other
-bits_in_others words at m w other is e =
-    subst (λ count. bit_and (get_or (set words at (bit_or w m)) (place_of count other) 0) (mask_of other) ≡ mask_of other) (sym (length-set words at (bit_or w m))) (bits_kept words at (place_of (length words) other) m (mask_of other) w is e)
+pub bits_in_others : (key_filter : List ℕ) (at m w : ℕ) (other : List ℕ) → w ≡ get_or key_filter at w → HasBits key_filter other → HasBits (set key_filter at (bit_or w m)) other
+bits_in_others key_filter at m w other is e =
+    subst (λ count. bit_and (get_or (set key_filter at (bit_or w m)) (place_of count other) 0) (mask_of other) ≡ mask_of other) (sym (length-set key_filter at (bit_or w m))) (bits_kept key_filter at (place_of (length key_filter) other) m (mask_of other) w is e)
 
-pub known_more : (words now : List ℕ) (us : List Use) (i : ℕ) (d : Use) → AllByRecursion (λ v. HasBits words v.key) (take i us) → ((other : List ℕ) → HasBits words other → HasBits now other) → HasBits now (get_or us i d).key → i < length us → AllByRecursion (λ v. HasBits now v.key) (take (i + 1) us)
-known_more words now us i d known others added within =
+pub known_more : (key_filter now : List ℕ) (us : List Use) (i : ℕ) (d : Use) → AllByRecursion (λ v. HasBits key_filter v.key) (take i us) → ((other : List ℕ) → HasBits key_filter other → HasBits now other) → HasBits now (get_or us i d).key → i < length us → AllByRecursion (λ v. HasBits now v.key) (take (i + 1) us)
+known_more key_filter now us i d known others added within =
     let next : i + 1 ≡ suc i = omega arith in
     subst (AllByRecursion (λ v. HasBits now v.key)) (sym (ap (λ n. take n us) next ∙ take-suc us i d within))
-    (each_append _ (take i us) (get_or us i d ∷ []) (each_weaker (λ v. HasBits words v.key) _ (λ v h. others v.key h) (take i us) known) (added, tt))
+    (each_append _ (take i us) (get_or us i d ∷ []) (each_weaker (λ v. HasBits key_filter v.key) _ (λ v h. others v.key h) (take i us) known) (added, tt))
 
-pub unknown_absent : (words : List ℕ) (us : List Use) (u : Use) → AllByRecursion (λ v. HasBits words v.key) us → (HasBits words u.key → ⊥) → list_any (eq_by_cmp use_cmp u) us ≡ false
-unknown_absent words us u known unknown = any_none (eq_by_cmp use_cmp u) us (each_weaker (λ v. HasBits words v.key) _ (λ v h. elim (eq_by_cmp use_cmp u v) as (λ b. eq_by_cmp use_cmp u v ≡ b → b ≡ false) [
-  | true ↦ λ e. absurd (unknown (subst (λ w. HasBits words w.key) (sym (use_exact u v (equal _ e))) h))
+pub unknown_absent : (key_filter : List ℕ) (us : List Use) (u : Use) → AllByRecursion (λ v. HasBits key_filter v.key) us → (HasBits key_filter u.key → ⊥) → list_any (eq_by_cmp use_cmp u) us ≡ false
+unknown_absent key_filter us u known unknown = any_none (eq_by_cmp use_cmp u) us (each_weaker (λ v. HasBits key_filter v.key) _ (λ v h. elim (eq_by_cmp use_cmp u v) as (λ b. eq_by_cmp use_cmp u v ≡ b → b ≡ false) [
+  | true ↦ λ e. absurd (unknown (subst (λ w. HasBits key_filter w.key) (sym (use_exact u v (equal _ e))) h))
   | false ↦ λ e. refl
 ] refl) us known)
 
-pub run_unknown : (items told : List Use) (start : ℕ) (keyed : Bool) (keys : List Until) (gone : Option ℕ) (words : List ℕ) (u : Use) → IsRun items start keyed keys gone words → drop start items ≡ told → (HasBits words u.key → ⊥) → false ≡ list_any (eq_by_cmp use_cmp u) told
-run_unknown items told start keyed keys gone words u is view unknown = sym (sym (ap (list_any (eq_by_cmp use_cmp u)) view) ∙ unknown_absent words (drop start items) u is.known unknown)
+pub run_unknown : (items told : List Use) (start : ℕ) (keyed : Bool) (keys : List Expiry) (expired_by : Option ℕ) (key_filter : List ℕ) (u : Use) → IsRun items start keyed keys expired_by key_filter → drop start items ≡ told → (HasBits key_filter u.key → ⊥) → false ≡ list_any (eq_by_cmp use_cmp u) told
+run_unknown items told start keyed keys expired_by key_filter u is view unknown = sym (sym (ap (list_any (eq_by_cmp use_cmp u)) view) ∙ unknown_absent key_filter (drop start items) u is.known unknown)
 
 -- a run of which nothing is gone
-pub run_made : (items us : List Use) (keyed : Bool) (keys : List Until) (words : List ℕ) → IsRising items → us ≡ items → AreKeys keys → (keyed ≡ true → TellUses keys us) → 0 < length words → AllByRecursion (λ u. HasBits words u.key) us → IsRun items 0 keyed keys None words
-run_made items us keyed keys words up same sorted told some known = record {
+pub run_made : (items us : List Use) (keyed : Bool) (keys : List Expiry) (key_filter : List ℕ) → IsRising items → us ≡ items → AreKeys keys → (keyed ≡ true → TellUses keys us) → 0 < length key_filter → AllByRecursion (λ u. HasBits key_filter u.key) us → IsRun items 0 keyed keys None key_filter
+run_made items us keyed keys key_filter up same sorted told some known = record {
   bound = omega arith;
   rising = up;
   sorted = sorted;
   told = λ kept. subst (TellUses (left_of None keys)) same (subst (λ ks. TellUses ks us) (sym (left_is_all keys)) (told kept));
   live = each_true _ (λ u. refl) items;
   some = some;
-  known = subst (AllByRecursion (λ u. HasBits words u.key)) same known;
+  known = subst (AllByRecursion (λ u. HasBits key_filter u.key)) same known;
 }
 
 -- what the keys of a run tell, where it is keyed
-pub run_tells : (items told : List Use) (start : ℕ) (keyed : Bool) (keys : List Until) (gone : Option ℕ) (words : List ℕ) → IsRun items start keyed keys gone words → drop start items ≡ told → keyed ≡ true → TellUses (left_of gone keys) told
-run_tells items told start keyed keys gone words is view kept = subst (TellUses (left_of gone keys)) view (is.told kept)
+pub run_tells : (items told : List Use) (start : ℕ) (keyed : Bool) (keys : List Expiry) (expired_by : Option ℕ) (key_filter : List ℕ) → IsRun items start keyed keys expired_by key_filter → drop start items ≡ told → keyed ≡ true → TellUses (left_of expired_by keys) told
+run_tells items told start keyed keys expired_by key_filter is view kept = subst (TellUses (left_of expired_by keys)) view (is.told kept)
 
 -- no use has a key that a filter of the uses does not know
-pub run_lacks : (items told : List Use) (start : ℕ) (keyed : Bool) (keys : List Until) (gone : Option ℕ) (words : List ℕ) (withdrawn : Bool) (key : List ℕ) → IsRun items start keyed keys gone words → drop start items ≡ told → (HasBits words key → ⊥) → false ≡ list_any (is_sought withdrawn key) told
-run_lacks items told start keyed keys gone words withdrawn key is view unknown = sym (sym (ap (list_any (is_sought withdrawn key)) view) ∙ any_none (is_sought withdrawn key) (drop start items) (each_weaker (λ v. HasBits words v.key) _ (λ v h. false_from_ne_true _ (λ sought.
-    unknown (subst (HasBits words) (same_key key v.key (sought_key withdrawn key v sought)) h))) (drop start items) is.known))
+pub run_lacks : (items told : List Use) (start : ℕ) (keyed : Bool) (keys : List Expiry) (expired_by : Option ℕ) (key_filter : List ℕ) (withdrawn : Bool) (key : List ℕ) → IsRun items start keyed keys expired_by key_filter → drop start items ≡ told → (HasBits key_filter key → ⊥) → false ≡ list_any (is_sought withdrawn key) told
+run_lacks items told start keyed keys expired_by key_filter withdrawn key is view unknown = sym (sym (ap (list_any (is_sought withdrawn key)) view) ∙ any_none (is_sought withdrawn key) (drop start items) (each_weaker (λ v. HasBits key_filter v.key) _ (λ v h. false_from_ne_true _ (λ sought.
+    unknown (subst (HasBits key_filter) (same_key key v.key (sought_key withdrawn key v sought)) h))) (drop start items) is.known))
 
 -- the keys of two runs in one, where both are keyed
-pub record AreMergedKeys (keyed : Bool) (keys : List Until) (us : List Use) : Type 0 where
+pub record AreMergedKeys (keyed : Bool) (keys : List Expiry) (us : List Use) : Type 0 where
   pub sorted : AreKeys keys
   pub told : keyed ≡ true → TellUses keys us
 
-pub keys_merged : (items told others told' : List Use) (start start' : ℕ) (keyed keyed' : Bool) (keys keys' : List Until) (gone gone' : Option ℕ) (words words' : List ℕ) (merged : List Until) (uses : List Use) → IsRun items start keyed keys gone words → IsRun others start' keyed' keys' gone' words' → drop start items ≡ told → drop start' others ≡ told' → merged ≡ merge until_cmp (left_of gone keys) (left_of gone' keys') → uses ≡ merge use_cmp told told' → AreMergedKeys (keyed && keyed') merged uses
-keys_merged items told others told' start start' keyed keyed' keys keys' gone gone' words words' merged uses is is' view view' e f = record {
-  sorted = subst AreKeys (sym e) (merge_rises until_total until_exact _ _ (IsStrictlySortedBy-filter until_cmp (λ k. is_left gone k.exp) keys is.sorted) (IsStrictlySortedBy-filter until_cmp (λ k. is_left gone' k.exp) keys' is'.sorted));
+pub keys_merged : (items told others told' : List Use) (start start' : ℕ) (keyed keyed' : Bool) (keys keys' : List Expiry) (expired_by expired_by' : Option ℕ) (key_filter key_filter' : List ℕ) (merged : List Expiry) (uses : List Use) → IsRun items start keyed keys expired_by key_filter → IsRun others start' keyed' keys' expired_by' key_filter' → drop start items ≡ told → drop start' others ≡ told' → merged ≡ merge expiry_cmp (left_of expired_by keys) (left_of expired_by' keys') → uses ≡ merge use_cmp told told' → AreMergedKeys (keyed && keyed') merged uses
+keys_merged items told others told' start start' keyed keyed' keys keys' expired_by expired_by' key_filter key_filter' merged uses is is' view view' e f = record {
+  sorted = subst AreKeys (sym e) (merge_rises until_total until_exact _ _ (IsStrictlySortedBy-filter expiry_cmp (λ k. is_left expired_by k.exp) keys is.sorted) (IsStrictlySortedBy-filter expiry_cmp (λ k. is_left expired_by' k.exp) keys' is'.sorted));
   told = λ both.
-      subst (TellUses merged) (sym f) (subst (λ ks. TellUses ks (merge use_cmp told told')) (sym e) (tell_merged (left_of gone keys) (left_of gone' keys') told told' (run_tells items told start keyed keys gone words is view (first_true keyed keyed' both)) (run_tells others told' start' keyed' keys' gone' words' is' view' (first_true keyed' keyed (and-comm keyed' keyed ∙ both)))));
+      subst (TellUses merged) (sym f) (subst (λ ks. TellUses ks (merge use_cmp told told')) (sym e) (tell_merged (left_of expired_by keys) (left_of expired_by' keys') told told' (run_tells items told start keyed keys expired_by key_filter is view (first_true keyed keyed' both)) (run_tells others told' start' keyed' keys' expired_by' key_filter' is' view' (first_true keyed' keyed (and-comm keyed' keyed ∙ both)))));
 }
 
 -- the front
-pub front_none : (us : List Use) (words : List ℕ) → us ≡ [] → length words ≡ 64 → IsFront us words
-front_none us words none long = record { long = long; rising = rising_none us none; known = subst (AllByRecursion (λ u. HasBits words u.key)) (sym none) tt }
+pub front_none : (us : List Use) (key_filter : List ℕ) → us ≡ [] → length key_filter ≡ 64 → IsFront us key_filter
+front_none us key_filter none long = record { long = long; rising = rising_none us none; known = subst (AllByRecursion (λ u. HasBits key_filter u.key)) (sym none) tt }
 
 -- a use in a place, among uses of which the same holds
-pub known_insert : (words : List ℕ) (us : List Use) (place : ℕ) (new : Use) → HasBits words new.key → AllByRecursion (λ u. HasBits words u.key) us → AllByRecursion (λ u. HasBits words u.key) (take place us ++ new ∷ drop place us)
-known_insert words us place new here known = each_append _ (take place us) (new ∷ drop place us) (each_take _ place us known) (here, each_drop _ place us known)
+pub known_insert : (key_filter : List ℕ) (us : List Use) (place : ℕ) (new : Use) → HasBits key_filter new.key → AllByRecursion (λ u. HasBits key_filter u.key) us → AllByRecursion (λ u. HasBits key_filter u.key) (take place us ++ new ∷ drop place us)
+known_insert key_filter us place new here known = each_append _ (take place us) (new ∷ drop place us) (each_take _ place us known) (here, each_drop _ place us known)
 
 -- a key whose bits are not there is none of theirs
-pub front_unknown : (words : List ℕ) (us : List Use) (key : List ℕ) (p : Use → Bool) → AllByRecursion (λ u. HasBits words u.key) us → (HasBits words key → ⊥) → ((u : Use) → p u ≡ true → has_key key u ≡ true) → list_any p us ≡ false
-front_unknown words [] key p known unknown finds = refl
-front_unknown words (u ∷ us) key p known unknown finds = elim (p u) as (λ b. p u ≡ b → (b || list_any p us) ≡ false) [
-  | true ↦ λ e. absurd (unknown (subst (HasBits words) (same_key key u.key (finds u e)) known.0))
-  | false ↦ λ e. front_unknown words us key p known.1 unknown finds
+pub front_unknown : (key_filter : List ℕ) (us : List Use) (key : List ℕ) (p : Use → Bool) → AllByRecursion (λ u. HasBits key_filter u.key) us → (HasBits key_filter key → ⊥) → ((u : Use) → p u ≡ true → has_key key u ≡ true) → list_any p us ≡ false
+front_unknown key_filter [] key p known unknown finds = refl
+front_unknown key_filter (u ∷ us) key p known unknown finds = elim (p u) as (λ b. p u ≡ b → (b || list_any p us) ≡ false) [
+  | true ↦ λ e. absurd (unknown (subst (HasBits key_filter) (same_key key u.key (finds u e)) known.0))
+  | false ↦ λ e. front_unknown key_filter us key p known.1 unknown finds
 ] refl
 
 -- many uses at once

@@ -5,7 +5,7 @@ use Rattle.std.proofs.lemmas.List.Sorted.{searchable_from_sorted}
 use Rattle.std.proofs.lemmas.List.{take-append-drop, length-drop, append_assoc, append-nil, nil_from_length}
 use Rattle.std.proofs.lemmas.List.Elements.{recursion_from_All, filter_agree, Contains-get_or, All-contains_itself}
 use Rattle.std.proofs.lemmas.List.Kept.{IsStrictlySortedBy-filter}
-use Rattle.std.proofs.lemmas.List.Sums.{prefix_len-le-length}
+use Rattle.std.proofs.lemmas.List.Sums.{prefix_len_is, prefix_len-le-length}
 use Rattle.std.proofs.lemmas.List.Folds.{list_any-append}
 use Rattle.std.proofs.lemmas.Map.Keys.{Less-from_sorted}
 use Rattle.std.proofs.lemmas.Bool.{false≢true, eqb-true, eq-eqb}
@@ -177,6 +177,12 @@ expired_parted moment us up = parted_by use_cmp (λ u. not (nat_lt moment u.exp)
 
 pub not_after_parted : (last : Use) (us : List Use) → IsRising us → IsPartitionedBy (λ u. not (is_after (Some last) u)) us
 not_after_parted last us up = parted_by use_cmp (λ u. not (is_after (Some last) u)) (λ u v less e. not_before last u v less e (use_cmp last u) refl) us up
+
+-- the uses in front of a place are those that are not greater, if the one in front of it is not and the one there is
+pub place_is : (last : Use) (us : List Use) (i : ℕ) → IsRising us → i ≤ length us → ((d : Use) → 0 < i → is_after (Some last) (get_or us (i - 1) d) ≡ false) → ((d : Use) → i < length us → is_after (Some last) (get_or us i d) ≡ true) → i ≡ prefix_len (λ u. not (is_after (Some last) u)) us
+place_is last us i up bound front rest =
+    let p = λ (u : Use). not (is_after (Some last) u) in
+    sym (prefix_len_is p us i last bound (λ k low. not_after_parted last us up k (i - 1) last (omega (arith, low)) (omega (arith, low, bound)) (ap not (front last (omega (arith, low))))) (λ low. ap not (rest last low)))
 
 not_not : (b : Bool) → not (not b) ≡ b
 not_not true = refl

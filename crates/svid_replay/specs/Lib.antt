@@ -3,7 +3,7 @@ pub mod Buckets
 pub mod Hashers
 pub mod Indexed
 pub mod Keys
-pub mod Numbers
+pub mod Prefixes
 pub mod Parts
 pub mod Records
 pub mod Runs

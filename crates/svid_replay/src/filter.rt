@@ -38,51 +38,51 @@ fn place(key: &[u8; 32], count: usize) -> usize
 }
 
 /// Puts a key in.
-pub(crate) fn add(words: &mut [u64], key: &[u8; 32])
-    requires { 0 < length words.old }
-    ensures long { length words.new ≡ length words.old }
-    ensures added { HasBits words.new key.now }
-    ensures others { (other : List ℕ) → HasBits words.old other → HasBits words.new other }
+pub(crate) fn add(key_filter: &mut [u64], key: &[u8; 32])
+    requires { 0 < length key_filter.old }
+    ensures long { length key_filter.new ≡ length key_filter.old }
+    ensures added { HasBits key_filter.new key.now }
+    ensures others { (other : List ℕ) → HasBits key_filter.old other → HasBits key_filter.new other }
 {
-    let at = place(key, words.len());
-    words[at] |= mask(key);
+    let at = place(key, key_filter.len());
+    key_filter[at] |= mask(key);
 }
 
 /// Puts the keys of some uses in.
-pub(crate) fn add_all(words: &mut [u64], uses: &[Use])
-    requires { 0 < length words.old }
-    ensures long { length words.new ≡ length words.old }
-    ensures known { AllByRecursion (λ u. HasBits words.new u.key) uses.now }
+pub(crate) fn add_all(key_filter: &mut [u64], uses: &[Use])
+    requires { 0 < length key_filter.old }
+    ensures long { length key_filter.new ≡ length key_filter.old }
+    ensures known { AllByRecursion (λ u. HasBits key_filter.new u.key) uses.now }
 {
     for used in uses {
         let key = used.key;
-        add(words, &key);
+        add(key_filter, &key);
     }
 }
 
 /// A filter of no key, with place for so many.
 pub(crate) fn no_keys(alloc: Global, count: usize) -> Result<Vec<u64>, AllocError>
-    ensures { IfOk result (λ words. 0 < length words.items) }
+    ensures { IfOk result (λ key_filter. 0 < length key_filter.items) }
 {
     vec![in alloc; 0u64; count / 5 + 1]
 }
 
 /// A filter of the keys of some uses.
 pub(crate) fn filter_of(alloc: Global, uses: &[Use]) -> Result<Vec<u64>, AllocError>
-    ensures some { IfOk result (λ words. 0 < length words.items) }
-    ensures known { IfOk result (λ words. AllByRecursion (λ u. HasBits words.items u.key) uses.now) }
+    ensures some { IfOk result (λ key_filter. 0 < length key_filter.items) }
+    ensures known { IfOk result (λ key_filter. AllByRecursion (λ u. HasBits key_filter.items u.key) uses.now) }
 {
-    let mut words = no_keys(alloc, uses.len())?;
-    add_all(&mut words, uses);
-    Ok(words)
+    let mut key_filter = no_keys(alloc, uses.len())?;
+    add_all(&mut key_filter, uses);
+    Ok(key_filter)
 }
 
 /// Whether a key may be among those put in.
 #[inline]
-pub(crate) fn may_have(words: &[u64], key: &[u8; 32]) -> bool
-    requires { 0 < length words.now }
-    ensures { result ≡ false → HasBits words.now key.now → ⊥ }
+pub(crate) fn may_have(key_filter: &[u64], key: &[u8; 32]) -> bool
+    requires { 0 < length key_filter.now }
+    ensures { result ≡ false → HasBits key_filter.now key.now → ⊥ }
 {
     let mask = mask(key);
-    words[place(key, words.len())] & mask == mask
+    key_filter[place(key, key_filter.len())] & mask == mask
 }

@@ -13,12 +13,12 @@ use crate::sorted::{count_expired, drop_front, has_use_of, has_withdrawal_of, in
 use std::alloc::{AllocError, Global};
 use std::marker::Model;
 
-/// Uses that rise, few enough to be moved about quickly. `words` is a filter of their keys: a key that is not among
+/// Uses that rise, few enough to be moved about quickly. `key_filter` is a filter of their keys: a key that is not among
 /// them is mostly told without a look at each. It is made again when uses have expired.
 #[derive(Debug, Drop)]
 pub(crate) struct Front {
     uses: Vec<Use>,
-    words: [u64; 64],
+    key_filter: [u64; 64],
 }
 
 impl Model for Front {
@@ -32,24 +32,24 @@ impl Model for Front {
 
     ghost view = { λ f. f.uses.items };
 
-    ghost invariant = { λ f. IsFront f.uses.items f.words };
+    ghost invariant = { λ f. IsFront f.uses.items f.key_filter };
 }
 
 // A filter of no key.
-fn no_words() -> [u64; 64]
+fn no_keys_yet() -> [u64; 64]
     ensures { length result ≡ 64 }
 {
     [0; 64]
 }
 
 // A filter of the keys of some uses.
-fn words_of(uses: &[Use]) -> [u64; 64]
+fn filter_of_front(uses: &[Use]) -> [u64; 64]
     ensures long { length result ≡ 64 }
     ensures known { AllByRecursion (λ u. HasBits result u.key) uses.now }
 {
-    let mut words = no_words();
-    add_all(&mut words, uses);
-    words
+    let mut key_filter = no_keys_yet();
+    add_all(&mut key_filter, uses);
+    key_filter
 }
 
 impl Front {
@@ -58,7 +58,7 @@ impl Front {
     {
         Front {
             uses: Vec::new(alloc),
-            words: no_words(),
+            key_filter: no_keys_yet(),
         }
     }
 
@@ -80,7 +80,7 @@ impl Front {
         ensures used { result ≡ false → list_any (has_key key.now) self.now ≡ false }
         ensures withdrawn { result ≡ false → list_any (withdraws key.now) self.now ≡ false }
     {
-        may_have(&self.words, key)
+        may_have(&self.key_filter, key)
     }
 
     pub(crate) fn has(&self, key: &[u8; 32]) -> bool
@@ -102,7 +102,7 @@ impl Front {
         ensures held { IsTrue (holds (uses_in self.old) new) → IsOk result }
     {
         insert_use(&mut self.uses, new)?;
-        add(&mut self.words, &new.key);
+        add(&mut self.key_filter, &new.key);
         Ok(())
     }
 
@@ -117,7 +117,7 @@ impl Front {
             return expired;
         }
         drop_front(&mut self.uses, expired);
-        self.words = words_of(&self.uses);
+        self.key_filter = filter_of_front(&self.uses);
         expired
     }
 
@@ -126,7 +126,7 @@ impl Front {
         requires { IsRising uses.items }
         ensures { self.new ≡ uses.items }
     {
-        self.words = words_of(&uses);
+        self.key_filter = filter_of_front(&uses);
         self.uses = uses;
     }
 
@@ -134,6 +134,6 @@ impl Front {
         ensures { self.new ≡ [] }
     {
         self.uses.clear();
-        self.words = no_words();
+        self.key_filter = no_keys_yet();
     }
 }

@@ -47,9 +47,11 @@
 //! ```
 #![tactic(auto)]
 
+mod ahead;
 mod batch;
 mod batch_fault;
 mod buckets;
+mod expiry;
 mod filter;
 mod flaw;
 mod front;
@@ -58,8 +60,9 @@ mod key_first;
 mod keys;
 pub mod laws;
 mod layout;
-mod numbers;
+mod near;
 mod parts;
+mod prefixes;
 mod record;
 mod room;
 mod run;
@@ -71,15 +74,16 @@ mod store;
 mod summary;
 mod token_use;
 mod twice;
-mod until;
 mod use_list;
 mod walk;
 
+pub use ahead::Ahead;
 pub use batch::Batch;
 pub use batch_fault::BatchFault;
 pub use flaw::{Flaw, flaw_of};
 pub use indexed_uses::IndexedUses;
 pub use layout::{MOST_USES, ROOM_USES, USE_LEN};
+pub use near::Near;
 pub use record::Record;
 pub use room::Room;
 pub use run_uses::RunUses;

@@ -2,19 +2,20 @@ ghost use Rattle.std.specs.Prelude.{◌≡◌, ◌↔◌, ◌+◌, ◌<◌, ◌�
 ghost use Rattle.std.specs.List.{AllByRecursion};
 ghost use Rattle.std.specs.List.Sorted.{IsNonDecreasing};
 ghost use Rattle.svid_replay.specs.Buckets.{answer_to, raised_to, stale_part, summary_of};
-ghost use Rattle.svid_replay.specs.Numbers.{has_number, is_among};
+ghost use Rattle.svid_replay.specs.Prefixes.{has_prefix, is_among};
 ghost use Rattle.svid_replay.specs.Parts.{cut};
 ghost use Rattle.svid_replay.specs.Records.{HasNoNew, IsPartlyJoined, IsRecord, batch_state, join, state_of};
 ghost use Rattle.svid_replay.specs.Sets.{holds, rising};
 ghost use Rattle.svid_replay.specs.Twice.{IsTwice, twice_of, used, uses_of};
 ghost use Rattle.svid_replay.specs.Use.{IsRising, IsUse};
 ghost use Rattle.svid_replay.specs.Uses.{count, has_use_of, has_withdrawal_of, next_above, no_uses};
-ghost use Rattle.svid_replay.specs.Walks.{next_few};
+ghost use Rattle.svid_replay.specs.Walks.{IsAhead, next_few};
 
+use crate::ahead::Ahead;
 use crate::buckets::{digests_of, stale_uses};
 use crate::filter::no_keys;
-use crate::numbers::{in_order, is_among, note};
 use crate::parts::cut;
+use crate::prefixes::{in_order, is_among, note};
 use crate::room::Room;
 use crate::sorted::count_expired;
 use crate::stale::Stale;
@@ -96,11 +97,13 @@ impl<S: UseStore> Record<S> {
         self.store.next_after(after)
     }
 
-    // the next uses, as many as the room takes
-    pub(crate) fn next_uses(&self, after: Option<Use>, room: &mut Room)
-        ensures { room.new ≡ next_few self.now.uses after }
+    // the next uses, as many as the room takes, from what is known of them on
+    pub(crate) fn next_ahead(&self, after: Option<Use>, ahead: &mut Ahead, room: &mut Room)
+        requires { IsAhead self.now.uses ahead.old }
+        ensures next { room.new ≡ next_few self.now.uses after }
+        ensures ahead { IsAhead self.now.uses ahead.new }
     {
-        self.store.next_uses(after, room);
+        self.store.next_ahead(after, ahead, room);
     }
 
     /// The record, to be walked: from the use that the walk answered last, its `next_after` mostly takes few steps
@@ -226,31 +229,31 @@ impl<S: UseStore> Record<S> {
         Ok(uses)
     }
 
-    // the numbers of the keys that two uses have that are no withdrawals, and maybe of others
-    fn numbers(&self, alloc: Global) -> Result<Vec<u64>, AllocError>
-        ensures { IfOk result (λ numbers. (key : List ℕ) → nat_lt 1 (length (uses_of key (used (rising self.now.uses)))) ≡ true → has_number numbers.items key ≡ true) }
+    // the prefixes of the keys that two uses have that are no withdrawals, and maybe of others
+    fn prefixes(&self, alloc: Global) -> Result<Vec<u64>, AllocError>
+        ensures { IfOk result (λ prefixes. (key : List ℕ) → nat_lt 1 (length (uses_of key (used (rising self.now.uses)))) ≡ true → has_prefix prefixes.items key ≡ true) }
     {
-        let mut words = no_keys(alloc, self.len())?;
-        let mut numbers = Vec::new(alloc);
+        let mut key_filter = no_keys(alloc, self.len())?;
+        let mut prefixes = Vec::new(alloc);
         let mut walk = self.walk();
         let mut after = None;
         while let Some(used) = walk.next_after(after) {
-            note(&mut words, &mut numbers, &used)?;
+            note(&mut key_filter, &mut prefixes, &used)?;
             after = Some(used);
         }
-        Ok(numbers)
+        Ok(prefixes)
     }
 
-    // the uses that are no withdrawals and whose keys have these numbers, rising
-    fn used_among(&self, alloc: Global, numbers: &[u64]) -> Result<Vec<Use>, AllocError>
-        requires { IsNonDecreasing numbers.now }
-        ensures { IfOk result (λ uses. uses.items ≡ filter (is_among numbers.now) (rising self.now.uses)) }
+    // the uses that are no withdrawals and whose keys have these prefixes, rising
+    fn used_among(&self, alloc: Global, prefixes: &[u64]) -> Result<Vec<Use>, AllocError>
+        requires { IsNonDecreasing prefixes.now }
+        ensures { IfOk result (λ uses. uses.items ≡ filter (is_among prefixes.now) (rising self.now.uses)) }
     {
         let mut uses = Vec::new(alloc);
         let mut walk = self.walk();
         let mut after = None;
         while let Some(used) = walk.next_after(after) {
-            if is_among(numbers, &used) {
+            if is_among(prefixes, &used) {
                 uses.push(used)?;
             }
             after = Some(used);
@@ -269,8 +272,8 @@ impl<S: UseStore> Record<S> {
         ensures value { IfOk result (λ listed. listed.items ≡ twice_of (used (rising self.now.uses))) }
         ensures relation { IfOk result (λ listed. IsTwice (used (rising self.now.uses)) listed.items) }
     {
-        let numbers = in_order(self.numbers(alloc)?);
-        let uses = self.used_among(alloc, &numbers)?;
+        let prefixes = in_order(self.prefixes(alloc)?);
+        let uses = self.used_among(alloc, &prefixes)?;
         twice_in(alloc, uses)
     }
 

@@ -1,5 +1,5 @@
 //! Uses that rise, as a run of a larger set.
-ghost use Rattle.std.specs.Prelude.{◌≡◌, ◌+◌, ◌++◌, ◌<◌, false, length, drop, filter, max, nat_lt, true, IsTrue, IfOk};
+ghost use Rattle.std.specs.Prelude.{◌≡◌, ◌+◌, ◌++◌, ◌<◌, false, length, drop, filter, max, nat_lt, true, IsTrue, IfOk, Some};
 ghost use Rattle.std.specs.List.{list_any};
 ghost use Rattle.std.specs.Ordering.{eq_by_cmp};
 ghost use Rattle.std.specs.Set.{sorted_merge};
@@ -9,24 +9,24 @@ ghost use Rattle.svid_replay.specs.Uses.{next_above, uses_in};
 ghost use Rattle.svid_replay.specs.declared.token_use.Use.{Use};
 
 use crate::Use;
+use crate::expiry::Expiry;
 use crate::filter::{filter_of, may_have};
-use crate::keys::{gone_by, keys_of, merge_keys, sweep, tell_key};
-use crate::sorted::{count_expired, drop_front, first_after, has_sought};
-use crate::until::Until;
+use crate::keys::{expired_by_then, keys_of, merge_keys, sweep, tell_key};
+use crate::sorted::{count_expired, drop_front, first_after, first_near, has_sought};
 use std::alloc::{AllocError, Global};
 use std::cmp::Ordering;
 use std::marker::Model;
 
-// Uses that rise, with a filter of their keys, `words`; where it is `keyed`, `by_key` has the keys, sorted, and else
-// nothing. The uses in front of `start` are gone: they expired by the moment `gone`. Their keys may still be there.
+// Uses that rise, with a filter of their keys, `key_filter`; where it is `keyed`, `by_key` has the keys, sorted, and else
+// nothing. The uses in front of `start` are gone: they expired by the moment `expired_by`. Their keys may still be there.
 #[derive(Debug, Drop)]
 pub(crate) struct Run {
     by_use: Vec<Use>,
     start: usize,
     keyed: bool,
-    by_key: Vec<Until>,
-    gone: Option<u64>,
-    words: Vec<u64>,
+    by_key: Vec<Expiry>,
+    expired_by: Option<u64>,
+    key_filter: Vec<u64>,
 }
 
 impl Model for Run {
@@ -40,7 +40,7 @@ impl Model for Run {
 
     ghost view = { λ r. drop r.start r.by_use.items };
 
-    ghost invariant = { λ r. IsRun r.by_use.items r.start r.keyed r.by_key.items r.gone r.words.items };
+    ghost invariant = { λ r. IsRun r.by_use.items r.start r.keyed r.by_key.items r.expired_by r.key_filter.items };
 }
 
 // Whether the last of the one list is less than the first of the other.
@@ -115,14 +115,14 @@ impl Run {
     {
         let by_use = Vec::from_slice(alloc, uses)?;
         let by_key = keys_of(alloc, to_key(keyed, uses))?;
-        let words = filter_of(alloc, uses)?;
+        let key_filter = filter_of(alloc, uses)?;
         Ok(Run {
             by_use,
             start: 0,
             keyed,
             by_key,
-            gone: None,
-            words,
+            expired_by: None,
+            key_filter,
         })
     }
 
@@ -130,15 +130,15 @@ impl Run {
         ensures { IfOk result (λ run. run ≡ sorted_merge use_cmp true a.now b.now) }
     {
         let by_use = merge_uses(alloc, a.uses(), b.uses())?;
-        let by_key = merge_keys(alloc, &a.by_key, a.gone, &b.by_key, b.gone)?;
-        let words = filter_of(alloc, &by_use)?;
+        let by_key = merge_keys(alloc, &a.by_key, a.expired_by, &b.by_key, b.expired_by)?;
+        let key_filter = filter_of(alloc, &by_use)?;
         Ok(Run {
             by_use,
             start: 0,
             keyed: a.keyed & b.keyed,
             by_key,
-            gone: None,
-            words,
+            expired_by: None,
+            key_filter,
         })
     }
 
@@ -162,7 +162,7 @@ impl Run {
     {
         let used = *used;
         let key = used.key;
-        if !may_have(&self.words, &key) {
+        if !may_have(&self.key_filter, &key) {
             return false;
         }
         holds_use(self.uses(), &used)
@@ -172,11 +172,11 @@ impl Run {
     pub(crate) fn has(&self, key: &[u8; 32], withdrawn: bool) -> bool
         ensures { result ≡ list_any (is_sought withdrawn key.now) self.now }
     {
-        if !may_have(&self.words, key) {
+        if !may_have(&self.key_filter, key) {
             return false;
         }
         if self.keyed {
-            tell_key(&self.by_key, key, withdrawn, self.gone)
+            tell_key(&self.by_key, key, withdrawn, self.expired_by)
         } else {
             has_sought(self.uses(), key, withdrawn)
         }
@@ -188,6 +188,13 @@ impl Run {
         first_after(self.uses(), after)
     }
 
+    // What comes next behind the last, which is mostly near a place.
+    pub(crate) fn next_near(&self, last: &Use, near: &mut u16) -> Option<Use>
+        ensures { result ≡ next_above (uses_in self.now) (Some last.now) }
+    {
+        first_near(self.uses(), last, near)
+    }
+
     // Moves the start behind the uses that expire by a moment, and answers how many these are. `tidy` gives back their
     // memory.
     pub(crate) fn drop_expired(&mut self, moment: u64) -> usize
@@ -196,7 +203,7 @@ impl Run {
     {
         let dropped = count_expired(self.uses(), moment);
         self.start += dropped;
-        self.gone = gone_by(self.gone, moment);
+        self.expired_by = expired_by_then(self.expired_by, moment);
         dropped
     }
 
@@ -208,9 +215,9 @@ impl Run {
             return;
         }
         drop_front(&mut self.by_use, self.start);
-        sweep(&mut self.by_key, self.gone);
+        sweep(&mut self.by_key, self.expired_by);
         self.start = 0;
-        self.gone = None;
+        self.expired_by = None;
         self.by_use.shrink_to_fit();
         self.by_key.shrink_to_fit();
     }

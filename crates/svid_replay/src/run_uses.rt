@@ -1,5 +1,5 @@
 //! A set of uses as a short sorted front and runs that grow.
-ghost use Rattle.std.specs.Prelude.{◌≡◌, ◌+◌, ◌<◌, ◌≤◌, ◌++◌, [], false, length, not, true, IsTrue, IfOk, OnOk, OnErr};
+ghost use Rattle.std.specs.Prelude.{◌≡◌, ◌+◌, ◌<◌, ◌≤◌, ◌++◌, [], false, length, not, true, IsTrue, IfOk, OnOk, OnErr, Some};
 ghost use Rattle.std.specs.List.{AllByRecursion, list_any};
 ghost use Rattle.std.specs.Ordering.{eq_by_cmp};
 ghost use Rattle.std.specs.Set.{sorted_merge};
@@ -12,10 +12,11 @@ ghost use Rattle.svid_replay.specs.Walks.{next_few};
 
 use crate::Use;
 use crate::front::Front;
+use crate::near::Near;
 use crate::room::Room;
 use crate::run::{Run, holds_use, merge_uses};
 use crate::runs::Runs;
-use crate::sorted::{first_after, rest_after};
+use crate::sorted::{first_after, first_near, rest_after};
 use crate::store::{Raised, UseStore};
 use std::alloc::{AllocError, Global};
 use std::marker::Model;
@@ -100,6 +101,20 @@ fn least_after(runs: &[Run], after: Option<Use>, first: Option<Use>) -> Option<U
     let mut least = first;
     for run in runs {
         least = lesser(least, run.next_after(after));
+    }
+    least
+}
+
+// The same behind the last, where it is mostly near a place in each run. The first place is that of the front, and the
+// last one does for all runs that are left.
+fn least_near(runs: &[Run], last: &Use, first: Option<Use>, near: &mut Near) -> Option<Use>
+    ensures { result ≡ least_from (Some last.now) runs.now first }
+{
+    let mut least = first;
+    let mut at = 0;
+    for run in runs {
+        at = (at + 1).min(7);
+        least = lesser(least, run.next_near(last, &mut near.places[at]));
     }
     least
 }
@@ -302,6 +317,14 @@ impl UseStore for RunUses {
             after,
             first_after(self.front.uses(), after),
         )
+    }
+
+    fn next_near(&self, after: Option<Use>, near: &mut Near) -> Option<Use> {
+        let Some(last) = after else {
+            return self.next_after(None);
+        };
+        let first = first_near(self.front.uses(), &last, &mut near.places[0]);
+        least_near(self.runs.list(), &last, first, near)
     }
 
     fn next_uses(&self, after: Option<Use>, room: &mut Room) {

@@ -1,4 +1,4 @@
-ghost use Rattle.std.specs.Prelude.{◌≡◌, ◌≤◌, ℕ, List, length, Some, drop, filter, find, not, nat_lt, IsTrue, IsOk, OnOk, OnErr};
+ghost use Rattle.std.specs.Prelude.{◌≡◌, ◌≤◌, ◌<◌, ◌-◌, ℕ, List, false, true, length, Some, drop, filter, find, not, nat_lt, slice_index_or, IsTrue, IsOk, OnOk, OnErr};
 ghost use Rattle.std.specs.List.{AllByRecursion, list_any, prefix_len};
 ghost use Rattle.svid_replay.specs.Batches.{is_after};
 ghost use Rattle.svid_replay.specs.Indexed.{is_sought};
@@ -6,6 +6,7 @@ ghost use Rattle.svid_replay.specs.Runs.{HasBits};
 ghost use Rattle.svid_replay.specs.Sets.{holds, with};
 ghost use Rattle.svid_replay.specs.Twice.{has_key, withdraws};
 ghost use Rattle.svid_replay.specs.Use.{IsRising};
+ghost use Rattle.svid_replay.specs.declared.token_use.Use.{Use};
 ghost use Rattle.svid_replay.specs.Uses.{no_uses, uses_in};
 
 use crate::Use;
@@ -41,7 +42,7 @@ pub(crate) fn insert_use(uses: &mut Vec<Use>, new: Use) -> Result<(), AllocError
     ensures ok { OnOk result (uses_in uses.new.items ≡ with (uses_in uses.old.items) new) }
     ensures err { OnErr result (uses.new.items ≡ uses.old.items) }
     ensures held { IsTrue (holds (uses_in uses.old.items) new) → IsOk result }
-    ensures known { (words : List ℕ) → HasBits words new.key → AllByRecursion (λ u. HasBits words u.key) uses.old.items → AllByRecursion (λ u. HasBits words u.key) uses.new.items }
+    ensures known { (key_filter : List ℕ) → HasBits key_filter new.key → AllByRecursion (λ u. HasBits key_filter u.key) uses.old.items → AllByRecursion (λ u. HasBits key_filter u.key) uses.new.items }
 {
     match uses.binary_search(&new) {
         Ok(_) => Ok(()),
@@ -78,6 +79,76 @@ pub(crate) fn count_up_to(uses: &[Use], last: &Use) -> usize
     ensures bound { result ≤ length uses.now }
 {
     uses.partition_point(|used| !last.cmp(used).is_lt())
+}
+
+// Whether the use in front of a place is not greater than the last, or there is none.
+fn ends_at(uses: &[Use], place: usize, last: &Use) -> bool
+    requires { place ≤ length uses.now }
+    ensures { IsTrue result → (d : Use) → 0 < place → is_after (Some last.now) (slice_index_or uses.now (place - 1) d) ≡ false }
+{
+    if place == 0 {
+        return true;
+    }
+    !last.cmp(&uses[place - 1]).is_lt()
+}
+
+// Whether the use at a place is greater than the last, or there is none.
+fn begins_at(uses: &[Use], place: usize, last: &Use) -> bool
+    requires { place ≤ length uses.now }
+    ensures { IsTrue result → (d : Use) → place < length uses.now → is_after (Some last.now) (slice_index_or uses.now place d) ≡ true }
+{
+    if place == uses.len() {
+        return true;
+    }
+    last.cmp(&uses[place]).is_lt()
+}
+
+// Whether the uses in front of a place are those that are not greater than the last.
+fn is_place(uses: &[Use], place: usize, last: &Use) -> bool
+    requires { IsRising uses.now }
+    ensures value { IsTrue result → place ≡ prefix_len (λ u. not (is_after (Some last.now) u)) uses.now }
+    ensures bound { IsTrue result → place ≤ length uses.now }
+{
+    if place > uses.len() {
+        return false;
+    }
+    if !ends_at(uses, place, last) {
+        return false;
+    }
+    begins_at(uses, place, last)
+}
+
+// How many are not greater than the last, where it is mostly so many, or one more.
+fn count_near(uses: &[Use], last: &Use, near: usize) -> usize
+    requires { IsRising uses.now }
+    ensures value { result ≡ prefix_len (λ u. not (is_after (Some last.now) u)) uses.now }
+    ensures bound { result ≤ length uses.now }
+{
+    if is_place(uses, near, last) {
+        return near;
+    }
+    let next = near.wrapping_add(1);
+    if is_place(uses, next, last) {
+        return next;
+    }
+    count_up_to(uses, last)
+}
+
+// The uses that are greater than the last, where it is mostly near which place they begin.
+fn rest_near<'a>(uses: &'a [Use], last: &Use, near: &mut u16) -> &'a [Use]
+    requires { IsRising uses.now }
+    ensures { result.now ≡ filter (is_after (Some last.now)) uses.now }
+{
+    let place = count_near(uses, last, *near as usize);
+    *near = u16::try_from(place).unwrap_or(0);
+    &uses[place..]
+}
+
+pub(crate) fn first_near(uses: &[Use], last: &Use, near: &mut u16) -> Option<Use>
+    requires { IsRising uses.now }
+    ensures { result ≡ find (is_after (Some last.now)) uses.now }
+{
+    rest_near(uses, last, near).first().copied()
 }
 
 // Those of the uses that are greater than the one given, or all.

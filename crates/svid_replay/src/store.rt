@@ -2,9 +2,11 @@ ghost use Rattle.std.specs.Prelude.{◌≡◌, ◌↔◌, ◌+◌, false, IsTrue
 ghost use Rattle.svid_replay.specs.Sets.{holds, with, with_all};
 ghost use Rattle.svid_replay.specs.Use.{IsRising};
 ghost use Rattle.svid_replay.specs.Uses.{Uses, count, has_use_of, has_withdrawal_of, live, next_above, no_uses};
-ghost use Rattle.svid_replay.specs.Walks.{next_few};
+ghost use Rattle.svid_replay.specs.Walks.{IsAhead, next_few};
 
 use crate::Use;
+use crate::ahead::Ahead;
+use crate::near::Near;
 use crate::room::Room;
 use std::alloc::AllocError;
 
@@ -79,6 +81,15 @@ pub trait UseStore {
     fn next_after(&self, after: Option<Use>) -> Option<Use>
         ensures { result ≡ next_above (content self.now) after };
 
+    /// The least use of the set, or the least that is greater than the one given, where mostly little lies between the
+    /// use that an earlier such call was given and this one. `near` is what that call left, and may be anything.
+    fn next_near(&self, after: Option<Use>, near: &mut Near) -> Option<Use>
+        ensures { result ≡ next_above (content self.now) after }
+    {
+        let _ = near;
+        self.next_after(after)
+    }
+
     /// The next uses of the set, from the least or from the least that is greater than the one given, rising: as
     /// many as the room takes, 64, or all that there are. What was in the room goes.
     fn next_uses(&self, after: Option<Use>, room: &mut Room)
@@ -93,5 +104,16 @@ pub trait UseStore {
             room.push(used);
             last = Some(used);
         }
+    }
+
+    /// The next uses, as `next_uses` has them. `ahead` is new, or is as an earlier such call left it and the set did
+    /// not change since. A set that is made of parts then begins with what was next in each of them.
+    fn next_ahead(&self, after: Option<Use>, ahead: &mut Ahead, room: &mut Room)
+        requires { IsAhead (content self.now) ahead.old }
+        ensures next { room.new ≡ next_few (content self.now) after }
+        ensures ahead { IsAhead (content self.now) ahead.new }
+    {
+        let _ = ahead;
+        self.next_uses(after, room);
     }
 }

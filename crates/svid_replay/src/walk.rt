@@ -6,6 +6,7 @@ ghost use Rattle.svid_replay.specs.Uses.{count, next_above, no_uses};
 ghost use Rattle.svid_replay.specs.Walks.{IsStretch};
 ghost use Rattle.svid_replay.specs.declared.token_use.Use.{Use};
 
+use crate::ahead::Ahead;
 use crate::room::Room;
 use crate::store::UseStore;
 use crate::{Record, Use};
@@ -18,13 +19,14 @@ pub struct Walk<'a, S: UseStore> {
     whole: &'a Record<S>,
     room: Room,
     given: usize,
+    ahead: Ahead,
 }
 
 impl<'a, S: UseStore> Model for Walk<'a, S> {
     ghost use Rattle.std.specs.Prelude.{◌≤◌};
     ghost use Rattle.svid_replay.specs.Records.{State, state_code};
     ghost use Rattle.svid_replay.specs.Sets.{rising};
-    ghost use Rattle.svid_replay.specs.Walks.{IsStretch};
+    ghost use Rattle.svid_replay.specs.Walks.{IsAhead, IsStretch};
 
     ghost Value = { State };
 
@@ -32,10 +34,10 @@ impl<'a, S: UseStore> Model for Walk<'a, S> {
 
     ghost view = { λ w. w.whole.now };
 
-    ghost invariant = { λ w. IsStretch (rising w.whole.now.uses) w.room × (w.given ≤ 64) };
+    ghost invariant = { λ w. IsStretch (rising w.whole.now.uses) w.room × (w.given ≤ 64) × IsAhead w.whole.now.uses w.ahead };
 }
 
-fn is_same(one: &Use, other: &Use) -> bool
+pub(crate) fn is_same(one: &Use, other: &Use) -> bool
     ensures { result ≡ eq_by_cmp use_cmp one.now other.now }
 {
     // (at equal uses this is quicker than `cmp`)
@@ -62,6 +64,7 @@ impl<'a, S: UseStore> Walk<'a, S> {
             whole,
             room: Room::new(),
             given: 0,
+            ahead: Ahead::new(),
         }
     }
 
@@ -96,7 +99,8 @@ impl<'a, S: UseStore> Walk<'a, S> {
             self.given += 1;
             return Some(used);
         }
-        self.whole.next_uses(after, &mut self.room);
+        self.whole
+            .next_ahead(after, &mut self.ahead, &mut self.room);
         self.given = 1;
         self.room.as_slice().first().copied()
     }

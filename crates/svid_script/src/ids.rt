@@ -4,6 +4,8 @@ use crate::out::Out;
 use crate::say::{refused, say_bool, say_text};
 use crate::stop::Stop;
 use crate::words::word;
+use std::fmt::Display;
+use std::io::Write;
 use svid_id::{SpiffeId, TrustDomain, is_domain_name};
 
 /// `id BYTES`
@@ -32,6 +34,47 @@ pub fn domain(out: &mut Out<'_>, env: &Env, words: &[&str]) -> Result<(), Stop> 
 pub fn is_domain(out: &mut Out<'_>, env: &Env, words: &[&str]) -> Result<(), Stop> {
     let text = bytes(env, word(words, 1))?;
     say_bool(out, is_domain_name(&text))
+}
+
+// Whether two things are equal, their order, and the first of them as it shows itself.
+fn say_compared<T: Ord + Display>(out: &mut Out<'_>, one: &T, other: &T) -> Result<(), Stop> {
+    let is_equal = one == other;
+    let order = one.cmp(other);
+    Ok(writeln!(out, "= {is_equal} {order:?} {one}")?)
+}
+
+fn say_ids(out: &mut Out<'_>, env: &Env, one: &SpiffeId, other: &[u8]) -> Result<(), Stop> {
+    match SpiffeId::parse(env.alloc, other) {
+        Ok(other) => say_compared(out, one, &other),
+        Err(fault) => refused(out, fault),
+    }
+}
+
+/// `id.compare BYTES BYTES`
+pub fn compare_ids(out: &mut Out<'_>, env: &Env, words: &[&str]) -> Result<(), Stop> {
+    let text = bytes(env, word(words, 1))?;
+    let other = bytes(env, word(words, 2))?;
+    match SpiffeId::parse(env.alloc, &text) {
+        Ok(one) => say_ids(out, env, &one, &other),
+        Err(fault) => refused(out, fault),
+    }
+}
+
+fn say_domains(out: &mut Out<'_>, env: &Env, one: &TrustDomain, other: &[u8]) -> Result<(), Stop> {
+    match TrustDomain::parse(env.alloc, other) {
+        Ok(other) => say_compared(out, one, &other),
+        Err(fault) => refused(out, fault),
+    }
+}
+
+/// `domain.compare BYTES BYTES`
+pub fn compare_domains(out: &mut Out<'_>, env: &Env, words: &[&str]) -> Result<(), Stop> {
+    let text = bytes(env, word(words, 1))?;
+    let other = bytes(env, word(words, 2))?;
+    match TrustDomain::parse(env.alloc, &text) {
+        Ok(one) => say_domains(out, env, &one, &other),
+        Err(fault) => refused(out, fault),
+    }
 }
 
 /// `id.clone BYTES`

@@ -92,8 +92,10 @@ fn token_call(out: &mut Out<'_>, env: &mut Env, words: &[&str]) -> Result<(), St
     match word(words, 0) {
         "id" => ids::id(out, env, words),
         "id.clone" => ids::clone_id(out, env, words),
+        "id.compare" => ids::compare_ids(out, env, words),
         "domain" => ids::domain(out, env, words),
         "domain.clone" => ids::clone_domain(out, env, words),
+        "domain.compare" => ids::compare_domains(out, env, words),
         "is_domain" => ids::is_domain(out, env, words),
         "alg" => tokens::alg(out, env, words),
         "split" => tokens::split(out, env, words),

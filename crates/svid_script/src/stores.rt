@@ -5,9 +5,9 @@ use crate::over_any;
 use crate::say::{done, say_bool, say_number, say_use_if_any, say_uses};
 use crate::stop::Stop;
 use crate::use_words::{one_use, use_if_any};
-use crate::words::{key, number, word};
+use crate::words::{from, key, number, word};
 use std::alloc::AllocError;
-use svid_replay::{Batch, Room, Use, UseStore};
+use svid_replay::{Ahead, Batch, Near, Room, Use, UseStore};
 
 /// `store NAME KIND`
 pub fn store(env: &mut Env, words: &[&str]) -> Result<(), Stop> {
@@ -48,6 +48,25 @@ fn next_uses<S: UseStore>(out: &mut Out<'_>, store: &S, words: &[&str]) -> Resul
     say_uses(out, room.as_slice())
 }
 
+fn next_near<S: UseStore>(out: &mut Out<'_>, store: &S, words: &[&str]) -> Result<(), Stop> {
+    let mut near = Near::new();
+    for after in from(words, 2) {
+        say_use_if_any(out, store.next_near(use_if_any(after)?, &mut near))?;
+    }
+    Ok(())
+}
+
+fn next_ahead<S: UseStore>(out: &mut Out<'_>, store: &S, words: &[&str]) -> Result<(), Stop> {
+    let mut room = Room::new();
+    let mut ahead = Ahead::new();
+    store.next_ahead(use_if_any(word(words, 2))?, &mut ahead, &mut room);
+    say_uses(out, room.as_slice())?;
+    let then = use_if_any(word(words, 3))?;
+    say_bool(out, ahead.is_behind(then))?;
+    store.next_ahead(then, &mut ahead, &mut room);
+    say_uses(out, room.as_slice())
+}
+
 fn call_on<S: UseStore>(out: &mut Out<'_>, store: &mut S, words: &[&str]) -> Result<(), Stop> {
     match word(words, 0) {
         "store.insert" => insert(out, store, words),
@@ -66,6 +85,8 @@ fn call_on<S: UseStore>(out: &mut Out<'_>, store: &mut S, words: &[&str]) -> Res
         "store.empty" => say_bool(out, store.is_empty()),
         "store.next_after" => next_after(out, store, words),
         "store.next_uses" => next_uses(out, store, words),
+        "store.next_near" => next_near(out, store, words),
+        "store.next_ahead" => next_ahead(out, store, words),
         _ => Err(Stop::Script("no such call of a store")),
     }
 }

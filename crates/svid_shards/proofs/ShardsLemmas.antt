@@ -12,20 +12,23 @@ use Rattle.std.proofs.lemmas.List.Folds.{list_any-append, sum_by-replicate}
 use Rattle.std.proofs.lemmas.List.Kept.{IsStrictlySortedBy-filter}
 use Rattle.std.proofs.lemmas.List.Sums.{sum_by-cons, sum_by-set}
 use Rattle.std.proofs.lemmas.List.Edits.{map_over_more}
-use Rattle.std.specs.List.{AllByRecursion, flat_map, list_any, slice_get, slice_index}
+use Rattle.std.specs.List.{AllByRecursion, flat_map, list_any, range_with_len, slice_get, slice_index}
 use Rattle.std.specs.List.Sorted.{IsStrictlySortedBy}
 use Rattle.std.specs.Cmp.Lexicographic.{slice_cmp}
 use Rattle.std.specs.Ordering.{bool_cmp, eq_by_cmp, is_eq, is_lt, nat_cmp, ordering_reverse, ordering_then}
 use Rattle.std.specs.declared.cmp.Ordering.{Ordering}
-use Rattle.std.specs.declared.cmp.Ordering.TheVariants.{Less, Greater}
+use Rattle.std.specs.declared.cmp.Ordering.TheVariants.{Less, Equal, Greater}
 use Rattle.svid_replay.specs.declared.token_use.Use.{Use}
 use Rattle.svid_replay.specs.Batches.{is_after}
-use Rattle.svid_replay.specs.Buckets.{bucket_of}
+use Rattle.svid_replay.specs.Buckets.{bucket, bucket_of}
 use Rattle.svid_replay.specs.Runs.{all_of, least_from, least_of}
 use Rattle.svid_replay.specs.Sets.{holds, rising, with, with_all}
 use Rattle.svid_replay.specs.Twice.{has_key, withdraws}
 use Rattle.svid_replay.specs.Use.{IsRising, use_cmp}
 use Rattle.svid_replay.specs.Uses.{Uses, count, live, next_above, no_uses, uses_in}
+use Rattle.svid_replay.specs.Walks.{IsAhead, exp_if_any, heads_in, is_at}
+use Rattle.svid_replay.specs.declared.ahead.Ahead.{Ahead}
+use Rattle.svid_replay.proofs.BucketsLemmas.{bucket_holds_its_uses}
 use Rattle.svid_replay.proofs.IndexedLemmas.{same_key}
 use Rattle.svid_replay.proofs.ListLemmas.{any_none, each_weaker}
 use Rattle.svid_replay.proofs.RunsLemmas.{count-with, has_in_runs, next_in_all}
@@ -34,7 +37,7 @@ use Rattle.svid_replay.proofs.TestsLemmas.{equal, or-false}
 use Rattle.svid_replay.proofs.UseLemmas.{use_exact, use_total}
 use Rattle.svid_replay.proofs.UsesLemmas.{any-filter, find_kept, found_held, held_in_rising, holds-live, holds-uses_in, next_is, no_uses_hold_none, rising-uses_in, same_uses, uses_in-rising, with_holds_one_more, with-held}
 use Rattle.svid_replay.proofs.WalksLemmas.{HasMore, room_full, room_more, uses_in-turned}
-use Rattle.svid_shards.specs.Shards.{AreApart, AreHeads, ExpireFrom, IsPut, IsSharded, all_in, expires_before, heads_of, least_in, shard, total_of}
+use Rattle.svid_shards.specs.Shards.{AreApart, AreBehind, AreHeads, ExpireFrom, IsPut, IsSharded, all_in, heads_of, is_before, is_second, least_in, shard, total_of}
 
 -- shards whose numbers are counted on from n
 AreApartFrom : ℕ → List Uses → Type 0
@@ -359,12 +362,27 @@ swept_more f stores was moment i dropped went x y so_far low at kept counted =
     past (x ∷ xs) zero d within = refl
     past (x ∷ xs) (suc i) d within = past xs i d (omega arith)
 
+-- a head of those that were looked up
+pub second_at : (next : List (Option Use)) (heads : List (Option ℕ)) (i : ℕ) → heads ≡ map exp_if_any next → get_or heads i None ≡ exp_if_any (get_or next i None)
+second_at next heads i are = ap (λ hs. get_or hs i None) are ∙ get_or-map exp_if_any next i None
+
+pub first_least : (next : List (Option Use)) → get_or next 0 None ≡ least_in None (take 1 next)
+first_least [] = refl
+first_least (h ∷ hs) = refl
+
+-- what holds of each number below one, and of that one
+pub below_more : (P : ℕ → Type 0) (i : ℕ) → ((j : ℕ) → j < i → P j) → P i → (j : ℕ) → j < i + 1 → P j
+below_more P i each here j low = elim (nat_eq j i) as (λ b. nat_eq j i ≡ b → P j) [
+  | true ↦ λ e. subst P (sym (eqb-true j i e)) here
+  | false ↦ λ e. let other = eqb-false j i e in each j (omega (arith, low, other))
+] refl
+
 -- one head more is looked up
 pub head_at : {S : Type 0} (f : S → Uses) (stores : List S) (i : ℕ) (x : S) (after head : Option Use) → i < length stores → x ≡ get_or stores i x → head ≡ next_above (f x) after → head ≡ get_or (heads_of (map f stores) after) i None
 head_at f stores i x after head within at is =
     is ∙ ap (λ s. next_above s after) (store_at f stores i x within at) ∙ sym (mapped_at (λ s. next_above s after) (map f stores) i no_uses None (omega (arith, within, length-map stores f)))
 
-pub filled_more : (heads all : List (Option Use)) (i : ℕ) (head : Option Use) → i < length heads → i < length all → take i heads ≡ take i all → head ≡ get_or all i None → take (i + 1) (set heads i head) ≡ take (i + 1) all
+pub filled_more : (heads all : List (Option ℕ)) (i : ℕ) (head : Option ℕ) → i < length heads → i < length all → take i heads ≡ take i all → head ≡ get_or all i None → take (i + 1) (set heads i head) ≡ take (i + 1) all
 filled_more heads all i head within low filled is =
     take_more_set heads i head within ∙ (λ j. filled j ++ is j ∷ []) ∙ sym (take_more all i None low)
 
@@ -394,29 +412,166 @@ less_is_earlier u v low =
     (λ e h. let is : nat_lt v.exp u.exp ≡ false = grind (arith, nat_tests) in ap all e ∙ ap (λ o. is_lt (rest o)) (keys_apart u.key v.key low) ∙ sym is)
     (λ e h. let is : nat_lt v.exp u.exp ≡ false = grind (arith, nat_tests) in ap all e ∙ sym is)
 
-least_by_expiry : (one other : Option Use) → ((u v : Use) → other ≡ Some u → one ≡ Some v → bucket_of u < bucket_of v) → least_of other one ≡ cond (expires_before one other) one other
+least_by_expiry : (one other : Option Use) → ((u v : Use) → other ≡ Some u → one ≡ Some v → bucket_of u < bucket_of v) → least_of other one ≡ cond (is_before (exp_if_any one) (exp_if_any other)) one other
 least_by_expiry None None apart = refl
 least_by_expiry None (Some u) apart = refl
 least_by_expiry (Some v) None apart = refl
 least_by_expiry (Some v) (Some u) apart = ap (λ b. cond b (Some v) (Some u)) (less_is_earlier u v (apart u v refl refl))
 
-pub least_more : (heads : List (Option Use)) (i at : ℕ) (before : Bool) → AreHeads heads → i < 256 → at < i → get_or heads at None ≡ least_in None (take i heads) → before ≡ expires_before (get_or heads i None) (get_or heads at None) → cond before (get_or heads i None) (get_or heads at None) ≡ least_in None (take (i + 1) heads)
+pub least_more : (heads : List (Option Use)) (i at : ℕ) (before : Bool) → AreHeads heads → i < 256 → at < i → get_or heads at None ≡ least_in None (take i heads) → before ≡ is_before (exp_if_any (get_or heads i None)) (exp_if_any (get_or heads at None)) → cond before (get_or heads i None) (get_or heads at None) ≡ least_in None (take (i + 1) heads)
 least_more heads i at before are within low least is =
     let one = get_or heads i None in
     let other = get_or heads at None in
     ap (λ b. cond b one other) is ∙ sym (least_by_expiry one other (λ u v e f. omega (arith, low, are.each at u e, are.each i v f)))
     ∙ ap (λ h. least_of h one) least ∙ sym (ap (least_in None) (take_more heads i None (omega (arith, within, are.long))) ∙ least_push None one (take i heads))
 
+-- a head that is there is what comes next in its shard
+head_is : (ss : List Uses) (after : Option Use) (i : ℕ) (u : Use) → get_or (heads_of ss after) i None ≡ Some u → get_or (heads_of ss after) i None ≡ next_above (shard ss i) after
+head_is [] after i u e = let none : None ≡ Some u = e in cc
+head_is (s ∷ ss) after zero u e = refl
+head_is (s ∷ ss) after (suc i) u e = head_is ss after i u e
+
 pub heads_are : (ss : List Uses) (after : Option Use) → AreApart ss → length ss ≡ 256 → AreHeads (heads_of ss after)
 heads_are ss after apart long = record {
   long = length-map ss (λ s. next_above s after) ∙ long;
-  each = λ i u e. apart i u (found_held (shard ss i) (is_after after) u (sym (in_list ss i u e) ∙ e));
+  each = λ i u e. apart i u (found_held (shard ss i) (is_after after) u (sym (head_is ss after i u e) ∙ e));
 }
+
+-- a shard is a bucket of the whole set
+shard_is_bucket : (ss : List Uses) → AreApart ss → (b : ℕ) → shard ss b ≡ bucket b (all_in ss)
+shard_is_bucket ss apart b = same_uses (shard ss b) (bucket b (all_in ss)) (λ u.
+    let whole = holds (all_in ss) u in
+    elim (nat_eq (bucket_of u) b) as (λ t. nat_eq (bucket_of u) b ≡ t → holds (shard ss b) u ≡ holds (bucket b (all_in ss)) u) [
+      | true ↦ λ e. ap (λ k. holds (shard ss k) u) (sym (eqb-true (bucket_of u) b e)) ∙ sym (holds_all ss apart u) ∙ sym (bucket_holds_its_uses b (all_in ss) u ∙ ap (λ t. whole && t) e ∙ and_true whole)
+      | false ↦ λ e. false_from_ne_true (holds (shard ss b) u) (λ h. eqb-false (bucket_of u) b e (apart b u h)) ∙ sym (bucket_holds_its_uses b (all_in ss) u ∙ ap (λ t. whole && t) e ∙ and_false whole)
+    ] refl)
   where
-    in_list : (ss : List Uses) (i : ℕ) (u : Use) → get_or (heads_of ss after) i None ≡ Some u → get_or (heads_of ss after) i None ≡ next_above (shard ss i) after
-    in_list [] i u e = let none : None ≡ Some u = e in cc
-    in_list (s ∷ ss) zero u e = refl
-    in_list (s ∷ ss) (suc i) u e = in_list ss i u e
+    and_true : (b : Bool) → (b && true) ≡ b
+    and_true true = refl
+    and_true false = refl
+
+    and_false : (b : Bool) → (b && false) ≡ false
+    and_false true = refl
+    and_false false = refl
+
+-- what is told of each shard, and of each number of a shard
+each_shard : {X : Type 0} (f : Uses → X) (g : ℕ → X) (n : ℕ) (ss : List Uses) → ((i : ℕ) → f (shard ss i) ≡ g (n + i)) → map f ss ≡ map g (range_with_len n (length ss))
+each_shard f g n [] same = refl
+each_shard f g n (s ∷ ss) same =
+    let here : n + 0 ≡ n = omega arith in
+    (λ j. (same 0 ∙ ap g here) j ∷ each_shard f g (n + 1) ss (λ i. let there : n + suc i ≡ n + 1 + i = omega arith in same (suc i) ∙ ap g there) j)
+
+map_twice : {X Y Z : Type 0} (f : Y → Z) (g : X → Y) (xs : List X) → map f (map g xs) ≡ map (λ x. f (g x)) xs
+map_twice f g [] = refl
+map_twice f g (x ∷ xs) = ap (λ ys. f (g x) ∷ ys) (map_twice f g xs)
+
+pub heads_all : (ss : List Uses) (after : Option Use) → AreApart ss → length ss ≡ 256 → map exp_if_any (heads_of ss after) ≡ heads_in (all_in ss) after
+unfolding heads_in
+heads_all ss after apart long =
+    let next = λ (s : Uses). exp_if_any (next_above s after) in
+    let of = λ (b : ℕ). next (bucket b (all_in ss)) in
+    map_twice exp_if_any (λ s. next_above s after) ss ∙ each_shard next of 0 ss (λ i. let here : i ≡ 0 + i = omega arith in ap next (shard_is_bucket ss apart i) ∙ ap of here) ∙ ap (λ n. map of (range_with_len 0 n)) long
+
+-- heads that are known, behind the same use
+at_same : (a b : Option Use) → is_at a b ≡ true → a ≡ b
+at_same None None e = refl
+at_same None (Some v) e = absurd (false≢true e)
+at_same (Some u) None e = absurd (false≢true e)
+at_same (Some u) (Some v) e = ap Some (use_exact u v (equal _ e))
+
+pub known_heads : (ss : List Uses) (ahead : Ahead) (after : Option Use) → AreApart ss → length ss ≡ 256 → IsAhead (all_in ss) ahead → (ahead.known && is_at ahead.after after) ≡ true → (ahead.known ≡ true) × (ahead.after ≡ after) × (ahead.heads ≡ map exp_if_any (heads_of ss after))
+known_heads ss ahead after apart long is behind =
+    let (known, at) = both ahead.known (is_at ahead.after after) behind in
+    let same = at_same ahead.after after at in
+    (known, same, is known ∙ ap (heads_in (all_in ss)) same ∙ sym (heads_all ss after apart long))
+
+-- the least behind a use: the first that expires at the same second, from the shard of that use on
+heads_stay : (u : Use) (heads : List (Option Use)) → ((i : ℕ) (v : Use) → get_or heads i None ≡ Some v → is_lt (use_cmp v u) ≡ false) → least_in (Some u) heads ≡ Some u
+heads_stay u [] later = refl
+heads_stay u (None ∷ heads) later = heads_stay u heads (λ i v e. later (suc i) v e)
+heads_stay u (Some v ∷ heads) later = ap (λ b. least_in (cond b (Some v) (Some u)) heads) (later 0 v refl) ∙ heads_stay u heads (λ i w e. later (suc i) w e)
+
+-- each that comes in front of the least is greater
+heads_fall : (u : Use) (least : Option Use) (heads : List (Option Use)) (i : ℕ) → least_of least (Some u) ≡ Some u → get_or heads i None ≡ Some u → ((j : ℕ) (v : Use) → j < i → get_or heads j None ≡ Some v → is_lt (use_cmp u v) ≡ true) → ((j : ℕ) (v : Use) → get_or heads j None ≡ Some v → is_lt (use_cmp v u) ≡ false) → least_in least heads ≡ Some u
+heads_fall u least [] i beaten at greater later = let none : None ≡ Some u = at in cc
+heads_fall u least (h ∷ heads) zero beaten at greater later = ap (λ k. least_in k heads) (ap (least_of least) at ∙ beaten) ∙ heads_stay u heads (λ j v e. later (suc j) v e)
+heads_fall u least (h ∷ heads) (suc i) beaten at greater later =
+    heads_fall u (least_of least h) heads i (both_beaten least h beaten (λ v e. greater 0 v (omega arith) e)) at (λ j v low e. greater (suc j) v (omega (arith, low)) e) (λ j v e. later (suc j) v e)
+  where
+    both_beaten : (a b : Option Use) → least_of a (Some u) ≡ Some u → ((v : Use) → b ≡ Some v → is_lt (use_cmp u v) ≡ true) → least_of (least_of a b) (Some u) ≡ Some u
+    both_beaten None None beaten greater = refl
+    both_beaten None (Some v) beaten greater = ap (λ b. cond b (Some u) (Some v)) (greater v refl)
+    both_beaten (Some w) None beaten greater = beaten
+    both_beaten (Some w) (Some v) beaten greater = elim (is_lt (use_cmp v w)) as (λ b. least_of (cond b (Some v) (Some w)) (Some u) ≡ Some u) [
+      | true ↦ ap (λ b. cond b (Some u) (Some v)) (greater v refl)
+      | false ↦ beaten
+    ]
+
+-- of two uses the one that expires later is greater
+later_is_greater : (u v : Use) → u.exp < v.exp → is_lt (use_cmp u v) ≡ true
+later_is_greater u v low = by_ranked (u.exp < v.exp) (u.exp ≡ v.exp) (v.exp < u.exp) (nat_cmp u.exp v.exp) (ranked u.exp v.exp (nat_cmp u.exp v.exp) refl)
+    (λ e h. ap (λ o. is_lt (ordering_then o (ordering_then (slice_cmp nat_cmp u.key v.key) (ordering_then (slice_cmp nat_cmp u.place v.place) (ordering_then (nat_cmp u.at v.at) (bool_cmp u.withdrawn v.withdrawn)))))) e)
+    (λ e h. absurd (omega (arith, h, low)))
+    (λ e h. absurd (omega (arith, h, low)))
+
+not_turned : (u v : Use) → is_lt (use_cmp u v) ≡ true → is_lt (use_cmp v u) ≡ false
+not_turned u v less = ap is_lt (use_total.antisymm v u) ∙ turned (use_cmp u v) less
+  where
+    turned : (o : Ordering) → is_lt o ≡ true → is_lt (ordering_reverse o) ≡ false
+    turned Less e = refl
+    turned Equal e = absurd (false≢true e)
+    turned Greater e = absurd (false≢true e)
+
+not_itself : (u : Use) → is_lt (use_cmp u u) ≡ false
+not_itself u = false_from_ne_true (is_lt (use_cmp u u)) (λ e. false≢true (sym (not_turned u u e) ∙ e))
+
+greater_no_earlier : (u v : Use) → is_lt (use_cmp u v) ≡ true → u.exp ≤ v.exp
+greater_no_earlier u v less = by_ranked (u.exp < v.exp) (u.exp ≡ v.exp) (v.exp < u.exp) (nat_cmp u.exp v.exp) (ranked u.exp v.exp (nat_cmp u.exp v.exp) refl)
+    (λ e h. omega (arith, h))
+    (λ e h. omega (arith, h))
+    (λ e h. absurd (false≢true (sym (not_turned v u (later_is_greater v u h)) ∙ less)))
+
+-- no head of a shard in front of that of the use expires at its second
+pub none_in_front : (heads : List (Option Use)) (last : Use) → AreHeads heads → AreBehind (Some last) heads → (j : ℕ) → j < bucket_of last → is_second last.exp (exp_if_any (get_or heads j None)) ≡ false
+none_in_front heads last are behind j low = at (get_or heads j None) refl
+  where
+    at : (h : Option Use) → get_or heads j None ≡ h → is_second last.exp (exp_if_any h) ≡ false
+    at None e = refl
+    at (Some v) e = false_from_ne_true (nat_eq v.exp last.exp) (λ same.
+        let later : nat_lt last.exp v.exp ≡ false = grind (arith, nat_tests) in
+        false≢true (sym later ∙ (sym (less_is_earlier v last (omega (arith, low, are.each j v e))) ∙ behind j v e)))
+
+-- the first that expires at the second of the use is the least
+pub least_found : (heads : List (Option Use)) (last : Use) (i : ℕ) → AreHeads heads → AreBehind (Some last) heads → ((j : ℕ) → j < i → is_second last.exp (exp_if_any (get_or heads j None)) ≡ false) → is_second last.exp (exp_if_any (get_or heads i None)) ≡ true → get_or heads i None ≡ least_in None heads
+least_found heads last i are behind none here = at (get_or heads i None) refl here
+  where
+    at : (h : Option Use) → get_or heads i None ≡ h → is_second last.exp (exp_if_any h) ≡ true → get_or heads i None ≡ least_in None heads
+    at None e here = absurd (false≢true here)
+    at (Some u) e here =
+        let same : u.exp ≡ last.exp = eqb-true u.exp last.exp here in
+        let early = λ (j : ℕ) (v : Use) (is : get_or heads j None ≡ Some v). greater_no_earlier last v (behind j v is) in
+        let greater = λ (j : ℕ) (v : Use) (low : j < i) (is : get_or heads j None ≡ Some v).
+        let other = eqb-false v.exp last.exp (ap (λ h. is_second last.exp (exp_if_any h)) (sym is) ∙ none j low) in
+        later_is_greater u v (omega (arith, same, early j v is, other)) in
+        e ∙ sym (heads_fall u None heads i refl e greater (λ j v is.
+        by_ranked (j < i) (j ≡ i) (i < j) (nat_cmp j i) (ranked j i (nat_cmp j i) refl)
+        (λ o low. not_turned u v (greater j v low is))
+        (λ o eq. let alike : Some v ≡ Some u = sym is ∙ ap (λ n. get_or heads n None) eq ∙ e in let it : v ≡ u = cc in ap (λ w. is_lt (use_cmp w u)) it ∙ not_itself u)
+        (λ o above.
+        let low : bucket_of u < bucket_of v = omega (arith, are.each i u e, are.each j v is, above) in
+        let earlier : nat_lt v.exp u.exp ≡ false = grind (arith, nat_tests, same, early j v is) in
+        less_is_earlier u v low ∙ earlier)))
+
+-- what comes next behind a use is greater
+found_passes : (p : Use → Bool) (us : List Use) (u : Use) → find p us ≡ Some u → p u ≡ true
+found_passes p [] u e = let none : None ≡ Some u = e in cc
+found_passes p (v ∷ us) u e = elim (p v) as (λ b. p v ≡ b → cond b (Some v) (find p us) ≡ Some u → p u ≡ true) [
+  | true ↦ λ is e. let it : v ≡ u = cc in ap p (sym it) ∙ is
+  | false ↦ λ is e. found_passes p us u e
+] refl e
+
+pub heads_behind : (ss : List Uses) (after : Option Use) → AreBehind after (heads_of ss after)
+heads_behind ss after = λ i u e. found_passes (is_after after) (rising (shard ss i)) u (sym (head_is ss after i u e) ∙ e)
 
 -- a look for a use, one step on
 pub not_here : (sought u : Use) (us : List Use) (after : Option Use) → IsRising us → find (is_after after) us ≡ Some u → eq_by_cmp use_cmp sought u ≡ false → list_any (eq_by_cmp use_cmp sought) (filter (is_after (Some u)) us) ≡ list_any (eq_by_cmp use_cmp sought) (filter (is_after after) us)

@@ -1,6 +1,7 @@
-use Rattle.std.specs.Prelude.{◌≡◌, ◌≤◌, ℕ, List, [], ◌∷◌, length, map, flat_map, set, slice_index_or, Option, None, Some, Bool, true, false, nat_lt, IsTrue}
+use Rattle.std.specs.Prelude.{◌≡◌, ◌==◌, ◌≤◌, ℕ, List, [], ◌∷◌, length, map, flat_map, set, slice_index_or, Option, None, Some, Bool, true, false, nat_lt, IsTrue}
 use Rattle.std.specs.List.{sum_by}
 use Rattle.svid_replay.specs.declared.token_use.Use.{Use}
+use Rattle.svid_replay.specs.Batches.{is_after}
 use Rattle.svid_replay.specs.Buckets.{bucket_of}
 use Rattle.svid_replay.specs.Runs.{least_of}
 use Rattle.svid_replay.specs.Sets.{holds, rising, with}
@@ -46,13 +47,22 @@ least_in least (head ∷ heads) = least_in (least_of least head) heads
 abbrev pub IsPut : List Uses → Use → List Uses → Type 0
 IsPut before new after = after ≡ set before (bucket_of new) (with (shard before (bucket_of new)) new)
 
--- the first is there, and the second is not or expires later
-abbrev pub expires_before : Option Use → Option Use → Bool
-expires_before None other = false
-expires_before (Some u) None = true
-expires_before (Some u) (Some v) = nat_lt u.exp v.exp
+-- the first second is there, and the other is not or is later
+abbrev pub is_before : Option ℕ → Option ℕ → Bool
+is_before None other = false
+is_before (Some a) None = true
+is_before (Some a) (Some b) = nat_lt a b
 
 -- of 256 heads each is of the shard whose number is its place
 pub record AreHeads (heads : List (Option Use)) : Type 0 where
   pub long : length heads ≡ 256
   pub each : (i : ℕ) (u : Use) → slice_index_or heads i None ≡ Some u → bucket_of u ≡ i
+
+-- each head is greater than this use, where there is one
+abbrev pub AreBehind : Option Use → List (Option Use) → Type 0
+AreBehind last heads = (i : ℕ) (u : Use) → slice_index_or heads i None ≡ Some u → is_after last u ≡ true
+
+-- it is there, and is this second
+abbrev pub is_second : ℕ → Option ℕ → Bool
+is_second exp None = false
+is_second exp (Some second) = second == exp

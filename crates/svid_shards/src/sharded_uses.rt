@@ -2,27 +2,28 @@ ghost use Rattle.std.specs.Prelude.{◌≡◌, replicate, IfOk};
 ghost use Rattle.svid_replay.specs.Uses.{no_uses};
 
 use crate::shards::{
-    SHARDS, TIDIED, compact_all, drop_all_expired, insert_into, next_after, next_uses, shard_holds,
-    shard_of, tidy_some,
+    SHARDS, TENDED, compact_some, drop_all_expired, insert_into, next_after, next_ahead,
+    shard_holds, shard_of, tidy_some,
 };
 use std::alloc::{AllocError, Global};
 use std::marker::Model;
-use svid_replay::{Raised, Room, RunUses, Use, UseStore};
+use svid_replay::{Ahead, Raised, Room, RunUses, Use, UseStore};
 
 /// A set of uses in 256 stores, by the first byte of a key. A call that asks for a key or puts in a use has to do
 /// with one of them, so its longest call is that of a store with a 256th of the uses.
 ///
-/// A walk looks at each of the stores for every 64 uses. What expires is taken out of all stores, but only where
-/// the moment has come to a second in which a use may expire. A call of `tidy` gives back memory in four of the stores,
-/// so 64 calls do it in all.
+/// A walk looks into each of the stores once, where it begins, and then into one for each use. What expires is taken out of all stores, but only where
+/// the moment has come to a second in which a use may expire. A call of `tidy` or `compact` has to do with four of the
+/// stores, so 64 calls do it in all.
 #[derive(Debug, Drop)]
 pub struct ShardedUses<S: UseStore> {
     shards: Vec<S>,
     total: usize,
     // (no use expires before this second)
     first: u64,
-    // (the number of the shard that is tidied next)
-    next: u8,
+    // (the numbers of the shards that are tidied and compacted next)
+    next_tidied: u8,
+    next_compacted: u8,
 }
 
 impl<S: UseStore> Model for ShardedUses<S> {
@@ -60,7 +61,8 @@ impl ShardedUses<RunUses> {
             shards,
             total: 0,
             first: u64::MAX,
-            next: 0,
+            next_tidied: 0,
+            next_compacted: 0,
         })
     }
 }
@@ -83,7 +85,8 @@ impl<S: UseStore> UseStore for ShardedUses<S> {
     }
 
     fn compact(&mut self) {
-        compact_all(&mut self.shards);
+        compact_some(&mut self.shards, self.next_compacted);
+        self.next_compacted = self.next_compacted.wrapping_add(TENDED);
     }
 
     fn drop_expired(&mut self, moment: u64) -> Raised {
@@ -97,8 +100,8 @@ impl<S: UseStore> UseStore for ShardedUses<S> {
     }
 
     fn tidy(&mut self) {
-        tidy_some(&mut self.shards, self.next);
-        self.next = self.next.wrapping_add(TIDIED);
+        tidy_some(&mut self.shards, self.next_tidied);
+        self.next_tidied = self.next_tidied.wrapping_add(TENDED);
     }
 
     fn has(&self, key: &[u8; 32]) -> bool {
@@ -118,7 +121,11 @@ impl<S: UseStore> UseStore for ShardedUses<S> {
     }
 
     fn next_uses(&self, after: Option<Use>, room: &mut Room) {
+        self.next_ahead(after, &mut Ahead::new(), room);
+    }
+
+    fn next_ahead(&self, after: Option<Use>, ahead: &mut Ahead, room: &mut Room) {
         room.clear();
-        next_uses(&self.shards, after, room);
+        next_ahead(&self.shards, after, ahead, room);
     }
 }

@@ -1,19 +1,20 @@
 //! Stores side by side, each for the uses whose key begins with the store's number.
-ghost use Rattle.std.specs.Prelude.{◌≡◌, ◌+◌, ◌^◌, ◌<◌, ◌≤◌, [], None, map, length, slice_index, IsTrue, IsOk, IfOk, OnOk, OnErr};
+ghost use Rattle.std.specs.Prelude.{◌≡◌, ◌+◌, ◌^◌, ◌<◌, ◌≤◌, [], List, None, Option, map, length, slice_index, slice_index_or, true, IsTrue, IsOk, IfOk, OnOk, OnErr};
 ghost use Rattle.svid_replay.specs.Buckets.{bucket_of};
 ghost use Rattle.svid_replay.specs.Sets.{holds};
 ghost use Rattle.svid_replay.specs.Uses.{live, next_above};
-ghost use Rattle.svid_replay.specs.Walks.{next_few};
-ghost use Rattle.svid_shards.specs.Shards.{AreApart, AreHeads, IsPut, all_in, expires_before, heads_of, least_in, shard, total_of};
+ghost use Rattle.svid_replay.specs.Walks.{IsAhead, exp_if_any, next_few};
+ghost use Rattle.svid_replay.specs.declared.token_use.Use.{Use};
+ghost use Rattle.svid_shards.specs.Shards.{AreApart, AreBehind, AreHeads, IsPut, all_in, heads_of, is_before, is_second, least_in, shard, total_of};
 
 use std::alloc::AllocError;
-use svid_replay::{Room, Use, UseStore};
+use svid_replay::{Ahead, Room, Use, UseStore};
 
 /// How many shards there are: one for each first byte of a key.
 pub(crate) const SHARDS: usize = 256;
 
-// So many shards are tidied at a time: few, so that a call is short.
-pub(crate) const TIDIED: u8 = 4;
+// So many shards are tidied or compacted at a time: few, so that a call is short.
+pub(crate) const TENDED: u8 = 4;
 
 // The number of the shard that uses of a key lie in.
 pub(crate) fn shard_of(key: &[u8; 32]) -> usize
@@ -74,12 +75,14 @@ pub(crate) fn drop_all_expired<S: UseStore>(shards: &mut Vec<S>, moment: u64) ->
     dropped
 }
 
-// Makes walks over each shard quicker.
-pub(crate) fn compact_all<S: UseStore>(shards: &mut Vec<S>)
+// Makes walks over some shards quicker, the one of this number first; behind the last comes the first.
+pub(crate) fn compact_some<S: UseStore>(shards: &mut Vec<S>, from: u8)
+    requires { length shards.old.items ≡ 256 }
     ensures { map S.content shards.new.items ≡ map S.content shards.old.items }
 {
-    for i in 0..shards.len() {
-        let store = &mut shards[i];
+    for i in 0..TENDED {
+        let place = from.wrapping_add(i) as usize;
+        let store = &mut shards[place];
         store.compact();
     }
 }
@@ -89,51 +92,89 @@ pub(crate) fn tidy_some<S: UseStore>(shards: &mut Vec<S>, from: u8)
     requires { length shards.old.items ≡ 256 }
     ensures { map S.content shards.new.items ≡ map S.content shards.old.items }
 {
-    for i in 0..TIDIED {
+    for i in 0..TENDED {
         let place = from.wrapping_add(i) as usize;
         let store = &mut shards[place];
         store.tidy();
     }
 }
 
-// What comes next in each shard.
-fn heads_of<S: UseStore>(shards: &[S], after: Option<Use>) -> [Option<Use>; SHARDS]
+// When a use expires, if there is one.
+fn exp_if_any(used: Option<Use>) -> Option<u64>
+    ensures { result ≡ exp_if_any used }
+{
+    match used {
+        None => None,
+        Some(used) => Some(used.exp),
+    }
+}
+
+// When what comes next in each shard expires.
+fn heads_of<S: UseStore>(shards: &[S], after: Option<Use>) -> [Option<u64>; SHARDS]
     requires { length shards.now ≡ 256 }
-    ensures { result ≡ heads_of (map S.content shards.now) after }
+    ensures { result ≡ map exp_if_any (heads_of (map S.content shards.now) after) }
 {
     let mut heads = [None; SHARDS];
     for i in 0..SHARDS {
-        heads[i] = shards[i].next_after(after);
+        heads[i] = exp_if_any(shards[i].next_after(after));
     }
     heads
 }
 
-// Whether the first is there, and the second is not or expires later.
-fn is_before(one: &Option<Use>, other: &Option<Use>) -> bool
-    ensures { result ≡ expires_before one.now other.now }
+// Whether the first is there, and the second is not or is later.
+fn is_before(one: Option<u64>, other: Option<u64>) -> bool
+    ensures { result ≡ is_before one other }
 {
     match one {
         None => false,
         Some(a) => match other {
             None => true,
-            Some(b) => a.exp < b.exp,
+            Some(b) => a < b,
         },
     }
 }
 
-// The least of what comes next in each shard. Of those that expire at one second it is the first, since shards are in
-// the order of the keys.
-fn least(heads: &[Option<Use>; SHARDS]) -> Option<Use>
-    requires { AreHeads heads.now }
-    ensures { result ≡ least_in None heads.now }
+// The number of the shard that has the least of what comes next. Of those that expire at one second it is the first,
+// since shards are in the order of the keys.
+fn least(heads: &[Option<u64>; SHARDS]) -> usize
+    requires { length heads.now ≡ 256 }
+    ensures bound { result < 256 }
+    ensures least { (next : List (Option Use)) → AreHeads next → heads.now ≡ map exp_if_any next → slice_index_or next result None ≡ least_in None next }
 {
     let mut at = 0;
     for i in 1..SHARDS {
-        if is_before(&heads[i], &heads[at]) {
+        if is_before(heads[i], heads[at]) {
             at = i;
         }
     }
-    heads[at]
+    at
+}
+
+// Whether it is this second.
+fn is_second(head: Option<u64>, exp: u64) -> bool
+    ensures { result ≡ is_second exp head }
+{
+    match head {
+        None => false,
+        Some(second) => second == exp,
+    }
+}
+
+// The number of the shard that has the least of what comes next behind a use. Mostly that expires at the same second, and
+// is then the first such from the shard of the use on: so all uses of one second take one look at each shard.
+fn least_behind(heads: &[Option<u64>; SHARDS], last: Option<Use>) -> usize
+    requires { length heads.now ≡ 256 }
+    ensures bound { result < 256 }
+    ensures least { (next : List (Option Use)) → AreHeads next → AreBehind last next → heads.now ≡ map exp_if_any next → slice_index_or next result None ≡ least_in None next }
+{
+    if let Some(used) = last {
+        for i in shard_of(&used.key)..SHARDS {
+            if is_second(heads[i], used.exp) {
+                return i;
+            }
+        }
+    }
+    least(heads)
 }
 
 // The least use of all shards, or the least that is greater than the one given.
@@ -142,22 +183,61 @@ pub(crate) fn next_after<S: UseStore>(shards: &[S], after: Option<Use>) -> Optio
     requires apart { AreApart (map S.content shards.now) }
     ensures { result ≡ next_above (all_in (map S.content shards.now)) after }
 {
-    least(&heads_of(shards, after))
+    shards[least(&heads_of(shards, after))].next_after(after)
 }
 
-// Puts into an empty room what comes next in all shards.
-pub(crate) fn next_uses<S: UseStore>(shards: &[S], after: Option<Use>, room: &mut Room)
+// Looks up what comes next in each shard, where that is not known.
+fn look_ahead<S: UseStore>(shards: &[S], after: Option<Use>, ahead: &mut Ahead)
     requires long { length shards.now ≡ 256 }
     requires apart { AreApart (map S.content shards.now) }
-    requires empty { room.old ≡ [] }
-    ensures { room.new ≡ next_few (all_in (map S.content shards.now)) after }
+    requires ahead { IsAhead (all_in (map S.content shards.now)) ahead.old }
+    ensures known { ahead.new.known ≡ true }
+    ensures after { ahead.new.after ≡ after }
+    ensures heads { ahead.new.heads ≡ map exp_if_any (heads_of (map S.content shards.now) after) }
 {
-    let mut heads = heads_of(shards, after);
-    while let Some(used) = least(&heads) {
+    if ahead.is_behind(after) {
+        return;
+    }
+    ahead.known = true;
+    ahead.after = after;
+    ahead.heads = heads_of(shards, after);
+}
+
+// What comes next.
+fn next_in<S: UseStore>(shards: &[S], ahead: &mut Ahead) -> Option<Use>
+    requires long { length shards.now ≡ 256 }
+    requires apart { AreApart (map S.content shards.now) }
+    requires heads { ahead.old.heads ≡ map exp_if_any (heads_of (map S.content shards.now) ahead.old.after) }
+    ensures next { result ≡ next_above (all_in (map S.content shards.now)) ahead.old.after }
+    ensures after { ahead.new.after ≡ ahead.old.after }
+    ensures heads { ahead.new.heads ≡ ahead.old.heads }
+{
+    let at = least_behind(&ahead.heads, ahead.after);
+    shards[at].next_near(ahead.after, &mut ahead.near[at])
+}
+
+// Puts into an empty room what comes next in all shards, and notes what comes behind that in each of them.
+pub(crate) fn next_ahead<S: UseStore>(
+    shards: &[S],
+    after: Option<Use>,
+    ahead: &mut Ahead,
+    room: &mut Room,
+)
+    requires long { length shards.now ≡ 256 }
+    requires apart { AreApart (map S.content shards.now) }
+    requires ahead { IsAhead (all_in (map S.content shards.now)) ahead.old }
+    requires empty { room.old ≡ [] }
+    ensures next { room.new ≡ next_few (all_in (map S.content shards.now)) after }
+    ensures ahead { IsAhead (all_in (map S.content shards.now)) ahead.new }
+{
+    look_ahead(shards, after, ahead);
+    while let Some(used) = next_in(shards, ahead) {
         if !room.push(used) {
             return;
         }
         let place = shard_of(&used.key);
-        heads[place] = shards[place].next_after(Some(used));
+        let then = shards[place].next_near(Some(used), &mut ahead.near[place]);
+        ahead.after = Some(used);
+        ahead.heads[place] = exp_if_any(then);
     }
 }

@@ -22,11 +22,11 @@ fn id_command<'a>(alloc: Global) -> Result<Command<'a>, AllocError> {
     let text = Arg::new(alloc, "text")
         .value_name("TEXT")
         .required(true)
-        .help("The text, as its bytes");
+        .help("The text to read, byte for byte");
     Command::new(alloc, "id")
-        .about("Prints the trust domain and the path of a SPIFFE ID, or why a text is none")
+        .about("Print the trust domain and path of a SPIFFE ID, or why a text is not one")
         .after_help(
-            "Standard input is not read.{n}{n}Exit status: 0 the text is an ID; 1 it is none; 2 usage, a write or memory.",
+            "svid id does not read standard input.{n}{n}Exit status: 0 the text is a SPIFFE ID; 1 it is not; 2 a usage error, a failed write or out of memory.",
         )
         .arg(text)
 }
@@ -37,7 +37,7 @@ fn files_argument<'a>(alloc: Global) -> Arg<'a> {
         .value_name("FILE")
         .num_args(0..)
         .action(ArgAction::Append)
-        .help("Files of messages; standard input where there is none")
+        .help("Files of messages; standard input if you name none")
 }
 
 // The moment to which a record is raised.
@@ -47,15 +47,15 @@ fn now_option<'a>(alloc: Global) -> Arg<'a> {
         .value_name("N")
         .value_parser(clap::value_parser!(u64))
         .help(
-            "Drop what has expired by N: a time in seconds, to which the record's clock is advanced",
+            "Advance the record's clock to N, in seconds since 1970, and drop what has expired by then",
         )
 }
 
 fn merge_command<'a>(alloc: Global) -> Result<Command<'a>, AllocError> {
     Command::new(alloc, "merge")
-        .about("Joins the batches of the inputs, and writes the record as the texts of its batches")
+        .about("Combine the records of all inputs, and write the result")
         .after_help(
-            "Standard input is read where no FILE is named: messages, to their end.{n}{n}The shell empties the file behind > before svid runs: `svid merge a b > a` loses a. Write to a new file, and move it. An empty file is an empty record, and a record that was cut at the end of a message reads well.{n}{n}Exit status: 0 the record was written; 1 an input was refused; 2 usage, a file, a write or memory.",
+            "If you name no FILE, svid reads messages from standard input, to its end.{n}{n}Never write to a file that you read: the shell empties it before svid runs, so `svid merge a b > a` loses a. Write to a new file, and move that. svid reads an empty file as an empty record, and does not notice when a record was cut off at the end of a message.{n}{n}Exit status: 0 svid wrote the record; 1 it rejected an input; 2 a usage error, a file that does not open, a failed write or out of memory.",
         )
         .arg(now_option(alloc))?
         .arg(files_argument(alloc))
@@ -63,9 +63,9 @@ fn merge_command<'a>(alloc: Global) -> Result<Command<'a>, AllocError> {
 
 fn summary_command<'a>(alloc: Global) -> Result<Command<'a>, AllocError> {
     Command::new(alloc, "summary")
-        .about("Joins the batches of the inputs, and writes the summary of the record")
+        .about("Write a summary of the combined record, for the `answer` of another validator")
         .after_help(
-            "Standard input is read where no FILE is named: messages, to their end.{n}{n}Exit status: 0 the summary was written; 1 an input was refused; 2 usage, a file, a write or memory.",
+            "If you name no FILE, svid reads messages from standard input, to its end.{n}{n}Exit status: 0 svid wrote the summary; 1 it rejected an input; 2 a usage error, a file that does not open, a failed write or out of memory.",
         )
         .arg(files_argument(alloc))
 }
@@ -75,13 +75,13 @@ fn answer_command<'a>(alloc: Global) -> Result<Command<'a>, AllocError> {
         .long("summary")
         .value_name("FILE")
         .required(true)
-        .help("A file of one summary");
+        .help("The file with the other validator's summary");
     Command::new(alloc, "answer")
         .about(
-            "Joins the batches of the inputs, and writes all uses of the buckets whose digests differ from a summary's",
+            "Write what a validator lacks, as its summary tells: all uses of the buckets that differ",
         )
         .after_help(
-            "Standard input is read where no FILE is named as an argument: messages, to their end.{n}{n}Exit status: 0 the answer was written; 1 an input was refused; 2 usage, a file, a write or memory.",
+            "If you name no FILE, svid reads messages from standard input, to its end.{n}{n}Exit status: 0 svid wrote the answer; 1 it rejected an input; 2 a usage error, a file that does not open, a failed write or out of memory.",
         )
         .arg(summary)?
         .arg(files_argument(alloc))
@@ -89,9 +89,9 @@ fn answer_command<'a>(alloc: Global) -> Result<Command<'a>, AllocError> {
 
 fn report_command<'a>(alloc: Global) -> Result<Command<'a>, AllocError> {
     Command::new(alloc, "report")
-        .about("Joins the batches of the inputs, and prints the uses and the keys used twice")
+        .about("Print the uses in the combined record, and the keys that were used twice")
         .after_help(
-            "Standard input is read where no FILE is named: messages, to their end.{n}{n}The page dist/svid.html of the sources shows the same in a browser.{n}{n}Exit status: 0 the report was printed; 1 an input was refused; 2 usage, a file, a write or memory.",
+            "If you name no FILE, svid reads messages from standard input, to its end.{n}{n}The page dist/svid.html of the sources shows the same in a browser.{n}{n}Exit status: 0 svid printed the report; 1 it rejected an input; 2 a usage error, a file that does not open, a failed write or out of memory.",
         )
         .arg(now_option(alloc))?
         .arg(files_argument(alloc))
@@ -102,13 +102,11 @@ fn candidates_command<'a>(alloc: Global) -> Result<Command<'a>, AllocError> {
         .long("bundles")
         .value_name("FILE")
         .required(true)
-        .help("A file of trust bundles");
+        .help("A file of trust bundles, as JSON");
     Command::new(alloc, "candidates")
-        .about(
-            "Prints for each key that may have signed the token of standard input the question whether it did",
-        )
+        .about("Print one question for each key that could have signed the token on standard input")
         .after_help(
-            "Standard input is read to its end: the first line that is not empty is the token.{n}{n}Exit status: 0 a key may have signed it; 1 the token or the bundles are refused; 2 usage, a file, a write or memory.",
+            "The token is the first line of standard input that is not empty; svid reads to the end.{n}{n}Exit status: 0 svid printed a question or more; 1 it rejected the token or the bundles; 2 a usage error, a file that does not open, a failed write or out of memory.",
         )
         .arg(bundles)
 }
@@ -127,33 +125,33 @@ fn check_command<'a>(alloc: Global) -> Result<Command<'a>, AllocError> {
         .value_name("N")
         .required(true)
         .value_parser(clap::value_parser!(u64))
-        .help("The moment of the checks, in seconds");
+        .help("The current time, in seconds since 1970");
     let place = Arg::new(alloc, "place")
         .long("place")
         .value_name("P")
         .required(true)
-        .help("What tells this validator from every other one: 32 hexadecimal digits");
+        .help("The ID of this validator: 32 hexadecimal digits that no other validator has");
     let longest = Arg::new(alloc, "longest")
         .long("longest")
         .value_name("N")
         .value_parser(clap::value_parser!(u64))
         .help(
-            "How many seconds past the moment of the checks, or of the record where that is greater, a token may expire; without it, any number",
+            "Reject a token that expires more than N seconds after --now, or after the record's clock if that is later",
         );
     let audience = Arg::new(alloc, "audience")
         .value_name("AUD")
         .required(true)
         .num_args(1..)
         .action(ArgAction::Append)
-        .help("The validator's own audiences");
+        .help("Your audiences: a token must name one of them");
     Command::new(alloc, "check")
-        .about("Checks each token of standard input: accepted, or the first refusal")
+        .about("Check each token on standard input, and print whether it is accepted or why not")
         .after_help(
-            "Standard input is read to its end: each line that is not empty is a token.{n}{n}--record and --out may name the same file. --out replaces it whole before the first line is printed, and leaves it as it was where the check fails. Two checks that run at once with the same --out keep the uses of one alone. An empty file is an empty record, and a record that was cut at the end of a message reads well.{n}{n}Exit status: 0 each token is accepted; 1 a token or an input is refused; 2 usage, the place, a file, a write or memory.",
+            "Each line of standard input that is not empty is a token; svid reads to the end.{n}{n}--record and --out may name the same file. svid replaces that file as a whole before it prints the first line, and leaves it as it was if the check fails. If two checks run at once with the same --out, the uses of one are lost. svid reads an empty file as an empty record, and does not notice when a record was cut off at the end of a message.{n}{n}Exit status: 0 svid accepted every token; 1 it rejected a token or an input; 2 a usage error, a bad --place, a file that does not open, a failed write or out of memory.",
         )
-        .arg(file_option(alloc, "bundles", true).help("A file of trust bundles"))?
+        .arg(file_option(alloc, "bundles", true).help("A file of trust bundles, as JSON"))?
         .arg(file_option(alloc, "table", true).help(
-            "A file of the questions to which a verifier said yes",
+            "A file of the questions that your verifier answered with yes",
         ))?
         .arg(now)?
         .arg(place)?
@@ -161,11 +159,11 @@ fn check_command<'a>(alloc: Global) -> Result<Command<'a>, AllocError> {
             file_option(alloc, "record", false)
                 .action(ArgAction::Append)
                 .help(
-                    "A file of messages: the record that the checks begin with; may be given more than once",
+                    "A file of messages to begin with, such as an earlier --out; you may name several",
                 ),
         )?
         .arg(file_option(alloc, "out", false).help(
-            "The file that gets the record after the last check",
+            "The file to write the record to, after the last check",
         ))?
         .arg(longest)?
         .arg(audience)
@@ -177,9 +175,9 @@ fn svid_command<'a>(alloc: Global) -> Result<Command<'a>, AllocError> {
         Command::new(alloc, "svid")
             .bin_name("svid")?
             .version(VERSION)
-            .about("Checks SPIFFE JWT-SVIDs, and keeps the record of those that were used")
+            .about("Check SPIFFE JWT-SVIDs, and keep the record of the tokens that were used")
             .after_help(
-                "Standard input is read by check and candidates, and by report, merge, summary and answer where no FILE is named.{n}{n}Exit status: 0 the answer is yes; 1 something was refused; 2 usage, a file, a write or memory.",
+                "check and candidates read standard input; report, merge, summary and answer read it if you name no FILE.{n}{n}Exit status: 0 success; 1 svid rejected a token or an input; 2 a usage error, a file that does not open, a failed write or out of memory.",
             )
             .subcommand_required(true),
     )

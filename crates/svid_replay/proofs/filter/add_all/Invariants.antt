@@ -5,6 +5,6 @@ use Rattle.svid_replay.proofs.filter.add_all.Given as goal
 
 abbrev pub invariant-loop-used : goal.invariant-loop-used
 invariant-loop-used l = record {
-  long : length l.words ≡ length l.fn.words;
-  known : AllByRecursion (λ u. HasBits l.words u.key) (take l.used-index l.uses);
+  long : length l.key_filter ≡ length l.fn.key_filter;
+  known : AllByRecursion (λ u. HasBits l.key_filter u.key) (take l.used-index l.uses);
 }

@@ -4,7 +4,7 @@ use Rattle.std.proofs.lemmas.List.Kept.{IsStrictlySortedBy-dedup}
 use Rattle.std.proofs.lemmas.List.Sorted.{list_any-IsPermutation}
 use Rattle.std.specs.List.{list_any}
 use Rattle.std.specs.Ordering.{eq_by_cmp}
-use Rattle.svid_replay.specs.Keys.{AreKeys, until_cmp, until_of}
+use Rattle.svid_replay.specs.Keys.{AreKeys, expiry_cmp, expiry_of}
 use Rattle.svid_replay.proofs.KeysLemmas.{any_dedup, any_until, until_tied, until_total}
 use Rattle.svid_replay.proofs.keys.keys_of.Goals as goal
 
@@ -13,5 +13,5 @@ returns-clause-sorted c = subst AreKeys (sym c.drop_repeats.ensures) (IsStrictly
 
 pub returns-clause-told : goal.returns-clause-told
 returns-clause-told c = λ p.
-    ap (list_any p) c.drop_repeats.ensures ∙ any_dedup (eq_by_cmp until_cmp) p until_tied _ ∙ sym (list_any-IsPermutation p _ _ c.sort_unstable.ensures.permutation)
-    ∙ ap (list_any p) (c.loop-used.invariant ∙ ap (map until_of) (take_all c.loop-used.used-index c.args.uses.now (omega (arith, c.loop-used-test.false)))) ∙ any_until p c.args.uses.now
+    ap (list_any p) c.drop_repeats.ensures ∙ any_dedup (eq_by_cmp expiry_cmp) p until_tied _ ∙ sym (list_any-IsPermutation p _ _ c.sort_unstable.ensures.permutation)
+    ∙ ap (list_any p) (c.loop-used.invariant ∙ ap (map expiry_of) (take_all c.loop-used.used-index c.args.uses.now (omega (arith, c.loop-used-test.false)))) ∙ any_until p c.args.uses.now

@@ -5,10 +5,10 @@ use Rattle.svid_replay.proofs.KeysLemmas.{tell_first, tell_second, tell_withdraw
 use Rattle.svid_replay.proofs.keys.tell_key.Goals as goal
 
 pub returns-then-withdrawn : goal.returns-then-withdrawn
-returns-then-withdrawn c us told = c.has_mark.ensures us told ∙ tell_withdrawal c.args.key.now us ∙ ap (λ w. list_any (is_sought w c.args.key.now) us) (sym c.if-withdrawn.true)
+returns-then-withdrawn c us told = c.has_kind.ensures us told ∙ tell_withdrawal c.args.key.now us ∙ ap (λ w. list_any (is_sought w c.args.key.now) us) (sym c.if-withdrawn.true)
 
-pub returns-then-has_mark : goal.returns-then-has_mark
-returns-then-has_mark c us told = tell_first c.args.key.now us c.args.withdrawn _ c.if-withdrawn.false (c.has_mark-2.ensures us told) c.if-has_mark.true
+pub returns-then-has_kind : goal.returns-then-has_kind
+returns-then-has_kind c us told = tell_first c.args.key.now us c.args.withdrawn _ c.if-withdrawn.false (c.has_kind-2.ensures us told) c.if-has_kind.true
 
-pub returns-else-has_mark : goal.returns-else-has_mark
-returns-else-has_mark c us told = tell_second c.args.key.now us c.args.withdrawn _ _ c.if-withdrawn.false (c.has_mark-2.ensures us told) c.if-has_mark.false (c.has_mark-else-has_mark.ensures us told)
+pub returns-else-has_kind : goal.returns-else-has_kind
+returns-else-has_kind c us told = tell_second c.args.key.now us c.args.withdrawn _ _ c.if-withdrawn.false (c.has_kind-2.ensures us told) c.if-has_kind.false (c.has_kind-else-has_kind.ensures us told)

@@ -23,5 +23,5 @@ pub returns-in_ok-insert-in-Err-clause-ok : goal.returns-in_ok-insert-in-Err-cla
 returns-in_ok-insert-in-Err-clause-ok c = ap uses_in c.in_ok-insert-in-Err.ensures.items ∙ uses_in-insert c.args.uses.now.items c.in-Err.place c.args.new
 
 pub returns-in_ok-insert-in-Err-clause-known : goal.returns-in_ok-insert-in-Err-clause-known
-returns-in_ok-insert-in-Err-clause-known c = λ words here known.
-    subst (AllByRecursion (λ u. HasBits words u.key)) (sym c.in_ok-insert-in-Err.ensures.items) (known_insert words c.args.uses.now.items c.in-Err.place c.args.new here known)
+returns-in_ok-insert-in-Err-clause-known c = λ key_filter here known.
+    subst (AllByRecursion (λ u. HasBits key_filter u.key)) (sym c.in_ok-insert-in-Err.ensures.items) (known_insert key_filter c.args.uses.now.items c.in-Err.place c.args.new here known)

@@ -11,9 +11,9 @@ drop_front-requires c = omega (arith, front_is c.args.moment _ _ _ c.count_expir
 
 pub invariant_of-self : goal.invariant_of-self
 invariant_of-self c = record {
-  long = c.words_of-self-inside.ensures.long;
+  long = c.filter_of_front-self-inside.ensures.long;
   rising = left_rises c.self.inside.uses.items c.args.moment _ _ c.self.invariant.rising (record { front = front_is c.args.moment _ _ _ c.count_expired-expired.ensures c.deref.ensures.value; rest = c.drop_front.ensures });
-  known = subst (AllByRecursion (λ u. HasBits c.words_of-self-inside.result u.key)) c.deref-2.ensures.value c.words_of-self-inside.ensures.known;
+  known = subst (AllByRecursion (λ u. HasBits c.filter_of_front-self-inside.result u.key)) c.deref-2.ensures.value c.filter_of_front-self-inside.ensures.known;
 }
 
 pub returns-clause-bound : goal.returns-clause-bound

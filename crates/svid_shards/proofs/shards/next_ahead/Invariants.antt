@@ -1,0 +1,18 @@
+use Rattle.std.proofs.Common.{◌≡◌, ◌≤◌, ◌-◌, ◌++◌, length, map}
+use Rattle.std.specs.List.{filter}
+use Rattle.svid_replay.specs.Batches.{is_after}
+use Rattle.svid_replay.specs.Sets.{rising}
+use Rattle.svid_replay.specs.Walks.{exp_if_any}
+use Rattle.svid_shards.specs.Shards.{all_in, heads_of}
+use Rattle.svid_shards.proofs.shards.next_ahead.Given as goal
+
+-- the room has what is in front of what is left, and it is known when the first of each shard expires
+abbrev pub invariant-loop-used : goal.invariant-loop-used
+invariant-loop-used g l = let ss = map g.S.UseStore.content l.shards in record {
+  heads : l.ahead.heads ≡ map exp_if_any (heads_of ss l.ahead.after);
+  few : length l.room ≤ 64;
+  parts : l.room ++ filter (is_after l.ahead.after) (rising (all_in ss)) ≡ filter (is_after l.fn.after) (rising (all_in ss));
+}
+
+abbrev pub decreases-loop-used : goal.decreases-loop-used
+decreases-loop-used g l = 64 - length l.room
