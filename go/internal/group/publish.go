@@ -59,6 +59,9 @@ func newPublisher(conn *nats.Conn) (*publisher, error) {
 // publish returns nil once the broker has stored the value. It waits as long as wait, and no longer than ctx. The error is
 // that of the broker where it refused the value; after any other one it may be stored or not.
 func (p *publisher) publish(ctx context.Context, wait time.Duration, m *nats.Msg) error {
+	if err := ctx.Err(); err != nil {
+		return err // and nothing is sent
+	}
 	it := p.add(m)
 	timer := time.NewTimer(wait)
 	defer timer.Stop()

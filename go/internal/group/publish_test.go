@@ -50,6 +50,9 @@ func TestValuesGatherWhileAnswersAreDue(t *testing.T) {
 		t.Error("a claim whose time is up before it was sent: ", won, err)
 	}
 	awaitGathered(t, a.out, values)
+	if err := a.out.publish(impatient, attemptWait, &nats.Msg{Subject: a.subject + "u.late"}); !errors.Is(err, context.Canceled) {
+		t.Error("a value that was given up before: ", err)
+	}
 	done()
 	for n := 0; n < values; n++ {
 		if err := <-told; err != nil {
