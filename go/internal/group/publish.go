@@ -13,7 +13,7 @@ import (
 	"github.com/nats-io/nats.go"
 )
 
-// gatherWait is how long values gather at the most, where the answers to those before them stay away.
+// gatherWait is how long behind the last values others gather, where answers stay away.
 const gatherWait = 2 * time.Millisecond
 
 // errNoAnswer: the broker may have stored the value, or not.
@@ -32,6 +32,7 @@ type publisher struct {
 	due    map[uint64]*publication
 	gather []*publication
 	sent   time.Time // when values went out last
+	armed  bool      // overdue will be called
 }
 
 // A publication is one value on its way.
@@ -92,7 +93,14 @@ func (p *publisher) add(m *nats.Msg) *publication {
 
 // next returns the values that are to go out now. The caller holds mu.
 func (p *publisher) next() []*publication {
-	if len(p.gather) == 0 || len(p.due) > 0 && time.Since(p.sent) < gatherWait {
+	if len(p.gather) == 0 {
+		return nil
+	}
+	if left := gatherWait - time.Since(p.sent); len(p.due) > 0 && left > 0 {
+		if !p.armed {
+			p.armed = true
+			time.AfterFunc(left, p.overdue)
+		}
 		return nil
 	}
 	next := p.gather
@@ -101,6 +109,15 @@ func (p *publisher) next() []*publication {
 		p.due[it.number] = it
 	}
 	return next
+}
+
+// overdue sends what gathers though answers stay away.
+func (p *publisher) overdue() {
+	p.mu.Lock()
+	p.armed = false
+	next := p.next()
+	p.mu.Unlock()
+	p.send(next)
 }
 
 // send sends values. None is sent twice, whatever fails.

@@ -3,6 +3,7 @@ package group
 import (
 	"context"
 	"errors"
+	"fmt"
 	"testing"
 	"time"
 
@@ -73,11 +74,16 @@ func TestALostAnswerHoldsNobodyUp(t *testing.T) {
 	s := natstest.Start(t)
 	a := join(t, options(1, s.URL))
 	busy(a.out)
-	a.out.mu.Lock()
-	a.out.sent = time.Now().Add(-gatherWait)
-	a.out.mu.Unlock()
-	if won, _, err := a.Claim(patience(t), soon(), key(1), batch(key(1), a.place)); !won || err != nil {
-		t.Error(won, err)
+	for n, since := range []time.Duration{0, gatherWait / 2, gatherWait} {
+		a.out.mu.Lock()
+		a.out.sent = time.Now().Add(-since)
+		a.out.mu.Unlock()
+		if err := a.out.publish(patience(t), time.Minute, &nats.Msg{Subject: fmt.Sprint(a.subject, "u.", n)}); err != nil {
+			t.Error(since, err)
+		}
+	}
+	if n := len(a.out.due); n != 1 {
+		t.Errorf("%d answers are due, want the lost one", n)
 	}
 }
 
