@@ -201,7 +201,7 @@ func checkBundle(domain string, document json.RawMessage) error {
 	return nil
 }
 
-// renew is told of each change of the bundles.
+// renew runs at each change of the bundles.
 func (s *sidecar) renew(domains map[string]json.RawMessage) {
 	if err := s.engine.SetBundles(domains); err != nil {
 		s.log.Error("bundles", err)

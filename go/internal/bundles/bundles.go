@@ -33,7 +33,7 @@ const (
 
 // Options say what Watch needs beside its sources. Each field may be left out.
 type Options struct {
-	// Log is told what an operator may want to know: an event, and names and values by turns. It is called from
+	// Log receives what an operator may want to know: an event, and names and values by turns. It is called from
 	// several goroutines.
 	Log func(event string, fields ...any)
 	// Check judges a bundle that was read before it takes the place of the last good one. The validator's own reader
@@ -73,7 +73,7 @@ type bundle struct {
 
 // Watch reads the files and folders of the specs, begins to ask the addresses, and goes on until ctx ends.
 //
-// onChange is told all bundles by trust domain, at the start if one could be read, and whenever one has changed. It
+// onChange receives all bundles by trust domain, at the start if one could be read, and whenever one has changed. It
 // must not change the documents, and may not call the watcher. An error says that a spec is bad; a source that can't be
 // read is none, since it may come.
 func Watch(ctx context.Context, specs []Spec, onChange func(domains map[string]json.RawMessage), o Options) (*Watcher, error) {

@@ -56,7 +56,7 @@ type Options struct {
 	Replicas int
 	// Connect holds further options of the connection: credentials, certificates.
 	Connect []nats.Option
-	// Log is told what an operator may want to know: an event, and names and values by turns. It may be nil, and is
+	// Log receives what an operator may want to know: an event, and names and values by turns. It may be nil, and is
 	// called from several goroutines.
 	Log func(event string, fields ...any)
 }
