@@ -1,10 +1,11 @@
-/* A library to preload under the tests: it refuses the nth allocation from the moment at which a test
-   asks for it, so that a test can have each growth of a call refused in turn.
+/* A library to preload under a program: it refuses the nth allocation, so that a test can have each growth
+   refused in turn.
 
-   A test commands it by sizes that no allocator can give:
+   Of a program as it is, it refuses the nth allocation from its start (n from 1), where the environment variable
+   FAILMALLOC_FIRST names one. A program that knows of it, as svid_script does, commands it by sizes that no
+   allocator can give:
      2^62 + n          refuse the nth allocation that follows (n from 1; 0: refuse none); itself refused
      2^62 + 2^61       is "given" exactly where an allocation was refused since the last command
-   Without this library both are refused, and the same test runs its happy path alone.
 
    At exit it writes how many allocations it refused, a number and a line end, to the file descriptor
    that the environment variable FAILMALLOC_COUNT_FD names.
@@ -59,16 +60,28 @@ void *calloc(size_t count, size_t size)
     return is_due(size) ? 0 : __libc_calloc(count, size);
 }
 
+/* The number that an environment variable has; 0 where it has none. */
+static size_t number_of(const char *name)
+{
+    const char *digits = getenv(name);
+    size_t number = 0;
+    for (; digits && *digits >= '0' && *digits <= '9'; digits++)
+        number = number * 10 + (size_t)(*digits - '0');
+    return number;
+}
+
+__attribute__((constructor)) static void begin(void)
+{
+    countdown = number_of("FAILMALLOC_FIRST");
+}
+
 __attribute__((destructor)) static void tell(void)
 {
-    const char *name = getenv("FAILMALLOC_COUNT_FD");
     char text[24];
-    int at = sizeof text, fd = 0;
+    int at = sizeof text, fd = (int)number_of("FAILMALLOC_COUNT_FD");
     size_t left = refused_in_all;
-    if (!name || !*name)
+    if (fd == 0)
         return;
-    for (; *name >= '0' && *name <= '9'; name++)
-        fd = fd * 10 + (*name - '0');
     text[--at] = '\n';
     do {
         text[--at] = '0' + left % 10;

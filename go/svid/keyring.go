@@ -10,10 +10,8 @@ static uint32_t ask(svid_validator *v, _GoString_ token, uint8_t *out, size_t ou
 import "C"
 
 import (
-	"encoding/base64"
 	"encoding/binary"
 	"runtime"
-	"strings"
 	"sync"
 )
 
@@ -106,13 +104,19 @@ func (k *Keyring) Close() {
 // it has one. The error is a Refusal, TooLong to Jti, UnknownDomain or NoKey, if
 // the token is rejected whatever its signature is.
 func (k *Keyring) Candidates(token string) ([]Candidate, error) {
+	candidates, _, err := k.candidates(token)
+	return candidates, err
+}
+
+// candidates returns also the cache of the bundles that the candidates are of.
+func (k *Keyring) candidates(token string) ([]Candidate, *keyCache, error) {
 	k.mu.RLock()
 	defer k.mu.RUnlock()
 	a := <-k.askers
 	defer func() { k.askers <- a }()
 	rows, err := a.ask(token)
 	if err != nil {
-		return nil, err
+		return nil, nil, err
 	}
 	var candidates []Candidate
 	for len(rows) > 0 {
@@ -124,7 +128,7 @@ func (k *Keyring) Candidates(token string) ([]Candidate, error) {
 		c.Algorithm, c.Key = algorithmName(name), k.keys.get(key)
 		candidates = append(candidates, c)
 	}
-	return candidates, nil
+	return candidates, k.keys, nil
 }
 
 // ask returns the library's rows about the token. They are good until the next ask.
@@ -156,22 +160,29 @@ const MaxCandidates = 64
 // the first MaxCandidates, until one made it, and returns that key's question for Validator.Check. It returns no
 // question and no error if no candidate made the signature: the validator then
 // rejects the token as BadSignature, or for what comes before that. The error is
-// that of Candidates.
+// that of Candidates. A token with a good signature may get its question though
+// Candidates would reject it: the validator rejects it too.
 func (k *Keyring) Verify(token string) ([]Question, error) {
-	candidates, err := k.Candidates(token)
+	s, whole := cutToken(token)
+	if whole {
+		if p := k.planOf(&s); p != nil {
+			return p.verify(&s)
+		}
+	}
+	candidates, keys, err := k.candidates(token)
 	if err != nil {
 		return nil, err
 	}
-	end := strings.LastIndexByte(token, '.')
-	signature, err := base64.RawURLEncoding.Strict().DecodeString(token[end+1:])
+	signature, err := s.signatureBytes()
 	if err != nil {
-		return nil, SignatureSpelling
+		return nil, err
 	}
 	if len(candidates) > MaxCandidates {
 		candidates = candidates[:MaxCandidates]
 	}
-	for _, c := range candidates {
-		if c.Key.Verify(c.Algorithm, token[:end], signature) == nil {
+	for i, c := range candidates {
+		if c.Key.Verify(c.Algorithm, s.signed, signature) == nil {
+			keys.keep(&s, candidates, i, signature)
 			return []Question{c.Question}, nil
 		}
 	}
@@ -179,13 +190,17 @@ func (k *Keyring) Verify(token string) ([]Question, error) {
 }
 
 // A keyCache has each key of the bundles parsed once, by its JSON text: a kid is
-// not unique. It holds no more keys than the bundles do.
+// not unique. It holds no more keys than the bundles do. plans are by header and
+// trust domain.
 type keyCache struct {
-	mu   sync.RWMutex
-	keys map[string]*Key
+	mu    sync.RWMutex
+	keys  map[string]*Key
+	plans map[planName]*plan
 }
 
-func newKeyCache() *keyCache { return &keyCache{keys: make(map[string]*Key)} }
+func newKeyCache() *keyCache {
+	return &keyCache{keys: make(map[string]*Key), plans: make(map[planName]*plan)}
+}
 
 func (c *keyCache) get(text []byte) *Key {
 	c.mu.RLock()

@@ -8,7 +8,7 @@ use Rattle.std.proofs.lemmas.Bool.{and_from, and_parts, cases_Bool, cases_lt, eq
 use Rattle.std.proofs.lemmas.Cmp.{nat_list_cmp_total, tied_itself}
 use Rattle.std.proofs.lemmas.List.Elements.{All-get_or}
 use Rattle.svid_replay.specs.declared.token_use.Use.{Use}
-use Rattle.svid_replay.specs.Buckets.{bucket, bucket_digest, bucket_of, bucket_text, differs, stale, summary_of}
+use Rattle.svid_replay.specs.Buckets.{bucket, bucket_digest, bucket_of, bucket_text, differs, digests_of, stale, summary_of}
 use Rattle.svid_replay.specs.Records.{State}
 use Rattle.svid_replay.specs.Sets.{holds, rising}
 use Rattle.svid_replay.specs.Summary.{SummaryData}
@@ -138,8 +138,9 @@ one_text a t u below none same =
     let b = bucket_of u in
     let mine = bucket_text b a.uses in
     let theirs = bucket_text b t in
-    let said : bucket_digest b t ≡ slice_index_or (summary_of a).digests b [] = same_bytes (bucket_digest b t) (slice_index_or (summary_of a).digests b []) (not-false (is_same (bucket_digest b t) (slice_index_or (summary_of a).digests b [])) same) in
-    let digests : bucket_digest b a.uses ≡ bucket_digest b t = sym (said ∙ summary_digest a b below) in
+    let own = slice_index_or (digests_of t) b [] in
+    let said : own ≡ slice_index_or (summary_of a).digests b [] = same_bytes own (slice_index_or (summary_of a).digests b []) (not-false (is_same own (slice_index_or (summary_of a).digests b [])) same) in
+    let digests : bucket_digest b a.uses ≡ bucket_digest b t = sym (sym (digest_at t b [] below) ∙ said ∙ summary_digest a b below) in
     elim (cases_Bool (is_same mine theirs)) [
       | inl k ↦ same_bytes mine theirs k
       | inr k ↦ absurd (false≢true (sym none ∙ and_from (not (is_same mine theirs)) (is_same (bucket_digest b a.uses) (bucket_digest b t)) (not_from_false (is_same mine theirs) k) (tied_bytes (bucket_digest b a.uses) (bucket_digest b t) digests)))

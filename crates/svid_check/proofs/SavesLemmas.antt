@@ -1,20 +1,17 @@
 -- Pieces of a record.
-use Rattle.std.proofs.Common.{◌≡◌, ℕ, zero, suc, ◌≤◌, min, Bool, true, false, cond, List, [], ◌∷◌, ◌++◌, length, take, Option, Some, None, sym, ap, ◌∙◌, arith}
-use Rattle.std.specs.Prelude.{find}
+use Rattle.std.proofs.Common.{◌≡◌, ℕ, zero, suc, ◌≤◌, min, Bool, true, false, cond, List, [], ◌∷◌, length, take, Option, arith}
 use Rattle.std.specs.List.{AllByRecursion, filter}
 use Rattle.std.specs.List.Sorted.{IsStrictlySortedBy}
-use Rattle.std.proofs.lemmas.List.{append-nil, append_assoc, length-take, take_all}
+use Rattle.std.proofs.lemmas.List.{length-take}
 use Rattle.std.proofs.lemmas.List.Kept.{IsStrictlySortedBy-filter}
 use Rattle.svid_replay.specs.declared.token_use.Use.{Use}
 use Rattle.svid_replay.specs.Batches.{IsBatch, is_after}
 use Rattle.svid_replay.specs.Records.{IsHeldAt, IsRecord, State}
 use Rattle.svid_replay.specs.Sets.{rising}
 use Rattle.svid_replay.specs.Use.{IsRising, use_cmp}
-use Rattle.svid_replay.specs.Uses.{Uses}
 use Rattle.svid_replay.proofs.ListLemmas.{each_take}
 use Rattle.svid_replay.proofs.PartsLemmas.{each_held, held_is_batch}
 use Rattle.svid_replay.proofs.SetsLemmas.{rising_rises}
-use Rattle.svid_replay.proofs.UsesLemmas.{next_is, none_left}
 use Rattle.svid_check.specs.Saves.{uses_after}
 
 each_kept : (P : Use → Type 0) (p : Use → Bool) (us : List Use) → AllByRecursion P us → AllByRecursion P (filter p us)
@@ -38,16 +35,3 @@ piece_is_batch r after most n moment us is few same at =
     rw (same, at) (held_is_batch r.moment (take n kept) is.moment fits
     (rises_take n kept (IsStrictlySortedBy-filter use_cmp (is_after after) (rising r.uses) (rising_rises use_cmp r.uses)))
     (each_take (IsHeldAt r.moment) n kept (each_kept (IsHeldAt r.moment) (is_after after) (rising r.uses) (each_held r is))))
-
--- where no use is left, those that were put away are all
-pub piece_ends : (s : Uses) (last after : Option Use) (most : ℕ) (items : List Use) → items ++ filter (is_after last) (rising s) ≡ filter (is_after after) (rising s) → length items ≤ most → find (is_after last) (rising s) ≡ None
-    → items ≡ uses_after s after most
-piece_ends s last after most items so_far few none =
-    sym (take_all most items few) ∙ ap (take most) (sym (append-nil items) ∙ ap (λ rest. items ++ rest) (sym (none_left (is_after last) (rising s) none)) ∙ so_far)
-
--- a use more is put away
-pub piece_goes_on : (s : Uses) (last after : Option Use) (u : Use) (items more : List Use) → items ++ filter (is_after last) (rising s) ≡ filter (is_after after) (rising s) → find (is_after last) (rising s) ≡ Some u → more ≡ items ++ u ∷ []
-    → more ++ filter (is_after (Some u)) (rising s) ≡ filter (is_after after) (rising s)
-piece_goes_on s last after u items more so_far found is =
-    ap (λ us. us ++ filter (is_after (Some u)) (rising s)) is ∙ append_assoc items (u ∷ []) (filter (is_after (Some u)) (rising s))
-    ∙ ap (λ us. items ++ us) (sym (next_is last (rising s) u (rising_rises use_cmp s) found)) ∙ so_far

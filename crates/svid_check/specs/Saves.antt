@@ -1,17 +1,18 @@
 -- A record that is saved piece by piece.
-use Rattle.std.specs.Prelude.{◌≡◌, ℕ, ◌<◌, ◌≤◌, List, [], ◌∷◌, Option, None, IsTrue, filter, length, min, take}
+use Rattle.std.specs.Prelude.{◌≡◌, ℕ, ◌<◌, ◌≤◌, List, [], ◌∷◌, Option, None, IsTrue, length, min, take}
 use Rattle.svid_replay.specs.declared.token_use.Use.{Use}
-use Rattle.svid_replay.specs.Batches.{BatchData, is_after, last_of}
+use Rattle.svid_replay.specs.Batches.{BatchData, last_of}
 use Rattle.svid_replay.specs.Parts.{join_all}
 use Rattle.svid_replay.specs.Records.{State, state_of}
-use Rattle.svid_replay.specs.Sets.{holds, rising}
+use Rattle.svid_replay.specs.Sets.{holds}
 use Rattle.svid_replay.specs.Uses.{Uses}
+use Rattle.svid_replay.specs.Walks.{uses_behind}
 use Rattle.svid_check.specs.Alone.{Alone, Call, Restart, called}
 use Rattle.svid_check.specs.Runs.{Terms}
 
 -- of the uses of a set that are greater than the one given, or of all, the first so many
 abbrev pub uses_after : Uses → Option Use → ℕ → List Use
-uses_after s after most = take most (filter (is_after after) (rising s))
+uses_after s after most = take most (uses_behind s after)
 
 -- a piece of a record: a batch of its moment with the uses behind the one given, so many of them at most, and at most 65,536
 abbrev pub piece_of : State → Option Use → ℕ → BatchData

@@ -16,14 +16,12 @@ fn uses_after<S: UseStore>(
     ensures { IfOk result (λ uses. uses.items ≡ uses_after replay.now.uses after most) }
 {
     let mut uses = Vec::with_capacity(alloc, replay.len().min(most))?;
-    let mut walk = replay.walk();
-    let mut last = after;
+    let mut walk = replay.walk_after(after);
     while uses.len() < most {
-        let Some(used) = walk.next_after(last) else {
+        let Some(used) = walk.next() else {
             return Ok(uses);
         };
         uses.push(used)?;
-        last = Some(used);
     }
     Ok(uses)
 }

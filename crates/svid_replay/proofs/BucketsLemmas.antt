@@ -1,8 +1,7 @@
-use Rattle.std.proofs.Common.{◌≡◌, ℕ, ◌<◌, ◌≤◌, ◌+◌, ◌≢◌, ◌==◌, nat_eq, subst, true, false, Bool, List, [], ◌∷◌, ◌++◌, map, length, get_or, ap, sym, refl, ◌∙◌, arith, find, Option, None, Some, not}
+use Rattle.std.proofs.Common.{◌≡◌, ℕ, ◌<◌, ◌≤◌, ◌+◌, ◌≢◌, ◌==◌, nat_eq, subst, true, false, Bool, List, [], ◌∷◌, map, length, get_or, ap, sym, refl, ◌∙◌, arith, Option, not}
 use Rattle.std.specs.List.{AllByRecursion, filter, flat_map, range_with_len}
 use Rattle.std.proofs.lemmas.List.{same_lists}
 use Rattle.std.proofs.lemmas.List.FromFn.{get_or-map-range_with_len, length-map-range_with_len}
-use Rattle.std.proofs.lemmas.List.Elements.{All-get_or}
 use Rattle.std.proofs.lemmas.Cmp.{nat_list_cmp_total, tied_itself}
 use Rattle.std.specs.Ordering.{is_eq}
 use Rattle.sha2.specs.Sha256.{sha256}
@@ -11,22 +10,21 @@ use Rattle.std.proofs.Math.ListN.{set}
 use Rattle.std.proofs.lemmas.Bool.{eqb-true, eqb-false}
 use Rattle.std.proofs.lemmas.List.{get_or-set_same, get_or-set_other, length-set}
 use Rattle.svid_replay.specs.declared.token_use.Use.{Use}
-use Rattle.svid_replay.specs.Batches.{is_after}
-use Rattle.svid_replay.specs.Buckets.{answer_to, bucket_of, bucket_digest, differs, digests_of, raised_to, stale, summary_of, BucketHoldsItsUses, StaleHoldsDiffering, RaisedIsRecord, AnswerIsBatches, OwnSummaryAsksNothing}
+use Rattle.svid_replay.specs.Buckets.{answer_to, bucket_of, bucket_digest, differ_at, differs, digests_of, raised_to, stale, summary_of, BucketHoldsItsUses, StaleHoldsDiffering, RaisedIsRecord, AnswerIsBatches, OwnSummaryAsksNothing}
 use Rattle.svid_replay.specs.Hashers.{HoldBuckets, HoldsText, digests_in, text_in}
 use Rattle.svid_replay.specs.Parts.{cut}
 use Rattle.svid_replay.specs.Records.{State, IsHeldAt, IsRecord, state_of}
 use Rattle.svid_replay.specs.Sets.{holds, keep, rising}
 use Rattle.svid_replay.specs.Summary.{SummaryData}
-use Rattle.svid_replay.specs.Use.{IsUse, bytes_cmp, text_of, use_cmp}
+use Rattle.svid_replay.specs.Use.{text_of}
 use Rattle.svid_replay.specs.Uses.{Uses}
-use Rattle.svid_replay.proofs.ListLemmas.{each_weaker, filter-in, filter-out, none_same}
+use Rattle.svid_replay.proofs.ListLemmas.{each_true, none_same}
 use Rattle.svid_replay.proofs.PartsLemmas.{cut_few, each_held, parts_are_batches}
 use Rattle.svid_replay.proofs.RecordsLemmas.{join_closed, kept_is_record, nothing_held, raised_to_own}
-use Rattle.svid_replay.proofs.SetsLemmas.{holds-keep, rising_rises}
+use Rattle.svid_replay.proofs.SetsLemmas.{holds-keep}
 use Rattle.svid_replay.proofs.TestsLemmas.{and-comm}
 use Rattle.svid_replay.proofs.UseLemmas.{use_exact, use_total}
-use Rattle.svid_replay.proofs.UsesLemmas.{IsWalked, rising-keep, walk_none, walk_more, walk_end}
+use Rattle.svid_replay.proofs.UsesLemmas.{rising-keep}
 
 -- the digests of all buckets
 pub digests_are : (digests : List (List ℕ)) (us : List Use) → length digests ≡ 256 → ((b : ℕ) (d : List ℕ) → b < 256 → get_or digests b d ≡ sha256 (text_in b us)) → digests ≡ digests_in us
@@ -79,38 +77,13 @@ digests_in-rising uses = same_map_all (λ b. sha256 (text_in b (rising uses))) (
     same_map_all f g [] h = refl
     same_map_all f g (n ∷ ns) h = ap (λ d. d ∷ map f ns) (h n) ∙ ap (λ ds. g n ∷ ds) (same_map_all f g ns h)
 
--- the uses that pass a test, by a walk over a set
-pub record HasPicked (test : Use → Bool) (s : Uses) (after : Option Use) (picked : List Use) : Type 0 where
-  pub front : List Use
-  pub walked : IsWalked (rising s) after front
-  pub value : picked ≡ filter test front
-
-pub picks_none : (test : Use → Bool) (s : Uses) (picked : List Use) → picked ≡ [] → HasPicked test s None picked
-picks_none test s picked e = record { front = []; walked = walk_none (rising s); value = e }
-
-pub picks : (test : Use → Bool) (s : Uses) (after : Option Use) (u : Use) (picked new : List Use) → HasPicked test s after picked → find (is_after after) (rising s) ≡ Some u → test u ≡ true → new ≡ picked ++ u ∷ [] → HasPicked test s (Some u) new
-picks test s after u picked new so_far found passes pushed = record {
-  front = so_far.front ++ u ∷ [];
-  walked = walk_more (rising s) after so_far.front u (rising_rises use_cmp s) so_far.walked found;
-  value = pushed ∙ ap (λ us. us ++ u ∷ []) so_far.value ∙ sym (filter-in test so_far.front u passes);
-}
-
-pub passes_over : (test : Use → Bool) (s : Uses) (after : Option Use) (u : Use) (picked : List Use) → HasPicked test s after picked → find (is_after after) (rising s) ≡ Some u → test u ≡ false → HasPicked test s (Some u) picked
-passes_over test s after u picked so_far found fails = record {
-  front = so_far.front ++ u ∷ [];
-  walked = walk_more (rising s) after so_far.front u (rising_rises use_cmp s) so_far.walked found;
-  value = so_far.value ∙ sym (filter-out test so_far.front u fails);
-}
-
+-- what is stale of a set
 rising-stale : (summary : SummaryData) (s : Uses) → rising (stale summary s) ≡ filter (differs summary s) (rising s)
 unfolding stale
 rising-stale summary s = rising-keep (differs summary s) s
 
-pub picked : (test : Use → Bool) (s : Uses) (after : Option Use) (picked : List Use) → HasPicked test s after picked → find (is_after after) (rising s) ≡ None → picked ≡ filter test (rising s)
-picked test s after list so_far none = so_far.value ∙ ap (filter test) (walk_end (rising s) after so_far.front so_far.walked none)
-
-pub picked_stale : (summary : SummaryData) (s : Uses) (after : Option Use) (picked : List Use) → HasPicked (differs summary s) s after picked → find (is_after after) (rising s) ≡ None → picked ≡ rising (stale summary s)
-picked_stale summary s after list so_far none = picked (differs summary s) s after list so_far none ∙ sym (rising-stale summary s)
+pub kept_stale : (summary : SummaryData) (digests : List (List ℕ)) (s : Uses) (us : List Use) → digests ≡ digests_of s → us ≡ rising s → filter (differ_at digests summary.digests) us ≡ rising (stale summary s)
+kept_stale summary digests s us are all = (λ i. filter (differ_at (are i) summary.digests) (all i)) ∙ sym (rising-stale summary s)
 
 -- answers
 pub stale_is_held : (s : SummaryData) (r : State) → IsRecord r → AllByRecursion (IsHeldAt r.moment) (rising (stale s r.uses))
@@ -139,12 +112,9 @@ answer_is_batches r s is fits =
     parts_are_batches (record { moment = raised.moment; uses = keep (differs s raised.uses) raised.uses }) (kept_is_record (differs s raised.uses) raised (raised_to_is_record r s.moment is fits))
 
 -- the digests of a use's bucket agree in a record and its own summary
-own_agrees : (r : State) (u : Use) → IsUse u → differs (summary_of r) r.uses u ≡ false
+own_agrees : (r : State) (u : Use) → differs (summary_of r) r.uses u ≡ false
 unfolding summary_of
-own_agrees r u fields =
-    let b = bucket_of u in
-    let within : b < 256 = All-get_or (λ n. n < 256) u.key 0 0 (omega (arith, fields.key.size)) fields.key.each in
-    ap (λ d. not (is_eq (bytes_cmp (bucket_digest b r.uses) d))) (digest_at r.uses b [] within) ∙ ap (λ o. not (is_eq o)) (tied_itself nat_list_cmp_total (bucket_digest b r.uses))
+own_agrees r u = ap (λ o. not (is_eq o)) (tied_itself nat_list_cmp_total (get_or (digests_of r.uses) (bucket_of u) []))
 
 own_moment : (r : State) → IsRecord r → r ≡ raised_to r (summary_of r).moment
 unfolding summary_of
@@ -153,5 +123,5 @@ own_moment r is = sym (raised_to_own r is)
 pub own_summary_asks_nothing : OwnSummaryAsksNothing
 own_summary_asks_nothing r is =
     let none : rising (stale (summary_of r) r.uses) ≡ [] =
-    rising-stale (summary_of r) r.uses ∙ none_same (differs (summary_of r) r.uses) (rising r.uses) (each_weaker (IsHeldAt r.moment) _ (λ u held. own_agrees r u held.fields) (rising r.uses) (each_held r is)) in
+    rising-stale (summary_of r) r.uses ∙ none_same (differs (summary_of r) r.uses) (rising r.uses) (each_true _ (own_agrees r) (rising r.uses)) in
     sym (answered r r (summary_of r) [] (own_moment r is) (sym none)) ∙ cut_few r.moment [] (omega arith)

@@ -1,5 +1,5 @@
 -- Prefixes of keys.
-use Rattle.std.proofs.Common.{◌≡◌, ◌⊎◌, ⊎_elim, inl, inr, ℕ, suc, ◌<◌, ◌+◌, ◌==◌, Bool, true, false, not, cond, ◌&&◌, ◌||◌, List, [], ◌∷◌, ◌++◌, length, get_or, refl, sym, ◌∙◌, ap, subst, arith, nat_lt, find, Option, None, Some, Err}
+use Rattle.std.proofs.Common.{◌≡◌, ◌⊎◌, ⊎_elim, inl, inr, ℕ, suc, ◌<◌, ◌+◌, ◌==◌, Bool, true, false, not, cond, ◌&&◌, ◌||◌, List, [], ◌∷◌, ◌++◌, length, get_or, refl, sym, ◌∙◌, ap, subst, arith, nat_lt, Err}
 use Rattle.std.proofs.lemmas.Bool.{cases_lt, false≢true}
 use Rattle.std.proofs.lemmas.Bool.Decides.{nat_tests}
 use Rattle.std.proofs.lemmas.List.{length-append}
@@ -10,18 +10,12 @@ use Rattle.std.specs.List.{AllByRecursion, filter, list_any}
 use Rattle.std.specs.List.Sorted.{IsBinarySearchResult, IsNonDecreasing, IsPermutation}
 use Rattle.std.specs.Ordering.{nat_cmp}
 use Rattle.svid_replay.specs.declared.token_use.Use.{Use}
-use Rattle.svid_replay.specs.Batches.{is_after}
 use Rattle.svid_replay.specs.Prefixes.{has_prefix, is_among, IsNoted, prefix_of}
 use Rattle.svid_replay.specs.Runs.{HasBits}
-use Rattle.svid_replay.specs.Sets.{rising}
 use Rattle.svid_replay.specs.Twice.{has_key, twice_of, used, uses_of}
-use Rattle.svid_replay.specs.Use.{use_cmp}
-use Rattle.svid_replay.specs.Uses.{Uses}
 use Rattle.svid_replay.proofs.ListLemmas.{any-filter, each_append, each_true, each_weaker, filter-in, filter-out, found, none_same}
-use Rattle.svid_replay.proofs.SetsLemmas.{rising_rises}
 use Rattle.svid_replay.proofs.TestsLemmas.{and-false, equal, or-true}
 use Rattle.svid_replay.proofs.TwiceLemmas.{key_exact, same-twice_of}
-use Rattle.svid_replay.proofs.UsesLemmas.{IsWalked, walk_none, walk_more, walk_end}
 
 -- what is noted of a use more
 -- where the prefixes have all that they had, and that of the key where a use before has it
@@ -63,21 +57,6 @@ noted_again us u key_filter now prefixes new e pushed noted some others added =
     itself =
         let one : list_any (λ m. m == prefix_of u.key) (prefix_of u.key ∷ []) ≡ true = grind (arith, nat_tests) in
         ap (λ b. has_prefix prefixes u.key || b) one ∙ or-true (has_prefix prefixes u.key)
-
--- what is noted of the uses of a set, by a walk over it
-pub record HasNoted (s : Uses) (after : Option Use) (key_filter prefixes : List ℕ) : Type 0 where
-  pub front : List Use
-  pub walked : IsWalked (rising s) after front
-  pub noted : IsNoted front key_filter prefixes
-
-pub noted_none : (s : Uses) (key_filter prefixes : List ℕ) → 0 < length key_filter → prefixes ≡ [] → HasNoted s None key_filter prefixes
-noted_none s key_filter prefixes some e = record { front = []; walked = walk_none (rising s); noted = record { some = some; known = tt; twice = λ key many. absurd (false≢true many) } }
-
-pub noted_more : (s : Uses) (after : Option Use) (u : Use) (key_filter now prefixes new : List ℕ) → HasNoted s after key_filter prefixes → find (is_after after) (rising s) ≡ Some u → ((before : List Use) → IsNoted before key_filter prefixes → IsNoted (before ++ u ∷ []) now new) → HasNoted s (Some u) now new
-noted_more s after u key_filter now prefixes new so_far found step = record { front = so_far.front ++ u ∷ []; walked = walk_more (rising s) after so_far.front u (rising_rises use_cmp s) so_far.walked found; noted = step so_far.front so_far.noted }
-
-pub noted_end : (s : Uses) (after : Option Use) (key_filter prefixes : List ℕ) → HasNoted s after key_filter prefixes → find (is_after after) (rising s) ≡ None → IsNoted (rising s) key_filter prefixes
-noted_end s after key_filter prefixes so_far none = subst (λ us. IsNoted us key_filter prefixes) (walk_end (rising s) after so_far.front so_far.walked none) so_far.noted
 
 -- the same prefixes in another order
 pub same_numbers : (ns sorted : List ℕ) → IsPermutation ns sorted → (key : List ℕ) → has_prefix sorted key ≡ has_prefix ns key

@@ -1,4 +1,4 @@
-use Rattle.std.proofs.Common.{◌≡◌, ℕ, ◌<◌, ◌≤◌, ◌+◌, ◌^◌, max, suc, Bool, true, false, ◌||◌, ◌&&◌, List, [], ◌∷◌, ◌++◌, length, take, drop, get_or, refl, sym, ◌∙◌, ap, subst, arith, cond, not, nat_lt, Contains, Option, Some, None, Result, Ok, Err, OnErr}
+use Rattle.std.proofs.Common.{◌≡◌, ℕ, ◌<◌, ◌≤◌, ◌+◌, ◌^◌, max, suc, Bool, true, false, ◌||◌, ◌&&◌, List, [], ◌∷◌, ◌++◌, length, take, drop, get_or, refl, sym, ◌∙◌, ap, subst, arith, cond, not, nat_lt, Contains, Some, None, Result, Ok, Err, OnErr}
 use Rattle.std.proofs.lemmas.Bool.{false≢true}
 use Rattle.std.proofs.lemmas.Bool.Decides.{nat_tests}
 use Rattle.std.proofs.lemmas.List.{take_more, take-append-drop}
@@ -6,7 +6,7 @@ use Rattle.std.proofs.lemmas.List.Folds.{list_any-append}
 use Rattle.std.proofs.lemmas.List.Elements.{Contains-append_right, recursion_from_All}
 use Rattle.std.proofs.Math.Seq.{drop-cons}
 use Rattle.std.proofs.lemmas.List.Kept.{IsStrictlySortedBy-filter}
-use Rattle.std.specs.List.{AllByRecursion, list_any, filter, find, prefix_len}
+use Rattle.std.specs.List.{AllByRecursion, list_any, filter, prefix_len}
 use Rattle.std.specs.List.Sorted.{IsStrictlySortedBy}
 use Rattle.std.specs.Ordering.{eq_by_cmp}
 use Rattle.std.specs.declared.cmp.Ordering.TheVariants.{Less}
@@ -20,9 +20,9 @@ use Rattle.svid_replay.specs.Records.{State, IsHeldAt, IsRecord, IsPartlyJoined,
 use Rattle.svid_replay.proofs.BatchesLemmas.{made_at}
 use Rattle.svid_replay.proofs.ListLemmas.{found}
 use Rattle.svid_replay.proofs.MergeLemmas.{below_all}
-use Rattle.svid_replay.proofs.SetsLemmas.{rising_rises, holds-keep, holds-with, holds-with_all}
+use Rattle.svid_replay.proofs.SetsLemmas.{holds-keep, holds-with, holds-with_all}
 use Rattle.svid_replay.proofs.UseLemmas.{use_total, use_exact}
-use Rattle.svid_replay.proofs.UsesLemmas.{IsWalked, any-filter, drop-expired, walk_none, walk_more, walk_parts, walk_end, found_held, holds-uses_in, holds-live, holds-union, same_uses, uses_in-rising}
+use Rattle.svid_replay.proofs.UsesLemmas.{any-filter, drop-expired, rising_has_held, holds-uses_in, holds-live, holds-union, same_uses, uses_in-rising}
 use Rattle.svid_replay.proofs.TestsLemmas.{equal, is_less, or-true, or-false, or-comm, and-false, and-comm}
 
 same_state : (a b : State) → a.moment ≡ b.moment → a.uses ≡ b.uses → a ≡ b
@@ -243,36 +243,15 @@ absorb_refused old self new b us i d e within so_far same refused =
     partly old self new b.moment b.uses (take i us) (drop (suc i) us) (get_or us i d) (sym e ∙ sym (take-append-drop i us) ∙ ap (λ r. take i us ++ r) (drop-cons us i d within)) so_far same refused
 
 -- the walk over another record
-pub record HasMerged (old self : State) (moment : ℕ) (us : List Use) (after : Option Use) : Type 0 where
-  pub front : List Use
-  pub walked : IsWalked us after front
-  pub joined : self ≡ join old (state_of moment front)
+pub merged : (old self other : State) (front : List Use) → self ≡ join old (state_of other.moment front) → rising other.uses ≡ front → self ≡ join old other
+merged old self other front so_far all =
+    so_far ∙ ap (λ us. join old (state_of other.moment us)) (sym all) ∙ ap (λ (s : Uses). join old (record { moment = other.moment; uses = s })) (uses_in-rising other.uses)
 
-pub merges_none : (old self : State) (moment : ℕ) (us : List Use) → self ≡ join old (state_of moment []) → HasMerged old self moment us None
-merges_none old self moment us e = record { front = []; walked = walk_none us; joined = e }
-
-pub merges_more : (old self new : State) (moment : ℕ) (s : Uses) (after : Option Use) (u : Use) → HasMerged old self moment (rising s) after → find (is_after after) (rising s) ≡ Some u → new ≡ join self (state_of self.moment (u ∷ [])) → HasMerged old new moment (rising s) (Some u)
-merges_more old self new moment s after u so_far found e = record {
-  front = so_far.front ++ u ∷ [];
-  walked = walk_more (rising s) after so_far.front u (rising_rises use_cmp s) so_far.walked found;
-  joined = joined_push old self new moment so_far.front u so_far.joined e;
-}
-
-pub merge_refused : (old self new : State) (moment : ℕ) (s : Uses) (after : Option Use) (u : Use) → HasMerged old self moment (rising s) after → find (is_after after) (rising s) ≡ Some u → new ≡ self → (self.moment < u.exp) × (holds self.uses u ≡ false) → IsPartlyJoined old new moment (rising s)
-merge_refused old self new moment s after u so_far found same refused =
-    partly old self new moment (rising s) so_far.front (filter (is_after (Some u)) (rising s)) u (walk_parts (rising s) after so_far.front u (rising_rises use_cmp s) so_far.walked found) so_far.joined same refused
-
-pub merged : (old self other : State) (after : Option Use) → HasMerged old self other.moment (rising other.uses) after → find (is_after after) (rising other.uses) ≡ None → self ≡ join old other
-merged old self other after so_far none =
-    so_far.joined ∙ ap (λ us. join old (state_of other.moment us)) (walk_end (rising other.uses) after so_far.front so_far.walked none) ∙ ap (λ (s : Uses). join old (record { moment = other.moment; uses = s })) (uses_in-rising other.uses)
-
-made_by : (r : State) (after : Option Use) (u : Use) → IsRecord r → find (is_after after) (rising r.uses) ≡ Some u → u.at ≤ r.moment
-made_by r after u is found = (is.each u (found_held r.uses (is_after after) u found)).made
-
-pub made_before : (r : State) (after : Option Use) (u : Use) (old self : State) → IsRecord r → HasMerged old self r.moment (rising r.uses) after → find (is_after after) (rising r.uses) ≡ Some u → u.at ≤ self.moment
-made_before r after u old self is so_far found =
-    let made : u.at ≤ r.moment = made_by r after u is found in
-    omega (arith, ap (λ (s : State). s.moment) so_far.joined, moment-join old (state_of r.moment so_far.front))
+pub made_before : (r : State) (old self : State) (front rest : List Use) (u : Use) → IsRecord r → self ≡ join old (state_of r.moment front) → rising r.uses ≡ front ++ u ∷ rest → u.at ≤ self.moment
+made_before r old self front rest u is so_far parts =
+    let has : holds r.uses u ≡ true = (rising_has_held r.uses u).1 (subst (λ us. Contains us u) (sym parts) (Contains-append_right front (u ∷ rest) u (0, omega arith, refl))) in
+    let made : u.at ≤ r.moment = (is.each u has).made in
+    omega (arith, ap (λ (s : State). s.moment) so_far, moment-join old (state_of r.moment front))
 
 pub made_in_batch : (old self : State) (b : BatchData) (us : List Use) (i : ℕ) (d : Use) → IsBatch b → us ≡ b.uses → i < length us → self ≡ join old (state_of b.moment (take i us)) → (get_or us i d).at ≤ self.moment
 made_in_batch old self b us i d is e within so_far =

@@ -425,13 +425,6 @@ pub store_next : (after found : Option Use) (front : List Use) (runs : List (Lis
 store_next after found front runs s up view is =
     is ∙ ap (λ us. least_from after runs (find (is_after after) us)) (sym (rising-uses_in front up)) ∙ next_in_all after front runs ∙ ap (λ t. next_above t after) view
 
-pub take_whole : {X : Type 0} (n : ℕ) (xs ys : List X) → n ≡ length xs → take n (xs ++ ys) ≡ xs
-take_whole {X = X} n xs ys e = ap (λ m. take m (xs ++ ys)) e ∙ take-length xs
-  where
-    take-length : (zs : List X) → take (length zs) (zs ++ ys) ≡ zs
-    take-length [] = refl
-    take-length (z ∷ zs) = ap (λ ws. z ∷ ws) (take-length zs)
-
 -- what the store holds: what the front or the runs have
 store_holds : (front : List Use) (runs : List (List Use)) (s : Uses) (u : Use) → uses_in (front ++ all_of runs) ≡ s → holds s u ≡ (list_any (eq_by_cmp use_cmp u) front || list_any (eq_by_cmp use_cmp u) (all_of runs))
 store_holds front runs s u view = ap (λ t. holds t u) (sym view) ∙ holds-uses_in (front ++ all_of runs) u ∙ list_any-append (eq_by_cmp use_cmp u) front (all_of runs)

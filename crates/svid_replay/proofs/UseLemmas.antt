@@ -1,4 +1,4 @@
-use Rattle.std.proofs.Common.{◌≡◌, ℕ, ◌+◌, ◌/◌, ◌%◌, ◌^◌, ◌<◌, zero, suc, Bool, true, false, ◌&&◌, nat_eq, List, [], ◌∷◌, ◌++◌, length, length-append, pow-suc, take, get_or, refl, sym, ◌∙◌, ap, subst, arith}
+use Rattle.std.proofs.Common.{◌≡◌, ℕ, ◌+◌, ◌/◌, ◌%◌, ◌^◌, ◌<◌, zero, suc, Bool, true, false, List, [], ◌∷◌, ◌++◌, length, length-append, pow-suc, take, get_or, refl, sym, ◌∙◌, ap, subst, arith}
 use Rattle.std.proofs.Math.Nat.{div-div-eq-div-mul}
 use Rattle.std.proofs.lemmas.List.{take_all}
 use Rattle.std.proofs.lemmas.List.Elements.{All-from_get_or}
@@ -6,11 +6,7 @@ use Rattle.std.proofs.lemmas.Bool.Decides.{nat_tests}
 use Rattle.std.specs.Cmp.{IsTotalOrder, bool_cmp_total}
 use Rattle.std.specs.FinMap.{IsAntisymmetric, nat_cmp-IsAntisymmetric, slice_cmp-IsAntisymmetric}
 use Rattle.std.proofs.lemmas.Cmp.{then_total, on_total, nat_cmp_total, nat_list_cmp_total}
-use Rattle.std.proofs.lemmas.Cmp.{by_ranked, ranked}
-use Rattle.std.proofs.lemmas.Map.Text.{is_eq-slice_cmp}
-use Rattle.std.specs.Bool.{beq}
-use Rattle.std.specs.Str.{bytes_eq}
-use Rattle.std.specs.Ordering.{nat_cmp, bool_cmp, eq_by_cmp, is_eq, ordering_then}
+use Rattle.std.specs.Ordering.{nat_cmp, bool_cmp, ordering_then}
 use Rattle.std.specs.declared.cmp.Ordering.{Ordering}
 use Rattle.std.specs.declared.cmp.Ordering.TheVariants.{Less, Equal, Greater}
 use Rattle.std.specs.Int.{from_bool, to_be_bytes, w64}
@@ -136,25 +132,3 @@ use_exact u v e =
     let at = nat_cmp-IsAntisymmetric u.at v.at four.0 in
     let withdrawn = exact_kinds u.withdrawn v.withdrawn four.1 in
     λ i. record { exp = exp i; key = key i; place = place i; at = at i; withdrawn = withdrawn i }
-
--- equality as it is tested, field by field, is that of the order
-bool_ties : (a b : Bool) → beq a b ≡ is_eq (bool_cmp a b)
-bool_ties true true = refl
-bool_ties true false = refl
-bool_ties false true = refl
-bool_ties false false = refl
-
-nat_ties : (x y : ℕ) → nat_eq x y ≡ is_eq (nat_cmp x y)
-nat_ties x y = by_ranked (x < y) (x ≡ y) (y < x) (nat_cmp x y) (ranked x y (nat_cmp x y) refl)
-    (λ e h. let is : nat_eq x y ≡ false = grind (arith, nat_tests) in is ∙ ap is_eq (sym e))
-    (λ e h. let is : nat_eq x y ≡ true = grind (arith, nat_tests) in is ∙ ap is_eq (sym e))
-    (λ e h. let is : nat_eq x y ≡ false = grind (arith, nat_tests) in is ∙ ap is_eq (sym e))
-
-both_tie : (s t : Bool) (a b : Ordering) → s ≡ is_eq a → t ≡ is_eq b → (s && t) ≡ is_eq (ordering_then a b)
-both_tie s t Less b p q = ap (λ x. x && t) p
-both_tie s t Equal b p q = ap (λ x. x && t) p ∙ q
-both_tie s t Greater b p q = ap (λ x. x && t) p
-
-pub use_ties : (u v : Use) → (nat_eq u.exp v.exp && (bytes_eq u.key v.key && (bytes_eq u.place v.place && (nat_eq u.at v.at && beq u.withdrawn v.withdrawn)))) ≡ eq_by_cmp use_cmp u v
-use_ties u v =
-    both_tie _ _ _ _ (nat_ties u.exp v.exp) (both_tie _ _ _ _ (sym (is_eq-slice_cmp u.key v.key)) (both_tie _ _ _ _ (sym (is_eq-slice_cmp u.place v.place)) (both_tie _ _ _ _ (nat_ties u.at v.at) (bool_ties u.withdrawn v.withdrawn))))

@@ -2,7 +2,7 @@ use Rattle.std.proofs.Common.{◌≡◌, ℕ, ◌<◌, ◌≤◌, ◌+◌, ◌-�
 use Rattle.std.proofs.lemmas.Bool.Decides.{nat_tests}
 use Rattle.std.proofs.lemmas.Cmp.{tied_itself, ranked, by_ranked}
 use Rattle.std.proofs.lemmas.List.Sorted.{searchable_from_sorted}
-use Rattle.std.proofs.lemmas.List.{take-append-drop, length-drop, append_assoc, append-nil, nil_from_length}
+use Rattle.std.proofs.lemmas.List.{take-append-drop, length-drop, nil_from_length}
 use Rattle.std.proofs.lemmas.List.Elements.{recursion_from_All, filter_agree, Contains-get_or, All-contains_itself}
 use Rattle.std.proofs.lemmas.List.Kept.{IsStrictlySortedBy-filter}
 use Rattle.std.proofs.lemmas.List.Sums.{prefix_len_is, prefix_len-le-length}
@@ -259,22 +259,13 @@ next_is after (v ∷ vs) u up e =
           next_is after vs u up.1 later ∙ sym (ap (λ o. u ∷ cond (is_lt o) (v ∷ filter (is_after (Some u)) vs) (filter (is_after (Some u)) vs)) (use_total.antisymm u v ∙ ap ordering_reverse before))
     ] refl e
 
-pub walk_more : (us : List Use) (after : Option Use) (front : List Use) (u : Use) → IsRising us → IsWalked us after front → find (is_after after) us ≡ Some u → IsWalked us (Some u) (front ++ u ∷ [])
-walk_more us after front u up walked e = record { parts = walked.parts ∙ ap (λ ws. front ++ ws) (next_is after us u up e) ∙ sym (append_assoc front (u ∷ []) (filter (is_after (Some u)) us)) }
-
 pub walk_falls : (us : List Use) (after : Option Use) (u : Use) → IsRising us → find (is_after after) us ≡ Some u → length (filter (is_after (Some u)) us) < length (filter (is_after after) us)
 walk_falls us after u up e = omega (arith, ap length (next_is after us u up e))
-
-pub walk_parts : (us : List Use) (after : Option Use) (front : List Use) (u : Use) → IsRising us → IsWalked us after front → find (is_after after) us ≡ Some u → us ≡ front ++ u ∷ filter (is_after (Some u)) us
-walk_parts us after front u up walked e = walked.parts ∙ ap (λ ws. front ++ ws) (next_is after us u up e)
 
 pub none_left : (p : Use → Bool) (us : List Use) → find p us ≡ None → filter p us ≡ []
 none_left p [] e = refl
 none_left p (v ∷ vs) e =
     elim (p v) as (λ b. cond b (Some v) (find p vs) ≡ None → cond b (v ∷ filter p vs) (filter p vs) ≡ []) [ true ↦ λ some. cc | false ↦ λ later. none_left p vs later ] e
-
-pub walk_end : (us : List Use) (after : Option Use) (front : List Use) → IsWalked us after front → find (is_after after) us ≡ None → front ≡ us
-walk_end us after front walked e = sym (walked.parts ∙ ap (λ ws. front ++ ws) (none_left (is_after after) us e) ∙ append-nil front)
 
 pub held_in_rising : (s : Uses) (k : ℕ) (d : Use) → k < length (rising s) → holds s (get_or (rising s) k d) ≡ true
 held_in_rising s k d h =

@@ -1,35 +1,35 @@
 -- Walks: what comes next in several lists, and stretches of a list.
 use borrow.Rule.Slice.PartMut.{post_of, put_mid}
-use Rattle.std.proofs.Common.{◌≡◌, ℕ, ◌<◌, ◌≤◌, ◌+◌, ◌-◌, zero, suc, Bool, true, false, cond, not, ◌||◌, ◌&&◌, List, [], ◌∷◌, ◌++◌, length, take, drop, get_or, filter, find, min, nat_eq, slice_get, Option, Some, None, refl, sym, ◌∙◌, ap, subst, arith, ⊎_elim}
+use Rattle.std.proofs.Common.{◌≡◌, ℕ, ◌<◌, ◌≤◌, ◌+◌, ◌-◌, zero, suc, Bool, true, false, cond, not, ◌||◌, ◌&&◌, List, [], ◌∷◌, ◌++◌, length, take, drop, get_or, Bor, filter, find, min, nat_eq, nat_lt, slice_get, Option, Some, None, refl, sym, ◌∙◌, ap, subst, arith, ⊎_elim}
 use Rattle.std.proofs.Math.Seq.{drop-cons, take-append-add, take-append_seam}
 use Rattle.std.proofs.lemmas.Bool.Decides.{nat_tests}
-use Rattle.std.proofs.lemmas.Cmp.{tied_itself}
-use Rattle.std.proofs.lemmas.List.{append-nil, append_assoc, length-append, length-take, take_all, take-append-le, take-append-drop, take_min, nil_from_length, take-take, take_more}
+use Rattle.std.proofs.lemmas.List.{append-nil, append_assoc, length-append, length-drop, length-take, take_all, take-append-le, take-append-drop, take_min, nil_from_length, take-take, take_more}
 use Rattle.std.proofs.lemmas.Bool.{cases_lt}
 use Rattle.std.proofs.lemmas.List.Elements.{recursion_from_All}
 use Rattle.std.proofs.lemmas.List.Folds.{list_any-append}
 use Rattle.std.proofs.lemmas.List.Kept.{IsStrictlySortedBy-filter}
 use Rattle.std.proofs.lemmas.Map.Keys.{Less-from_sorted}
-use Rattle.std.specs.List.{AllByRecursion, list_any, prefix_len}
+use Rattle.std.specs.Iterator.{MakesProgress, Yields, YieldsFirst, item_count}
+use Rattle.std.specs.List.{AllByRecursion, list_any}
 use Rattle.std.specs.List.Sorted.{IsStrictlySortedBy}
-use Rattle.std.specs.Ordering.{eq_by_cmp, is_lt, match_ordering, ordering_reverse}
+use Rattle.std.specs.Option.{is_some, option_copied}
+use Rattle.std.specs.Ordering.{eq_by_cmp, is_lt, match_ordering}
 use Rattle.std.specs.declared.cmp.Ordering.{Ordering}
 use Rattle.std.specs.declared.cmp.Ordering.TheVariants.{Less, Equal, Greater}
 use Rattle.svid_replay.specs.declared.token_use.Use.{Use}
-use Rattle.svid_replay.specs.Batches.{is_after}
-use Rattle.svid_replay.specs.Records.{State}
+use Rattle.svid_replay.specs.Batches.{is_after, last_of}
 use Rattle.svid_replay.specs.Runs.{all_of}
 use Rattle.svid_replay.specs.Sets.{rising}
 use Rattle.svid_replay.specs.Use.{use_cmp, IsRising}
-use Rattle.svid_replay.specs.Uses.{Uses, next_above, uses_in}
-use Rattle.svid_replay.specs.Walks.{next_few, IsStretch}
-use Rattle.svid_replay.proofs.ListLemmas.{all_same, each_take, each_true}
+use Rattle.svid_replay.specs.Uses.{Uses, uses_in}
+use Rattle.svid_replay.specs.Walks.{next_few, uses_behind}
+use Rattle.svid_replay.proofs.ListLemmas.{each_take}
 use Rattle.svid_replay.proofs.MergeLemmas.{merge, merge_has, merge_rises, merge_second_done}
 use Rattle.svid_replay.proofs.RunsLemmas.{all_append, rising_both}
 use Rattle.svid_replay.proofs.SetsLemmas.{rising_rises, same_rising}
-use Rattle.svid_replay.proofs.TestsLemmas.{equal, is_less, or-comm}
+use Rattle.svid_replay.proofs.TestsLemmas.{is_less, or-comm}
 use Rattle.svid_replay.proofs.UseLemmas.{use_exact, use_total}
-use Rattle.svid_replay.proofs.UsesLemmas.{any-filter, filter_is_rest, find_kept, holds-uses_in, same_uses, next_is, rising-uses_in}
+use Rattle.svid_replay.proofs.UsesLemmas.{any-filter, holds-uses_in, same_uses, next_is, none_left, rising-uses_in}
 
 -- the first of a list, as many as fit
 -- a part that is cut, and more behind it, cut
@@ -140,60 +140,27 @@ room_full n room rest whole e full = sym (take_all n room (omega arith)) ∙ sym
 pub room_done : (n : ℕ) (room rest whole : List Use) → room ++ rest ≡ whole → rest ≡ [] → length room ≤ n → room ≡ take n whole
 room_done n room rest whole e none few = sym (take_all n room few) ∙ ap (take n) (sym (append-nil room) ∙ ap (λ ws. room ++ ws) (sym none) ∙ e)
 
--- stretches
-pub next_in : (us : List Use) (a b : Use) (vs : List Use) → IsRising (us ++ (a ∷ (b ∷ vs))) → find (is_after (Some a)) (us ++ (a ∷ (b ∷ vs))) ≡ Some b
-unfolding IsStrictlySortedBy
-next_in [] a b vs up =
-    ap (λ o. cond (is_lt o) (Some a) (cond (is_after (Some a) b) (Some b) (find (is_after (Some a)) vs))) (tied_itself use_total a)
-    ∙ ap (λ o. cond (is_lt o) (Some b) (find (is_after (Some a)) vs)) up.0.0
-next_in (u ∷ us) a b vs up =
-    let less : use_cmp u a ≡ Less = middle us up.0 in
-    ap (λ o. cond (is_lt o) (Some u) (find (is_after (Some a)) (us ++ (a ∷ (b ∷ vs))))) (use_total.antisymm a u ∙ ap ordering_reverse less) ∙ next_in us a b vs up.1
-  where
-    middle : (ws : List Use) → AllByRecursion (λ w. use_cmp u w ≡ Less) (ws ++ (a ∷ (b ∷ vs))) → use_cmp u a ≡ Less
-    middle [] h = h.0
-    middle (w ∷ ws) h = middle ws h.1
+-- what is left to a walk
 
--- the use at a place of a stretch is the next behind the one in front of it
-next_of_stretch : (whole some : List Use) (k : ℕ) (d e : Use) → IsRising whole → IsStretch whole some → suc k < length some → find (is_after (Some (get_or some k d))) whole ≡ Some (get_or some (suc k) e)
-next_of_stretch whole some k d e up is within =
-    let a = get_or some k d in
-    let b = get_or some (suc k) e in
-    let tail = drop (suc (suc k)) some in
-    let parts : some ≡ take k some ++ (a ∷ (b ∷ tail)) = sym (take-append-drop k some) ∙ ap (λ us. take k some ++ us) (drop-cons some k d (omega arith) ∙ ap (λ us. a ∷ us) (drop-cons some (suc k) e within)) in
-    let all : whole ≡ (is.front ++ take k some) ++ (a ∷ (b ∷ (tail ++ is.rest))) =
-    is.parts ∙ ap (λ us. is.front ++ (us ++ is.rest)) parts ∙ ap (λ us. is.front ++ us) (append_assoc (take k some) (a ∷ (b ∷ tail)) is.rest) ∙ sym (append_assoc is.front (take k some) (a ∷ (b ∷ (tail ++ is.rest)))) in
-    ap (find (is_after (Some a))) all ∙ next_in (is.front ++ take k some) a b (tail ++ is.rest) (subst IsRising all up)
+-- behind the last of the first uses come the others
+behind_first : (n : ℕ) (us : List Use) (after : Option Use) → IsRising us → filter (is_after (last_of after (take n (filter (is_after after) us)))) us ≡ drop n (filter (is_after after) us)
+behind_first zero us after up = refl
+behind_first (suc n) us after up =
+    elim (find (is_after after) us) as (λ found. find (is_after after) us ≡ found → filter (is_after (last_of after (take (suc n) (filter (is_after after) us)))) us ≡ drop (suc n) (filter (is_after after) us)) [
+      | None ↦ λ none. let nothing = none_left (is_after after) us none in ap (λ ws. filter (is_after (last_of after (take (suc n) ws))) us) nothing ∙ nothing ∙ ap (drop (suc n)) (sym nothing)
+      | Some u ↦ λ e. let is = next_is after us u up e in ap (λ ws. filter (is_after (last_of after (take (suc n) ws))) us) is ∙ behind_first n us (Some u) up ∙ ap (drop (suc n)) (sym is)
+    ] refl
 
-pub behind_last : (whole some : List Use) (place : ℕ) (last : Option Use) (a d e : Use) → last ≡ Some a → 0 < place → place < length some → eq_by_cmp use_cmp (get_or some (place - 1) d) a ≡ true → IsRising whole → IsStretch whole some → find (is_after last) whole ≡ Some (get_or some place e)
-behind_last whole some place last a d e given low high same up is =
-    let next : suc (place - 1) ≡ place = omega arith in
-    ap (λ o. find (is_after o) whole) (given ∙ ap Some (sym (use_exact (get_or some (place - 1) d) a (equal _ same)))) ∙ next_of_stretch whole some (place - 1) d e up is (omega arith) ∙ ap (λ n. Some (get_or some n e)) next
+-- a room that was filled has the first of what is left, and the rest is behind the last of them
+pub refilled : (s : Uses) (before after : Option Use) (room : List Use) → room ≡ next_few s before → after ≡ last_of before room → room ++ uses_behind s after ≡ uses_behind s before
+refilled s before after room is last =
+    ap (λ o. room ++ uses_behind s o) (last ∙ ap (last_of before) is) ∙ ap (λ ws. ws ++ uses_behind s (last_of before (next_few s before))) is
+    ∙ ap (λ ws. next_few s before ++ ws) (behind_first 64 (rising s) before (rising_rises use_cmp s)) ∙ take-append-drop 64 (uses_behind s before)
 
-pub no_stretch : (whole : List Use) (none : List Use) → none ≡ [] → IsStretch whole none
-no_stretch whole none e = record { front = []; rest = whole; parts = ap (λ us. us ++ whole) (sym e) }
-
--- what is left behind a use, as it is taken in
-rest_parts : (after : Option Use) (us : List Use) → IsRising us → (front : List Use) × (us ≡ front ++ filter (is_after after) us)
-rest_parts None us up = ([], sym (all_same (is_after None) us (each_true (λ u. is_after None u ≡ true) (λ u. refl) us)))
-rest_parts (Some a) us up =
-    let n = prefix_len (λ u. not (is_after (Some a) u)) us in
-    (take n us, sym (take-append-drop n us) ∙ ap (λ ws. take n us ++ ws) (filter_is_rest a us up))
-
-pub few_stretch : (s : Uses) (after : Option Use) (room : List Use) → room ≡ next_few s after → IsStretch (rising s) room
-few_stretch s after room is =
-    let us = rising s in
-    let parts = rest_parts after us (rising_rises use_cmp s) in
-    let rest = filter (is_after after) us in
-    record { front = parts.0; rest = drop 64 rest; parts = parts.1 ∙ ap (λ ws. parts.0 ++ ws) (sym (take-append-drop 64 rest) ∙ ap (λ ws. ws ++ drop 64 rest) (sym is)) }
-
-first_taken : (us : List Use) → slice_get (take 64 us) 0 ≡ slice_get us 0
-first_taken [] = refl
-first_taken (u ∷ us) = refl
-
--- the first in the room is the next use
-pub few_first : (s : Uses) (after : Option Use) (room : List Use) → room ≡ next_few s after → slice_get room 0 ≡ next_above s after
-few_first s after room is = ap (λ us. slice_get us 0) is ∙ first_taken (filter (is_after after) (rising s)) ∙ find_kept (is_after after) (rising s)
+-- it has none: then nothing is left
+pub refilled_none : (s : Uses) (before after : Option Use) (room : List Use) → room ≡ next_few s before → after ≡ last_of before room → room ≡ [] → uses_behind s after ≡ []
+refilled_none s before after room is last none =
+    nil_from_length (uses_behind s after) (omega (arith, ap length none, ap length (refilled s before after room is last), ap length is, length-take 64 (uses_behind s before), length-append room (uses_behind s after)))
 
 -- a room with more uses behind those that it has
 pub room_extended : (uses mid more now : List Use) (len count gap : ℕ) → length uses ≡ 64 → len ≤ 64 → take len uses ≡ now → count ≡ min (length more) (64 - len) → mid ≡ take count more → take (len + count) (put_mid len gap uses mid) ≡ take 64 (now ++ more)
@@ -229,6 +196,47 @@ room_more us after begin room next u up e few parts not_full pushed =
     pushed_few : suc (length room) ≤ 64
     pushed_few = grind (arith, nat_tests)
 
--- what a walk over a record answers is the next use of the record
-pub walked : (walk whole : State) (after next : Option Use) → walk ≡ whole → next ≡ next_above walk.uses after → next_above whole.uses after ≡ next
-walked walk whole after next e is = sym (is ∙ ap (λ (r : State). next_above r.uses after) e)
+-- the last of some uses stands in front of their end
+pub last_is : (before : Option Use) (us : List Use) (d : Use) → 1 ≤ length us → Some (get_or us (length us - 1) d) ≡ last_of before us
+last_is before [] d some = absurd (omega arith)
+last_is before (u ∷ []) d some = refl
+last_is before (u ∷ v ∷ us) d some =
+    let e : length (u ∷ v ∷ us) - 1 ≡ suc (length (v ∷ us) - 1) = omega arith in
+    ap (λ n. Some (get_or (u ∷ v ∷ us) n d)) e ∙ last_is (Some u) (v ∷ us) d (omega arith)
+
+-- a room that was filled gives the first of what is left
+pub gives_first : (s : Uses) (before after : Option Use) (given room whole : List Use) (r : Option Use) → given ++ uses_behind s before ≡ whole → given ≡ [] → room ≡ next_few s before → after ≡ last_of before room → r ≡ slice_get room 0 → YieldsFirst {S = List Use} (λ w. w) whole r (drop 1 room ++ uses_behind s after)
+gives_first s before after given room whole r view none is last first =
+    subst (λ o. YieldsFirst {S = List Use} (λ w. w) whole o (drop 1 room ++ uses_behind s after)) (sym first) (from room refl)
+  where
+    all : room ++ uses_behind s after ≡ whole
+    all = refilled s before after room is last ∙ ap (λ ws. ws ++ uses_behind s before) (sym none) ∙ view
+
+    from : (us : List Use) → room ≡ us → YieldsFirst {S = List Use} (λ w. w) whole (slice_get us 0) (drop 1 room ++ uses_behind s after)
+    from [] e =
+        let nothing = refilled_none s before after room is last e in
+        (sym all ∙ ap (λ ws. ws ++ uses_behind s after) e ∙ nothing, ap (λ ws. drop 1 ws ++ uses_behind s after) e ∙ nothing)
+    from (u ∷ us) e = sym all ∙ ap (λ ws. ws ++ uses_behind s after) e ∙ sym (ap (λ ws. u ∷ (drop 1 ws ++ uses_behind s after)) e)
+
+-- what gives the first of a list comes nearer to its end
+pub goes_on : (can : List Use → Type 0) → ((w : List Use) → can w) → (s : List Use) (r : Option Use) (t : List Use) → YieldsFirst {S = List Use} (λ w. w) s r t → MakesProgress can (item_count {A = Use} (λ w. w)) s r t
+goes_on can every s None t h = record { on = λ f. tt; keeps = tt; rests = λ f. tt }
+goes_on can every s (Some u) t h = record { on = λ f. (every t, tt, omega (arith, ap length h)); keeps = every t; rests = λ f. tt }
+
+-- where nothing stands at a place, nothing stands behind it
+pub none_at : (us at_hand : List Use) (n : ℕ) (r : Option (Bor Use)) → at_hand ≡ us → is_some r ≡ nat_lt n (length at_hand) → option_copied r ≡ None → drop n us ≡ []
+none_at us at_hand n None same is none =
+    let past : length us ≤ n = grind (arith, nat_tests, is, ap length same) in
+    nil_from_length (drop n us) (omega (arith, length-drop n us))
+none_at us at_hand n (Some u) same is none = let some : Some u.now ≡ None = none in cc
+
+-- what a loop over a walk has taken, and what is left
+given_first : (s : List Use) (xs : List Use) (t : List Use) → Yields (YieldsFirst {S = List Use} (λ w. w)) s xs t → s ≡ xs ++ t
+given_first s [] t e = e
+given_first s (x ∷ xs) t y = y.1 ∙ ap (λ ws. x ∷ ws) (given_first y.0 xs t y.2)
+
+pub walk_takes : (all items begin now next xs : List Use) (u : Use) → items ≡ all → begin ≡ items → Yields (YieldsFirst {S = List Use} (λ w. w)) begin xs now → now ≡ u ∷ next → all ≡ xs ++ u ∷ next
+walk_takes all items begin now next xs u is same given e = sym is ∙ sym same ∙ given_first begin xs now given ∙ ap (λ ws. xs ++ ws) e
+
+pub walk_ends : (all items begin now xs : List Use) → items ≡ all → begin ≡ items → Yields (YieldsFirst {S = List Use} (λ w. w)) begin xs now → now ≡ [] → all ≡ xs
+walk_ends all items begin now xs is same given none = sym is ∙ sym same ∙ given_first begin xs now given ∙ ap (λ ws. xs ++ ws) none ∙ append-nil xs

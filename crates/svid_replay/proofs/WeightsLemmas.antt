@@ -1,6 +1,6 @@
 -- Weights of runs, each at least twice the next, and runs merged behind the first.
 use Rattle.std.proofs.Common.{◌≡◌, ℕ, ◌<◌, ◌≤◌, ◌+◌, ◌-◌, ◌/◌, ◌^◌, zero, suc, ◌||◌, List, [], ◌∷◌, ◌++◌, length, drop, take, get_or, refl, sym, ◌∙◌, ap, subst, arith}
-use Rattle.std.proofs.lemmas.List.{append-nil, drop_all, length-append, length-take, nil_from_length, take-append-drop, take-append-le, take_all}
+use Rattle.std.proofs.lemmas.List.{append-nil, length-append, length-take, nil_from_length, take-append-drop, take-append-le, take_all}
 use Rattle.std.proofs.lemmas.List.Edits.{length-remove}
 use Rattle.std.proofs.lemmas.List.Folds.{list_any-append}
 use Rattle.std.proofs.Math.Nat.{pow-succ'}
@@ -46,10 +46,6 @@ behind_last most zero d (w ∷ v ∷ ws) long = absurd (omega (arith, long))
 behind_last most (suc k) d (w ∷ []) long = absurd (omega (arith, long))
 behind_last most (suc k) d (w ∷ v ∷ ws) long = behind_last (w / 2) k d (v ∷ ws) (omega (arith, long))
 
--- the first of all
-pub first_weight : (most w : ℕ) (ws : List ℕ) → ws ≡ [] → w ≤ most → 0 < w → AreHalving most ws → AreHalving most (ws ++ w ∷ [])
-first_weight most w ws none within some is = halving_more most w ws some (subst (λ vs. w ≤ behind most vs) (sym none) within) is
-
 -- one that is no more than half of the last
 pub next_weight : (most k w : ℕ) (ws : List ℕ) → length ws ≡ suc k → w ≤ get_or ws k 0 / 2 → 0 < w → AreHalving most ws → AreHalving most (ws ++ w ∷ [])
 next_weight most k w ws long half some is = halving_more most w ws some (omega (arith, behind_last most k 0 ws long, half)) is
@@ -65,16 +61,6 @@ few_weights (suc n) most (w ∷ ws) less is =
 
 pub few_runs : (weights : List ℕ) (runs : List (List Use)) → AreWeighed weights runs → length runs ≤ 64
 few_runs weights runs is = omega (arith, is.long, few_weights 64 (2 ^ 64 - 1) weights (omega arith) is.halving)
-
--- nothing merged yet
-pub none_merged : (runs : List (List Use)) (run : List Use) (kept : ℕ) → kept ≡ length runs → IsMergedBehind runs run run kept
-none_merged runs run kept all =
-    let rest : all_of (drop kept runs) ≡ [] = ap all_of (drop_all kept runs (omega (arith, all))) in
-    record {
-      within = omega (arith, all);
-      same = λ q. sym (ap (λ us. list_any (eq_by_cmp use_cmp q) (run ++ us)) rest ∙ ap (list_any (eq_by_cmp use_cmp q)) (append-nil run));
-      less = omega (arith, ap length rest);
-    }
 
 -- one run more merged
 pub more_merged : (runs : List (List Use)) (run now older merged : List Use) (kept k : ℕ) → IsMergedBehind runs run now kept → kept ≡ suc k → older ≡ get_or runs k older → merged ≡ merge use_cmp older now → IsMergedBehind runs run merged k
@@ -108,13 +94,6 @@ pushed runs now run merged kept was is =
           ∙ ap (λ b. list_any tie run || b) (sym (list_any-append tie (all_of (take kept runs)) (all_of (drop kept runs))) ∙ sym (ap (list_any tie) before)) ∙ sym (list_any-append tie run (all_of runs));
       less = omega (arith, ap length after, ap length before, length-append (all_of (take kept runs)) merged, length-append (all_of (take kept runs)) (all_of (drop kept runs)), was.less);
     }
-
--- the weights of a merged run and of those in front of it
-pub weighed_put : (weights now : List ℕ) (runs rest : List (List Use)) (merged : List Use) (kept w : ℕ) → AreWeighed weights runs → kept ≤ length runs → now ≡ take kept weights ++ w ∷ [] → rest ≡ take kept runs ++ merged ∷ [] → AreHalving (2 ^ 64 - 1) (take kept weights ++ w ∷ []) → AreWeighed now rest
-weighed_put weights now runs rest merged kept w was within is are halving = record {
-  long = omega (arith, ap length is, ap length are, length-append (take kept weights) (w ∷ []), length-append (take kept runs) (merged ∷ []), length-take kept weights, length-take kept runs, was.long);
-  halving = subst (AreHalving (2 ^ 64 - 1)) (sym is) halving;
-}
 
 -- a weight put behind all, and taken away again
 pub weighed_back : (weights put now : List ℕ) (runs rest : List (List Use)) (kept w : ℕ) → AreWeighed weights runs → kept ≡ length runs → put ≡ take kept weights ++ w ∷ [] → now ≡ take kept put → rest ≡ runs → AreWeighed now rest

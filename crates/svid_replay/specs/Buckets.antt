@@ -36,17 +36,17 @@ digests_of uses = map (λ b. bucket_digest b uses) (range_with_len 0 256)
 unfoldable pub summary_of : State → SummaryData
 summary_of r = record { moment = r.moment; digests = digests_of r.uses }
 
+-- in two lists of digests, those of a use's bucket differ
+abbrev pub differ_at : List (List ℕ) → List (List ℕ) → Use → Bool
+differ_at own others u = not (is_eq (bytes_cmp (slice_index_or own (bucket_of u) []) (slice_index_or others (bucket_of u) [])))
+
 -- the digest of a use's bucket is another than the summary's
 abbrev pub differs : SummaryData → Uses → Use → Bool
-differs s uses u = not (is_eq (bytes_cmp (bucket_digest (bucket_of u) uses) (slice_index_or s.digests (bucket_of u) [])))
+differs s uses u = differ_at (digests_of uses) s.digests u
 
 -- the uses of all buckets whose digest differs from the summary's
 unfoldable pub stale : SummaryData → Uses → Uses
 stale s uses = keep (differs s uses) uses
-
--- of a record, the uses of all buckets whose digest differs from the summary's, at the record's moment
-abbrev pub stale_part : SummaryData → State → State
-stale_part s r = record { moment = r.moment; uses = stale s r.uses }
 
 -- a record raised to a moment
 abbrev pub raised_to : State → ℕ → State

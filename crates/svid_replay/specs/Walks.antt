@@ -1,24 +1,20 @@
 -- A walk over uses, some of which it has at hand, and of which it may know what comes next in each bucket.
-use Rattle.std.specs.Prelude.{◌≡◌, ◌++◌, ℕ, Bool, true, false, List, Option, None, Some, filter, map, take}
+use Rattle.std.specs.Prelude.{◌≡◌, ℕ, true, List, Option, None, Some, filter, map, take}
 use Rattle.std.specs.List.{range_with_len}
-use Rattle.std.specs.Ordering.{eq_by_cmp}
 use Rattle.svid_replay.specs.declared.ahead.Ahead.{Ahead}
 use Rattle.svid_replay.specs.declared.token_use.Use.{Use}
 use Rattle.svid_replay.specs.Batches.{is_after}
 use Rattle.svid_replay.specs.Buckets.{bucket}
 use Rattle.svid_replay.specs.Sets.{rising}
-use Rattle.svid_replay.specs.Use.{use_cmp}
 use Rattle.svid_replay.specs.Uses.{Uses, next_above}
 
--- of the uses of a set, or of those that are greater than the one given, the first 64
-abbrev pub next_few : Uses → Option Use → List Use
-next_few s after = take 64 (filter (is_after after) (rising s))
+-- the uses of a set, or those that are greater than the one given, rising
+abbrev pub uses_behind : Uses → Option Use → List Use
+uses_behind s after = filter (is_after after) (rising s)
 
--- some uses are a stretch of others
-pub record IsStretch (whole some : List Use) : Type 0 where
-  pub front : List Use
-  pub rest : List Use
-  pub parts : whole ≡ front ++ (some ++ rest)
+-- the first 64 of them
+abbrev pub next_few : Uses → Option Use → List Use
+next_few s after = take 64 (uses_behind s after)
 
 -- when a use expires, if there is one
 abbrev pub exp_if_any : Option Use → Option ℕ
@@ -32,10 +28,3 @@ heads_in s after = map (λ b. exp_if_any (next_above (bucket b s) after)) (range
 -- heads that are known are those of the set
 abbrev pub IsAhead : Uses → Ahead → Type 0
 IsAhead s ahead = ahead.known ≡ true → ahead.heads ≡ heads_in s ahead.after
-
--- both are the same use, or none
-abbrev pub is_at : Option Use → Option Use → Bool
-is_at None None = true
-is_at None (Some v) = false
-is_at (Some u) None = false
-is_at (Some u) (Some v) = eq_by_cmp use_cmp u v

@@ -1,16 +1,13 @@
-ghost use Rattle.std.specs.Prelude.{◌≡◌, ◌∷◌, [], ◌++◌, ℕ, List, IfOk};
+ghost use Rattle.std.specs.Prelude.{◌≡◌, ◌∷◌, [], ◌++◌, ℕ, List};
 ghost use Rattle.sha2.specs.Sha256.{sha256};
 ghost use Rattle.svid_replay.specs.declared.token_use.Use.{Use};
-ghost use Rattle.svid_replay.specs.Buckets.{bucket_of, differs, digests_of, stale};
+ghost use Rattle.svid_replay.specs.Buckets.{bucket_of, differ_at, digests_of};
 ghost use Rattle.svid_replay.specs.Hashers.{HoldBuckets, HoldsText, digests_in};
-ghost use Rattle.svid_replay.specs.Sets.{rising};
 ghost use Rattle.svid_replay.specs.Use.{text_of};
-ghost use Rattle.svid_replay.specs.Uses.{Uses};
 
 use crate::store::UseStore;
 use crate::{Record, Summary, Use};
 use sha2::{Digest, Sha256};
-use std::alloc::{AllocError, Global};
 use std::array;
 
 // A hasher for each bucket, which is made when its first use comes.
@@ -76,41 +73,16 @@ pub(crate) fn digests_of<S: UseStore>(whole: &Record<S>) -> [[u8; 32]; 256]
     ensures { result ≡ digests_of whole.now.uses }
 {
     let mut hashers = new_hashers();
-    let mut walk = whole.walk();
-    let mut after = None;
-    while let Some(used) = walk.next_after(after) {
+    for used in whole.walk() {
         take_use(&mut hashers, &used);
-        after = Some(used);
     }
     finish_all(&mut hashers)
 }
 
 // Whether the digest of the use's bucket is another than the summary's.
 pub(crate) fn differs(digests: &[[u8; 32]; 256], summary: &Summary, used: &Use) -> bool
-    ensures { (uses : Uses) → digests.now ≡ digests_of uses → result ≡ differs summary.now uses used.now }
+    ensures { result ≡ differ_at digests.now summary.now.digests used.now }
 {
     let bucket = bucket_of(used);
     !digests[bucket as usize].cmp(summary.digest(bucket)).is_eq()
-}
-
-// The uses of all buckets whose digest differs from the summary's, rising. One pass over the uses for
-// the digests, and one for the uses.
-pub(crate) fn stale_uses<S: UseStore>(
-    alloc: Global,
-    whole: &Record<S>,
-    summary: &Summary,
-) -> Result<Vec<Use>, AllocError>
-    ensures { IfOk result (λ uses. uses.items ≡ rising (stale summary.now whole.now.uses)) }
-{
-    let digests = digests_of(whole);
-    let mut uses = Vec::new(alloc);
-    let mut walk = whole.walk();
-    let mut after = None;
-    while let Some(used) = walk.next_after(after) {
-        if differs(&digests, summary, &used) {
-            uses.push(used)?;
-        }
-        after = Some(used);
-    }
-    Ok(uses)
 }

@@ -34,9 +34,9 @@
 //! assert_eq!(rt; record.report(alloc)?.len(), 1);
 //!
 //! let mut walk = record.walk();
-//! assert_eq!(rt; walk.next_after(None), Some(first));
-//! assert_eq!(rt; walk.next_after(Some(first)), Some(second));
-//! assert_eq!(rt; walk.next_after(Some(second)), None);
+//! assert_eq!(rt; walk.next(), Some(first));
+//! assert_eq!(rt; walk.next(), Some(second));
+//! assert_eq!(rt; walk.next(), None);
 //!
 //! let mut other = Record::new(SortedUses::new(alloc));
 //! for part in &record.answer(alloc, &other.summary())? {

@@ -1,7 +1,8 @@
 ghost use Rattle.std.specs.Prelude.{◌≡◌, ◌↔◌, ◌+◌, ◌<◌, ◌≤◌, ℕ, List, [], ◌∷◌, false, true, filter, length, nat_lt, IsTrue, IsOk, IfOk, OnOk, OnErr};
 ghost use Rattle.std.specs.List.{AllByRecursion};
 ghost use Rattle.std.specs.List.Sorted.{IsNonDecreasing};
-ghost use Rattle.svid_replay.specs.Buckets.{answer_to, raised_to, stale_part, summary_of};
+ghost use Rattle.svid_replay.specs.Batches.{last_of};
+ghost use Rattle.svid_replay.specs.Buckets.{answer_to, raised_to, stale, summary_of};
 ghost use Rattle.svid_replay.specs.Prefixes.{has_prefix, is_among};
 ghost use Rattle.svid_replay.specs.Parts.{cut};
 ghost use Rattle.svid_replay.specs.Records.{HasNoNew, IsPartlyJoined, IsRecord, batch_state, join, state_of};
@@ -9,16 +10,16 @@ ghost use Rattle.svid_replay.specs.Sets.{holds, rising};
 ghost use Rattle.svid_replay.specs.Twice.{IsTwice, twice_of, used, uses_of};
 ghost use Rattle.svid_replay.specs.Use.{IsRising, IsUse};
 ghost use Rattle.svid_replay.specs.Uses.{count, has_use_of, has_withdrawal_of, next_above, no_uses};
-ghost use Rattle.svid_replay.specs.Walks.{IsAhead, next_few};
+ghost use Rattle.svid_replay.specs.Walks.{IsAhead, next_few, uses_behind};
 
 use crate::ahead::Ahead;
-use crate::buckets::{digests_of, stale_uses};
+use crate::buckets::digests_of;
 use crate::filter::no_keys;
 use crate::parts::cut;
 use crate::prefixes::{in_order, is_among, note};
 use crate::room::Room;
 use crate::sorted::count_expired;
-use crate::stale::Stale;
+use crate::stale::{Stale, list_of};
 use crate::store::{Raised, UseStore};
 use crate::twice::twice_in;
 use crate::{Batch, Summary, Twice, Use, Walk};
@@ -97,21 +98,28 @@ impl<S: UseStore> Record<S> {
         self.store.next_after(after)
     }
 
-    // the next uses, as many as the room takes, from what is known of them on
-    pub(crate) fn next_ahead(&self, after: Option<Use>, ahead: &mut Ahead, room: &mut Room)
+    // the next uses, as many as the room takes, from where a walk is
+    pub(crate) fn next_ahead(&self, ahead: &mut Ahead, room: &mut Room)
         requires { IsAhead self.now.uses ahead.old }
-        ensures next { room.new ≡ next_few self.now.uses after }
+        ensures next { room.new ≡ next_few self.now.uses ahead.old.after }
+        ensures after { ahead.new.after ≡ last_of ahead.old.after room.new }
         ensures ahead { IsAhead self.now.uses ahead.new }
     {
-        self.store.next_ahead(after, ahead, room);
+        self.store.next_ahead(ahead, room);
     }
 
-    /// The record, to be walked: from the use that the walk answered last, its `next_after` mostly takes few steps
-    /// to the next. Takes no memory.
+    /// The uses of the record, rising. Takes no memory.
     pub fn walk(&self) -> Walk<'_, S>
-        ensures { result ≡ self.now }
+        ensures { result ≡ rising self.now.uses }
     {
-        Walk::of(self)
+        Walk::of(self, None)
+    }
+
+    /// The uses of the record that are greater than the one given, or all of them, rising. Takes no memory.
+    pub fn walk_after(&self, after: Option<Use>) -> Walk<'_, S>
+        ensures { result ≡ uses_behind self.now.uses after }
+    {
+        Walk::of(self, after)
     }
 
     /// Joins a moment (in seconds): the record's moment becomes the greater, and the uses that expire
@@ -206,11 +214,8 @@ impl<S: UseStore> Record<S> {
         ensures nothing_new { HasNoNew self.old other.now.moment (rising other.now.uses) → IsOk result }
     {
         self.raise(other.moment());
-        let mut walk = other.walk();
-        let mut after = None;
-        while let Some(used) = walk.next_after(after) {
+        for used in other.walk() {
             self.take_in(used)?;
-            after = Some(used);
         }
         Ok(())
     }
@@ -220,11 +225,8 @@ impl<S: UseStore> Record<S> {
         ensures { IfOk result (λ uses. uses.items ≡ rising self.now.uses) }
     {
         let mut uses = Vec::with_capacity(alloc, self.len())?;
-        let mut walk = self.walk();
-        let mut after = None;
-        while let Some(used) = walk.next_after(after) {
+        for used in self.walk() {
             uses.push(used)?;
-            after = Some(used);
         }
         Ok(uses)
     }
@@ -235,11 +237,8 @@ impl<S: UseStore> Record<S> {
     {
         let mut key_filter = no_keys(alloc, self.len())?;
         let mut prefixes = Vec::new(alloc);
-        let mut walk = self.walk();
-        let mut after = None;
-        while let Some(used) = walk.next_after(after) {
+        for used in self.walk() {
             note(&mut key_filter, &mut prefixes, &used)?;
-            after = Some(used);
         }
         Ok(prefixes)
     }
@@ -249,16 +248,9 @@ impl<S: UseStore> Record<S> {
         requires { IsNonDecreasing prefixes.now }
         ensures { IfOk result (λ uses. uses.items ≡ filter (is_among prefixes.now) (rising self.now.uses)) }
     {
-        let mut uses = Vec::new(alloc);
-        let mut walk = self.walk();
-        let mut after = None;
-        while let Some(used) = walk.next_after(after) {
-            if is_among(prefixes, &used) {
-                uses.push(used)?;
-            }
-            after = Some(used);
-        }
-        Ok(uses)
+        self.walk()
+            .filter(|used| is_among(prefixes, used))
+            .collect(alloc)
     }
 
     /// The keys that two or more of the record's uses have, rising, each with all its uses. A withdrawal
@@ -297,27 +289,27 @@ impl<S: UseStore> Record<S> {
         Summary::make(self.moment, digests_of(self))
     }
 
-    /// The uses of all buckets whose digest differs from the summary's, to be walked. The record is not raised.
+    /// The uses of all buckets whose digest differs from the summary's, rising. The record is not raised.
     ///
-    /// Takes no memory, and looks at each use once.
+    /// Takes no memory, and looks at each use twice.
     pub fn stale<'a>(&'a self, summary: &'a Summary) -> Stale<'a, S>
-        ensures { result ≡ stale_part summary.now self.now }
+        ensures { result ≡ rising (stale summary.now self.now.uses) }
     {
-        Stale::of(self, summary, digests_of(self))
+        Stale::of(self, summary)
     }
 
     /// Raises the record to the summary's moment, and answers the uses of all buckets whose digest then
     /// differs from the summary's, as batches of the record's moment: 65,536 uses in rising order in each
     /// but the last. One batch with no use where there are no such uses.
     ///
-    /// Where memory is refused only the raise stands. Looks at each use twice, and holds those that it answers
+    /// Where memory is refused only the raise stands. Looks at each use three times, and holds those that it answers
     /// twice while it makes the batches.
     pub fn answer(&mut self, alloc: Global, summary: &Summary) -> Result<Vec<Batch>, AllocError>
         ensures raised { self.new ≡ raised_to self.old summary.now.moment }
         ensures answer { IfOk result (λ batches. batches.items ≡ answer_to self.old summary.now) }
     {
         self.raise(summary.moment());
-        let uses = stale_uses(alloc, self, summary)?;
+        let uses = list_of(alloc, self.stale(summary))?;
         cut(alloc, self.moment, &uses)
     }
 }

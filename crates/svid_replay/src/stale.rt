@@ -1,88 +1,103 @@
-ghost use Rattle.std.specs.Prelude.{◌≡◌};
-ghost use Rattle.svid_replay.specs.Buckets.{digests_of, stale_part};
-ghost use Rattle.svid_replay.specs.Uses.{count, next_above};
+ghost use Rattle.std.specs.Prelude.{◌≡◌, ◌↔◌, [], length, IfOk, IsTrue};
+ghost use Rattle.svid_replay.specs.Buckets.{stale};
+ghost use Rattle.svid_replay.specs.Sets.{rising};
 
-use crate::buckets::differs;
+use crate::buckets::{differs, digests_of};
 use crate::store::UseStore;
 use crate::{Record, Summary, Use, Walk};
+use std::alloc::{AllocError, Global};
 use std::marker::Model;
 
-/// Of a record, the uses of all buckets whose digest differs from a summary's, to be walked: what `Record::answer`
-/// gives where the summary's moment is not later than the record's. No step takes memory.
+/// Of a record, the uses of all buckets whose digest differs from a summary's, as far as they are left to a walk,
+/// rising: what `Record::answer` gives where the summary's moment is not later than the record's. No step takes memory.
 #[derive(Debug, Drop)]
 pub struct Stale<'a, S: UseStore> {
     walk: Walk<'a, S>,
     summary: &'a Summary,
     digests: [[u8; 32]; 256],
+    left: usize,
 }
 
 impl<'a, S: UseStore> Model for Stale<'a, S> {
-    ghost use Rattle.std.specs.Prelude.{◌≡◌};
-    ghost use Rattle.svid_replay.specs.Buckets.{digests_of, stale_part};
-    ghost use Rattle.svid_replay.specs.Records.{State, state_code};
+    ghost use Rattle.std.specs.Prelude.{◌≡◌, List, filter, length};
+    ghost use Rattle.svid_replay.specs.Buckets.{differ_at};
+    ghost use Rattle.svid_replay.specs.Runs.{run_code};
+    ghost use Rattle.svid_replay.specs.declared.token_use.Use.{Use};
 
-    ghost Value = { State };
+    ghost Value = { List Use };
 
-    ghost coded = { state_code };
+    ghost coded = { run_code };
 
-    ghost view = { λ s. stale_part s.summary.now s.walk };
+    ghost view = { λ s. filter (differ_at s.digests s.summary.now.digests) s.walk };
 
-    ghost invariant = { λ s. s.digests ≡ digests_of s.walk.uses };
+    ghost invariant = { λ s. s.left ≡ length (filter (differ_at s.digests s.summary.now.digests) s.walk) };
 }
 
 impl<'a, S: UseStore> Stale<'a, S> {
-    pub(crate) fn of(
-        whole: &'a Record<S>,
-        summary: &'a Summary,
-        digests: [[u8; 32]; 256],
-    ) -> Stale<'a, S>
-        requires { digests ≡ digests_of whole.now.uses }
-        ensures { result ≡ stale_part summary.now whole.now }
+    pub(crate) fn of(whole: &'a Record<S>, summary: &'a Summary) -> Stale<'a, S>
+        ensures { result ≡ rising (stale summary.now whole.now.uses) }
     {
+        let digests = digests_of(whole);
+        let mut left = whole.len();
+        for used in whole.walk() {
+            if !differs(&digests, summary, &used) {
+                left -= 1;
+            }
+        }
         Stale {
             walk: whole.walk(),
             summary,
             digests,
+            left,
         }
     }
 
-    /// The record's moment, in seconds.
-    pub fn moment(&self) -> u64
-        ensures { result ≡ self.now.moment }
+    /// How many of these uses are left.
+    pub fn len(&self) -> usize
+        ensures { result ≡ length self.now }
     {
-        self.walk.moment()
+        self.left
     }
 
-    /// How many these uses are. Looks at each use of the record.
-    pub fn count(&mut self) -> usize
-        ensures count { result ≡ count self.old.uses }
-        ensures same { self.new ≡ self.old }
+    /// Whether none of these uses is left.
+    pub fn is_empty(&self) -> bool
+        ensures { IsTrue result ↔ (self.now ≡ []) }
     {
-        let mut stale = self.walk.len();
-        let mut after = None;
-        while let Some(used) = self.walk.next_after(after) {
-            if !differs(&self.digests, self.summary, &used) {
-                stale -= 1;
-            }
-            after = Some(used);
-        }
-        stale
+        self.left == 0
     }
+}
 
-    /// The least of these uses, or the least that is greater than the one given. From the use which the call before
-    /// answered it goes on, and else it searches; it passes over the uses of buckets that agree, at worst all that
-    /// are left.
-    pub fn next_after(&mut self, after: Option<Use>) -> Option<Use>
-        ensures next { result ≡ next_above self.old.uses after }
-        ensures same { self.new ≡ self.old }
-    {
-        let mut last = after;
-        while let Some(used) = self.walk.next_after(last) {
+impl<'a, S: UseStore> Iterator for Stale<'a, S> {
+    ghost use Rattle.std.specs.Iterator.{YieldsFirst, item_count};
+
+    type Item = Use;
+
+    ghost next_gives = { YieldsFirst (λ s. s) };
+
+    ghost remaining = { item_count (λ s. s) };
+
+    // It passes over the uses of buckets that agree, at worst all that are left of the record.
+    fn next(&mut self) -> Option<Use> {
+        while let Some(used) = self.walk.next() {
             if differs(&self.digests, self.summary, &used) {
+                self.left -= 1;
                 return Some(used);
             }
-            last = Some(used);
         }
         None
     }
+}
+
+// The uses that are left, as a list.
+pub(crate) fn list_of<S: UseStore>(
+    alloc: Global,
+    left: Stale<'_, S>,
+) -> Result<Vec<Use>, AllocError>
+    ensures { IfOk result (λ uses. uses.items ≡ left.entry) }
+{
+    let mut uses = Vec::with_capacity(alloc, left.len())?;
+    for used in left {
+        uses.push(used)?;
+    }
+    Ok(uses)
 }

@@ -1,4 +1,5 @@
 ghost use Rattle.std.specs.Prelude.{◌≡◌, ◌↔◌, ◌+◌, false, IsTrue, IsOk, OnOk, OnErr};
+ghost use Rattle.svid_replay.specs.Batches.{last_of};
 ghost use Rattle.svid_replay.specs.Sets.{holds, with, with_all};
 ghost use Rattle.svid_replay.specs.Use.{IsRising};
 ghost use Rattle.svid_replay.specs.Uses.{Uses, count, has_use_of, has_withdrawal_of, live, next_above, no_uses};
@@ -106,14 +107,16 @@ pub trait UseStore {
         }
     }
 
-    /// The next uses, as `next_uses` has them. `ahead` is new, or is as an earlier such call left it and the set did
-    /// not change since. A set that is made of parts then begins with what was next in each of them.
-    fn next_ahead(&self, after: Option<Use>, ahead: &mut Ahead, room: &mut Room)
+    /// The next uses of the set, as `next_uses` has them, from where a walk is; then it is behind the last of them.
+    /// `ahead` is new, or is as an earlier such call left it and the set did not change since. A set that is made of
+    /// parts then begins with what was next in each of them.
+    fn next_ahead(&self, ahead: &mut Ahead, room: &mut Room)
         requires { IsAhead (content self.now) ahead.old }
-        ensures next { room.new ≡ next_few (content self.now) after }
+        ensures next { room.new ≡ next_few (content self.now) ahead.old.after }
+        ensures after { ahead.new.after ≡ last_of ahead.old.after room.new }
         ensures ahead { IsAhead (content self.now) ahead.new }
     {
-        let _ = ahead;
-        self.next_uses(after, room);
+        self.next_uses(ahead.after, room);
+        ahead.pass(room.as_slice());
     }
 }

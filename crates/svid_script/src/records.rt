@@ -44,38 +44,33 @@ fn next_after<S: UseStore>(
     say_use_if_any(out, record.next_after(use_if_any(word(words, 2))?))
 }
 
-// The uses that a walk comes to, until it answers that there is no more. There is memory for them.
-fn walked<S: UseStore>(walk: &mut Walk<'_, S>, uses: &mut Vec<Use>) -> Result<(), AllocError> {
-    let mut last = None;
-    for _ in 0..u64::MAX {
-        match walk.next_after(last) {
-            Some(used) => uses.push(used)?,
-            None => break,
-        }
-        last = uses.last().copied();
-    }
-    Ok(())
-}
-
-fn walk<S: UseStore>(out: &mut Out<'_>, record: &Record<S>, alloc: Global) -> Result<(), Stop> {
+// The uses that are left to a walk.
+fn walked<S: UseStore>(out: &mut Out<'_>, alloc: Global, walk: Walk<'_, S>) -> Result<(), Stop> {
     let mut uses = Vec::new(alloc);
-    let mut walk = record.walk();
-    let moment = walk.moment();
-    let len = walk.len();
-    let is_empty = walk.is_empty();
-    walked(&mut walk, &mut uses)?;
-    writeln!(out, "= {moment} {len} {is_empty}")?;
+    for used in walk {
+        uses.push(used)?;
+    }
     say_uses(out, &uses)
 }
 
 fn walk_after<S: UseStore>(
     out: &mut Out<'_>,
     record: &Record<S>,
+    alloc: Global,
+    words: &[&str],
+) -> Result<(), Stop> {
+    let after = use_if_any(word(words, 2))?;
+    walked(out, alloc, record.walk_after(after))
+}
+
+fn walk_steps<S: UseStore>(
+    out: &mut Out<'_>,
+    record: &Record<S>,
     words: &[&str],
 ) -> Result<(), Stop> {
     let mut walk = record.walk();
-    for after in from(words, 2) {
-        say_use_if_any(out, walk.next_after(use_if_any(after)?))?;
+    for _ in 0..number(word(words, 2))? {
+        say_use_if_any(out, walk.next())?;
     }
     Ok(())
 }
@@ -177,7 +172,7 @@ fn ask<S: UseStore>(out: &mut Out<'_>, record: &mut Record<S>, words: &[&str]) -
         "record.has" => has(out, record, words),
         "record.withdrawn" => withdrawn(out, record, words),
         "record.next_after" => next_after(out, record, words),
-        "walk.after" => walk_after(out, record, words),
+        "walk.steps" => walk_steps(out, record, words),
         _ => change(out, record, words),
     }
 }
@@ -189,7 +184,8 @@ fn call_on<S: UseStore>(
     words: &[&str],
 ) -> Result<(), Stop> {
     match word(words, 0) {
-        "walk" => walk(out, record, alloc),
+        "walk" => walked(out, alloc, record.walk()),
+        "walk.after" => walk_after(out, record, alloc, words),
         "uses" => uses(out, record, alloc),
         "report" => report(out, record, alloc),
         "parts" => parts(out, record, alloc),

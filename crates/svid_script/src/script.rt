@@ -240,6 +240,7 @@ fn state_call(out: &mut Out<'_>, env: &mut Env, words: &[&str]) -> Result<(), St
         | "empty"
         | "walk"
         | "walk.after"
+        | "walk.steps"
         | "raise"
         | "compact"
         | "add"

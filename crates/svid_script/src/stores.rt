@@ -58,12 +58,15 @@ fn next_near<S: UseStore>(out: &mut Out<'_>, store: &S, words: &[&str]) -> Resul
 
 fn next_ahead<S: UseStore>(out: &mut Out<'_>, store: &S, words: &[&str]) -> Result<(), Stop> {
     let mut room = Room::new();
-    let mut ahead = Ahead::new();
-    store.next_ahead(use_if_any(word(words, 2))?, &mut ahead, &mut room);
+    let mut ahead = Ahead::of(use_if_any(word(words, 2))?);
+    store.next_ahead(&mut ahead, &mut room);
     say_uses(out, room.as_slice())?;
-    let then = use_if_any(word(words, 3))?;
-    say_bool(out, ahead.is_behind(then))?;
-    store.next_ahead(then, &mut ahead, &mut room);
+    say_bool(out, ahead.known)?;
+    if word(words, 3) != "" {
+        ahead.pass(&[one_use(word(words, 3))?]);
+    }
+    store.next_ahead(&mut ahead, &mut room);
+    say_use_if_any(out, ahead.after)?;
     say_uses(out, room.as_slice())
 }
 

@@ -5,9 +5,9 @@ use crate::over_any;
 use crate::say::{say_batches, say_digits, say_summary, say_uses};
 use crate::stop::Stop;
 use crate::words::{number, word};
-use std::alloc::{AllocError, Global};
+use std::alloc::Global;
 use std::io::Write;
-use svid_replay::{Record, Stale, Summary, Use, UseStore};
+use svid_replay::{Record, Stale, Summary, UseStore};
 
 fn summary_of<S: UseStore>(record: &Record<S>) -> Summary {
     record.summary()
@@ -54,15 +54,10 @@ pub fn digest(out: &mut Out<'_>, env: &Env, words: &[&str]) -> Result<(), Stop> 
     }
 }
 
-fn walked<S: UseStore>(stale: &mut Stale<'_, S>, uses: &mut Vec<Use>) -> Result<(), AllocError> {
-    let mut last = None;
-    for _ in 0..u64::MAX {
-        match stale.next_after(last) {
-            Some(used) => uses.push(used)?,
-            None => break,
-        }
-        last = uses.last().copied();
-    }
+fn say_left<S: UseStore>(out: &mut Out<'_>, stale: &Stale<'_, S>) -> Result<(), Stop> {
+    let len = stale.len();
+    let is_empty = stale.is_empty();
+    writeln!(out, "= {len} {is_empty}")?;
     Ok(())
 }
 
@@ -74,10 +69,14 @@ fn stale_in<S: UseStore>(
 ) -> Result<(), Stop> {
     let mut uses = Vec::new(alloc);
     let mut stale = record.stale(summary);
-    let moment = stale.moment();
-    let count = stale.count();
-    walked(&mut stale, &mut uses)?;
-    writeln!(out, "= {moment} {count}")?;
+    say_left(out, &stale)?;
+    for _ in 0..u64::MAX {
+        match stale.next() {
+            Some(used) => uses.push(used)?,
+            None => break,
+        }
+    }
+    say_left(out, &stale)?;
     say_uses(out, &uses)
 }
 

@@ -19,14 +19,14 @@ use Rattle.std.specs.Ordering.{bool_cmp, eq_by_cmp, is_eq, is_lt, nat_cmp, order
 use Rattle.std.specs.declared.cmp.Ordering.{Ordering}
 use Rattle.std.specs.declared.cmp.Ordering.TheVariants.{Less, Equal, Greater}
 use Rattle.svid_replay.specs.declared.token_use.Use.{Use}
-use Rattle.svid_replay.specs.Batches.{is_after}
+use Rattle.svid_replay.specs.Batches.{is_after, last_of}
 use Rattle.svid_replay.specs.Buckets.{bucket, bucket_of}
 use Rattle.svid_replay.specs.Runs.{all_of, least_from, least_of}
 use Rattle.svid_replay.specs.Sets.{holds, rising, with, with_all}
 use Rattle.svid_replay.specs.Twice.{has_key, withdraws}
 use Rattle.svid_replay.specs.Use.{IsRising, use_cmp}
 use Rattle.svid_replay.specs.Uses.{Uses, count, live, next_above, no_uses, uses_in}
-use Rattle.svid_replay.specs.Walks.{IsAhead, exp_if_any, heads_in, is_at}
+use Rattle.svid_replay.specs.Walks.{IsAhead, exp_if_any, heads_in}
 use Rattle.svid_replay.specs.declared.ahead.Ahead.{Ahead}
 use Rattle.svid_replay.proofs.BucketsLemmas.{bucket_holds_its_uses}
 use Rattle.svid_replay.proofs.IndexedLemmas.{same_key}
@@ -472,18 +472,9 @@ heads_all ss after apart long =
     let of = λ (b : ℕ). next (bucket b (all_in ss)) in
     map_twice exp_if_any (λ s. next_above s after) ss ∙ each_shard next of 0 ss (λ i. let here : i ≡ 0 + i = omega arith in ap next (shard_is_bucket ss apart i) ∙ ap of here) ∙ ap (λ n. map of (range_with_len 0 n)) long
 
--- heads that are known, behind the same use
-at_same : (a b : Option Use) → is_at a b ≡ true → a ≡ b
-at_same None None e = refl
-at_same None (Some v) e = absurd (false≢true e)
-at_same (Some u) None e = absurd (false≢true e)
-at_same (Some u) (Some v) e = ap Some (use_exact u v (equal _ e))
-
-pub known_heads : (ss : List Uses) (ahead : Ahead) (after : Option Use) → AreApart ss → length ss ≡ 256 → IsAhead (all_in ss) ahead → (ahead.known && is_at ahead.after after) ≡ true → (ahead.known ≡ true) × (ahead.after ≡ after) × (ahead.heads ≡ map exp_if_any (heads_of ss after))
-known_heads ss ahead after apart long is behind =
-    let (known, at) = both ahead.known (is_at ahead.after after) behind in
-    let same = at_same ahead.after after at in
-    (known, same, is known ∙ ap (heads_in (all_in ss)) same ∙ sym (heads_all ss after apart long))
+-- heads that are known
+pub known_heads : (ss : List Uses) (ahead : Ahead) → AreApart ss → length ss ≡ 256 → IsAhead (all_in ss) ahead → ahead.known ≡ true → ahead.heads ≡ map exp_if_any (heads_of ss ahead.after)
+known_heads ss ahead apart long is known = is known ∙ sym (heads_all ss ahead.after apart long)
 
 -- the least behind a use: the first that expires at the same second, from the shard of that use on
 heads_stay : (u : Use) (heads : List (Option Use)) → ((i : ℕ) (v : Use) → get_or heads i None ≡ Some v → is_lt (use_cmp v u) ≡ false) → least_in (Some u) heads ≡ Some u
@@ -625,12 +616,18 @@ full_room room now rest whole parts few full same =
     let long : length room ≡ 64 = grind (arith, nat_tests) in
     same (omega (arith, long)) ∙ room_full 64 room rest whole parts long
 
-pub next_found : (ss : List Uses) (last : Option Use) (heads : List (Option Use)) (found : Option Use) → heads ≡ heads_of ss last → found ≡ least_in None heads → next_above (all_in ss) last ≡ found
-next_found ss last heads found are is = sym (is ∙ ap (least_in None) are ∙ next_all ss last)
-
 pub room_pushed : (ss : List Uses) (last begin : Option Use) (room next : List Use) (u : Use) → next_above (all_in ss) last ≡ Some u → length room ≤ 64 → room ++ filter (is_after last) (rising (all_in ss)) ≡ filter (is_after begin) (rising (all_in ss)) → true ≡ nat_lt (length room) 64 → (length room < 64 → next ≡ room ++ u ∷ []) → HasMore (rising (all_in ss)) (Some u) begin next
 room_pushed ss last begin room next u is few parts free pushed = room_more (rising (all_in ss)) last begin room next u (rising_rises use_cmp (all_in ss)) is few parts (grind (arith, nat_tests)) pushed
 
 pub same_stores : (ss : List Uses) → map (λ s. s) ss ≡ ss
 same_stores [] = refl
 same_stores (s ∷ ss) = ap (λ ts. s ∷ ts) (same_stores ss)
+
+-- the last of some uses, with one more behind them
+last_pushed : (before : Option Use) (us : List Use) (u : Use) → last_of before (us ++ u ∷ []) ≡ Some u
+last_pushed before [] u = refl
+last_pushed before (v ∷ us) u = last_pushed (Some v) us u
+
+-- a use that was pushed into a room that is not full is the last of it
+pub last_in : (before : Option Use) (room next : List Use) (u : Use) → true ≡ nat_lt (length room) 64 → (length room < 64 → next ≡ room ++ u ∷ []) → Some u ≡ last_of before next
+last_in before room next u free pushed = sym (ap (last_of before) (pushed (grind (arith, nat_tests, free))) ∙ last_pushed before room u)

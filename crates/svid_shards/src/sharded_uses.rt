@@ -121,11 +121,11 @@ impl<S: UseStore> UseStore for ShardedUses<S> {
     }
 
     fn next_uses(&self, after: Option<Use>, room: &mut Room) {
-        self.next_ahead(after, &mut Ahead::new(), room);
+        self.next_ahead(&mut Ahead::of(after), room);
     }
 
-    fn next_ahead(&self, after: Option<Use>, ahead: &mut Ahead, room: &mut Room) {
+    fn next_ahead(&self, ahead: &mut Ahead, room: &mut Room) {
         room.clear();
-        next_ahead(&self.shards, after, ahead, room);
+        next_ahead(&self.shards, ahead, room);
     }
 }

@@ -1,5 +1,6 @@
 //! Stores side by side, each for the uses whose key begins with the store's number.
 ghost use Rattle.std.specs.Prelude.{◌≡◌, ◌+◌, ◌^◌, ◌<◌, ◌≤◌, [], List, None, Option, map, length, slice_index, slice_index_or, true, IsTrue, IsOk, IfOk, OnOk, OnErr};
+ghost use Rattle.svid_replay.specs.Batches.{last_of};
 ghost use Rattle.svid_replay.specs.Buckets.{bucket_of};
 ghost use Rattle.svid_replay.specs.Sets.{holds};
 ghost use Rattle.svid_replay.specs.Uses.{live, next_above};
@@ -187,20 +188,16 @@ pub(crate) fn next_after<S: UseStore>(shards: &[S], after: Option<Use>) -> Optio
 }
 
 // Looks up what comes next in each shard, where that is not known.
-fn look_ahead<S: UseStore>(shards: &[S], after: Option<Use>, ahead: &mut Ahead)
+fn look_ahead<S: UseStore>(shards: &[S], ahead: &mut Ahead)
     requires long { length shards.now ≡ 256 }
     requires apart { AreApart (map S.content shards.now) }
     requires ahead { IsAhead (all_in (map S.content shards.now)) ahead.old }
-    ensures known { ahead.new.known ≡ true }
-    ensures after { ahead.new.after ≡ after }
-    ensures heads { ahead.new.heads ≡ map exp_if_any (heads_of (map S.content shards.now) after) }
+    ensures after { ahead.new.after ≡ ahead.old.after }
+    ensures heads { ahead.new.heads ≡ map exp_if_any (heads_of (map S.content shards.now) ahead.old.after) }
 {
-    if ahead.is_behind(after) {
-        return;
+    if !ahead.known {
+        ahead.heads = heads_of(shards, ahead.after);
     }
-    ahead.known = true;
-    ahead.after = after;
-    ahead.heads = heads_of(shards, after);
 }
 
 // What comes next.
@@ -217,20 +214,17 @@ fn next_in<S: UseStore>(shards: &[S], ahead: &mut Ahead) -> Option<Use>
 }
 
 // Puts into an empty room what comes next in all shards, and notes what comes behind that in each of them.
-pub(crate) fn next_ahead<S: UseStore>(
-    shards: &[S],
-    after: Option<Use>,
-    ahead: &mut Ahead,
-    room: &mut Room,
-)
+pub(crate) fn next_ahead<S: UseStore>(shards: &[S], ahead: &mut Ahead, room: &mut Room)
     requires long { length shards.now ≡ 256 }
     requires apart { AreApart (map S.content shards.now) }
     requires ahead { IsAhead (all_in (map S.content shards.now)) ahead.old }
     requires empty { room.old ≡ [] }
-    ensures next { room.new ≡ next_few (all_in (map S.content shards.now)) after }
+    ensures next { room.new ≡ next_few (all_in (map S.content shards.now)) ahead.old.after }
+    ensures after { ahead.new.after ≡ last_of ahead.old.after room.new }
     ensures ahead { IsAhead (all_in (map S.content shards.now)) ahead.new }
 {
-    look_ahead(shards, after, ahead);
+    look_ahead(shards, ahead);
+    ahead.known = true;
     while let Some(used) = next_in(shards, ahead) {
         if !room.push(used) {
             return;

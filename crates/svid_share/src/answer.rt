@@ -31,7 +31,8 @@ pub fn put_answer<T: UseStore, K: Sink>(
     ensures part { OnErr result (TookPart (taken K.told K.stops out.old out.new) (flat_map batch_text (answer_to state.old asked.now))) }
 {
     state.raise(asked.moment());
-    put_walked(&mut state.stale(asked), out)
+    let mut stale = state.stale(asked);
+    put_walked(state.moment(), stale.len(), &mut stale, out)
 }
 
 // What all inputs tell: its answer to any summary is the one that is due.

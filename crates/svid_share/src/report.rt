@@ -42,11 +42,8 @@ fn put_uses<T: UseStore, K: Sink>(
     ensures fault { IfErr result (λ e. e ≡ Write) }
     ensures part { OnErr result (TookPart (taken K.told K.stops out.old out.new) (page.old ++ flat_map use_line (rising state.now.uses))) }
 {
-    let mut walk = state.walk();
-    let mut after = None;
-    while let Some(used) = walk.next_after(after) {
+    for used in state.walk() {
         page.put(out, use_line(&used).bytes())?;
-        after = Some(used);
     }
     Ok(())
 }

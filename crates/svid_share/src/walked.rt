@@ -1,54 +1,30 @@
-ghost use Rattle.std.specs.Prelude.{◌≡◌};
-ghost use Rattle.svid_replay.specs.Records.{State};
-ghost use Rattle.svid_replay.specs.Uses.{count, next_above};
+ghost use Rattle.std.specs.Prelude.{List};
+ghost use Rattle.std.specs.Iterator.{YieldsFirst};
+ghost use Rattle.svid_replay.specs.declared.token_use.Use.{Use};
 
 use svid_replay::{Stale, Use, UseStore, Walk};
 
-// A walk over uses in their order: those of a record, or of a part of one.
+// Uses that are left to a walk, in their order: those of a record, or of a part of one.
 pub(crate) trait Walked {
-    ghost state: { Self → State };
+    ghost left: { Self → List Use };
 
-    fn moment(&self) -> u64
-        ensures { result ≡ (state self.now).moment };
-
-    fn count(&mut self) -> usize
-        ensures count { result ≡ count (state self.old).uses }
-        ensures same { state self.new ≡ state self.old };
-
-    // The least of the uses, or the least that is greater than the one given.
-    fn next_after(&mut self, after: Option<Use>) -> Option<Use>
-        ensures next { result ≡ next_above (state self.old).uses after }
-        ensures same { state self.new ≡ state self.old };
+    // The first of them, if there is one; it is left no more.
+    fn next_use(&mut self) -> Option<Use>
+        ensures { YieldsFirst left self.old result self.new };
 }
 
 impl<'a, S: UseStore> Walked for Walk<'a, S> {
-    ghost state = { λ w. w };
+    ghost left = { λ w. w };
 
-    fn moment(&self) -> u64 {
-        Walk::moment(self)
-    }
-
-    fn count(&mut self) -> usize {
-        Walk::len(self)
-    }
-
-    fn next_after(&mut self, after: Option<Use>) -> Option<Use> {
-        Walk::next_after(self, after)
+    fn next_use(&mut self) -> Option<Use> {
+        self.next()
     }
 }
 
 impl<'a, S: UseStore> Walked for Stale<'a, S> {
-    ghost state = { λ s. s };
+    ghost left = { λ s. s };
 
-    fn moment(&self) -> u64 {
-        Stale::moment(self)
-    }
-
-    fn count(&mut self) -> usize {
-        Stale::count(self)
-    }
-
-    fn next_after(&mut self, after: Option<Use>) -> Option<Use> {
-        Stale::next_after(self, after)
+    fn next_use(&mut self) -> Option<Use> {
+        self.next()
     }
 }

@@ -18,17 +18,38 @@ use svid_wire::Counted;
 // The version of the program, and the kit that proves and builds it.
 const VERSION: &str = "0.3.0 (rattle-kit-13f logic dac8208d650f15bf)";
 
-fn id_command<'a>(alloc: Global) -> Result<Command<'a>, AllocError> {
-    let text = Arg::new(alloc, "text")
+// Each command, and each of its arguments, is made in small functions: those are proved much quicker than large ones.
+
+// A command with what is said of it.
+fn described<'a>(
+    command: Command<'a>,
+    about: &'static str,
+    after_help: &'static str,
+) -> Command<'a> {
+    with_about(command, about).after_help(after_help)
+}
+
+fn with_about<'a>(command: Command<'a>, about: &'static str) -> Command<'a> {
+    command.about(about)
+}
+
+fn id_text<'a>(alloc: Global) -> Arg<'a> {
+    Arg::new(alloc, "text")
         .value_name("TEXT")
         .required(true)
-        .help("The text to read, byte for byte");
-    Command::new(alloc, "id")
-        .about("Print the trust domain and path of a SPIFFE ID, or why a text is not one")
-        .after_help(
-            "svid id does not read standard input.{n}{n}Exit status: 0 the text is a SPIFFE ID; 1 it is not; 2 a usage error, a failed write or out of memory.",
-        )
-        .arg(text)
+        .help("The text to read, byte for byte")
+}
+
+fn id_plain<'a>(alloc: Global) -> Command<'a> {
+    described(
+        Command::new(alloc, "id"),
+        "Print the trust domain and path of a SPIFFE ID, or why a text is not one",
+        "svid id does not read standard input.{n}{n}Exit status: 0 the text is a SPIFFE ID; 1 it is not; 2 a usage error, a failed write or out of memory.",
+    )
+}
+
+fn id_command<'a>(alloc: Global) -> Result<Command<'a>, AllocError> {
+    id_plain(alloc).arg(id_text(alloc))
 }
 
 // The files of messages that a command joins.
@@ -51,139 +72,184 @@ fn now_option<'a>(alloc: Global) -> Arg<'a> {
         )
 }
 
+fn merge_plain<'a>(alloc: Global) -> Command<'a> {
+    described(
+        Command::new(alloc, "merge"),
+        "Combine the records of all inputs, and write the result",
+        "If you name no FILE, svid reads messages from standard input, to its end.{n}{n}Never write to a file that you read: the shell empties it before svid runs, so `svid merge a b > a` loses a. Write to a new file, and move that. svid reads an empty file as an empty record, and does not notice when a record was cut off at the end of a message.{n}{n}Exit status: 0 svid wrote the record; 1 it rejected an input; 2 a usage error, a file that does not open, a failed write or out of memory.",
+    )
+}
+
 fn merge_command<'a>(alloc: Global) -> Result<Command<'a>, AllocError> {
-    Command::new(alloc, "merge")
-        .about("Combine the records of all inputs, and write the result")
-        .after_help(
-            "If you name no FILE, svid reads messages from standard input, to its end.{n}{n}Never write to a file that you read: the shell empties it before svid runs, so `svid merge a b > a` loses a. Write to a new file, and move that. svid reads an empty file as an empty record, and does not notice when a record was cut off at the end of a message.{n}{n}Exit status: 0 svid wrote the record; 1 it rejected an input; 2 a usage error, a file that does not open, a failed write or out of memory.",
-        )
+    merge_plain(alloc)
         .arg(now_option(alloc))?
         .arg(files_argument(alloc))
+}
+
+fn summary_plain<'a>(alloc: Global) -> Command<'a> {
+    described(
+        Command::new(alloc, "summary"),
+        "Write a summary of the combined record, for the `answer` of another validator",
+        "If you name no FILE, svid reads messages from standard input, to its end.{n}{n}Exit status: 0 svid wrote the summary; 1 it rejected an input; 2 a usage error, a file that does not open, a failed write or out of memory.",
+    )
 }
 
 fn summary_command<'a>(alloc: Global) -> Result<Command<'a>, AllocError> {
-    Command::new(alloc, "summary")
-        .about("Write a summary of the combined record, for the `answer` of another validator")
-        .after_help(
-            "If you name no FILE, svid reads messages from standard input, to its end.{n}{n}Exit status: 0 svid wrote the summary; 1 it rejected an input; 2 a usage error, a file that does not open, a failed write or out of memory.",
-        )
-        .arg(files_argument(alloc))
+    summary_plain(alloc).arg(files_argument(alloc))
 }
 
-fn answer_command<'a>(alloc: Global) -> Result<Command<'a>, AllocError> {
-    let summary = Arg::new(alloc, "summary")
+fn summary_option<'a>(alloc: Global) -> Arg<'a> {
+    Arg::new(alloc, "summary")
         .long("summary")
         .value_name("FILE")
         .required(true)
-        .help("The file with the other validator's summary");
-    Command::new(alloc, "answer")
-        .about(
-            "Write what a validator lacks, as its summary tells: all uses of the buckets that differ",
-        )
-        .after_help(
-            "If you name no FILE, svid reads messages from standard input, to its end.{n}{n}Exit status: 0 svid wrote the answer; 1 it rejected an input; 2 a usage error, a file that does not open, a failed write or out of memory.",
-        )
-        .arg(summary)?
+        .help("The file with the other validator's summary")
+}
+
+fn answer_plain<'a>(alloc: Global) -> Command<'a> {
+    described(
+        Command::new(alloc, "answer"),
+        "Write what a validator lacks, as its summary tells: all uses of the buckets that differ",
+        "If you name no FILE, svid reads messages from standard input, to its end.{n}{n}Exit status: 0 svid wrote the answer; 1 it rejected an input; 2 a usage error, a file that does not open, a failed write or out of memory.",
+    )
+}
+
+fn answer_command<'a>(alloc: Global) -> Result<Command<'a>, AllocError> {
+    answer_plain(alloc)
+        .arg(summary_option(alloc))?
         .arg(files_argument(alloc))
 }
 
+fn report_plain<'a>(alloc: Global) -> Command<'a> {
+    described(
+        Command::new(alloc, "report"),
+        "Print the uses in the combined record, and the keys that were used twice",
+        "If you name no FILE, svid reads messages from standard input, to its end.{n}{n}The page dist/svid.html of the sources shows the same in a browser.{n}{n}Exit status: 0 svid printed the report; 1 it rejected an input; 2 a usage error, a file that does not open, a failed write or out of memory.",
+    )
+}
+
 fn report_command<'a>(alloc: Global) -> Result<Command<'a>, AllocError> {
-    Command::new(alloc, "report")
-        .about("Print the uses in the combined record, and the keys that were used twice")
-        .after_help(
-            "If you name no FILE, svid reads messages from standard input, to its end.{n}{n}The page dist/svid.html of the sources shows the same in a browser.{n}{n}Exit status: 0 svid printed the report; 1 it rejected an input; 2 a usage error, a file that does not open, a failed write or out of memory.",
-        )
+    report_plain(alloc)
         .arg(now_option(alloc))?
         .arg(files_argument(alloc))
 }
 
-fn candidates_command<'a>(alloc: Global) -> Result<Command<'a>, AllocError> {
-    let bundles = Arg::new(alloc, "bundles")
+fn bundles_option<'a>(alloc: Global) -> Arg<'a> {
+    Arg::new(alloc, "bundles")
         .long("bundles")
         .value_name("FILE")
         .required(true)
-        .help("A file of trust bundles, as JSON");
-    Command::new(alloc, "candidates")
-        .about("Print one question for each key that could have signed the token on standard input")
-        .after_help(
-            "The token is the first line of standard input that is not empty; svid reads to the end.{n}{n}Exit status: 0 svid printed a question or more; 1 it rejected the token or the bundles; 2 a usage error, a file that does not open, a failed write or out of memory.",
-        )
-        .arg(bundles)
+        .help("A file of trust bundles, as JSON")
 }
 
-// An option of `check` that names a file.
-fn file_option<'a>(alloc: Global, name: &'static str, is_required: bool) -> Arg<'a> {
-    Arg::new(alloc, name)
-        .long(name)
+fn candidates_plain<'a>(alloc: Global) -> Command<'a> {
+    described(
+        Command::new(alloc, "candidates"),
+        "Print one question for each key that could have signed the token on standard input",
+        "The token is the first line of standard input that is not empty; svid reads to the end.{n}{n}Exit status: 0 svid printed a question or more; 1 it rejected the token or the bundles; 2 a usage error, a file that does not open, a failed write or out of memory.",
+    )
+}
+
+fn candidates_command<'a>(alloc: Global) -> Result<Command<'a>, AllocError> {
+    candidates_plain(alloc).arg(bundles_option(alloc))
+}
+
+fn table_option<'a>(alloc: Global) -> Arg<'a> {
+    Arg::new(alloc, "table")
+        .long("table")
         .value_name("FILE")
-        .required(is_required)
+        .required(true)
+        .help("A file of the questions that your verifier answered with yes")
 }
 
-fn check_command<'a>(alloc: Global) -> Result<Command<'a>, AllocError> {
-    let now = Arg::new(alloc, "now")
+fn record_option<'a>(alloc: Global) -> Arg<'a> {
+    Arg::new(alloc, "record")
+        .long("record")
+        .value_name("FILE")
+        .action(ArgAction::Append)
+        .help("A file of messages to begin with, such as an earlier --out; you may name several")
+}
+
+fn out_option<'a>(alloc: Global) -> Arg<'a> {
+    Arg::new(alloc, "out")
+        .long("out")
+        .value_name("FILE")
+        .help("The file to write the record to, after the last check")
+}
+
+fn check_now<'a>(alloc: Global) -> Arg<'a> {
+    Arg::new(alloc, "now")
         .long("now")
         .value_name("N")
         .required(true)
         .value_parser(clap::value_parser!(u64))
-        .help("The current time, in seconds since 1970");
-    let place = Arg::new(alloc, "place")
+        .help("The current time, in seconds since 1970")
+}
+
+fn place_option<'a>(alloc: Global) -> Arg<'a> {
+    Arg::new(alloc, "place")
         .long("place")
         .value_name("P")
         .required(true)
-        .help("The ID of this validator: 32 hexadecimal digits that no other validator has");
-    let longest = Arg::new(alloc, "longest")
+        .help("The ID of this validator: 32 hexadecimal digits that no other validator has")
+}
+
+fn longest_option<'a>(alloc: Global) -> Arg<'a> {
+    Arg::new(alloc, "longest")
         .long("longest")
         .value_name("N")
         .value_parser(clap::value_parser!(u64))
         .help(
             "Reject a token that expires more than N seconds after --now, or after the record's clock if that is later",
-        );
-    let audience = Arg::new(alloc, "audience")
+        )
+}
+
+fn audience_argument<'a>(alloc: Global) -> Arg<'a> {
+    Arg::new(alloc, "audience")
         .value_name("AUD")
         .required(true)
         .num_args(1..)
         .action(ArgAction::Append)
-        .help("Your audiences: a token must name one of them");
-    Command::new(alloc, "check")
-        .about("Check each token on standard input, and print whether it is accepted or why not")
-        .after_help(
-            "Each line of standard input that is not empty is a token; svid reads to the end.{n}{n}--record and --out may name the same file. svid replaces that file as a whole before it prints the first line, and leaves it as it was if the check fails. If two checks run at once with the same --out, the uses of one are lost. svid reads an empty file as an empty record, and does not notice when a record was cut off at the end of a message.{n}{n}Exit status: 0 svid accepted every token; 1 it rejected a token or an input; 2 a usage error, a bad --place, a file that does not open, a failed write or out of memory.",
-        )
-        .arg(file_option(alloc, "bundles", true).help("A file of trust bundles, as JSON"))?
-        .arg(file_option(alloc, "table", true).help(
-            "A file of the questions that your verifier answered with yes",
-        ))?
-        .arg(now)?
-        .arg(place)?
-        .arg(
-            file_option(alloc, "record", false)
-                .action(ArgAction::Append)
-                .help(
-                    "A file of messages to begin with, such as an earlier --out; you may name several",
-                ),
-        )?
-        .arg(file_option(alloc, "out", false).help(
-            "The file to write the record to, after the last check",
-        ))?
-        .arg(longest)?
-        .arg(audience)
+        .help("Your audiences: a token must name one of them")
+}
+
+fn check_plain<'a>(alloc: Global) -> Command<'a> {
+    described(
+        Command::new(alloc, "check"),
+        "Check each token on standard input, and print whether it is accepted or why not",
+        "Each line of standard input that is not empty is a token; svid reads to the end.{n}{n}--record and --out may name the same file. svid replaces that file as a whole before it prints the first line, and leaves it as it was if the check fails. If two checks run at once with the same --out, the uses of one are lost. svid reads an empty file as an empty record, and does not notice when a record was cut off at the end of a message.{n}{n}Exit status: 0 svid accepted every token; 1 it rejected a token or an input; 2 a usage error, a bad --place, a file that does not open, a failed write or out of memory.",
+    )
+}
+
+fn check_command<'a>(alloc: Global) -> Result<Command<'a>, AllocError> {
+    check_plain(alloc)
+        .arg(bundles_option(alloc))?
+        .arg(table_option(alloc))?
+        .arg(check_now(alloc))?
+        .arg(place_option(alloc))?
+        .arg(record_option(alloc))?
+        .arg(out_option(alloc))?
+        .arg(longest_option(alloc))?
+        .arg(audience_argument(alloc))
 }
 
 // The program without its commands.
+fn svid_plain<'a>(alloc: Global) -> Result<Command<'a>, AllocError> {
+    Ok(described(
+        Command::new(alloc, "svid").bin_name("svid")?,
+        "Check SPIFFE JWT-SVIDs, and keep the record of the tokens that were used",
+        "check and candidates read standard input; report, merge, summary and answer read it if you name no FILE.{n}{n}Exit status: 0 success; 1 svid rejected a token or an input; 2 a usage error, a file that does not open, a failed write or out of memory.",
+    ))
+}
+
 fn svid_command<'a>(alloc: Global) -> Result<Command<'a>, AllocError> {
     Ok(
-        Command::new(alloc, "svid")
-            .bin_name("svid")?
+        svid_plain(alloc)?
             .version(VERSION)
-            .about("Check SPIFFE JWT-SVIDs, and keep the record of the tokens that were used")
-            .after_help(
-                "check and candidates read standard input; report, merge, summary and answer read it if you name no FILE.{n}{n}Exit status: 0 success; 1 svid rejected a token or an input; 2 a usage error, a file that does not open, a failed write or out of memory.",
-            )
             .subcommand_required(true),
     )
 }
 
-// (each command in a function of its own is proved quicker than all in one)
 fn add_check<'a>(alloc: Global, svid: Command<'a>) -> Result<Command<'a>, AllocError> {
     svid.subcommand(check_command(alloc)?)
 }
@@ -263,13 +329,15 @@ fn open<'a>(rt: &'a HostRuntime, name: &str) -> Result<Input<'a>, Failure> {
 // The file of this name, which gets the record.
 fn open_kept<'a>(rt: &'a HostRuntime, name: &str) -> Result<Kept<'a>, Failure> {
     let bytes = bytes_of_text(rt.alloc(), name)?;
-    let kept = match str::from_utf8(&bytes) {
-        Ok(path) => Kept::open(rt, path).ok(),
-        Err(_) => None,
+    let Ok(path) = str::from_utf8(&bytes) else {
+        return Err(Failure::CannotOpen(bytes));
     };
-    match kept {
-        Some(kept) => Ok(kept),
-        None => Err(Failure::CannotOpen(bytes)),
+    match Kept::open(rt, path) {
+        Ok(kept) => Ok(kept),
+        Err(error) if error.kind() == io::ErrorKind::OutOfMemory => {
+            Err(Failure::Tool(ToolFault::OutOfMemory))
+        }
+        Err(_) => Err(Failure::CannotOpen(bytes)),
     }
 }
 

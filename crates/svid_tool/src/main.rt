@@ -6,8 +6,6 @@ mod cli;
 mod failure;
 mod input;
 mod kept;
-#[cfg(test)]
-mod tests;
 mod words;
 
 use std::process::ExitCode;

@@ -1,14 +1,11 @@
 use Rattle.std.proofs.Common.{◌≡◌, ◌-◌, ◌≤◌, ◌++◌, length}
-use Rattle.std.specs.List.{filter}
-use Rattle.svid_replay.specs.Batches.{is_after}
-use Rattle.svid_replay.specs.Sets.{rising}
+use Rattle.svid_replay.specs.Walks.{uses_behind}
 use Rattle.svid_check.proofs.saving.uses_after.Given as goal
 
--- the uses that were put away, and those behind the last of them, are the uses behind the one given
+-- the uses that were put away, and those that are left, are the uses behind the one given
 abbrev pub invariant-loop-walk : goal.invariant-loop-walk
 invariant-loop-walk g l = record {
-  walk : l.walk ≡ l.replay;
-  so_far : l.uses.items ++ filter (is_after l.last) (rising l.replay.uses) ≡ filter (is_after l.fn.after) (rising l.replay.uses);
+  parts : l.uses.items ++ l.walk ≡ uses_behind l.replay.uses l.fn.after;
   few : length l.uses.items ≤ l.most;
 }
 

@@ -8,7 +8,7 @@ use Rattle.svid_replay.specs.Walks.{exp_if_any, heads_in}
 use Rattle.svid_replay.proofs.UsesLemmas.{none_left}
 use Rattle.svid_replay.proofs.WalksLemmas.{room_done}
 use Rattle.svid_shards.specs.Shards.{all_in, heads_of, shard}
-use Rattle.svid_shards.proofs.ShardsLemmas.{full_room, heads_all, heads_more, room_pushed, store_at}
+use Rattle.svid_shards.proofs.ShardsLemmas.{full_room, heads_all, heads_more, last_in, room_pushed, store_at}
 use Rattle.svid_shards.proofs.shards.next_ahead.Goals as goal
 
 pub returns-then-not-push-clause-next : goal.returns-then-not-push-clause-next
@@ -34,6 +34,7 @@ loop-used-preserved g c =
     let head = c.exp_if_any.ensures ∙ ap exp_if_any (c.next_near-then.ensures ∙ ap (λ s. next_above s (Some u)) here) in
     record {
       heads = (λ i. set ((c.in-Some.ensures.heads ∙ so_far.heads) i) (place i) (head i)) ∙ sym (map-set exp_if_any (heads_of ss last) _ _) ∙ ap (map exp_if_any) (heads_more ss last u c.requires.apart next);
+      after = last_in c.args.ahead.now.after c.loop-used.room c.push.new.self u c.if-not-push.ensures.answer c.push.ensures.pushed;
       few = more.few;
       parts = more.parts;
     }

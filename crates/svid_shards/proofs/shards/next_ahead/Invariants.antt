@@ -1,6 +1,6 @@
 use Rattle.std.proofs.Common.{◌≡◌, ◌≤◌, ◌-◌, ◌++◌, length, map}
 use Rattle.std.specs.List.{filter}
-use Rattle.svid_replay.specs.Batches.{is_after}
+use Rattle.svid_replay.specs.Batches.{is_after, last_of}
 use Rattle.svid_replay.specs.Sets.{rising}
 use Rattle.svid_replay.specs.Walks.{exp_if_any}
 use Rattle.svid_shards.specs.Shards.{all_in, heads_of}
@@ -11,7 +11,8 @@ abbrev pub invariant-loop-used : goal.invariant-loop-used
 invariant-loop-used g l = let ss = map g.S.UseStore.content l.shards in record {
   heads : l.ahead.heads ≡ map exp_if_any (heads_of ss l.ahead.after);
   few : length l.room ≤ 64;
-  parts : l.room ++ filter (is_after l.ahead.after) (rising (all_in ss)) ≡ filter (is_after l.fn.after) (rising (all_in ss));
+  parts : l.room ++ filter (is_after l.ahead.after) (rising (all_in ss)) ≡ filter (is_after l.fn.ahead.after) (rising (all_in ss));
+  after : l.ahead.after ≡ last_of l.fn.ahead.after l.room;
 }
 
 abbrev pub decreases-loop-used : goal.decreases-loop-used

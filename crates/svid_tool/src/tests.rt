@@ -1,4 +1,0 @@
-mod line;
-mod refusing;
-mod sweep;
-mod words;
