@@ -174,7 +174,7 @@ func (f folder) readWhole(name string) ([]byte, error) {
 }
 
 // mend opens a journal that a crash may have torn, and makes it where it is not there. It cuts off what stands behind
-// the last whole batch, and returns the batches, the file and how many bytes it cut.
+// the last whole batch, and returns the batches, the file and how many bytes it cut; zeros at the end do not count.
 func (f folder) mend(name string) (whole []byte, file *os.File, cut int64, err error) {
 	file, err = f.ensure(name)
 	if err != nil {
@@ -187,7 +187,8 @@ func (f folder) mend(name string) (whole []byte, file *os.File, cut int64, err e
 	}
 	// Whatever ends the scan is a tear: only the file's end can be torn, and reading from memory does not fail.
 	good, _ := scan(bytes.NewReader(content))
-	if cut = int64(len(content)) - good; cut > 0 {
+	if int64(len(content)) > good {
+		cut = int64(len(bytes.TrimRight(content[good:], "\x00")))
 		err = file.Truncate(good)
 	}
 	// What was read may not be on the disk yet, and from here on it counts as if it were.

@@ -10,15 +10,18 @@
 //	*.new        a file that was being written when the process was killed; Open removes it
 //
 // A snapshot and a journal are batches as docs/FORMATS.md has them, one after the other, so `svid report` and
-// `svid merge` read them. Batches may be told in any order and more than once, which makes the rest simple:
+// `svid merge` read them. Behind the batches of the journal that grows stand zeros, until it is closed. Batches may be
+// told in any order and more than once, which makes the rest simple:
 //
 //   - Append returns after the batch is on the disk. Callers that come while a write is under way share the next one.
+//     It writes over the zeros, so that the file's length changes seldom: to force a new length to the disk takes longer
+//     than the bytes themselves.
 //   - Snapshot first begins a new journal, then writes the record to snapshot.new, forces it to the disk, renames it
 //     over snapshot, and only then removes the older journals. At every moment the folder therefore holds the old
 //     snapshot and all journals, or the new snapshot and at least the new journal.
 //   - Open reads the snapshot and every journal. The last journal that is not empty may end in what a crash left of a
-//     write that no Append had answered. Open cuts it off behind the last whole batch. (An empty one behind it is what
-//     a Snapshot made that failed right there; Append went on with the one before it.)
+//     write that no Append had answered, and in zeros. Open cuts it off behind the last whole batch. (An empty one
+//     behind it is what a Snapshot made that failed right there; Append went on with the one before it.)
 package journal
 
 import (
@@ -46,7 +49,8 @@ type Journal struct {
 	write  sync.Mutex // held over a write; guards the fields below
 	file   *os.File   // the journal that grows
 	number uint64     // its number
-	size   int64      // its length, all of it on the disk
+	size   int64      // how long its batches are, all of them on the disk
+	room   int64      // its length; what is behind size is zeros
 	broken error      // why nothing can be appended any more
 
 	snapshot sync.Mutex // held over a snapshot
@@ -115,7 +119,7 @@ func (j *Journal) recover() error {
 		return err
 	}
 	j.messages = append(messages, tail...)
-	j.file, j.number, j.size, j.cut = file, last, int64(len(tail)), cut
+	j.file, j.number, j.size, j.room, j.cut = file, last, int64(len(tail)), int64(len(tail)), cut
 	return nil
 }
 
@@ -129,11 +133,11 @@ func (j *Journal) Messages() []byte {
 	return found
 }
 
-// Cut returns how many bytes Open cut off the end of the last journal: what a crash left of a write that no Append had
-// answered. It is worth a line in the log where it is not 0.
+// Cut returns how many bytes Open cut off the end of the last journal, without zeros at its end: what a crash left of a
+// write that no Append had answered. It is worth a line in the log where it is not 0.
 func (j *Journal) Cut() int64 { return j.cut }
 
-// Size returns the length in bytes of the journal that grows, by which a caller decides when to take a Snapshot.
+// Size returns how many bytes of batches the journal that grows has, by which a caller decides when to take a Snapshot.
 func (j *Journal) Size() int64 {
 	j.write.Lock()
 	defer j.write.Unlock()
@@ -186,8 +190,8 @@ func (j *Journal) commit(b []byte) error {
 	if j.broken != nil {
 		return j.broken
 	}
-	if _, err := j.file.WriteAt(b, j.size); err != nil {
-		return j.takeBack(fmt.Errorf("journal: append: %w", err))
+	if err := j.put(b); err != nil {
+		return err
 	}
 	if err := j.datasync(int(j.file.Fd())); err != nil {
 		j.broken = fmt.Errorf("journal: fdatasync of %s: %w: start the service again once its disk is well", j.file.Name(), err)
@@ -197,13 +201,40 @@ func (j *Journal) commit(b []byte) error {
 	return nil
 }
 
-// takeBack removes what a failed write left behind the journal, and returns why it failed.
-func (j *Journal) takeBack(why error) error {
+// put writes the bytes behind the batches. Where the file's length must change, it adds zeros for later calls too, as far
+// as the disk has room for them.
+func (j *Journal) put(b []byte) error {
+	end := j.size + int64(len(b))
+	if end > j.room {
+		if _, err := j.file.WriteAt(append(b[:len(b):len(b)], zeros[:]...), j.size); err == nil {
+			j.room = end + int64(len(zeros))
+			return nil
+		}
+		if err := j.shorten(); err != nil {
+			return err
+		}
+	}
+	if _, err := j.file.WriteAt(b, j.size); err != nil {
+		if err := j.shorten(); err != nil {
+			return err
+		}
+		return fmt.Errorf("journal: append: %w", err)
+	}
+	return nil
+}
+
+// zeros are what a journal grows by.
+var zeros [256 << 10]byte
+
+// shorten removes what stands behind the batches. Where that fails, nothing can be appended any more.
+func (j *Journal) shorten() error {
 	if err := j.file.Truncate(j.size); err != nil {
-		j.broken = fmt.Errorf("%w; and its beginning can't be removed: %v", why, err)
+		j.broken = fmt.Errorf("journal: %s can't be cut behind its last batch: %w: start the service again once its disk is well",
+			j.file.Name(), err)
 		return j.broken
 	}
-	return why
+	j.room = j.size
+	return nil
 }
 
 // Snapshot replaces the snapshot by what write writes, whole batches of version 2, and then drops the journals that are
@@ -248,6 +279,10 @@ func (j *Journal) beginNext() (uint64, error) {
 	if j.broken != nil {
 		return 0, j.broken
 	}
+	// (a journal that is not the last one is whole batches, and no zeros)
+	if err := j.shorten(); err != nil {
+		return 0, err
+	}
 	if err := syncFile(j.file); err != nil {
 		j.broken = fmt.Errorf("journal: fsync of %s: %w: start the service again once its disk is well", j.file.Name(), err)
 		return 0, j.broken
@@ -257,7 +292,7 @@ func (j *Journal) beginNext() (uint64, error) {
 		return 0, err
 	}
 	j.file.Close() // All of it is on the disk: nothing is lost by an error here.
-	j.file, j.number, j.size = next, j.number+1, 0
+	j.file, j.number, j.size, j.room = next, j.number+1, 0, 0
 	return j.number, nil
 }
 
@@ -288,8 +323,14 @@ func (j *Journal) Close() error {
 	if j.broken == ErrClosed {
 		return ErrClosed
 	}
+	var err error
+	if j.broken == nil {
+		err = j.shorten() // Where that fails, the next Open does it.
+	}
 	j.broken = ErrClosed
-	err := j.file.Close()
+	if end := j.file.Close(); err == nil {
+		err = end
+	}
 	if unlock := j.lock.Close(); err == nil {
 		err = unlock
 	}

@@ -309,13 +309,48 @@ func wantMended(t *testing.T, content []byte, good int) {
 	}
 	j := mustOpen(t, dir)
 	wantMessages(t, j, content[:good])
-	if j.Cut() != int64(len(content)-good) {
-		t.Fatalf("of %d bytes %d were cut, want %d", len(content), j.Cut(), len(content)-good)
+	if torn := len(bytes.TrimRight(content[good:], "\x00")); j.Cut() != int64(torn) {
+		t.Fatalf("of %d bytes %d were cut, want %d", len(content), j.Cut(), torn)
 	}
 	mustAppend(t, j, batch(77))
 	mustClose(t, j)
 	j = mustOpen(t, dir)
 	wantMessages(t, j, append(append([]byte{}, content[:good]...), batch(77)...))
+	mustClose(t, j)
+}
+
+// TestGrowsByZeros looks at the journal's file as it grows, is followed by another one, and is closed. Only the one that
+// grows has zeros behind its batches, and its length changes once for thousands of them.
+func TestGrowsByZeros(t *testing.T) {
+	dir := t.TempDir()
+	j := mustOpen(t, dir)
+	want := func(name string, batches, behind int64) {
+		t.Helper()
+		info, err := os.Stat(filepath.Join(dir, name))
+		if err != nil || info.Size() != 82*batches+behind {
+			t.Fatalf("%s: %v bytes, want %d and %d behind (%v)", name, info.Size(), 82*batches, behind, err)
+		}
+	}
+	room := int64(len(zeros))
+	for n := int64(0); n < 100; n++ {
+		mustAppend(t, j, batch(uint64(n)))
+		want("journal.1", 1, room)
+	}
+	mustAppend(t, j, batches(100, 5000)) // more than there is room for
+	want("journal.1", 5000, room)
+	if err := j.Snapshot(func(io.Writer) error { return io.ErrClosedPipe }); !errors.Is(err, io.ErrClosedPipe) {
+		t.Fatal(err)
+	}
+	want("journal.1", 5000, 0)
+	want("journal.2", 0, 0)
+	mustAppend(t, j, batch(5000))
+	want("journal.2", 1, room)
+	mustClose(t, j)
+	want("journal.2", 1, 0)
+	j = mustOpen(t, dir)
+	wantMessages(t, j, batches(0, 5001))
+	mustAppend(t, j, batch(5001))
+	want("journal.2", 2, room)
 	mustClose(t, j)
 }
 
