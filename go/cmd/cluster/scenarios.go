@@ -28,9 +28,12 @@ var (
 
 var three = []string{"a", "b", "c"}
 
+// noHurry is for sidecars whose brokers stay up: they wait for an answer however busy the machine is.
+var noHurry = []string{"--wait", "30s"}
+
 // strict: of all sidecars, one accepts a token.
 func strict(c *cluster) error {
-	if err := c.start(three, c.group("strict")...); err != nil {
+	if err := c.start(three, append(c.group("strict"), noHurry...)...); err != nil {
 		return err
 	}
 	if err := c.throughNginx(); err != nil {
@@ -253,7 +256,7 @@ func liar(c *cluster) error {
 func split(c *cluster) error {
 	groups := []string{"split-1", "split-2"}
 	for i, name := range groups {
-		if err := c.start([]string{fmt.Sprint("first-", i+1), fmt.Sprint("second-", i+1)}, c.groupNamed(name, "strict")...); err != nil {
+		if err := c.start([]string{fmt.Sprint("first-", i+1), fmt.Sprint("second-", i+1)}, append(c.groupNamed(name, "strict"), noHurry...)...); err != nil {
 			return err
 		}
 	}
