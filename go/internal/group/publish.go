@@ -1,6 +1,7 @@
 package group
 
 import (
+	"bytes"
 	"context"
 	"encoding/json"
 	"errors"
@@ -170,10 +171,22 @@ func (p *publisher) forget(it *publication) {
 	p.send(next)
 }
 
+// isStored says whether this is the answer of a broker that has stored a value, as NATS servers spell it. (To read each one
+// as JSON takes longer than all else about it.)
+func isStored(text []byte) bool {
+	stream, number, found := bytes.Cut(text, []byte(`", "seq":`))
+	name := bytes.TrimPrefix(stream, []byte(`{"stream":"`))
+	return found && 0 < len(name) && len(name) < len(stream) && bytes.IndexByte(name, '"') < 0 &&
+		len(number) > 1 && string(bytes.TrimLeft(number, "0123456789")) == "}"
+}
+
 // failure is nil where the broker has stored the value.
 func (a answer) failure() error {
 	if a.err != nil {
 		return a.err
+	}
+	if isStored(a.text) {
+		return nil
 	}
 	var said struct {
 		Error  *nats.APIError `json:"error"`

@@ -89,14 +89,16 @@ func TestALostAnswerHoldsNobodyUp(t *testing.T) {
 
 func TestAnswersOfTheBroker(t *testing.T) {
 	for text, want := range map[string]error{
-		`{"stream":"KV_test", "seq":7}`: nil,
+		`{"stream":"KV_test", "seq":7}`:                 nil,
+		`{"seq":7,"stream":"KV_test","duplicate":true}`: nil,
 		`{"error":{"code":400,"err_code":10071,"description":"wrong last sequence: 3"},"stream":"KV_test","seq":0}`: nats.ErrKeyExists,
 	} {
 		if err := (answer{text: []byte(text)}).failure(); !errors.Is(err, want) {
 			t.Errorf("%s: %v, want %v", text, err, want)
 		}
 	}
-	for _, text := range []string{``, `{}`, `{"seq":7}`, `no JSON`, `[]`, `{"error":{"code":503}}`} {
+	for _, text := range []string{``, `{}`, `{"seq":7}`, `no JSON`, `[]`, `{"error":{"code":503}}`, `{"stream":"KV_test", "seq":7`, `{"stream":"", "seq":7}`,
+		`{"stream":"a", "error":{"code":503}, "b":"", "seq":7}`, `{"stream":"a", "seq":}`, `", "seq":7}`} {
 		if (answer{text: []byte(text)}).failure() == nil {
 			t.Errorf("%q says that a value is stored", text)
 		}
