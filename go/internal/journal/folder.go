@@ -26,7 +26,7 @@ const (
 	unfinished    = ".new"
 )
 
-// errUnsureNames is what the error of replace wraps where the new file has its name, and the disk may not have it.
+// errUnsureNames is what an error wraps where files have their names, and the disk may not have these.
 var errUnsureNames = errors.New("fsync of the folder failed")
 
 // ErrHeld is what the error of Open wraps where another process has the folder.
@@ -53,14 +53,17 @@ func openFolder(dir string) (folder, error) {
 
 func (f folder) path(name string) string { return filepath.Join(string(f), name) }
 
-// sync forces the folder's names to the disk.
+// sync forces the folder's names to the disk. Where the disk may not have them, the error wraps errUnsureNames.
 func (f folder) sync() error {
 	d, err := os.Open(string(f))
 	if err != nil {
 		return err
 	}
 	defer d.Close()
-	return syncFile(d)
+	if err := syncFile(d); err != nil {
+		return fmt.Errorf("%w: %v", errUnsureNames, err)
+	}
+	return nil
 }
 
 // syncFile is fsync. Tests let it fail.
@@ -174,7 +177,7 @@ func (f folder) readWhole(name string) ([]byte, error) {
 }
 
 // mend opens a journal that a crash may have torn, and makes it where it is not there. It cuts off what stands behind
-// the last whole batch, and returns the batches, the file and how many bytes it cut; zeros at the end do not count.
+// the last whole batch, and returns the batches, the file and how many bytes it cut, without the filler at the end.
 func (f folder) mend(name string) (whole []byte, file *os.File, cut int64, err error) {
 	file, err = f.ensure(name)
 	if err != nil {
@@ -188,10 +191,14 @@ func (f folder) mend(name string) (whole []byte, file *os.File, cut int64, err e
 	// Whatever ends the scan is a tear: only the file's end can be torn, and reading from memory does not fail.
 	good, _ := scan(bytes.NewReader(content))
 	if int64(len(content)) > good {
-		cut = int64(len(bytes.TrimRight(content[good:], "\x00")))
+		cut = int64(len(bytes.TrimRight(content[good:], "\x00\xff")))
 		err = file.Truncate(good)
 	}
-	// What was read may not be on the disk yet, and from here on it counts as if it were.
+	// What was read may not be on the disk yet, and from here on it counts as if it were. It is written again, since the
+	// kernel takes a page for clean that it failed to write, and fsync passes that over.
+	if err == nil {
+		_, err = file.WriteAt(content[:good], 0)
+	}
 	if err == nil {
 		err = syncFile(file)
 	}
@@ -213,10 +220,7 @@ func (f folder) replace(name string, write func(io.Writer) error, good func(io.R
 		os.Remove(f.path(name + unfinished)) // Where that fails too, the next Open removes it.
 		return err
 	}
-	if err := f.sync(); err != nil {
-		return fmt.Errorf("%w: %v", errUnsureNames, err)
-	}
-	return nil
+	return f.sync()
 }
 
 // writeNew writes a file from its beginning, and forces it to the disk.

@@ -10,17 +10,17 @@
 //	*.new        a file that was being written when the process was killed; Open removes it
 //
 // A snapshot and a journal are batches as docs/FORMATS.md has them, one after the other, so `svid report` and
-// `svid merge` read them. Behind the batches of the journal that grows stand zeros, until it is closed. Batches may be
+// `svid merge` read them. Behind the batches of the journal that grows stand bytes FF, until it is closed. Batches may be
 // told in any order and more than once, which makes the rest simple:
 //
 //   - Append returns after the batch is on the disk. Callers that come while a write is under way share the next one.
-//     It writes over the zeros, so that the file's length changes seldom: to force a new length to the disk takes longer
-//     than the bytes themselves.
+//     It writes over the bytes FF, so that the file's length changes seldom: to force a new length to the disk takes
+//     longer than the bytes themselves.
 //   - Snapshot first begins a new journal, then writes the record to snapshot.new, forces it to the disk, renames it
 //     over snapshot, and only then removes the older journals. At every moment the folder therefore holds the old
 //     snapshot and all journals, or the new snapshot and at least the new journal.
 //   - Open reads the snapshot and every journal. The last journal that is not empty may end in what a crash left of a
-//     write that no Append had answered, and in zeros. Open cuts it off behind the last whole batch. (An empty one
+//     write that no Append had answered, and in bytes FF. Open cuts it off behind the last whole batch. (An empty one
 //     behind it is what a Snapshot made that failed right there; Append went on with the one before it.)
 package journal
 
@@ -50,7 +50,7 @@ type Journal struct {
 	file   *os.File   // the journal that grows
 	number uint64     // its number
 	size   int64      // how long its batches are, all of them on the disk
-	room   int64      // its length; what is behind size is zeros
+	room   int64      // its length; what is behind size is filler
 	broken error      // why nothing can be appended any more
 
 	snapshot sync.Mutex // held over a snapshot
@@ -133,7 +133,7 @@ func (j *Journal) Messages() []byte {
 	return found
 }
 
-// Cut returns how many bytes Open cut off the end of the last journal, without zeros at its end: what a crash left of a
+// Cut returns how many bytes Open cut off the end of the last journal, without its filler: what a crash left of a
 // write that no Append had answered. It is worth a line in the log where it is not 0.
 func (j *Journal) Cut() int64 { return j.cut }
 
@@ -193,24 +193,18 @@ func (j *Journal) commit(b []byte) error {
 	if err := j.put(b); err != nil {
 		return err
 	}
-	if err := j.datasync(int(j.file.Fd())); err != nil {
-		j.broken = fmt.Errorf("journal: fdatasync of %s: %w: start the service again once its disk is well", j.file.Name(), err)
-		return j.broken
+	if err := j.force(); err != nil {
+		return err
 	}
 	j.size += int64(len(b))
 	return nil
 }
 
-// put writes the bytes behind the batches. Where the file's length must change, it adds zeros for later calls too, as far
-// as the disk has room for them.
+// put writes the bytes behind the batches.
 func (j *Journal) put(b []byte) error {
 	end := j.size + int64(len(b))
 	if end > j.room {
-		if _, err := j.file.WriteAt(append(b[:len(b):len(b)], zeros[:]...), j.size); err == nil {
-			j.room = end + int64(len(zeros))
-			return nil
-		}
-		if err := j.shorten(); err != nil {
+		if err := j.grow(end); err != nil {
 			return err
 		}
 	}
@@ -220,11 +214,35 @@ func (j *Journal) put(b []byte) error {
 		}
 		return fmt.Errorf("journal: append: %w", err)
 	}
+	if j.room < end { // the disk is too full for more
+		j.room = end
+	}
 	return nil
 }
 
-// zeros are what a journal grows by.
-var zeros [256 << 10]byte
+// filler is what a journal grows by. No batch begins so, and no use ends so. Where a crash leaves some of it in the place of
+// a batch's bytes, that is seen.
+var filler = bytes.Repeat([]byte{0xff}, 256<<10)
+
+// grow lets the file end behind end, with room for later batches, and forces that to the disk. Where the disk is too full,
+// the file stays as long as its batches.
+func (j *Journal) grow(end int64) error {
+	more := append(bytes.Repeat(filler[:1], int(end-j.room)), filler...)
+	if _, err := j.file.WriteAt(more, j.room); err != nil {
+		return j.shorten()
+	}
+	j.room += int64(len(more))
+	return j.force()
+}
+
+// force is fdatasync. Where it fails, nothing can be appended any more.
+func (j *Journal) force() error {
+	if err := j.datasync(int(j.file.Fd())); err != nil {
+		j.broken = fmt.Errorf("journal: fdatasync of %s: %w: start the service again once its disk is well", j.file.Name(), err)
+		return j.broken
+	}
+	return nil
+}
 
 // shorten removes what stands behind the batches. Where that fails, nothing can be appended any more.
 func (j *Journal) shorten() error {
@@ -279,7 +297,7 @@ func (j *Journal) beginNext() (uint64, error) {
 	if j.broken != nil {
 		return 0, j.broken
 	}
-	// (a journal that is not the last one is whole batches, and no zeros)
+	// (a journal that is not the last one is whole batches, and no filler)
 	if err := j.shorten(); err != nil {
 		return 0, err
 	}
@@ -288,6 +306,11 @@ func (j *Journal) beginNext() (uint64, error) {
 		return 0, j.broken
 	}
 	next, err := j.folder.ensure(journalName(j.number + 1))
+	if errors.Is(err, errUnsureNames) {
+		// The kernel tells of such a fault once: what is appended to that file later could be lost with its name.
+		j.broken = fmt.Errorf("%w: start the service again once its disk is well", err)
+		return 0, j.broken
+	}
 	if err != nil {
 		return 0, err
 	}

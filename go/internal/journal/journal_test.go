@@ -298,6 +298,8 @@ func TestCutsATornTail(t *testing.T) {
 	wantMended(t, append(batches(0, 3), zeros...), len(whole))                     // a file that grew, but not its content
 	wantMended(t, append(append(batches(0, 2), zeros[:82]...), 1), 2*82)           // a sector that is missing
 	wantMended(t, append(batches(0, 2), append(zeros[:82], batch(5)...)...), 2*82) // and one behind it that is there
+	wantMended(t, append(batches(0, 3), filler...), len(whole))                    // a journal that was not closed
+	wantMended(t, append(append(batches(0, 3), whole[:50]...), filler...), len(whole))
 }
 
 // wantMended opens a folder whose last journal has this content, and wants the first bytes of it that are good.
@@ -309,7 +311,7 @@ func wantMended(t *testing.T, content []byte, good int) {
 	}
 	j := mustOpen(t, dir)
 	wantMessages(t, j, content[:good])
-	if torn := len(bytes.TrimRight(content[good:], "\x00")); j.Cut() != int64(torn) {
+	if torn := len(bytes.TrimRight(content[good:], "\x00\xff")); j.Cut() != int64(torn) {
 		t.Fatalf("of %d bytes %d were cut, want %d", len(content), j.Cut(), torn)
 	}
 	mustAppend(t, j, batch(77))
@@ -319,9 +321,9 @@ func wantMended(t *testing.T, content []byte, good int) {
 	mustClose(t, j)
 }
 
-// TestGrowsByZeros looks at the journal's file as it grows, is followed by another one, and is closed. Only the one that
-// grows has zeros behind its batches, and its length changes once for thousands of them.
-func TestGrowsByZeros(t *testing.T) {
+// TestGrowsByFiller looks at the journal's file as it grows, is followed by another one, and is closed. Only the one that
+// grows has filler behind its batches, and its length changes once for thousands of them.
+func TestGrowsByFiller(t *testing.T) {
 	dir := t.TempDir()
 	j := mustOpen(t, dir)
 	want := func(name string, batches, behind int64) {
@@ -331,7 +333,7 @@ func TestGrowsByZeros(t *testing.T) {
 			t.Fatalf("%s: %v bytes, want %d and %d behind (%v)", name, info.Size(), 82*batches, behind, err)
 		}
 	}
-	room := int64(len(zeros))
+	room := int64(len(filler))
 	for n := int64(0); n < 100; n++ {
 		mustAppend(t, j, batch(uint64(n)))
 		want("journal.1", 1, room)
@@ -352,6 +354,103 @@ func TestGrowsByZeros(t *testing.T) {
 	mustAppend(t, j, batch(5001))
 	want("journal.2", 2, room)
 	mustClose(t, j)
+}
+
+// TestATornUseIsNoOther has a batch over the end of a page, and only the first of the two pages on the disk.
+func TestATornUseIsNoOther(t *testing.T) {
+	dir := t.TempDir()
+	j := mustOpen(t, dir)
+	name := filepath.Join(dir, "journal.1")
+	read := func() []byte {
+		content, err := os.ReadFile(name)
+		if err != nil {
+			t.Fatal(err)
+		}
+		return content
+	}
+	const page, whole = 4096, 4096 / 82 * 82
+	mustAppend(t, j, batches(0, whole/82))
+	before := read()
+	last := batch(whole / 82)
+	copy(last[57:73], "another place...") // the page ends behind its first use's key, and before the place's end
+	mustAppend(t, j, last)
+	torn := append(read()[:page:page], before[page:]...)
+	mustClose(t, j)
+	if err := os.WriteFile(name, torn, 0o600); err != nil {
+		t.Fatal(err)
+	}
+	j = mustOpen(t, dir)
+	wantMessages(t, j, batches(0, whole/82))
+	mustClose(t, j)
+}
+
+// TestOpenWritesAgainWhatItRead wants the journal written before it is forced to the disk: a page whose write failed counts
+// as clean.
+func TestOpenWritesAgainWhatItRead(t *testing.T) {
+	dir := t.TempDir()
+	j := mustOpen(t, dir)
+	mustAppend(t, j, batches(0, 100))
+	mustClose(t, j)
+	old := time.Unix(1, 0)
+	if err := os.Chtimes(filepath.Join(dir, "journal.1"), old, old); err != nil {
+		t.Fatal(err)
+	}
+	written, real := false, syncFile
+	defer func() { syncFile = real }()
+	syncFile = func(f *os.File) error {
+		if info, err := f.Stat(); err == nil && info.Name() == "journal.1" {
+			written = !info.ModTime().Equal(old)
+		}
+		return real(f)
+	}
+	wantMessages(t, mustOpen(t, dir), batches(0, 100))
+	if !written {
+		t.Error("fsync of what was only read forces nothing to the disk")
+	}
+}
+
+// TestANextJournalWithoutASureNameIsTheEnd: nothing is appended to a journal whose name the disk may not have, also where a
+// later fsync of the folder goes well.
+func TestANextJournalWithoutASureNameIsTheEnd(t *testing.T) {
+	j := mustOpen(t, t.TempDir())
+	mustAppend(t, j, batches(0, 3))
+	failSync(t, 1) // that of the folder, behind that of journal.1
+	if err := j.Snapshot(writes(batches(0, 3))); !errors.Is(err, errUnsureNames) {
+		t.Fatal(err)
+	}
+	if err := j.Snapshot(writes(batches(0, 3))); !errors.Is(err, errUnsureNames) {
+		t.Error(err)
+	}
+	if err := j.Append(batch(3)); !errors.Is(err, errUnsureNames) {
+		t.Error(err)
+	}
+}
+
+// TestTooManyOpenFilesAreNotTheEnd has others take all files that are free while a snapshot is forced to the disk.
+func TestTooManyOpenFilesAreNotTheEnd(t *testing.T) {
+	j := mustOpen(t, t.TempDir())
+	mustAppend(t, j, batches(0, 3))
+	var before syscall.Rlimit
+	if err := syscall.Getrlimit(syscall.RLIMIT_NOFILE, &before); err != nil {
+		t.Fatal(err)
+	}
+	real := syncFile
+	syncFile = func(f *os.File) error {
+		if filepath.Base(f.Name()) == "snapshot.new" {
+			syscall.Setrlimit(syscall.RLIMIT_NOFILE, &syscall.Rlimit{Cur: 3, Max: before.Max})
+		}
+		return real(f)
+	}
+	err := j.Snapshot(writes(batches(0, 3)))
+	syscall.Setrlimit(syscall.RLIMIT_NOFILE, &before)
+	syncFile = real
+	if !errors.Is(err, syscall.EMFILE) {
+		t.Error(err)
+	}
+	mustAppend(t, j, batch(3))
+	if err := j.Snapshot(writes(batches(0, 4))); err != nil {
+		t.Error(err)
+	}
 }
 
 func TestRefusesDamageThatNoCrashLeaves(t *testing.T) {
@@ -431,6 +530,7 @@ func TestClosed(t *testing.T) {
 func TestManyCallersShareOneSync(t *testing.T) {
 	dir := t.TempDir()
 	j := mustOpen(t, dir)
+	mustAppend(t, j, batch(1000)) // (the file has grown)
 	syncs, begun, proceed := 0, make(chan bool), make(chan bool)
 	j.datasync = func(fd int) error {
 		if syncs++; syncs == 1 {
@@ -468,7 +568,7 @@ func TestManyCallersShareOneSync(t *testing.T) {
 		t.Errorf("%d syncs for 1 caller and then %d at once, want 2", syncs, callers)
 	}
 	mustClose(t, j)
-	if got := len(mustOpen(t, dir).Messages()); got != (callers+1)*82 {
+	if got := len(mustOpen(t, dir).Messages()); got != (callers+2)*82 {
 		t.Errorf("%d bytes", got)
 	}
 }
