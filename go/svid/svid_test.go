@@ -558,6 +558,37 @@ func TestSaveWritesALargeRecordInPieces(t *testing.T) {
 	}
 }
 
+func TestWithout(t *testing.T) {
+	use := func(n byte) svid.Use { return svid.Use{Key: svid.TokenKey{n}, Expires: 9, At: 7} }
+	// A batch of these uses: the first one's head, and the text of each.
+	batch := func(numbers ...byte) []byte {
+		b := append([]byte(nil), use(0).Batch()[:17]...)
+		b[16] = byte(len(numbers))
+		for _, n := range numbers {
+			b = append(b, use(n).Batch()[17:]...)
+		}
+		return b
+	}
+	join := func(parts ...[]byte) []byte { return bytes.Join(parts, nil) }
+	for _, row := range []struct{ messages, want []byte }{
+		{nil, nil},
+		{batch(1, 2, 3), batch(1, 3)},
+		{batch(2), batch()},
+		{batch(1, 3), batch(1, 3)},
+		{join(batch(2, 4), batch(), batch(1, 2)), join(batch(4), batch(), batch(1))},
+		{join(batch(1, 2), batch(2)[:60]), join(batch(1), batch(2)[:60])},
+		{join([]byte("no head"), batch(2)), join([]byte("no head"), batch(2))},
+	} {
+		before := append([]byte(nil), row.messages...)
+		if got := svid.Without(row.messages, func(u svid.Use) bool { return u == use(2) }); !bytes.Equal(got, row.want) {
+			t.Errorf("% X: % X, want % X", row.messages, got, row.want)
+		}
+		if !bytes.Equal(before, row.messages) {
+			t.Errorf("% X was changed", before)
+		}
+	}
+}
+
 func TestIsBatch(t *testing.T) {
 	one := svid.Use{Expires: 2, At: 1}.Batch()
 	none, two := append([]byte(nil), one[:17]...), append(append([]byte(nil), one...), one[17:]...)

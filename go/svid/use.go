@@ -105,6 +105,26 @@ func IsBatch(message []byte) bool {
 		uint64(len(message)) == batchHeadLen+useLen*uint64(binary.BigEndian.Uint32(message[countAt:]))
 }
 
+// Without returns messages without those uses of their batches that drop says. What is no batch stays as it is.
+func Without(messages []byte, drop func(Use) bool) []byte {
+	var kept []byte
+	for _, m := range Split(messages, 0) {
+		head := len(kept)
+		if !IsBatch(m) {
+			kept = append(kept, m...)
+			continue
+		}
+		kept = append(kept, m[:batchHeadLen]...)
+		for text := m[batchHeadLen:]; len(text) > 0; text = text[useLen:] {
+			if !drop(readUse(text)) {
+				kept = append(kept, text[:useLen]...)
+			}
+		}
+		binary.BigEndian.PutUint32(kept[head+countAt:], uint32((len(kept)-head-batchHeadLen)/useLen))
+	}
+	return kept
+}
+
 // Split cuts messages between two of them, into pieces of at most most bytes
 // each, in their order. A message that is longer than that is a piece of its
 // own. It looks only at lengths: bytes that end within a message, or begin with

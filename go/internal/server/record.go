@@ -60,8 +60,11 @@ func (e *Engine) Load(messages []byte) error {
 // Take gives the record a message of the group. An error says that it is put
 // aside: it is no message, or of a time further ahead than Options.Ahead.
 func (e *Engine) Take(message []byte) error {
-	if e.Mode == Strict && e.claims.own(message) {
-		return nil
+	if e.Mode == Strict {
+		if e.claims.own(message) {
+			return nil
+		}
+		message = e.claims.without(message)
 	}
 	err := e.validator.Take(e.Now(), message)
 	if e.Log.Writes(All) {

@@ -994,6 +994,41 @@ func TestAnOpenClaimAmongOthers(t *testing.T) {
 	}
 }
 
+// An answer to a summary tells of a claim that is open here, beside another use: it is held back as the bucket's copy is.
+func TestAnAnswerWithAnOpenClaim(t *testing.T) {
+	all, b := strict(t, 2)
+	e, other := all[0], all[1]
+	b.members[0].hold = make(chan struct{})
+	outcome := make(chan error)
+	go func() { outcome <- check(e, token("mine")) }()
+	awaitOpenClaim(e)
+	if err := check(other, token("theirs")); err != nil {
+		t.Fatal(err)
+	}
+	await(t, "both uses at the other", func() bool {
+		_, uses, err := svid.Uses(saved(t, other))
+		return err == nil && len(uses) == 2
+	})
+	summary, err := ready(t, engine(t, Options{Mode: Strict})).Summary() // of one who has neither
+	if err != nil {
+		t.Fatal(err)
+	}
+	answer, err := other.Answer(summary)
+	if err != nil {
+		t.Fatal(err)
+	}
+	if err := e.Take(answer); err != nil {
+		t.Fatal(err)
+	}
+	close(b.members[0].hold)
+	if err := <-outcome; err != nil {
+		t.Errorf("the winner of a claim: %v", err)
+	}
+	if saved := saved(t, e); !bytes.Equal(saved, answer) {
+		t.Errorf("the record has not both uses: % X", saved)
+	}
+}
+
 // The bucket's copy of a won claim, which comes behind the answer, is not taken once more; and nothing is kept of the claim.
 func TestTheCopyOfAWonClaim(t *testing.T) {
 	all, b := strict(t, 1)

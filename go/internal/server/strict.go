@@ -72,7 +72,7 @@ func (e *Engine) claim(ctx context.Context, end time.Time, mine *claim, token st
 	added := false // to the record
 	defer func() { e.endClaim(mine, added) }()
 	g := e.group.Load()
-	won, winner, err := g.Claim(ctx, end, mine.key, mine.batch)
+	won, winner, err := g.Claim(ctx, end, mine.use.Key, mine.batch)
 	switch {
 	case err != nil:
 		e.Metrics.ClaimsFailed.Add(1)
@@ -130,7 +130,7 @@ type claims struct {
 }
 
 type claim struct {
-	key   svid.TokenKey
+	use   svid.Use
 	batch []byte
 	done  chan struct{} // closed once the outcome is known
 	seen  bool          // the bucket has shown the batch; guarded by claims.mu
@@ -143,7 +143,7 @@ func (c *claims) begin(use svid.Use) (mine, other *claim) {
 	if other := c.open[use.Key]; other != nil {
 		return nil, other
 	}
-	mine = &claim{key: use.Key, batch: use.Batch(), done: make(chan struct{})}
+	mine = &claim{use: use, batch: use.Batch(), done: make(chan struct{})}
 	c.open[use.Key] = mine
 	return mine, nil
 }
@@ -153,11 +153,29 @@ func (c *claims) begin(use svid.Use) (mine, other *claim) {
 func (c *claims) end(mine *claim, added bool) (take bool) {
 	c.mu.Lock()
 	defer c.mu.Unlock()
-	delete(c.open, mine.key)
+	delete(c.open, mine.use.Key)
 	if added && !mine.seen && len(c.unseen) < mostUnseen {
-		c.unseen[mine.key] = mine.batch
+		c.unseen[mine.use.Key] = mine.batch
 	}
 	return mine.seen && !added
+}
+
+// without returns messages without the uses of open claims, which own would keep from the record too: an answer to a summary
+// tells of them beside others.
+func (c *claims) without(message []byte) []byte {
+	c.mu.Lock()
+	defer c.mu.Unlock()
+	if len(c.open) == 0 {
+		return message
+	}
+	return svid.Without(message, func(use svid.Use) bool {
+		open := c.open[use.Key]
+		if open == nil || use != open.use {
+			return false
+		}
+		open.seen = true
+		return true
+	})
 }
 
 // own says whether a message is the batch of an own claim, which the record has
