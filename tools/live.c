@@ -17,7 +17,7 @@
 
 #define NOW UINT64_C(1767225600)
 /* The stack that a call may take: svid.h says so. */
-#define STACK_MOST 114688
+#define STACK_MOST 122880
 
 static long asked, standing, refused_at;
 

@@ -232,7 +232,6 @@ impl<S: UseStore> Record<S> {
     }
 
     // the prefixes of the keys that two uses have that are no withdrawals, and maybe of others
-    #[inline(never)]
     fn prefixes(&self, alloc: Global) -> Result<Vec<u64>, AllocError>
         ensures { IfOk result (λ prefixes. (key : List ℕ) → nat_lt 1 (length (uses_of key (used (rising self.now.uses)))) ≡ true → has_prefix prefixes.items key ≡ true) }
     {
@@ -245,7 +244,6 @@ impl<S: UseStore> Record<S> {
     }
 
     // the uses that are no withdrawals and whose keys have these prefixes, rising
-    #[inline(never)]
     fn used_among(&self, alloc: Global, prefixes: &[u64]) -> Result<Vec<Use>, AllocError>
         requires { IsNonDecreasing prefixes.now }
         ensures { IfOk result (λ uses. uses.items ≡ filter (is_among prefixes.now) (rising self.now.uses)) }

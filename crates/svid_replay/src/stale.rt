@@ -34,7 +34,6 @@ impl<'a, S: UseStore> Model for Stale<'a, S> {
 }
 
 impl<'a, S: UseStore> Stale<'a, S> {
-    #[inline(never)]
     pub(crate) fn of(whole: &'a Record<S>, summary: &'a Summary) -> Stale<'a, S>
         ensures { result ≡ rising (stale summary.now whole.now.uses) }
     {

@@ -33,8 +33,6 @@ impl<'a, S: UseStore> Model for Walk<'a, S> {
 }
 
 impl<'a, S: UseStore> Walk<'a, S> {
-    // (apart, so that a caller has one walk on its stack, and no copies of its parts)
-    #[inline(never)]
     pub(crate) fn of(whole: &'a Record<S>, after: Option<Use>) -> Walk<'a, S>
         ensures { result ≡ uses_behind whole.now.uses after }
     {

@@ -33,7 +33,6 @@ fn put_number<K: Sink>(
 }
 
 // The lines of the uses, as they are walked.
-#[inline(never)]
 fn put_uses<T: UseStore, K: Sink>(
     page: &mut Page,
     state: &Record<T>,
