@@ -209,12 +209,12 @@ static void try_row(const row *r) {
         else holds(is_answer(r, &a, len) && !memcmp(out.bytes, whole.bytes, len), "another answer in another room");
         give_back(out);
     }
-    /* each allocation alone, and each with all that follow it: want of memory is told; or what is due, where one alone
-     * was refused and a smaller one did (a list that grows asks for twice its length, and then for what it needs) */
+    /* each allocation alone, and each with all that follow it: want of memory is told; or, by a report, what is due, where
+     * one alone was refused and a smaller one did (it collects uses, and a larger room is only asked for first) */
     for (long nth = 1; nth <= takes; nth++) {
         for (int all = 0; all < 2; all++) {
             text out = called(r, len, nth, all ? 1L << 40 : nth, &a);
-            if (!all && asked > nth && answered == r->status) {
+            if (r->kind == REPORT && !all && asked > nth && answered == r->status) {
                 holds(is_answer(r, &a, len) && !memcmp(out.bytes, whole.bytes, len), "another answer with a smaller allocation");
                 give_back(out);
                 continue;
