@@ -589,7 +589,7 @@ func TestWithout(t *testing.T) {
 	}
 }
 
-func TestIsBatch(t *testing.T) {
+func TestAreBatches(t *testing.T) {
 	one := svid.Use{Expires: 2, At: 1}.Batch()
 	none, two := append([]byte(nil), one[:17]...), append(append([]byte(nil), one...), one[17:]...)
 	none[16], two[16] = 0, 2
@@ -600,13 +600,51 @@ func TestIsBatch(t *testing.T) {
 		want    bool
 	}{
 		"one use": {one, true}, "no use": {none, true}, "two uses": {two, true},
-		"nothing": {nil, false}, "half": {one[:81], false}, "a byte more": {append(one[:82:82], 0), false}, "two batches": {append(one[:82:82], one...), false},
+		"nothing": {nil, true}, "half": {one[:81], false}, "a byte more": {append(one[:82:82], 0), false}, "two batches": {append(one[:82:82], one...), true},
+		"one and a half": {append(one[:82:82], one[:81]...), false}, "another one behind": {append(one[:82:82], []byte("JSR\x02\x02plain bytes")...), false},
 		"another kind": {append([]byte("JSR\x02\x02"), one[5:]...), false}, "version 1": {append([]byte("JSR\x01\x01"), one[5:]...), false},
 		"a count of billions": {many, false}, "a head alone": {one[:17], false}, "half a head": {one[:16], false},
 	} {
-		if got := svid.IsBatch(row.message); got != row.want {
+		if got := svid.AreBatches(row.message); got != row.want {
 			t.Errorf("%s: %v", what, got)
 		}
+	}
+}
+
+// Batches of uses are what a validator takes and saves, whatever their order.
+func TestBatches(t *testing.T) {
+	if got := svid.Batches(nil); len(got) != 0 {
+		t.Errorf("no uses: % X", got)
+	}
+	var uses []svid.Use
+	for i := 0; i < 300; i++ {
+		uses = append(uses, svid.Use{Key: svid.TokenKey{byte(i * 7)}, Expires: moment + 50 + uint64(i%3), At: moment - uint64(i%2),
+			Place: svid.Place{byte(i % 5)}, Withdrawn: i%4 == 0})
+	}
+	uses = append(uses, uses[:20]...)
+	before := append([]svid.Use(nil), uses...)
+	together, alone := open(t, 1), open(t, 1)
+	got := svid.Batches(uses)
+	if err := together.Take(moment, got); err != nil {
+		t.Fatal(err)
+	}
+	for _, u := range uses {
+		if err := alone.Take(moment, u.Batch()); err != nil {
+			t.Fatal(err)
+		}
+	}
+	saved := save(t, together)
+	if !bytes.Equal(saved, save(t, alone)) {
+		t.Error("the records differ")
+	}
+	if !svid.AreBatches(got) || len(got) != 2*17+(len(saved)-17) {
+		t.Errorf("%d bytes of batches, and a record of %d", len(got), len(saved))
+	}
+	if fmt.Sprint(uses) != fmt.Sprint(before) {
+		t.Error("the uses were changed")
+	}
+	if one := uses[0]; !bytes.Equal(svid.Batches(uses[:1]), one.Batch()) {
+		t.Error("one use")
 	}
 }
 
@@ -784,17 +822,11 @@ func TestUsesReadsARecord(t *testing.T) {
 		if err := v.Take(moment, u.Batch()); err != nil {
 			t.Fatal(err)
 		}
-		if key, ok := svid.KeyOfBatch(u.Batch()); !ok || key != u.Key {
-			t.Errorf("KeyOfBatch: %v %v", key, ok)
-		}
 	}
 	saved := save(t, v)
 	at, uses, err := svid.Uses(append(used.Batch(), saved...))
 	if err != nil || at != moment || len(uses) != 3 || uses[0] != used || uses[1] != used || uses[2] != gone {
 		t.Errorf("%d %v %v", at, uses, err)
-	}
-	if _, ok := svid.KeyOfBatch(saved); ok {
-		t.Error("KeyOfBatch of two uses")
 	}
 	var message *svid.MessageError
 	if _, _, err := svid.Uses(saved[:100]); !errors.As(err, &message) || message.Reason != "Truncated" || message.Place != 100 {

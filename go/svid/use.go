@@ -6,6 +6,7 @@ import (
 	"encoding/binary"
 	"encoding/hex"
 	"fmt"
+	"sort"
 	"time"
 )
 
@@ -87,30 +88,70 @@ func (u Use) Batch() []byte {
 	return b
 }
 
-// KeyOfBatch returns the token's key in a batch of one use, as Use.Batch writes it.
-// ok is false for any other message.
-func KeyOfBatch(batch []byte) (key TokenKey, ok bool) {
-	if len(batch) != batchHeadLen+useLen || !bytes.HasPrefix(batch, batchHead[:]) {
-		return TokenKey{}, false
+// Batches returns uses as messages: a batch for each time at which uses were accepted or revoked, as Uses reads them.
+// That is 65 bytes a use, and 17 a batch. A use that is given twice stands in it once. The uses themselves stay.
+func Batches(uses []Use) []byte {
+	inOrder := append([]Use(nil), uses...)
+	sort.Slice(inOrder, func(i, j int) bool {
+		a, b := &inOrder[i], &inOrder[j]
+		if a.At != b.At {
+			return a.At < b.At
+		}
+		return a.less(b)
+	})
+	out := make([]byte, 0, batchHeadLen+useLen*len(uses))
+	head := 0
+	for i := range inOrder {
+		u := &inOrder[i]
+		switch {
+		case i == 0 || u.At != inOrder[i-1].At:
+			head = len(out)
+			out = append(out, u.Batch()...)
+		case *u != inOrder[i-1]:
+			out = append(out, u.Batch()[batchHeadLen:]...)
+			binary.BigEndian.PutUint32(out[head+countAt:], uint32((len(out)-head-batchHeadLen)/useLen))
+		}
 	}
-	copy(key[:], batch[25:57])
-	return key, true
+	return out
 }
 
-// IsBatch says whether bytes have exactly the length that they have as one batch, by their head. Messages of which that
-// holds can be put one after the other, and each is read as if it stood alone. (Whether the uses in it are good is for
-// Validator.Take to say.)
-func IsBatch(message []byte) bool {
-	return len(message) >= batchHeadLen && bytes.HasPrefix(message, batchHead[:]) &&
-		uint64(len(message)) == batchHeadLen+useLen*uint64(binary.BigEndian.Uint32(message[countAt:]))
+// less orders uses of one moment as a batch has them.
+func (u *Use) less(other *Use) bool {
+	if u.Expires != other.Expires {
+		return u.Expires < other.Expires
+	}
+	if c := bytes.Compare(u.Key[:], other.Key[:]); c != 0 {
+		return c < 0
+	}
+	if c := bytes.Compare(u.Place[:], other.Place[:]); c != 0 {
+		return c < 0
+	}
+	return !u.Withdrawn && other.Withdrawn
+}
+
+// AreBatches says whether bytes have exactly the length that they have as batches, one after the other, by the head of
+// each. Messages of which that holds can be put one after the other, and each is read as if it stood alone. (Whether the
+// uses in them are good is for Validator.Take to say.)
+func AreBatches(messages []byte) bool {
+	for len(messages) > 0 {
+		if len(messages) < batchHeadLen || !bytes.HasPrefix(messages, batchHead[:]) {
+			return false
+		}
+		length := batchHeadLen + useLen*uint64(binary.BigEndian.Uint32(messages[countAt:]))
+		if uint64(len(messages)) < length {
+			return false
+		}
+		messages = messages[length:]
+	}
+	return true
 }
 
 // Without returns messages without those uses of their batches that drop says. What is no batch stays as it is.
 func Without(messages []byte, drop func(Use) bool) []byte {
-	var kept []byte
+	kept := make([]byte, 0, len(messages))
 	for _, m := range Split(messages, 0) {
 		head := len(kept)
-		if !IsBatch(m) {
+		if !AreBatches(m) {
 			kept = append(kept, m...)
 			continue
 		}

@@ -16,9 +16,10 @@ import (
 // A deaf sink takes nothing, so that a bucket can be made and filled without a record.
 type deaf struct{}
 
-func (deaf) Take([]byte) error { return nil }
+func (deaf) Take([]group.Value) []error { return nil }
 
-// fill puts random uses into a group's bucket.
+// fill puts random uses into a group's bucket, each as a value of its own, as a sidecar does at a quiet time: of all
+// buckets that has most values.
 func fill(f *flag.FlagSet, args []string) error {
 	urls := f.String("nats", "", "the broker's addresses")
 	name := f.String("group", "svid", "the bucket")
@@ -45,8 +46,8 @@ func fillBucket(urls, name string, n, replicas int) error {
 	if err != nil {
 		return err
 	}
-	for _, u := range randomUses(make([]svid.Use, n)) {
-		if _, err := js.PublishAsync(fmt.Sprintf("$KV.%s.u.%v.%v", name, u.Key, u.Place), u.Batch(), nats.StallWait(time.Minute)); err != nil {
+	for i, u := range randomUses(make([]svid.Use, n)) {
+		if _, err := js.PublishAsync(fmt.Sprintf("$KV.%s.u.%v.%d", name, u.Place, i+1), u.Batch(), nats.StallWait(time.Minute)); err != nil {
 			return err
 		}
 	}

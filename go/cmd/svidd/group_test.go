@@ -208,14 +208,16 @@ func TestAMemberThatLies(t *testing.T) {
 		}
 	}
 	p.await("two values aside", func() bool { return p.metric("svidd_messages_aside_total") == "2" })
-	// Someone claims a token with garbage as its value before it comes.
+	// Someone claims a token before it comes, by a value that is from too far ahead.
 	victim := token(t, "victim", time.Minute)
 	admin := p.option("--admin")
-	if _, err := kv.Create("c."+keyOf(t, victim).String(), []byte("garbage")); err != nil {
+	claim := svid.Use{Key: keyOf(t, victim), Expires: svid.Now() + 7200, At: svid.Now() + 3600}
+	if _, err := kv.Create("c.liar.1", claim.Batch()); err != nil {
 		t.Fatal(err)
 	}
+	p.await("the claim aside", func() bool { return p.metric("svidd_messages_aside_total") == "3" })
 	if status, _, body := p.check(victim); status != 503 || !strings.Contains(body, "no use of it") {
-		t.Errorf("claimed by garbage: %d %q", status, body)
+		t.Errorf("claimed from far ahead: %d %q", status, body)
 	}
 	p.want(token(t, "other", time.Minute), 200, "")
 	if status, _, err := svidd(t, "", "report", "--admin", admin); status != 0 {

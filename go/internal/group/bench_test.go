@@ -13,7 +13,7 @@ import (
 // A counter is a sink that does nothing, so that the bucket alone is measured.
 type counter struct{}
 
-func (counter) Take([]byte) error { return nil }
+func (counter) Take([]Value) []error { return nil }
 
 // BenchmarkCatchUp reads a bucket of N uses, from Join to Ready.
 func BenchmarkCatchUp(b *testing.B) {
@@ -43,7 +43,7 @@ func fill(b *testing.B, url string, n int) {
 		b.Fatal(err)
 	}
 	for i := 0; i < n; i++ {
-		if _, err := js.PublishAsync(fmt.Sprintf("%su.%x.%x", g.subject, key(i), g.options.Place), batch(key(i), g.options.Place), nats.StallWait(time.Minute)); err != nil {
+		if _, err := js.PublishAsync(fmt.Sprintf("%su.%s.%d", g.subject, g.member, i), batch(key(i), g.options.Place), nats.StallWait(time.Minute)); err != nil {
 			b.Fatal(err)
 		}
 	}
@@ -54,29 +54,18 @@ func fill(b *testing.B, url string, n int) {
 	}
 }
 
-// BenchmarkClaim claims new keys, from many goroutines at once.
-func BenchmarkClaim(b *testing.B) {
+// BenchmarkPut puts values of one use, one after the other.
+func BenchmarkPut(b *testing.B) {
 	s := natstest.Start(b)
 	g, err := Join(patience(b), options(1, s.URL), counter{})
 	if err != nil {
 		b.Fatal(err)
 	}
 	defer g.Close()
-	next := make(chan int)
-	go func() {
-		for i := 0; i < b.N; i++ {
-			next <- i
-		}
-		close(next)
-	}()
-	b.SetParallelism(16)
 	b.ResetTimer()
-	b.RunParallel(func(pb *testing.PB) {
-		for pb.Next() {
-			i := <-next
-			if won, _, err := g.Claim(patience(b), soon(), key(i), batch(key(i), g.options.Place)); !won || err != nil {
-				b.Error(won, err)
-			}
+	for i := 0; i < b.N; i++ {
+		if err := g.Put(patience(b), Claims, uint64(i+1), batch(key(i), g.options.Place)); err != nil {
+			b.Fatal(err)
 		}
-	})
+	}
 }

@@ -1,15 +1,17 @@
 // Package group shares acceptances and withdrawals with the other validators of a group, over one JetStream key-value
-// bucket.
+// bucket, which is their log: its values have one order, and every member reads all of them in it, its own ones too.
 //
-// Each value is whole batches as docs/FORMATS.md has them. The keys, where KEY and PLACE are hexadecimal digits:
+// Each value is whole batches as docs/FORMATS.md has them. A value has a key of its own, so that none ever takes the
+// place of another:
 //
-//	u.KEY.PLACE   a use, told by the validator of that place (Tell)
-//	c.KEY         a use that was claimed before it was answered; only the first one is kept (Claim)
-//	w.KEY.PLACE   a withdrawal (Withdraw)
+//	u.MEMBER.N   uses and withdrawals that the record of this member has gained
+//	c.MEMBER.N   uses that this member claims: of all claims of a token, the first in the bucket counts
 //
-// Every member reads the bucket from its beginning and gives each value to its Sink, its own ones too: a claim that was
-// made before a crash is known to its maker only by the bucket. Beside the bucket, members repair what the broker may
-// have lost: at times a member sends a summary of its record to another, which answers with what differs (Summaries).
+// MEMBER is 32 hexadecimal digits, drawn at random when the member joins, and N the number that it gives the value.
+// What was put before a crash is known to its maker only by the bucket, as another member's.
+//
+// Beside the bucket, members repair what the broker may have lost: at times a member sends a summary of its record to
+// another, which answers with what differs (Summaries).
 //
 // A record believes what it takes. Whoever can write to the bucket decides which tokens are refused, so give the broker
 // accounts, and let only members of the group publish to `$KV.NAME.>` and `svid.NAME.>`.
@@ -17,9 +19,11 @@ package group
 
 import (
 	"context"
+	"crypto/rand"
 	"encoding/hex"
 	"errors"
 	"fmt"
+	"strconv"
 	"strings"
 	"sync"
 	"sync/atomic"
@@ -37,8 +41,7 @@ const (
 	mostReadWait  = 30 * time.Second       // and at the most, for a broker that is busy
 	attemptPause  = 50 * time.Millisecond  // behind a failed attempt
 	mostReplicas  = 5                      // of a bucket, as JetStream has it
-	keyLen        = 32
-	operationName = "KV-Operation" // the header by which a key-value bucket marks a key as deleted
+	operationName = "KV-Operation"         // the header by which a key-value bucket marks a key as deleted
 )
 
 // Options say which bucket a group has, and who joins it.
@@ -61,17 +64,34 @@ type Options struct {
 	Log func(event string, fields ...any)
 }
 
-// A Sink is what values are given to: a validator. Take is called by one goroutine of the group at a time.
-//
-// An error says that the value is put aside: the group counts it, logs its key and goes on. The bucket still has it.
-type Sink interface {
-	Take(message []byte) error
+// A Kind says what a value is.
+type Kind byte
+
+// The kinds of values.
+const (
+	Uses   Kind = 'u' // uses and withdrawals, of a key of the bucket that begins with u
+	Claims Kind = 'c' // uses that a member claims, of a key that begins with c
+	Answer Kind = 'a' // a part of an answer to this member's summary, and no value of the bucket
+)
+
+// A Value is what a Sink is given.
+type Value struct {
+	Kind    Kind
+	Message []byte // whole batches, if its sender is honest
+	Own     uint64 // the number by which this member has Put it; 0 for all other values
+	Gap     bool   // values that stood in front of it were gone before this member could read them
+
+	from   string // its key, or what else to log
+	number uint64 // its place in the bucket
 }
 
-// A WideSink is a Sink that can take several values at once. An error of TakeAll says that each is to be taken by itself.
-type WideSink interface {
-	Sink
-	TakeAll(messages [][]byte) error
+// A Sink is what values are given to, in the order that they have in the bucket: a validator. Take is called by one
+// goroutine at a time.
+//
+// It returns nil if it took all of them. Else it returns as many errors as there are values, and one that isn't nil says
+// that the value is put aside: the group counts it, logs its key and goes on. The bucket still has it.
+type Sink interface {
+	Take(values []Value) []error
 }
 
 // A Group is a member's tie to the others. Its methods may be called from many goroutines at once.
@@ -81,8 +101,9 @@ type Group struct {
 	subject string // what its keys' subjects begin with
 	conn    *nats.Conn
 	js      nats.JetStreamContext
-	out     *publisher
-	names   names
+	member  string // this member's name in keys
+
+	stored atomic.Uint64 // the place of the last own value that the broker has stored, as far as it has said so
 
 	taking sync.Mutex // one call at a time goes to the sink
 	sink   Sink
@@ -105,7 +126,12 @@ func Join(ctx context.Context, o Options, s Sink) (*Group, error) {
 	if err := o.check(); err != nil {
 		return nil, err
 	}
-	g := &Group{options: o, stream: "KV_" + o.Name, subject: "$KV." + o.Name + ".", sink: s, ready: make(chan struct{})}
+	var member [16]byte
+	if _, err := rand.Read(member[:]); err != nil {
+		return nil, fmt.Errorf("group: no random bytes for the name of a member: %w", err)
+	}
+	g := &Group{options: o, stream: "KV_" + o.Name, subject: "$KV." + o.Name + ".", member: hex.EncodeToString(member[:]),
+		sink: s, ready: make(chan struct{})}
 	g.life, g.end = context.WithCancel(context.Background())
 	if err := g.connect(ctx); err != nil {
 		return nil, err
@@ -170,12 +196,7 @@ func (g *Group) connect(ctx context.Context) error {
 			nc.Close()
 			return true, err
 		}
-		out, err := newPublisher(nc)
-		if err != nil {
-			nc.Close()
-			return true, err
-		}
-		g.conn, g.js, g.out = nc, js, out
+		g.conn, g.js = nc, js
 		return true, nil
 	})
 }
@@ -208,23 +229,33 @@ func (g *Group) Taken() uint64 { return g.taken.Load() }
 // Aside returns how many values the sink did not take.
 func (g *Group) Aside() uint64 { return g.aside.Load() }
 
-// Tell tells the group of a use of the token with this key: batch is a batch of that use. It returns once the broker
-// has stored it, and tries until ctx ends. Telling again what was told changes nothing.
-func (g *Group) Tell(ctx context.Context, key [keyLen]byte, batch []byte) error {
-	return g.put(ctx, "u", key, batch)
-}
-
-// Withdraw tells the group of a withdrawal of the token with this key, as Tell does of a use.
-func (g *Group) Withdraw(ctx context.Context, key [keyLen]byte, batch []byte) error {
-	return g.put(ctx, "w", key, batch)
-}
-
-func (g *Group) put(ctx context.Context, kind string, key [keyLen]byte, batch []byte) error {
-	m := &nats.Msg{Subject: g.subject + kind + "." + hex.EncodeToString(key[:]) + "." + hex.EncodeToString(g.options.Place[:]), Data: batch}
-	return persist(ctx, "group: tell", func() (bool, error) {
-		err := g.out.publish(ctx, attemptWait, m)
-		return err == nil || errors.Is(err, nats.ErrMaxPayload), err
+// Put puts a value of this kind into the bucket, and returns once the broker has stored it. message is whole batches, of
+// no more bytes than the broker's messages may have. number is greater than 0, and another one in each call.
+//
+// It tries until ctx ends. The error then says what the broker said last; the value may be stored all the same, also
+// later, but never twice: the broker takes a value only if its key has none yet.
+func (g *Group) Put(ctx context.Context, kind Kind, number uint64, message []byte) error {
+	subject := g.subject + string(rune(kind)) + "." + g.member + "." + strconv.FormatUint(number, 10)
+	return persist(ctx, "group: put", func() (bool, error) {
+		attempt, cancel := context.WithTimeout(ctx, attemptWait)
+		defer cancel()
+		m := &nats.Msg{Subject: subject, Header: nats.Header{}, Data: message}
+		stored, err := g.js.PublishMsg(m, nats.Context(attempt), nats.ExpectLastSequencePerSubject(0))
+		switch {
+		case err == nil:
+			g.isStored(stored.Sequence)
+			return true, nil
+		case errors.Is(err, nats.ErrKeyExists): // An earlier attempt has stored it, and its answer was lost.
+			return true, nil
+		}
+		return errors.Is(err, nats.ErrMaxPayload), err
 	})
+}
+
+// isStored lets the reader know of the place of an own value.
+func (g *Group) isStored(place uint64) {
+	for before := g.stored.Load(); before < place && !g.stored.CompareAndSwap(before, place); before = g.stored.Load() {
+	}
 }
 
 // Close ends what Join and Summaries began, and lets go of the broker. It returns when no Take is under way.
@@ -235,46 +266,27 @@ func (g *Group) Close() error {
 	return nil
 }
 
-// A value is one of the bucket: that of a subject, with its number.
-type value struct {
-	message []byte
-	subject string
-	number  uint64
-}
-
-// takeAll gives values to the sink, at once where that goes.
-func (g *Group) takeAll(values []value) {
-	if wide, ok := g.sink.(WideSink); ok && len(values) > 1 {
-		messages := make([][]byte, len(values))
-		for i, v := range values {
-			messages[i] = v.message
-		}
-		g.taking.Lock()
-		err := wide.TakeAll(messages)
-		g.taking.Unlock()
-		if err == nil {
-			g.taken.Add(uint64(len(values)))
-			return
-		}
-	}
-	for _, v := range values {
-		g.take(v.message, v.subject, v.number)
-	}
-}
-
-// take gives one value to the sink: that of a key, with its number in the bucket, or a part of an answer.
-func (g *Group) take(message []byte, from string, number uint64) {
-	g.taking.Lock()
-	err := g.sink.Take(message)
-	g.taking.Unlock()
-	if err == nil {
-		g.taken.Add(1)
+// take gives values to the sink.
+func (g *Group) take(values []Value) {
+	if len(values) == 0 {
 		return
 	}
-	n := g.aside.Add(1)
-	if held, ok := g.quiet.speak(time.Now()); ok {
-		g.log("put aside", "from", from, "number", number, "bytes", len(message), "why", err, "aside", n, "unlogged", held)
+	g.taking.Lock()
+	errs := g.sink.Take(values)
+	g.taking.Unlock()
+	taken := uint64(len(values))
+	for i, err := range errs {
+		if err == nil {
+			continue
+		}
+		taken--
+		n := g.aside.Add(1)
+		if held, ok := g.quiet.speak(time.Now()); ok {
+			v := values[i]
+			g.log("put aside", "from", v.from, "number", v.number, "bytes", len(v.Message), "why", err, "aside", n, "unlogged", held)
+		}
 	}
+	g.taken.Add(taken)
 }
 
 // logChange logs why something does not work that is tried again and again, when that is something else than said.

@@ -11,6 +11,7 @@ import (
 	"runtime"
 	"strings"
 	"sync"
+	"sync/atomic"
 	"testing"
 	"time"
 
@@ -38,23 +39,42 @@ func key(n int) (k [32]byte) {
 	return k
 }
 
-// A sink keeps batches, and puts aside what does not begin as one.
+// A sink keeps values in their order, and puts aside what does not begin as a batch.
 type sink struct {
-	mu   sync.Mutex
-	held map[string]bool
+	mu    sync.Mutex
+	held  map[string]bool
+	order []Value
+	most  int // values at once
 }
 
-func (s *sink) Take(m []byte) error {
-	if !bytes.HasPrefix(m, []byte("JSR\x02\x01")) {
-		return errors.New("no batch")
-	}
+func (s *sink) Take(values []Value) (errs []error) {
 	s.mu.Lock()
 	defer s.mu.Unlock()
 	if s.held == nil {
 		s.held = map[string]bool{}
 	}
-	s.held[string(m)] = true
-	return nil
+	if len(values) > s.most {
+		s.most = len(values)
+	}
+	for i, v := range values {
+		if !bytes.HasPrefix(v.Message, []byte("JSR\x02\x01")) {
+			if errs == nil {
+				errs = make([]error, len(values))
+			}
+			errs[i] = errors.New("no batch")
+			continue
+		}
+		s.held[string(v.Message)] = true
+		s.order = append(s.order, v)
+	}
+	return errs
+}
+
+// inOrder are the values that were taken so far.
+func (s *sink) inOrder() []Value {
+	s.mu.Lock()
+	defer s.mu.Unlock()
+	return append([]Value(nil), s.order...)
 }
 
 func (s *sink) has(m []byte) bool {
@@ -68,6 +88,7 @@ type member struct {
 	*Group
 	sink
 	place [16]byte
+	next  atomic.Uint64 // number
 	logMu sync.Mutex
 	lines []string
 }
@@ -92,9 +113,6 @@ func (m *member) logged(text string) bool {
 func options(place byte, urls ...string) Options {
 	return Options{Servers: urls, Name: "test", Place: [16]byte{place}, TTL: time.Hour}
 }
-
-// soon is when a claim is given up.
-func soon() time.Time { return time.Now().Add(time.Minute) }
 
 func patience(t testing.TB) context.Context {
 	ctx, cancel := context.WithTimeout(context.Background(), 30*time.Second)
@@ -124,7 +142,7 @@ func join(t *testing.T, o Options) *member {
 func tell(t *testing.T, m *member, n int) []byte {
 	t.Helper()
 	b := batch(key(n), m.place)
-	if err := m.Tell(patience(t), key(n), b); err != nil {
+	if err := m.Put(patience(t), Uses, m.next.Add(1), b); err != nil {
 		t.Fatal(err)
 	}
 	return b
@@ -141,11 +159,14 @@ func TestTellsTheOthers(t *testing.T) {
 	use := tell(t, a, 1)
 	awaitHeld(t, b, use)
 	awaitHeld(t, a, use) // One's own come too.
-	withdrawal := batch(key(2), b.place)
-	if err := b.Withdraw(patience(t), key(2), withdrawal); err != nil {
+	claimed := batch(key(2), b.place)
+	if err := b.Put(patience(t), Claims, 7, claimed); err != nil {
 		t.Fatal(err)
 	}
-	awaitHeld(t, a, withdrawal)
+	awaitHeld(t, a, claimed)
+	awaitHeld(t, b, claimed)
+	wantValues(t, a, Value{Kind: Uses, Message: use, Own: 1}, Value{Kind: Claims, Message: claimed})
+	wantValues(t, b, Value{Kind: Uses, Message: use}, Value{Kind: Claims, Message: claimed, Own: 7})
 	for n := 10; n < 200; n++ {
 		use = tell(t, a, n)
 	}
@@ -158,15 +179,24 @@ func TestTellsTheOthers(t *testing.T) {
 	}
 }
 
+// wantValues wants what a member has taken so far.
+func wantValues(t *testing.T, m *member, want ...Value) {
+	t.Helper()
+	got := m.inOrder()
+	for i := range got {
+		got[i].from, got[i].number = "", 0
+	}
+	if fmt.Sprint(got) != fmt.Sprint(want) {
+		t.Errorf("%v, want %v", got, want)
+	}
+}
+
 func TestKeysOfTheBucket(t *testing.T) {
 	s := natstest.Start(t)
 	a := join(t, options(1, s.URL))
 	tell(t, a, 1)
-	if err := a.Withdraw(patience(t), key(2), batch(key(2), a.place)); err != nil {
+	if err := a.Put(patience(t), Claims, 3, batch(key(3), a.place)); err != nil {
 		t.Fatal(err)
-	}
-	if won, _, err := a.Claim(patience(t), soon(), key(3), batch(key(3), a.place)); !won || err != nil {
-		t.Fatal(won, err)
 	}
 	kv, err := a.js.KeyValue("test")
 	if err != nil {
@@ -176,57 +206,67 @@ func TestKeysOfTheBucket(t *testing.T) {
 	if err != nil {
 		t.Fatal(err)
 	}
-	hex := func(n int) string { return fmt.Sprintf("%016x%048d", n, 0) }
-	place := "01" + strings.Repeat("0", 30)
-	want := fmt.Sprintf("[u.%s.%s w.%s.%s c.%s]", hex(1), place, hex(2), place, hex(3))
-	if got := fmt.Sprint(names); got != want {
+	want := fmt.Sprintf("[u.%s.1 c.%s.3]", a.member, a.member)
+	if got := fmt.Sprint(names); got != want || len(a.member) != 32 {
 		t.Errorf("%s, want %s", got, want)
 	}
 }
 
-func TestClaimsAtOnceHaveOneWinner(t *testing.T) {
+// All members read the values that they put at the same instant in one order, each once.
+func TestValuesHaveOneOrder(t *testing.T) {
 	s := natstest.Start(t)
 	members := []*member{join(t, options(1, s.URL)), join(t, options(2, s.URL)), join(t, options(3, s.URL))}
 	for n := 0; n < 100; n++ {
-		wantOneWinner(t, members, n, patience(t))
+		putAtOnce(t, members, n)
+	}
+	wantOneOrder(t, members, 600)
+}
+
+// putAtOnce lets each member put two values at the same instant.
+func putAtOnce(t *testing.T, members []*member, n int) {
+	t.Helper()
+	errs := make(chan error)
+	for i := 0; i < 2*len(members); i++ {
+		go func(i int) {
+			m := members[i/2]
+			errs <- m.Put(patience(t), Claims, m.next.Add(1), batch(key(2*n+i%2), m.place))
+		}(i)
+	}
+	for range members {
+		for i := 0; i < 2; i++ {
+			if err := <-errs; err != nil {
+				t.Fatal(err)
+			}
+		}
 	}
 }
 
-// wantOneWinner lets each member claim one key twice at the same instant, with equal batches.
-func wantOneWinner(t *testing.T, members []*member, n int, ctx context.Context) {
+// wantOneOrder waits until each member has so many values, and wants the same ones in the same order, without a gap; and
+// that each knows its own ones.
+func wantOneOrder(t *testing.T, members []*member, want int) {
 	t.Helper()
-	type outcome struct {
-		won    bool
-		by     *member
-		winner []byte
-		err    error
-	}
-	outcomes := make(chan outcome)
-	for i := 0; i < 2*len(members); i++ {
-		go func(m *member) {
-			won, winner, err := m.Claim(ctx, soon(), key(n), batch(key(n), m.place))
-			outcomes <- outcome{won, m, winner, err}
-		}(members[i/2])
-	}
-	var winners []*member
-	var told [][]byte
-	for i := 0; i < 2*len(members); i++ {
-		o := <-outcomes
-		switch {
-		case o.err != nil:
-			t.Fatal(o.err)
-		case o.won:
-			winners = append(winners, o.by)
-		default:
-			told = append(told, o.winner)
+	var first []Value
+	for i, m := range members {
+		natstest.Await(t, "all values", func() bool { return len(m.inOrder()) >= want })
+		got := m.inOrder()
+		own := make(map[uint64]bool)
+		for _, v := range got {
+			isOwn := bytes.Equal(v.Message[headLen+40:headLen+56], m.place[:])
+			if v.Gap || isOwn != (v.Own != 0) || own[v.Own] && isOwn {
+				t.Fatalf("member %d: %+v", i, v)
+			}
+			own[v.Own] = true
 		}
-	}
-	if len(winners) != 1 {
-		t.Fatalf("key %d has %d winners", n, len(winners))
-	}
-	for _, winner := range told {
-		if want := batch(key(n), winners[0].place); !bytes.Equal(winner, want) {
-			t.Fatalf("a loser was told % X, want % X", winner, want)
+		if first == nil {
+			first = got
+		}
+		if len(got) != want {
+			t.Fatalf("member %d has %d values, want %d", i, len(got), want)
+		}
+		for j, v := range got {
+			if !bytes.Equal(v.Message, first[j].Message) || v.number != first[j].number {
+				t.Fatalf("member %d: value %d is another one", i, j)
+			}
 		}
 	}
 }
@@ -302,9 +342,9 @@ func (p *proxy) cut() {
 	p.open = nil
 }
 
-// TestClaimWhoseAnswerIsLost lets the broker store a claim and holds back or cuts off its answer. The call must find
-// its own claim, and a second one with an equal batch must not.
-func TestClaimWhoseAnswerIsLost(t *testing.T) {
+// TestAPutWhoseAnswerIsLost lets the broker store a value, and holds back or cuts off its answer. The call must find that
+// it is stored, once.
+func TestAPutWhoseAnswerIsLost(t *testing.T) {
 	for name, after := range map[string]func(*proxy){
 		"late": func(p *proxy) { time.Sleep(attemptWait + 100*time.Millisecond); p.hold(false) },
 		"cut":  func(p *proxy) { p.cut(); p.hold(false) },
@@ -314,52 +354,87 @@ func TestClaimWhoseAnswerIsLost(t *testing.T) {
 			p := newProxy(t, s.URL)
 			a, other := join(t, options(1, p.URL)), join(t, options(2, s.URL))
 			b := batch(key(1), a.place)
-			type outcome struct {
-				won bool
-				err error
-			}
-			first := make(chan outcome)
+			first := make(chan error)
 			p.hold(true)
-			go func() {
-				won, _, err := a.Claim(patience(t), soon(), key(1), b)
-				first <- outcome{won, err}
-			}()
+			go func() { first <- a.Put(patience(t), Claims, 1, b) }()
 			awaitHeld(t, other, b) // It is stored, and its maker does not know.
 			after(p)
-			if o := <-first; !o.won || o.err != nil {
-				t.Fatal("a call lost against itself: ", o.won, o.err)
+			if err := <-first; err != nil {
+				t.Fatal(err)
 			}
-			won, winner, err := a.Claim(patience(t), soon(), key(1), b)
-			if won || err != nil || !bytes.Equal(winner, b) {
-				t.Fatal("a second call with an equal batch: ", won, winner, err)
-			}
+			awaitHeld(t, a, tell(t, a, 9))
+			wantValues(t, a, Value{Kind: Claims, Message: b, Own: 1}, Value{Kind: Uses, Message: batch(key(9), a.place), Own: 1})
 		})
 	}
 }
 
-func TestClaimWithoutABroker(t *testing.T) {
+func TestPutWithoutABroker(t *testing.T) {
 	s := natstest.Start(t)
 	a := join(t, options(1, s.URL))
 	s.Kill()
 	ctx, cancel := context.WithTimeout(context.Background(), 300*time.Millisecond)
 	defer cancel()
-	won, _, err := a.Claim(ctx, soon(), key(1), batch(key(1), a.place))
-	if won || !errors.Is(err, context.DeadlineExceeded) {
-		t.Fatal(won, err)
-	}
-	if err := a.Tell(ctx, key(1), batch(key(1), a.place)); !errors.Is(err, context.DeadlineExceeded) {
+	if err := a.Put(ctx, Claims, 1, batch(key(1), a.place)); !errors.Is(err, context.DeadlineExceeded) {
 		t.Fatal(err)
 	}
 	natstest.Await(t, "the loss", func() bool { return !a.Connected() })
 	restart(t, s)
-	if won, _, err := a.Claim(patience(t), soon(), key(2), batch(key(2), a.place)); !won || err != nil {
-		t.Fatal("after the broker came back: ", won, err)
+	awaitHeld(t, a, tell(t, a, 2))
+}
+
+func TestAValueThatIsTooLarge(t *testing.T) {
+	s := natstest.Start(t)
+	a := join(t, options(1, s.URL))
+	if err := a.Put(patience(t), Uses, 1, make([]byte, 2<<20)); !errors.Is(err, nats.ErrMaxPayload) {
+		t.Error(err)
 	}
 }
 
-// TestClaimsWhileServersAreKilled has a cluster of three brokers, and kills each of them in turn while the members
-// claim keys at the same instant.
-func TestClaimsWhileServersAreKilled(t *testing.T) {
+// A value that a member has put, and that the broker has stored, comes soon, though what should bring it does not.
+func TestReadingBeginsAnewForAnOwnValue(t *testing.T) {
+	s := natstest.Start(t)
+	a := join(t, options(1, s.URL))
+	awaitHeld(t, a, tell(t, a, 1))
+	for c := range a.js.ConsumerNames(a.stream) { // (it would make another one after two heartbeats)
+		if err := a.js.DeleteConsumer(a.stream, c); err != nil {
+			t.Fatal(err)
+		}
+	}
+	from := time.Now()
+	awaitHeld(t, a, tell(t, a, 2))
+	if took := time.Since(from); took > 2*heartbeat {
+		t.Errorf("after %v", took)
+	}
+	if !a.logged("an own one") && !a.logged("no value came") {
+		t.Error(a.lines)
+	}
+}
+
+// A member that finds values missing says so with the next one.
+func TestAGapIsTold(t *testing.T) {
+	s := natstest.Start(t)
+	p := newProxy(t, s.URL)
+	a, b := join(t, options(1, s.URL)), join(t, options(2, p.URL))
+	awaitHeld(t, b, tell(t, a, 1))
+	p.hold(true)
+	p.cut()
+	tell(t, a, 2)
+	if err := a.js.PurgeStream("KV_test", &nats.StreamPurgeRequest{Subject: fmt.Sprintf("$KV.test.u.%s.2", a.member)}); err != nil {
+		t.Fatal(err)
+	}
+	last := tell(t, a, 3)
+	p.hold(false)
+	awaitHeld(t, b, last)
+	wantValues(t, b, Value{Kind: Uses, Message: batch(key(1), a.place)}, Value{Kind: Uses, Message: last, Gap: true})
+	awaitHeld(t, b, tell(t, a, 4))
+	if got := b.inOrder(); got[2].Gap {
+		t.Error("a gap is told twice")
+	}
+}
+
+// TestValuesWhileServersAreKilled has a cluster of three brokers, and kills each of them in turn while the members put
+// values at the same instant.
+func TestValuesWhileServersAreKilled(t *testing.T) {
 	servers := natstest.Cluster(t, 3)
 	var members []*member
 	for i := range servers {
@@ -386,17 +461,10 @@ func TestClaimsWhileServersAreKilled(t *testing.T) {
 			going = false
 		default:
 		}
-		wantOneWinner(t, members, n, patience(t))
+		putAtOnce(t, members, n)
 	}
-	for _, m := range members {
-		awaitHeld(t, m, tell(t, members[0], n))
-		m.mu.Lock()
-		if got := len(m.held); got != n+1 {
-			t.Errorf("a member heard of %d keys, want %d", got, n+1)
-		}
-		m.mu.Unlock()
-	}
-	t.Logf("%d keys, each claimed six times at once, have one winner each", n)
+	wantOneOrder(t, members, 6*n)
+	t.Logf("%d values, read by three members in one order", 6*n)
 }
 
 // restart starts a server again that was killed.
@@ -421,24 +489,20 @@ func replicas(m *member) int {
 	return n
 }
 
-func TestDeletedClaimIsWonByNobody(t *testing.T) {
+func TestTheMarkOfADeletedKeyIsNoValue(t *testing.T) {
 	s := natstest.Start(t)
 	a := join(t, options(1, s.URL))
-	if won, _, err := a.Claim(patience(t), soon(), key(1), batch(key(1), a.place)); !won || err != nil {
-		t.Fatal(won, err)
-	}
+	awaitHeld(t, a, tell(t, a, 1))
 	kv, err := a.js.KeyValue("test")
 	if err != nil {
 		t.Fatal(err)
 	}
-	if err := kv.Delete(fmt.Sprintf("c.%x", key(1))); err != nil {
+	if err := kv.Delete("u." + a.member + ".1"); err != nil {
 		t.Fatal(err)
 	}
-	if won, _, err := a.Claim(patience(t), soon(), key(1), batch(key(1), a.place)); won || !errors.Is(err, ErrDeleted) {
-		t.Fatal(won, err)
-	}
-	if a.Aside() != 0 {
-		t.Error("the mark of a deleted key was given to the sink")
+	awaitHeld(t, a, tell(t, a, 2))
+	if a.Aside() != 0 || a.Taken() != 2 {
+		t.Errorf("%d aside, %d taken", a.Aside(), a.Taken())
 	}
 }
 
@@ -470,36 +534,6 @@ func TestValuesThatAreNoBatchAreAside(t *testing.T) {
 	}
 }
 
-// A wideSink takes values at once, except where one of them is no batch.
-type wideSink struct {
-	sink
-	most int
-}
-
-func (s *wideSink) TakeAll(messages [][]byte) error {
-	for _, m := range messages {
-		if !bytes.HasPrefix(m, []byte("JSR")) {
-			return errors.New("each by itself")
-		}
-	}
-	s.mu.Lock()
-	s.most = max(s.most, len(messages))
-	s.mu.Unlock()
-	for _, m := range messages {
-		if err := s.Take(m); err != nil {
-			return err
-		}
-	}
-	return nil
-}
-
-func max(a, b int) int {
-	if a > b {
-		return a
-	}
-	return b
-}
-
 func TestValuesAreTakenAtOnce(t *testing.T) {
 	s := natstest.Start(t)
 	a := join(t, options(1, s.URL))
@@ -515,7 +549,7 @@ func TestValuesAreTakenAtOnce(t *testing.T) {
 		}
 		tell(t, a, n)
 	}
-	b := &wideSink{}
+	b := &sink{}
 	g, err := Join(patience(t), options(2, s.URL), b)
 	if err != nil {
 		t.Fatal(err)
@@ -559,7 +593,7 @@ func TestReadyThoughTheLastValuesAreGone(t *testing.T) {
 		awaitHeld(t, a, tell(t, a, n))
 	}
 	for n := 3; n < 5; n++ {
-		if err := a.js.PurgeStream("KV_test", &nats.StreamPurgeRequest{Subject: fmt.Sprintf("$KV.test.u.%x.%x", key(n), a.place)}); err != nil {
+		if err := a.js.PurgeStream("KV_test", &nats.StreamPurgeRequest{Subject: fmt.Sprintf("$KV.test.u.%s.%d", a.member, n+1)}); err != nil {
 			t.Fatal(err)
 		}
 	}

@@ -140,10 +140,11 @@ func TestTheServersOfDeploy(t *testing.T) {
 	server := startDeployed(t, dir)
 	a, b := join(t, secured(t, 1, server, own)), join(t, secured(t, 2, server, own))
 	awaitHeld(t, b, tell(t, a, 1))
-	if err := b.Withdraw(patience(t), key(2), batch(key(2), b.place)); err != nil {
+	if err := b.Put(patience(t), Claims, 1, batch(key(2), b.place)); err != nil {
 		t.Fatal(err)
 	}
-	wantOneWinner(t, []*member{a, b}, 3, patience(t))
+	awaitHeld(t, a, batch(key(2), b.place))
+	awaitHeld(t, b, tell(t, b, 3))
 	lost := batch(key(4), a.place)
 	a.Summaries(time.Hour, func() ([]byte, error) { return []byte("of a"), nil }, func([]byte) ([]byte, error) { return lost, nil })
 	b.Summaries(50*time.Millisecond, func() ([]byte, error) { return []byte("of b"), nil }, func([]byte) ([]byte, error) { return batchOf(), nil })

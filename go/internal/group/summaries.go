@@ -77,7 +77,7 @@ func (g *Group) ask(subject string, summary func() ([]byte, error)) error {
 		if len(m.Data) == 0 {
 			return nil
 		}
-		g.take(m.Data, "an answer", 0)
+		g.take([]Value{{Kind: Answer, Message: m.Data, from: "an answer"}})
 	}
 	return errors.New("it took too long")
 }

@@ -4,6 +4,8 @@ import (
 	"context"
 	"errors"
 	"fmt"
+	"strconv"
+	"strings"
 	"time"
 
 	"github.com/nats-io/nats.go"
@@ -12,6 +14,7 @@ import (
 const (
 	idleUntilReady  = time.Second      // without a value, before the reader asks how far the bucket is
 	idleWait        = 5 * time.Second  // the same once it has caught up
+	ownWait         = time.Second / 2  // without a value though an own one is stored, before reading begins anew: a claim waits for it
 	stallWait       = 10 * time.Second // without a value that is there, before reading begins anew; longer after each time in vain
 	mostAtOnce      = 256              // values are given to the sink
 	mostBytesAtOnce = 1 << 20          // of these, before the last
@@ -32,7 +35,11 @@ type reader struct {
 	consumer string
 	number   uint64
 
-	room []value       // for values to take at once
+	gap  bool      // values behind that one are gone
+	look time.Time // when idle asked for the bucket's state last
+	lack int       // how often in a row idle found an own value stored that has not come
+
+	room []Value       // for values to take at once
 	wait time.Duration // for the broker's answer where reading begins
 
 	// How often reading began anew since a value came: a broker that is slow to begin must get the time for it.
@@ -99,7 +106,7 @@ func (r *reader) read() error {
 
 func (r *reader) patience() time.Duration {
 	if r.isReady() {
-		return idleWait
+		return ownWait
 	}
 	return idleUntilReady
 }
@@ -110,15 +117,19 @@ func (r *reader) values(from *nats.Subscription, m *nats.Msg) error {
 	for size := 0; ; {
 		about, err := m.Metadata()
 		if err != nil {
-			r.group.takeAll(all)
+			r.group.take(all)
 			return err
 		}
-		r.seen, r.last, r.vain = about.Sequence.Stream, time.Now(), 0
+		place := about.Sequence.Stream
+		r.gap = r.gap || r.seen > 0 && place != r.seen+1
+		r.seen, r.last, r.vain, r.lack = place, time.Now(), 0, 0
 		r.consumer, r.number = about.Consumer, about.Sequence.Consumer
-		if m.Header.Get(operationName) == "" { // else it is the mark of a key that someone deleted, and no value
-			all = append(all, value{m.Data, m.Subject, r.seen})
+		if m.Header.Get(operationName) == "" {
+			v := r.group.valueOf(m, place)
+			v.Gap, r.gap = r.gap, false
+			all = append(all, v)
 			size += len(m.Data)
-		}
+		} // else it is the mark of a key that someone deleted, and no value
 		// The sink is told of all that is there, so that none waits for the broker.
 		if n, _, err := from.Pending(); n == 0 || err != nil || len(all) == mostAtOnce || size > mostBytesAtOnce {
 			break
@@ -127,13 +138,28 @@ func (r *reader) values(from *nats.Subscription, m *nats.Msg) error {
 			break // It is told again by the next call.
 		}
 	}
-	r.group.takeAll(all)
+	r.group.take(all)
 	r.room = all
 	for i := range all {
-		all[i] = value{} // The room keeps no message alive.
+		all[i] = Value{} // The room keeps no message alive.
 	}
 	r.catchUp()
 	return nil
+}
+
+// valueOf reads a value's key. One that no member wrote is taken as uses, and put aside if it is none.
+func (g *Group) valueOf(m *nats.Msg, place uint64) Value {
+	v := Value{Kind: Uses, Message: m.Data, from: m.Subject, number: place}
+	key := strings.TrimPrefix(m.Subject, g.subject)
+	if strings.HasPrefix(key, "c.") {
+		v.Kind = Claims
+	}
+	if kind, rest, _ := strings.Cut(key, "."); kind == "c" || kind == "u" {
+		if member, number, _ := strings.Cut(rest, "."); member == g.member {
+			v.Own, _ = strconv.ParseUint(number, 10, 64)
+		}
+	}
+	return v
 }
 
 // catchUp says that the group is ready once all is read that the bucket held at the beginning.
@@ -154,6 +180,14 @@ func (r *reader) isReady() bool {
 
 // idle looks at the bucket where no value has come for a while. An error says that reading must begin anew.
 func (r *reader) idle(values *nats.Subscription) error {
+	if r.lack++; r.group.stored.Load() <= r.seen {
+		r.lack = 0
+	}
+	isLate := r.lack > 1<<r.vain // Where reading began in vain before, it gets more time.
+	if r.isReady() && !isLate && time.Since(r.look) < idleWait {
+		return nil
+	}
+	r.look = time.Now()
 	ctx, cancel := context.WithTimeout(r.group.life, attemptWait)
 	defer cancel()
 	info, err := r.group.js.StreamInfo(r.group.stream, nats.Context(ctx))
@@ -166,18 +200,22 @@ func (r *reader) idle(values *nats.Subscription) error {
 		r.begin(bucket{info.Created, info.State.LastSeq})
 		return errors.New("the bucket is another one than before, or has lost values")
 	case info.State.FirstSeq > info.State.LastSeq: // All values have expired.
+		r.gap = r.gap || 0 < r.seen && r.seen < info.State.LastSeq
 		r.seen = info.State.LastSeq
 		r.catchUp()
 		return nil
 	case info.State.LastSeq > r.seen && r.allCame(values): // Someone removed the last values.
-		r.seen = info.State.LastSeq
+		r.gap, r.seen = true, info.State.LastSeq
 		r.catchUp()
 		return nil
-	case info.State.LastSeq > r.seen && time.Since(r.last) > stallWait<<r.vain:
+	case info.State.LastSeq > r.seen && (isLate || time.Since(r.last) > stallWait<<r.vain):
+		r.lack = 0
 		if r.vain < 3 {
 			r.vain++
 		}
 		return fmt.Errorf("no value came behind %d, and %d is there", r.seen, info.State.LastSeq)
+	case info.State.LastSeq == r.seen && isLate: // The own value is lost, or was one of an earlier bucket.
+		r.group.stored.Store(r.seen)
 	}
 	return nil
 }
@@ -204,5 +242,6 @@ func (r *reader) reopen() error {
 
 // begin lets the reader read a bucket from its beginning.
 func (r *reader) begin(b bucket) {
-	r.bucket, r.seen, r.vain = b, 0, 0
+	r.group.stored.Store(0)
+	r.bucket, r.seen, r.gap, r.vain, r.lack = b, 0, true, 0, 0
 }

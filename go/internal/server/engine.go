@@ -17,6 +17,7 @@ import (
 	"sync/atomic"
 	"time"
 
+	"svid.example/go/internal/group"
 	"svid.example/go/svid"
 )
 
@@ -49,9 +50,9 @@ type Journal interface {
 // Engine.Take.
 type Group interface {
 	Ready() <-chan struct{}
-	Tell(ctx context.Context, key [32]byte, batch []byte) error
-	Claim(ctx context.Context, end time.Time, key [32]byte, batch []byte) (won bool, winner []byte, err error)
-	Withdraw(ctx context.Context, key [32]byte, batch []byte) error
+	// Put returns once the value is stored, and tries until ctx ends. Every
+	// member is given it then, in one order, with all values.
+	Put(ctx context.Context, kind group.Kind, number uint64, message []byte) error
 	Taken() uint64
 	Aside() uint64
 }
@@ -81,7 +82,8 @@ type Engine struct {
 	claims    claims
 	verified  verified // in mode reuse
 	group     atomic.Pointer[joined]
-	untold    chan telling
+	untold    chan svid.Use
+	values    atomic.Uint64 // numbers of what was put into the group's bucket, except for claims
 
 	loaded   atomic.Bool // the state folder's record is in the validator
 	draining atomic.Bool
@@ -94,12 +96,6 @@ type Engine struct {
 
 // joined is the group once it is there.
 type joined struct{ Group }
-
-// A telling is a use that the group is to hear of.
-type telling struct {
-	key   svid.TokenKey
-	batch []byte
-}
 
 // mostUntold is how many uses may wait to be told. Behind that they are dropped
 // and counted: the group's summaries bring them later.
@@ -129,8 +125,7 @@ func NewEngine(o Options) (*Engine, error) {
 		keyring.Close()
 		return nil, err
 	}
-	e := &Engine{Options: o, keyring: keyring, validator: validator, untold: make(chan telling, mostUntold)}
-	e.claims.open, e.claims.unseen = make(map[svid.TokenKey]*claim), make(map[svid.TokenKey][]byte)
+	e := &Engine{Options: o, keyring: keyring, validator: validator, untold: make(chan svid.Use, mostUntold), claims: newClaims()}
 	return e, nil
 }
 
@@ -258,11 +253,10 @@ func (e *Engine) checkOnce(token string, yes []svid.Question) (svid.Accepted, er
 	if err != nil {
 		return svid.Accepted{}, err
 	}
-	batch := accepted.Use.Batch()
-	if err := e.keep(batch); err != nil {
+	if err := e.keep(accepted.Use.Batch()); err != nil {
 		return svid.Accepted{}, err
 	}
-	e.tell(accepted.Use.Key, batch)
+	e.tell(accepted.Use)
 	return accepted, nil
 }
 
@@ -279,12 +273,12 @@ func (e *Engine) keep(batch []byte) error {
 }
 
 // tell lets the group hear of a use, soon.
-func (e *Engine) tell(key svid.TokenKey, batch []byte) {
+func (e *Engine) tell(use svid.Use) {
 	if !e.Grouped {
 		return
 	}
 	select {
-	case e.untold <- telling{key, batch}:
+	case e.untold <- use:
 	default:
 		e.Metrics.Untold.Add(1)
 	}
@@ -308,7 +302,7 @@ func (e *Engine) Withdraw(ctx context.Context, key svid.TokenKey, exp uint64) (s
 	if g := e.group.Load(); g != nil {
 		ctx, cancel := context.WithTimeout(ctx, e.Wait)
 		defer cancel()
-		if err := g.Withdraw(ctx, key, batch); err != nil {
+		if err := g.Put(ctx, group.Uses, e.values.Add(1), batch); err != nil {
 			return svid.Use{}, fmt.Errorf("revoked here, but the group was not told; try again: %w", err)
 		}
 	}

@@ -9,6 +9,7 @@ import (
 	"sync"
 	"time"
 
+	"svid.example/go/internal/group"
 	"svid.example/go/svid"
 )
 
@@ -22,9 +23,11 @@ const (
 	mostSettle = 5
 	// mostAnswer is about how many bytes an answer to a summary has at the most.
 	mostAnswer = 16 << 20
-	// tellers are how many uses are told to the group at a time.
-	tellers = 16
-	// tellWait is how long the group is tried for one use.
+	// tellPause is between two values that tell the group of uses: those that come meanwhile share the next one.
+	tellPause = time.Millisecond
+	// mostTold is how many uses share a value. It has 33 kB then: each broker takes that.
+	mostTold = 512
+	// tellWait is how long the group is tried for one value.
 	tellWait = 10 * time.Second
 	// tickEvery is how often the record's moment follows the clock.
 	tickEvery = time.Second
@@ -57,44 +60,81 @@ func (e *Engine) Load(messages []byte) error {
 	return nil
 }
 
-// Take gives the record a message of the group. An error says that it is put
-// aside: it is no message, or of a time further ahead than Options.Ahead.
-func (e *Engine) Take(message []byte) error {
-	if e.Mode == Strict {
-		if e.claims.own(message) {
-			return nil
+// Take gives the record values of the group, in their order. An error says that a value is put aside: it is no message, or
+// of a time further ahead than Options.Ahead.
+//
+// A value of claims that this engine has sent is where those are decided (Engine.decide): with all values in front of it
+// in the record, and none behind it.
+func (e *Engine) Take(values []group.Value) []error {
+	t := taking{engine: e, values: values, messages: make([][]byte, len(values))}
+	for i, v := range values {
+		t.messages[i] = v.Message
+		if v.Gap {
+			if failed := e.claims.failAll(errGap); failed > 0 {
+				e.Metrics.ClaimsFailed.Add(uint64(failed))
+				e.Log.Error("claims", errGap, "claims", failed)
+			}
 		}
-		message = e.claims.without(message)
+		switch v.Kind {
+		case group.Answer:
+			t.messages[i] = e.claims.without(v.Message)
+		case group.Claims:
+			var late []svid.TokenKey
+			t.messages[i], late = e.claims.firsts(v.Message)
+			if open := e.claims.arrived(v.Own); len(open) > 0 {
+				t.upTo(i)
+				e.decide(open, late)
+			}
+		}
 	}
-	err := e.validator.Take(e.Now(), message)
-	if e.Log.Writes(All) {
-		e.Log.Detail("message", "bytes", len(message), "error", err)
-	}
-	return err
+	t.upTo(len(values))
+	return t.errs
 }
 
-// errByThemselves lets the group give each message by itself.
-var errByThemselves = errors.New("not all of the messages are whole batches")
+// taking is a call of Take.
+type taking struct {
+	engine   *Engine
+	values   []group.Value
+	messages [][]byte // what the record is to take of each
+	done     int      // so many were taken, or put aside
+	errs     []error  // nil, or one for each value
+}
 
-// TakeAll gives the record several messages of the group at once, which takes half the time. An error says nothing of any
-// one of them: each is to be taken by itself then.
+// upTo gives the record the messages that it has not been given yet, up to one of them. To take several at once takes half
+// the time.
 //
-// Only messages that are as long as their heads say are put together: else one that a member cut off on purpose would
-// swallow the beginning of the next one, which is another member's.
-func (e *Engine) TakeAll(messages [][]byte) error {
-	var together []byte
-	for _, m := range messages {
-		if !svid.IsBatch(m) {
-			return errByThemselves
-		}
-		if e.Mode != Strict || !e.claims.own(m) {
+// Only messages that are whole batches are put together: else one that a member cut off on purpose would swallow the
+// beginning of the next one, which is another member's.
+func (t *taking) upTo(end int) {
+	e, from := t.engine, t.done
+	t.done = end
+	if from+1 < end {
+		var together []byte
+		whole := true
+		for _, m := range t.messages[from:end] {
+			whole = whole && svid.AreBatches(m)
 			together = append(together, m...)
 		}
+		if whole && (len(together) == 0 || e.validator.Take(e.Now(), together) == nil) {
+			return
+		}
 	}
-	if len(together) == 0 {
-		return nil
+	for i := from; i < end; i++ {
+		err := e.validator.Take(e.Now(), t.messages[i])
+		if e.Log.Writes(All) {
+			e.Log.Detail("message", "bytes", len(t.messages[i]), "error", err)
+		}
+		if err == nil {
+			continue
+		}
+		if t.errs == nil {
+			t.errs = make([]error, len(t.values))
+		}
+		t.errs[i] = err
+		if t.values[i].Kind == group.Claims {
+			e.claims.putAside(t.messages[i], e.Now())
+		}
 	}
-	return e.validator.Take(e.Now(), together)
 }
 
 // Summary returns the summary of the record, for another sidecar to answer.
@@ -118,13 +158,11 @@ func (e *Engine) Save(w io.Writer) error { return e.validator.Save(w) }
 // takes snapshots. It returns once what waited for the group is told or given up,
 // and the last snapshot is taken.
 func (e *Engine) Run(ctx context.Context) {
-	var tasks, telling sync.WaitGroup
+	var tasks sync.WaitGroup
+	told := make(chan struct{})
 	last, giveUp := context.WithCancel(context.Background())
 	defer giveUp()
-	for i := 0; i < tellers; i++ {
-		telling.Add(1)
-		go func() { defer telling.Done(); e.tellAll(ctx, last) }()
-	}
+	go func() { defer close(told); e.tellAll(ctx, last) }()
 	e.every(ctx, &tasks, tickEvery, e.tick)
 	var next time.Time
 	e.every(ctx, &tasks, measureEvery, func() {
@@ -141,7 +179,7 @@ func (e *Engine) Run(ctx context.Context) {
 	})
 	tasks.Wait()
 	timer := time.AfterFunc(tellWait, giveUp)
-	telling.Wait()
+	<-told
 	timer.Stop()
 	if e.Journal != nil && e.loaded.Load() {
 		e.snapshot()
@@ -166,38 +204,57 @@ func (e *Engine) every(ctx context.Context, tasks *sync.WaitGroup, interval time
 	}()
 }
 
-// tellAll tells the group of one use after the other. Once ctx has ended it tells
-// those that still wait, until last ends.
+// tellAll tells the group of the uses that wait for it, many by one value. Once ctx has ended it tells those that still
+// wait, until last ends.
 func (e *Engine) tellAll(ctx, last context.Context) {
 	for ctx.Err() == nil {
 		select {
-		case t := <-e.untold:
-			e.tellOne(last, t)
+		case use := <-e.untold:
+			next := time.After(tellPause)
+			e.tellMany(last, e.waiting(use))
+			select {
+			case <-next:
+			case <-ctx.Done():
+			}
 		case <-ctx.Done():
 		}
 	}
 	for {
 		select {
-		case t := <-e.untold:
-			e.tellOne(last, t)
+		case use := <-e.untold:
+			e.tellMany(last, e.waiting(use))
 		default:
 			return
 		}
 	}
 }
 
-func (e *Engine) tellOne(last context.Context, t telling) {
+// waiting returns this use and those that wait behind it, as many as share a value.
+func (e *Engine) waiting(use svid.Use) []svid.Use {
+	uses := []svid.Use{use}
+	for len(uses) < mostTold {
+		select {
+		case use := <-e.untold:
+			uses = append(uses, use)
+		default:
+			return uses
+		}
+	}
+	return uses
+}
+
+func (e *Engine) tellMany(last context.Context, uses []svid.Use) {
 	ctx, cancel := context.WithTimeout(last, tellWait)
 	defer cancel()
 	// (no token is accepted before the group is joined)
-	if err := e.group.Load().Tell(ctx, t.key, t.batch); err != nil {
-		e.Metrics.Untold.Add(1)
+	if err := e.group.Load().Put(ctx, group.Uses, e.values.Add(1), svid.Batches(uses)); err != nil {
+		e.Metrics.Untold.Add(uint64(len(uses)))
 		if last.Err() == nil {
-			e.Log.Error("tell", err)
+			e.Log.Error("tell", err, "uses", len(uses))
 		}
 		return
 	}
-	e.Metrics.Told.Add(1)
+	e.Metrics.Told.Add(uint64(len(uses)))
 }
 
 // tick lets the record follow the clock. A clock that goes ahead by more than Options.Step at once would expire all that

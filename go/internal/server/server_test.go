@@ -17,6 +17,7 @@ import (
 	"testing"
 	"time"
 
+	"svid.example/go/internal/group"
 	"svid.example/go/internal/issuer"
 	"svid.example/go/svid"
 )
@@ -69,66 +70,111 @@ func (d *disk) Snapshot(write func(io.Writer) error) error {
 	return nil
 }
 
-// A broker is a bucket in memory. Each member of the group is a tie to it.
+// A broker is a bucket in memory: a log, which each member reads in its order. Each member of the group is a tie to it.
 type broker struct {
 	mu      sync.Mutex
-	values  map[[32]byte][]byte
+	log     []stored
 	members []*tie
-	told    atomic.Int32
 }
 
-func newBroker() *broker { return &broker{values: make(map[[32]byte][]byte)} }
+type stored struct {
+	by      *tie
+	kind    group.Kind
+	number  uint64
+	message []byte
+}
+
+// put stores a value, and lets all members read who are not held.
+func (b *broker) put(v stored) {
+	b.mu.Lock()
+	defer b.mu.Unlock()
+	b.log = append(b.log, v)
+	for _, m := range b.members {
+		m.read()
+	}
+}
+
+// uses are the uses of the log's values, in their order.
+func (b *broker) uses(t *testing.T) (all []svid.Use) {
+	b.mu.Lock()
+	defer b.mu.Unlock()
+	for _, v := range b.log {
+		_, uses, err := svid.Uses(v.message)
+		if err != nil {
+			t.Fatal(err)
+		}
+		all = append(all, uses...)
+	}
+	return all
+}
 
 // A tie is a member's Group.
 type tie struct {
 	*broker
 	engine *Engine
 	ready  chan struct{}
-	fault  error         // what Claim answers, behind storing the value
-	hold   chan struct{} // Claim waits for it, behind storing the value
+	fault  error         // what Put answers, behind storing the value
+	answer chan struct{} // Put waits for it, behind storing the value
+	aside  int
+
+	// Of reading the log, guarded by broker.mu.
+	held bool
+	done int
+	gap  bool // values are gone in front of the next one
 }
 
 func (t *tie) Ready() <-chan struct{} { return t.ready }
 func (t *tie) Taken() uint64          { return 0 }
 func (t *tie) Aside() uint64          { return 0 }
 
-func (t *tie) Tell(_ context.Context, _ [32]byte, batch []byte) error {
-	t.told.Add(1)
-	return t.show(batch)
-}
-
-func (t *tie) Withdraw(_ context.Context, _ [32]byte, batch []byte) error { return t.show(batch) }
-
-// Claim shows a won claim to every member before it answers, as a quick watch does.
-func (t *tie) Claim(ctx context.Context, _ time.Time, key [32]byte, batch []byte) (bool, []byte, error) {
-	t.mu.Lock()
-	winner, lost := t.values[key]
-	if !lost {
-		t.values[key] = batch
-	}
-	t.mu.Unlock()
-	if !lost {
-		_ = t.show(batch)
-	}
-	if t.hold != nil {
+func (t *tie) Put(ctx context.Context, kind group.Kind, number uint64, message []byte) error {
+	t.put(stored{t, kind, number, message})
+	if t.answer != nil {
 		select {
-		case <-t.hold:
+		case <-t.answer:
 		case <-ctx.Done():
+			return ctx.Err()
 		}
 	}
-	if t.fault != nil {
-		return false, nil, t.fault
-	}
-	return !lost, winner, ctx.Err()
+	return t.fault
 }
 
-func (t *tie) show(batch []byte) error {
-	for _, m := range t.members {
-		if err := m.engine.Take(batch); err != nil {
-			return err
+// hold lets the member read nothing, or all that it has not read. The caller does not hold mu.
+func (t *tie) hold(held bool) {
+	t.mu.Lock()
+	defer t.mu.Unlock()
+	t.held = held
+	t.read()
+}
+
+func (t *tie) read() {
+	if t.held || t.done == len(t.log) {
+		return
+	}
+	var values []group.Value
+	for _, v := range t.log[t.done:] {
+		value := group.Value{Kind: v.kind, Message: v.message, Gap: t.gap}
+		if v.by == t {
+			value.Own = v.number
+		}
+		t.gap = false
+		values = append(values, value)
+	}
+	t.done = len(t.log)
+	for _, err := range t.engine.Take(values) {
+		if err != nil {
+			t.aside++
 		}
 	}
-	return nil
+}
+
+// join makes an engine a member.
+func (b *broker) join(e *Engine) *tie {
+	m := &tie{broker: b, engine: e, ready: make(chan struct{})}
+	close(m.ready)
+	b.members = append(b.members, m)
+	e.Join(m)
+	return m
 }
 
 func engine(t testing.TB, o Options) *Engine {
@@ -166,14 +212,11 @@ func ready(t testing.TB, e *Engine) *Engine {
 // strict returns engines of one group in mode strict.
 func strict(t testing.TB, n int) ([]*Engine, *broker) {
 	t.Helper()
-	b := newBroker()
+	b := &broker{}
 	var all []*Engine
 	for i := 0; i < n; i++ {
 		e := ready(t, engine(t, Options{Mode: Strict, Grouped: true, Place: svid.Place{byte(i + 1)}}))
-		m := &tie{broker: b, engine: e, ready: make(chan struct{})}
-		close(m.ready)
-		b.members = append(b.members, m)
-		e.Join(m)
+		b.join(e)
 		all = append(all, e)
 	}
 	return all, b
@@ -248,10 +291,11 @@ func TestARecordOfTheFutureIsNotLoaded(t *testing.T) {
 	}
 }
 
-// Of many requests at many sidecars one is accepted, though the bucket shows each claim before its maker knows that it won.
+// Of many requests at many sidecars one is accepted, and all records have that use alone.
 func TestStrictAcceptsOneOfMany(t *testing.T) {
 	all, _ := strict(t, 3)
-	for round := 0; round < 20; round++ {
+	const rounds = 20
+	for round := 0; round < rounds; round++ {
 		one := token(fmt.Sprint(round))
 		var accepted atomic.Int32
 		var group sync.WaitGroup
@@ -273,9 +317,59 @@ func TestStrictAcceptsOneOfMany(t *testing.T) {
 			t.Fatalf("round %d: accepted %d times", round, n)
 		}
 	}
+	wantUses(t, all, rounds)
+}
+
+// wantUses wants all records equal, with so many uses.
+func wantUses(t *testing.T, all []*Engine, want int) {
+	t.Helper()
+	first := saved(t, all[0])
+	if _, uses, err := svid.Uses(first); err != nil || len(uses) != want {
+		t.Errorf("%d uses, want %d (%v)", len(uses), want, err)
+	}
 	for _, e := range all[1:] {
-		if !bytes.Equal(saved(t, e), saved(t, all[0])) {
+		if !bytes.Equal(saved(t, e), first) {
 			t.Error("the records differ")
+		}
+	}
+}
+
+// claimed sends a token to an engine whose reading is held, and returns once its claim is in the log.
+func claimed(m *tie, token string) (answer chan error) {
+	m.mu.Lock()
+	m.held = true
+	before := len(m.log)
+	m.mu.Unlock()
+	answer = make(chan error, 1)
+	go func() { answer <- check(m.engine, token) }()
+	for in := before; in == before; time.Sleep(time.Millisecond) {
+		m.mu.Lock()
+		in = len(m.log)
+		m.mu.Unlock()
+	}
+	return answer
+}
+
+// Of two claims the first in the bucket wins, whoever reads first.
+func TestTheFirstClaimInTheBucketWins(t *testing.T) {
+	for _, winnerReadsFirst := range []bool{true, false} {
+		all, b := strict(t, 3)
+		b.members[1].hold(true)
+		first := claimed(b.members[0], token("a"))
+		second := claimed(b.members[1], token("a"))
+		order := []*tie{b.members[0], b.members[1]}
+		if !winnerReadsFirst {
+			order[0], order[1] = order[1], order[0]
+		}
+		for _, m := range order {
+			m.hold(false)
+		}
+		if won, lost := <-first, <-second; won != nil || lost != svid.Replayed {
+			t.Errorf("winner reads first %v: %v, %v", winnerReadsFirst, won, lost)
+		}
+		wantUses(t, all, 1)
+		if won, lost := all[0].Metrics.ClaimsWon.Load(), all[1].Metrics.ClaimsLost.Load(); won != 1 || lost != 1 {
+			t.Errorf("%d won, %d lost", won, lost)
 		}
 	}
 }
@@ -289,72 +383,187 @@ func TestStrictAddsTheClaimedUse(t *testing.T) {
 	if err := check(all[0], token("a")); err != nil {
 		t.Fatal(err)
 	}
-	for _, claimed := range b.values {
-		if got := saved(t, all[0]); !bytes.Equal(got[17:], claimed[17:]) {
-			t.Errorf("the record has %x, and the bucket %x", got[17:], claimed[17:])
+	for i, e := range all {
+		_, got, err := svid.Uses(saved(t, e))
+		if want := b.uses(t); err != nil || fmt.Sprint(got) != fmt.Sprint(want) {
+			t.Errorf("the record of %d has %v, and the bucket %v (%v)", i, got, want, err)
 		}
 	}
 }
 
 // A claim whose outcome is unknown is answered 503, and the token is burnt for all.
 func TestAClaimOfUnknownOutcomeAcceptsNobody(t *testing.T) {
-	all, b := strict(t, 2)
-	b.members[0].fault = errors.New("time is up")
-	if err := check(all[0], token("a")); !errors.Is(err, b.members[0].fault) {
-		t.Fatalf("%v", err)
-	}
-	b.members[0].fault = nil
-	for i, e := range all {
-		if err := check(e, token("a")); err != svid.Replayed {
-			t.Errorf("sidecar %d, later: %v", i, err)
+	for what, lose := range map[string]func(m *tie) error{
+		"the broker says no more": func(m *tie) error { m.fault = errors.New("time is up"); return m.fault },
+		"values are gone":         func(m *tie) error { m.gap = true; return errGap },
+		"the value stays away":    func(m *tie) error { m.engine.Wait = 30 * time.Millisecond; return context.DeadlineExceeded },
+	} {
+		all, b := strict(t, 2)
+		m := b.members[0]
+		want := lose(m)
+		answer := claimed(m, token("a"))
+		if want == errGap {
+			m.hold(false)
+		}
+		if err := <-answer; !errors.Is(err, want) {
+			t.Errorf("%s: %v", what, err)
+		}
+		if n := m.engine.Metrics.ClaimsFailed.Load(); n != 1 {
+			t.Errorf("%s: %d claims failed", what, n)
+		}
+		m.fault = nil
+		m.hold(false)
+		for i, e := range all {
+			if err := check(e, token("a")); err != svid.Replayed {
+				t.Errorf("%s: sidecar %d, later: %v", what, i, err)
+			}
+		}
+		wantUses(t, all, 1)
+		if n := len(m.engine.claims.open) + len(m.engine.claims.sent); n != 0 {
+			t.Errorf("%s: %d claims are kept", what, n)
 		}
 	}
+}
+
+// A second claim, of a token whose first one was given up, loses against that.
+func TestAClaimThatWasGivenUpIsNotTakenUpAgain(t *testing.T) {
+	all, b := strict(t, 1)
+	m := b.members[0]
+	all[0].Wait = 30 * time.Millisecond
+	if err := <-claimed(m, token("a")); !errors.Is(err, context.DeadlineExceeded) {
+		t.Error(err)
+	}
+	all[0].Wait = time.Minute
+	again := claimed(m, token("a"))
+	m.hold(false)
+	if err := <-again; err != svid.Replayed {
+		t.Error(err)
+	}
+	wantUses(t, all, 1)
 }
 
 // Requests that come while a claim is open wait for it, and cost the broker nothing.
 func TestRequestsWaitForAnOpenClaim(t *testing.T) {
 	all, b := strict(t, 1)
 	e := all[0]
-	b.members[0].hold = make(chan struct{})
+	first := claimed(b.members[0], token("a"))
 	answers := make(chan error, 3)
-	for i := 0; i < 3; i++ {
+	for i := 0; i < 2; i++ {
 		go func() { answers <- check(e, token("a")) }()
 	}
-	awaitOpenClaim(e)
 	impatient, cancel := context.WithTimeout(context.Background(), 10*time.Millisecond)
 	defer cancel()
 	if _, err := e.Check(impatient, token("a")); !errors.Is(err, context.DeadlineExceeded) {
 		t.Errorf("its time is up: %v", err)
 	}
-	close(b.members[0].hold)
-	var accepted int
-	for i := 0; i < 3; i++ {
-		if err := <-answers; err == nil {
-			accepted++
-		} else if err != svid.Replayed {
+	b.members[0].hold(false)
+	if err := <-first; err != nil {
+		t.Error(err)
+	}
+	for i := 0; i < 2; i++ {
+		if err := <-answers; err != svid.Replayed {
 			t.Error(err)
 		}
 	}
-	if accepted != 1 || e.Metrics.ClaimsWon.Load() != 1 || e.Metrics.ClaimsLost.Load() != 0 {
-		t.Errorf("accepted %d, claims won %d", accepted, e.Metrics.ClaimsWon.Load())
+	if len(b.log) != 1 || e.Metrics.ClaimsWon.Load() != 1 || e.Metrics.ClaimsLost.Load() != 0 {
+		t.Errorf("%d values, claims won %d", len(b.log), e.Metrics.ClaimsWon.Load())
 	}
 }
 
-// A claim that is no use of the token (or is from too far ahead) is believed by nobody, and still nobody is accepted.
-func TestALostClaimIsNeverAccepted(t *testing.T) {
-	for what, value := range map[string][]byte{
-		"garbage": []byte("garbage"), "nothing": {}, "another token": svid.Use{Expires: moment + 9, At: moment}.Batch(),
-		"far ahead": svid.Use{Expires: moment + 300, At: moment + 200}.Batch(),
-	} {
-		all, b := strict(t, 1)
-		judged, err := all[0].Find(token("a"))
-		if err != nil {
+// Claims that come while the broker has not answered share a value, of bounded length.
+func TestClaimsShareAValue(t *testing.T) {
+	all, b := strict(t, 2)
+	m := b.members[0]
+	m.answer = make(chan struct{})
+	all[0].Wait = time.Minute
+	const many = 2 * mostClaims
+	var tokens []string
+	for i := 0; i < many; i++ {
+		tokens = append(tokens, token(fmt.Sprint(i)))
+	}
+	answers := make(chan error, many)
+	for _, one := range tokens {
+		go func(one string) { answers <- check(all[0], one) }(one)
+	}
+	for range tokens {
+		if err := <-answers; err != nil {
 			t.Fatal(err)
 		}
-		b.values[judged.Key] = value
-		if err := check(all[0], token("a")); !errors.Is(err, ErrClaimed) {
-			t.Errorf("%s: %v", what, err)
+	}
+	close(m.answer)
+	b.mu.Lock()
+	defer b.mu.Unlock()
+	if n := len(b.log); n > many/4 {
+		t.Errorf("%d values for %d claims", n, many)
+	}
+	for _, v := range b.log {
+		if len(v.message) > 17*2+65*mostClaims {
+			t.Errorf("a value of %d bytes", len(v.message))
 		}
+	}
+	wantUses(t, all, many)
+}
+
+// A claim that is given up before its value goes out is not sent.
+func TestAClaimThatWaitsCanBeTakenBack(t *testing.T) {
+	c := newClaims()
+	never := func() { t.Error("claims are sent that nobody waits for") }
+	one, two := &claim{use: svid.Use{Key: svid.TokenKey{1}}, done: make(chan struct{})}, &claim{use: svid.Use{Key: svid.TokenKey{2}}, done: make(chan struct{})}
+	c.begin(one)
+	c.begin(two)
+	if !c.giveUp(one) || c.giveUp(one) {
+		t.Error("a claim is given up once")
+	}
+	if number, uses := c.next(never); number != 1 || len(uses) != 1 || uses[0] != two.use {
+		t.Errorf("value %d has %v", number, uses)
+	}
+	if open := c.arrived(1); len(open) != 1 || open[0] != two || c.giveUp(two) {
+		t.Error("a claim whose value is there is given up")
+	}
+	if n := c.landed(1, errors.New("late")); n != 0 {
+		t.Errorf("%d claims fail whose outcome is there", n)
+	}
+	c.end(two)
+	<-two.done
+	if n := len(c.open) + len(c.sent) + len(c.gather); n != 0 {
+		t.Errorf("%d claims are kept", n)
+	}
+}
+
+// A claim that this sidecar's validator does not take (it is from too far ahead) is a claim all the same.
+func TestALostClaimIsNeverAccepted(t *testing.T) {
+	var now atomic.Uint64
+	now.Store(moment)
+	all, b := strict(t, 1)
+	e, m := all[0], b.members[0]
+	e.Now = now.Load
+	judged, err := e.Find(token("a"))
+	if err != nil {
+		t.Fatal(err)
+	}
+	b.put(stored{kind: group.Claims, message: svid.Use{Key: judged.Key, Expires: moment + 300, At: moment + 200}.Batch()})
+	for i := 0; i < 2; i++ {
+		if err := check(e, token("a")); !errors.Is(err, ErrClaimed) {
+			t.Errorf("%v", err)
+		}
+	}
+	if m.aside != 1 || len(e.claims.aside) != 1 {
+		t.Errorf("%d aside, and %d claims of them", m.aside, len(e.claims.aside))
+	}
+	// Others, and garbage, make no difference to a token that they do not name.
+	for _, message := range [][]byte{[]byte("garbage"), {}, svid.Use{Expires: moment + 300, At: moment + 200}.Batch()} {
+		b.put(stored{kind: group.Claims, message: message})
+	}
+	if err := check(e, token("b")); err != nil {
+		t.Error(err)
+	}
+	// Tokens that have expired are forgotten, when there are many.
+	now.Store(moment + 299)
+	for i := 0; i < 3000; i++ {
+		e.claims.putAside(svid.Use{Key: svid.TokenKey{1, byte(i), byte(i >> 8)}, Expires: moment + 299, At: moment}.Batch(), now.Load())
+	}
+	if n := len(e.claims.aside); n > 1030 || e.claims.aside[judged.Key] != moment+300 {
+		t.Errorf("%d claims aside", n)
 	}
 }
 
@@ -362,35 +571,23 @@ func TestALostClaimIsNeverAccepted(t *testing.T) {
 func TestAWithdrawalDuringAClaimCounts(t *testing.T) {
 	all, b := strict(t, 1)
 	e, m := all[0], b.members[0]
-	m.hold = make(chan struct{})
 	found, err := e.Find(token("a"))
 	if err != nil {
 		t.Fatal(err)
 	}
-	answer := make(chan error, 1)
-	go func() { answer <- check(e, token("a")) }()
-	awaitOpenClaim(e)
+	answer := claimed(m, token("a"))
 	if _, err := e.Withdraw(context.Background(), found.Key, found.Expires); err != nil {
 		t.Fatal(err)
 	}
-	close(m.hold)
+	m.hold(false)
 	if err := <-answer; err != svid.Withdrawn {
 		t.Error(err)
 	}
 }
 
-// awaitOpenClaim returns once a claim is open.
-func awaitOpenClaim(e *Engine) {
-	for open := 0; open == 0; time.Sleep(time.Millisecond) {
-		e.claims.mu.Lock()
-		open = len(e.claims.open)
-		e.claims.mu.Unlock()
-	}
-}
-
 func TestNothingIsJudgedBeforeAllIsRead(t *testing.T) {
 	e := engine(t, Options{Mode: Strict, Grouped: true})
-	m := &tie{broker: newBroker(), engine: e, ready: make(chan struct{})}
+	m := &tie{broker: &broker{}, engine: e, ready: make(chan struct{})}
 	m.members = []*tie{m}
 	for _, step := range []struct {
 		why string
@@ -446,9 +643,8 @@ func TestDrainBeforeAnythingIsReadJudgesNothing(t *testing.T) {
 func TestRunEndsWithASnapshotAndAllTold(t *testing.T) {
 	d := &disk{}
 	e := ready(t, engine(t, Options{Mode: Once, Journal: d, Grouped: true}))
-	m := &tie{broker: newBroker(), engine: e, ready: make(chan struct{})}
-	close(m.ready)
-	e.Join(m)
+	b := &broker{}
+	b.join(e)
 	for i := 0; i < 100; i++ {
 		if err := check(e, token(fmt.Sprint(i))); err != nil {
 			t.Fatal(err)
@@ -457,8 +653,8 @@ func TestRunEndsWithASnapshotAndAllTold(t *testing.T) {
 	ctx, cancel := context.WithCancel(context.Background())
 	cancel()
 	e.Run(ctx)
-	if d.Size() != 17+100*65 || m.told.Load() != 100 {
-		t.Errorf("snapshot of %d bytes, %d told", d.Size(), m.told.Load())
+	if told := len(b.uses(t)); d.Size() != 17+100*65 || told != 100 || len(b.log) != 1 {
+		t.Errorf("snapshot of %d bytes, %d told by %d values", d.Size(), told, len(b.log))
 	}
 }
 
@@ -587,7 +783,7 @@ func TestMetricsAreWellFormed(t *testing.T) {
 	e.Metrics.BundleAges = func() map[string]time.Duration {
 		return map[string]time.Duration{"example.org": 1500 * time.Millisecond}
 	}
-	member := &tie{broker: newBroker(), engine: e, ready: make(chan struct{})}
+	member := &tie{broker: &broker{}, engine: e, ready: make(chan struct{})}
 	close(member.ready)
 	e.Join(member)
 	for i := 0; i < 3; i++ {
@@ -760,8 +956,8 @@ func TestASummaryRepairsWhatWasNotTold(t *testing.T) {
 	if err != nil {
 		t.Fatal(err)
 	}
-	if err := there.Take(answer); err != nil {
-		t.Fatal(err)
+	if errs := there.Take([]group.Value{{Kind: group.Answer, Message: answer}}); errs != nil {
+		t.Fatal(errs)
 	}
 	if err := check(there, token("a")); err != svid.Replayed {
 		t.Error(err)
@@ -922,12 +1118,13 @@ func TestVerifiedTokensHaveABound(t *testing.T) {
 }
 
 // takeAll gives an engine messages as a group does.
-func takeAll(e *Engine, messages ...[]byte) (aside int) {
-	if e.TakeAll(messages) == nil {
-		return 0
+func takeAll(e *Engine, kind group.Kind, messages ...[]byte) (aside int) {
+	values := make([]group.Value, len(messages))
+	for i, m := range messages {
+		values[i] = group.Value{Kind: kind, Message: m}
 	}
-	for _, m := range messages {
-		if e.Take(m) != nil {
+	for _, err := range e.Take(values) {
+		if err != nil {
 			aside++
 		}
 	}
@@ -960,55 +1157,24 @@ func TestMessagesThatAreTakenAtOnce(t *testing.T) {
 		"two halves of one":      {[][]byte{honest[:50], honest[50:], other}, 2, 1},
 		"one, and then the same": {[][]byte{honest, honest}, 0, 1},
 	} {
-		e := ready(t, engine(t, Options{Mode: Once}))
-		aside := takeAll(e, row.messages...)
-		if _, uses, err := svid.Uses(saved(t, e)); err != nil || len(uses) != row.uses || aside != row.aside {
-			t.Errorf("%s: %d aside and %d uses (%v), want %d and %d", what, aside, len(uses), err, row.aside, row.uses)
+		for _, kind := range []group.Kind{group.Uses, group.Claims} {
+			e := ready(t, engine(t, Options{Mode: Once}))
+			aside := takeAll(e, kind, row.messages...)
+			if _, uses, err := svid.Uses(saved(t, e)); err != nil || len(uses) != row.uses || aside != row.aside {
+				t.Errorf("%s: %d aside and %d uses (%v), want %d and %d", what, aside, len(uses), err, row.aside, row.uses)
+			}
 		}
 	}
 }
 
-// A claim that the bucket shows among others is held back while it is open, as one that comes alone.
-func TestAnOpenClaimAmongOthers(t *testing.T) {
-	all, b := strict(t, 1)
-	e, m := all[0], b.members[0]
-	m.hold = make(chan struct{})
-	answer := make(chan error, 1)
-	go func() { answer <- check(e, token("a")) }()
-	awaitOpenClaim(e)
-	b.mu.Lock()
-	var claimed []byte
-	for _, claimed = range b.values {
-	}
-	b.mu.Unlock()
-	other := svid.Use{Key: svid.TokenKey{1}, Expires: moment + 9, At: moment}.Batch()
-	if aside := takeAll(e, other, claimed, other); aside != 0 {
-		t.Errorf("%d aside", aside)
-	}
-	close(m.hold)
-	if err := <-answer; err != nil {
-		t.Errorf("the winner of a claim: %v", err)
-	}
-	if _, uses, err := svid.Uses(saved(t, e)); err != nil || len(uses) != 2 {
-		t.Errorf("%d uses, %v", len(uses), err)
-	}
-}
-
-// An answer to a summary tells of a claim that is open here, beside another use: it is held back as the bucket's copy is.
+// An answer to a summary tells of a claim that is open here, beside another use: it is held back until the claim is read.
 func TestAnAnswerWithAnOpenClaim(t *testing.T) {
 	all, b := strict(t, 2)
 	e, other := all[0], all[1]
-	b.members[0].hold = make(chan struct{})
-	outcome := make(chan error)
-	go func() { outcome <- check(e, token("mine")) }()
-	awaitOpenClaim(e)
+	outcome := claimed(b.members[0], token("mine"))
 	if err := check(other, token("theirs")); err != nil {
 		t.Fatal(err)
 	}
-	await(t, "both uses at the other", func() bool {
-		_, uses, err := svid.Uses(saved(t, other))
-		return err == nil && len(uses) == 2
-	})
 	summary, err := ready(t, engine(t, Options{Mode: Strict})).Summary() // of one who has neither
 	if err != nil {
 		t.Fatal(err)
@@ -1017,86 +1183,55 @@ func TestAnAnswerWithAnOpenClaim(t *testing.T) {
 	if err != nil {
 		t.Fatal(err)
 	}
-	if err := e.Take(answer); err != nil {
-		t.Fatal(err)
+	if _, uses, err := svid.Uses(answer); err != nil || len(uses) != 2 {
+		t.Fatalf("an answer with %d uses, %v", len(uses), err)
 	}
-	close(b.members[0].hold)
+	if aside := takeAll(e, group.Answer, answer); aside != 0 {
+		t.Fatalf("%d aside", aside)
+	}
+	b.members[0].hold(false)
 	if err := <-outcome; err != nil {
 		t.Errorf("the winner of a claim: %v", err)
 	}
-	if saved := saved(t, e); !bytes.Equal(saved, answer) {
-		t.Errorf("the record has not both uses: % X", saved)
+	wantUses(t, all, 2)
+}
+
+// Of the claims of a token the record has the first one in the bucket. A use that was told is no claim, and stands beside it.
+func TestLaterClaimsAreNoUses(t *testing.T) {
+	use := func(place byte) svid.Use {
+		return svid.Use{Key: svid.TokenKey{1}, Expires: moment + 9, At: moment, Place: svid.Place{place}}
+	}
+	e := ready(t, engine(t, Options{Mode: Strict}))
+	gone := use(4)
+	gone.Withdrawn = true
+	other := svid.Use{Key: svid.TokenKey{2}, Expires: moment + 9, At: moment}
+	if aside := takeAll(e, group.Claims, use(1).Batch(), svid.Batches([]svid.Use{use(2), other, gone})); aside != 0 {
+		t.Errorf("%d aside", aside)
+	}
+	if aside := takeAll(e, group.Uses, use(3).Batch()); aside != 0 {
+		t.Errorf("%d aside", aside)
+	}
+	_, got, err := svid.Uses(saved(t, e))
+	if want := []svid.Use{use(1), use(3), gone, other}; err != nil || fmt.Sprint(got) != fmt.Sprint(want) {
+		t.Errorf("%v, want %v", got, want)
 	}
 }
 
-// The bucket's copy of a won claim, which comes behind the answer, is not taken once more; and nothing is kept of the claim.
-func TestTheCopyOfAWonClaim(t *testing.T) {
-	all, b := strict(t, 1)
-	e := all[0]
-	b.members = nil // shows nothing by itself
-	if err := check(e, token("a")); err != nil {
-		t.Fatal(err)
-	}
-	var claimed []byte
-	for _, claimed = range b.values {
-	}
-	if n := len(e.claims.unseen); n != 1 {
-		t.Errorf("%d copies are due, want 1", n)
-	}
-	before := saved(t, e)
-	for _, what := range []string{"the copy", "the copy, again"} {
-		if aside := takeAll(e, claimed, claimed); aside != 0 || !bytes.Equal(saved(t, e), before) {
-			t.Errorf("%s: %d aside, or the record changed", what, aside)
+// The tokens that were claimed last are remembered, and no more than twice as many.
+func TestRecentClaimsAreRemembered(t *testing.T) {
+	key := func(i int) svid.TokenKey { return svid.TokenKey{byte(i), byte(i >> 8), byte(i >> 16)} }
+	var r recent
+	const many = 3*mostRecent + 7
+	for i := 0; i < many; i++ {
+		if !r.add(key(i)) {
+			t.Fatalf("claim %d is not the first", i)
+		}
+		if r.add(key(i)) || i >= mostRecent && r.add(key(i-mostRecent+1)) {
+			t.Fatalf("claim %d was forgotten", i)
 		}
 	}
-	if n := len(e.claims.unseen) + len(e.claims.open); n != 0 {
-		t.Errorf("%d claims are kept", n)
-	}
-	if err := check(e, token("a")); err != svid.Replayed {
-		t.Error(err)
-	}
-}
-
-// A claim that was not added to the record is taken from the bucket's copy, whenever that comes.
-func TestTheCopyOfAClaimThatWasGivenUp(t *testing.T) {
-	for _, early := range []bool{true, false} {
-		all, b := strict(t, 1)
-		e, members := all[0], b.members
-		if !early {
-			b.members = nil
-		}
-		members[0].fault = errors.New("time is up")
-		if err := check(e, token("a")); !errors.Is(err, members[0].fault) {
-			t.Fatal(err)
-		}
-		if !early {
-			for _, claimed := range b.values {
-				if err := e.Take(claimed); err != nil {
-					t.Error(err)
-				}
-			}
-		}
-		if err := check(e, token("a")); err != svid.Replayed {
-			t.Errorf("early %v: %v", early, err)
-		}
-		if e.Metrics.ClaimsLost.Load() != 0 {
-			t.Error("the record did not have the use")
-		}
-	}
-}
-
-// Copies that never come keep a bounded number of claims.
-func TestCopiesThatNeverCome(t *testing.T) {
-	var c claims
-	c.open, c.unseen = make(map[svid.TokenKey]*claim), make(map[svid.TokenKey][]byte)
-	for i := 0; i < mostUnseen+10; i++ {
-		mine, _ := c.begin(svid.Use{Key: svid.TokenKey{byte(i), byte(i >> 8), byte(i >> 16)}})
-		if c.end(mine, true) {
-			t.Fatal("a batch that the record has is to be taken")
-		}
-	}
-	if len(c.unseen) != mostUnseen || len(c.open) != 0 {
-		t.Errorf("%d unseen, %d open", len(c.unseen), len(c.open))
+	if n := len(r.now) + len(r.before); n > 2*mostRecent {
+		t.Errorf("%d are remembered", n)
 	}
 }
 
@@ -1182,22 +1317,21 @@ func TestNothingGoesOnBehindTheEnd(t *testing.T) {
 	ctx, cancel := context.WithCancel(context.Background())
 	ended := make(chan struct{})
 	go func() { e.Run(ctx); close(ended) }()
-	b.members[0].hold = make(chan struct{}) // for good: each claim's time is up
+	b.members[0].held = true // for good: each claim's time is up
 	for i := 0; i < 50; i++ {
 		request, give := context.WithCancel(context.Background())
 		answer := make(chan error)
 		go func() { _, err := e.Check(request, token("a")); answer <- err }()
-		if i == 0 {
-			awaitOpenClaim(e)
-		}
 		give()
 		if err := <-answer; err == nil {
 			t.Error("a token was accepted that nobody won")
 		}
 	}
+	e.claims.mu.Lock()
 	if n := len(e.claims.open); n != 0 {
 		t.Errorf("%d claims are open", n)
 	}
+	e.claims.mu.Unlock()
 	cancel()
 	<-ended
 	await(t, "the end of all goroutines", func() bool { return runtime.NumGoroutine() <= before })
@@ -1207,10 +1341,7 @@ func TestNothingGoesOnBehindTheEnd(t *testing.T) {
 func TestWhatIsNotToldIsCounted(t *testing.T) {
 	var out bytes.Buffer
 	e := ready(t, engine(t, Options{Mode: Once, Grouped: true, Log: NewLog(&out, Errors)}))
-	m := &tie{broker: newBroker(), engine: e, ready: make(chan struct{})}
-	close(m.ready)
-	m.members = []*tie{{engine: engine(t, Options{Now: func() uint64 { return 1 }})}} // to whom the use is too far ahead
-	e.Join(m)
+	(&broker{}).join(e).fault = errors.New("the disk is full")
 	if err := check(e, token("a")); err != nil {
 		t.Fatal(err)
 	}
@@ -1220,7 +1351,7 @@ func TestWhatIsNotToldIsCounted(t *testing.T) {
 	if e.Metrics.Untold.Load() != 1 || e.Metrics.Told.Load() != 0 || !strings.Contains(out.String(), `"event":"tell"`) {
 		t.Errorf("untold %d, told %d, log %s", e.Metrics.Untold.Load(), e.Metrics.Told.Load(), &out)
 	}
-	e.untold = make(chan telling)
+	e.untold = make(chan svid.Use)
 	if err := check(e, token("b")); err != nil || e.Metrics.Untold.Load() != 2 {
 		t.Errorf("%v, untold %d", err, e.Metrics.Untold.Load())
 	}

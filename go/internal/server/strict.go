@@ -1,43 +1,42 @@
 package server
 
 import (
-	"bytes"
 	"context"
 	"errors"
 	"fmt"
-	"sync"
 	"time"
 
+	"svid.example/go/internal/group"
 	"svid.example/go/svid"
 )
 
-// ErrClaimed: another sidecar has claimed the token, by a value that this one's
-// validator does not believe (it is put aside). The token is accepted here by
-// nobody.
+// ErrClaimed: another sidecar has claimed the token, by a value that this one's validator does not believe (it is put
+// aside). The token is accepted here by nobody.
 var ErrClaimed = errors.New("the token is claimed in the group by a value that is no use of it")
 
-// checkStrict accepts a token once in the whole group. At each step:
+// errGap is the outcome of claims that were open when values of the bucket were found missing.
+var errGap = errors.New("values of the group's bucket are gone: whether another sidecar claimed the token is unknown")
+
+// checkStrict accepts a token once in the whole group. The bucket is a log, which all sidecars read in one order, and the
+// first claim of a token in it counts. At each step:
 //
-//  1. Judge says whether the token would be accepted, and adds nothing. A rejected
-//     token ends here; so only tokens with a good signature cost the broker work.
-//  2. One request a token goes on, in this sidecar; the others wait for its
-//     outcome and begin again. Nothing is in memory, on the disk or in the bucket.
-//  3. Claim creates the token's key in the bucket, with the use as its value, and
-//     the broker lets one of all creators of a key win. Once it has answered, the
-//     use is in the bucket for as long as the token lives, on as many servers as
-//     the bucket has replicas. No other call of Claim for this key ever wins, in
-//     this sidecar or another, also after a crash of this one. If the outcome is
-//     unknown (time is up, the broker is away), the answer is 503: the token may
-//     be claimed by nobody, and is then burnt.
-//  4. Who wins judges the token once more and adds the claimed use to the record,
-//     under one lock. The token may have expired or been revoked since step 1: it
-//     is rejected then, and burnt.
-//  5. Where there is a state folder, the use goes to the disk. It isn't what makes
-//     the token unusable (the bucket is), but it outlives the broker's disk.
-//  6. Only now the answer is 200. So each 200 has a won claim of its own.
+//  1. Judge says whether the token would be accepted, and adds nothing. A rejected token ends here; so only tokens with a
+//     good signature cost the broker work.
+//  2. One request a token goes on, in this sidecar; the others wait for its outcome and begin again. Nothing is in memory,
+//     on the disk or in the bucket.
+//  3. The use goes into the bucket, with other claims in one value. Once the broker has stored it, it is there for as long
+//     as the token lives, on as many servers as the bucket has replicas, and its place among all values never changes.
+//     A crash from here on burns the token.
+//  4. This sidecar reads its own value back, at its place. By then it has taken every value in front of it, and none behind
+//     it (Engine.Take). If one of those claims the token, this claim is lost. Else the validator judges the token once more
+//     and adds the claimed use, under one lock. So a second claim of this sidecar is lost as well, and a token that has
+//     expired or was revoked meanwhile is rejected, and burnt. Every other sidecar finds this claim in front of its own.
+//  5. Where there is a state folder, the use goes to the disk. It isn't what makes the token unusable (the bucket is), but
+//     it outlives the broker's disk.
+//  6. Only now the answer is 200. So each 200 has the first claim of its token, and that is one.
 //
-// Who loses in step 3 takes the winner's use, and its own validator rejects the
-// token. It never accepts, whatever the winner's value is.
+// If the value does not come back in time (the broker is away), or if values in front of it are gone, the answer is 503.
+// The token is burnt then if the value is in the bucket, now or later: who reads it takes its uses.
 func (e *Engine) checkStrict(ctx context.Context, token string, yes []svid.Question) (svid.Accepted, error) {
 	end := time.Now().Add(e.Wait)
 	for {
@@ -45,156 +44,89 @@ func (e *Engine) checkStrict(ctx context.Context, token string, yes []svid.Quest
 		if err != nil {
 			return svid.Accepted{}, err
 		}
-		mine, other := e.claims.begin(judged.Use)
-		if mine != nil {
-			return e.claim(ctx, end, mine, token, yes)
+		mine := &claim{use: judged.Use, token: token, yes: yes, done: make(chan struct{})}
+		if other := e.claims.begin(mine); other != nil {
+			if err := other.await(ctx, end); err != nil {
+				return svid.Accepted{}, fmt.Errorf("waiting for the claim of another request: %w", err)
+			}
+			continue
 		}
-		if err := other.await(ctx, end); err != nil {
+		e.sendClaims()
+		if err := mine.await(ctx, end); err != nil && e.claims.giveUp(mine) {
+			e.Metrics.ClaimsFailed.Add(1)
+			return svid.Accepted{}, fmt.Errorf("the token could not be claimed: %w", err)
+		}
+		<-mine.done
+		if mine.err != nil {
+			return svid.Accepted{}, mine.err
+		}
+		if err := e.keep(mine.use.Batch()); err != nil {
 			return svid.Accepted{}, err
 		}
+		return mine.accepted, nil
 	}
 }
 
-// await waits for the outcome of another request's claim.
+// await waits for the outcome of a claim.
 func (c *claim) await(ctx context.Context, end time.Time) error {
-	ctx, cancel := context.WithDeadline(ctx, end)
-	defer cancel()
 	select {
 	case <-c.done:
 		return nil
+	default:
+	}
+	timer := time.NewTimer(time.Until(end))
+	defer timer.Stop()
+	select {
+	case <-c.done:
+		return nil
+	case <-timer.C:
+		return context.DeadlineExceeded
 	case <-ctx.Done():
-		return fmt.Errorf("waiting for the claim of another request: %w", ctx.Err())
+		return ctx.Err()
 	}
 }
 
-// claim does steps 3 to 5 of checkStrict.
-func (e *Engine) claim(ctx context.Context, end time.Time, mine *claim, token string, yes []svid.Question) (svid.Accepted, error) {
-	added := false // to the record
-	defer func() { e.endClaim(mine, added) }()
-	g := e.group.Load()
-	won, winner, err := g.Claim(ctx, end, mine.use.Key, mine.batch)
-	switch {
-	case err != nil:
-		e.Metrics.ClaimsFailed.Add(1)
-		return svid.Accepted{}, fmt.Errorf("the token could not be claimed: %w", err)
-	case !won:
-		e.Metrics.ClaimsLost.Add(1)
-		return svid.Accepted{}, e.lost(winner, token, yes)
+// sendClaims sends the claims that are to go out now, in one value, and lets others follow.
+func (e *Engine) sendClaims() {
+	number, uses := e.claims.next(e.sendClaims)
+	if len(uses) == 0 {
+		return
 	}
-	e.Metrics.ClaimsWon.Add(1)
-	accepted, err := e.validator.CheckClaimed(e.Now(), token, yes, mine.batch)
-	if err != nil {
-		return svid.Accepted{}, err
-	}
-	added = true
-	if err := e.keep(mine.batch); err != nil {
-		return svid.Accepted{}, err
-	}
-	return accepted, nil
-}
-
-// lost is the answer to who lost a claim: what the validator says once it has
-// taken the winner's use. It is never nil.
-func (e *Engine) lost(winner []byte, token string, yes []svid.Question) error {
-	if err := e.validator.Take(e.Now(), winner); err != nil {
-		return fmt.Errorf("%w: %v", ErrClaimed, err)
-	}
-	if _, err := e.validator.Judge(e.Now(), token, yes); err != nil {
-		return err
-	}
-	return ErrClaimed
-}
-
-// endClaim lets the requests that wait for this claim begin again. If the bucket
-// showed the claim's use meanwhile (Engine.Take), and the record has not gained it
-// by winning, it gains it now: who does not know that it won has not added it.
-func (e *Engine) endClaim(c *claim, added bool) {
-	if e.claims.end(c, added) {
-		if err := e.validator.Take(e.Now(), c.batch); err != nil {
-			e.Log.Error("take", err)
+	go func() {
+		ctx, cancel := context.WithTimeout(context.Background(), e.Wait)
+		defer cancel()
+		err := e.group.Load().Put(ctx, group.Claims, number, svid.Batches(uses))
+		if lost := e.claims.landed(number, err); lost > 0 {
+			e.Metrics.ClaimsFailed.Add(uint64(lost))
 		}
-	}
-	close(c.done)
+		e.sendClaims()
+	}()
 }
 
-// mostUnseen is how many won claims are remembered until the bucket shows them. The
-// record takes what is behind that as the use of another sidecar, which costs more.
-const mostUnseen = 1 << 16
-
-// claims are this sidecar's own claims, as far as the bucket's copies of them need
-// care.
-type claims struct {
-	mu     sync.Mutex
-	open   map[svid.TokenKey]*claim // whose outcome is open, one a token
-	unseen map[svid.TokenKey][]byte // batches that the record has, and that the bucket has not shown yet
-}
-
-type claim struct {
-	use   svid.Use
-	batch []byte
-	done  chan struct{} // closed once the outcome is known
-	seen  bool          // the bucket has shown the batch; guarded by claims.mu
-}
-
-// begin opens a claim of the use's token, or returns the one that is open.
-func (c *claims) begin(use svid.Use) (mine, other *claim) {
-	c.mu.Lock()
-	defer c.mu.Unlock()
-	if other := c.open[use.Key]; other != nil {
-		return nil, other
-	}
-	mine = &claim{use: use, batch: use.Batch(), done: make(chan struct{})}
-	c.open[use.Key] = mine
-	return mine, nil
-}
-
-// end closes a claim. added says whether the record has its batch; end says whether
-// it must take it now, since the bucket has shown it and will not do so again.
-func (c *claims) end(mine *claim, added bool) (take bool) {
-	c.mu.Lock()
-	defer c.mu.Unlock()
-	delete(c.open, mine.use.Key)
-	if added && !mine.seen && len(c.unseen) < mostUnseen {
-		c.unseen[mine.use.Key] = mine.batch
-	}
-	return mine.seen && !added
-}
-
-// without returns messages without the uses of open claims, which own would keep from the record too: an answer to a summary
-// tells of them beside others.
-func (c *claims) without(message []byte) []byte {
-	c.mu.Lock()
-	defer c.mu.Unlock()
-	if len(c.open) == 0 {
-		return message
-	}
-	return svid.Without(message, func(use svid.Use) bool {
-		open := c.open[use.Key]
-		if open == nil || use != open.use {
-			return false
+// decide settles the claims of an own value, which this engine reads at its place in the bucket: the record has taken all
+// values in front of it. late are the tokens that those have claimed.
+func (e *Engine) decide(open []*claim, late []svid.TokenKey) {
+	for _, c := range open {
+		c.accepted, c.err = e.outcome(c, late)
+		if c.err == nil {
+			e.Metrics.ClaimsWon.Add(1)
+		} else {
+			e.Metrics.ClaimsLost.Add(1)
 		}
-		open.seen = true
-		return true
-	})
+		e.claims.end(c)
+	}
 }
 
-// own says whether a message is the batch of an own claim, which the record has
-// already, or must not have yet: while a claim is open, its winner's own check would
-// find the token used.
-func (c *claims) own(message []byte) bool {
-	key, ok := svid.KeyOfBatch(message)
-	if !ok {
-		return false
+func (e *Engine) outcome(c *claim, late []svid.TokenKey) (svid.Accepted, error) {
+	for _, key := range late {
+		if key != c.use.Key {
+			continue
+		}
+		// The validator says Replayed, except where the other claim was put aside.
+		if _, err := e.validator.Judge(e.Now(), c.token, c.yes); err != nil {
+			return svid.Accepted{}, err
+		}
+		return svid.Accepted{}, ErrClaimed
 	}
-	c.mu.Lock()
-	defer c.mu.Unlock()
-	if open := c.open[key]; open != nil && bytes.Equal(open.batch, message) {
-		open.seen = true
-		return true
-	}
-	if bytes.Equal(c.unseen[key], message) {
-		delete(c.unseen, key)
-		return true
-	}
-	return false
+	return e.validator.CheckClaimed(e.Now(), c.token, c.yes, c.use.Batch())
 }
