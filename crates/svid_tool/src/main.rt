@@ -2,10 +2,13 @@
 //! engine of `svid_lines` or `svid_share`.
 #![tactic(auto)]
 
+mod argument;
 mod cli;
+mod commands;
 mod failure;
 mod input;
 mod kept;
+mod subcommand;
 mod words;
 
 use std::process::ExitCode;
