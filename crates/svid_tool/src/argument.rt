@@ -1,19 +1,6 @@
+use crate::form::Form;
 use clap::{Arg, ArgAction};
 use std::alloc::Global;
-
-/// How an argument is given.
-pub enum Form {
-    /// As a word.
-    Word,
-    /// As words, at least so many.
-    Words(usize),
-    /// As `--name VALUE`.
-    Named,
-    /// As `--name VALUE`, any number of times.
-    Repeated,
-    /// As `--name N`, a number.
-    Number,
-}
 
 /// An argument of a command.
 pub struct Argument {

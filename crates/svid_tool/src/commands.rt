@@ -1,6 +1,7 @@
 //! The commands and their arguments, with what help says of each.
 
-use crate::argument::{Argument, Form};
+use crate::argument::Argument;
+use crate::form::Form;
 use crate::subcommand::Subcommand;
 use clap::Command;
 use std::alloc::{AllocError, Global};

@@ -6,6 +6,7 @@ mod argument;
 mod cli;
 mod commands;
 mod failure;
+mod form;
 mod input;
 mod kept;
 mod subcommand;
