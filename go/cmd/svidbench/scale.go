@@ -48,7 +48,7 @@ func scale(f *flag.FlagSet, args []string) error {
 	if err := g.begin(*members, *uses); err != nil {
 		return err
 	}
-	return g.measure(*uses, *n)
+	return g.measure(*n)
 }
 
 // A scaled is a group on this machine.
@@ -178,28 +178,56 @@ func (g *scaled) read() (r reading, err error) {
 	return r, err
 }
 
-// inBucket is how many bytes a value has in the bucket.
-func (g *scaled) inBucket() (float64, error) {
+// inBucket is how many values the bucket has, and how many bytes they take there.
+func (g *scaled) inBucket() (values, bytes float64, err error) {
 	nc, err := nats.Connect(g.broker.URL)
 	if err != nil {
-		return 0, err
+		return 0, 0, err
 	}
 	defer nc.Close()
 	js, err := nc.JetStream()
 	if err != nil {
-		return 0, err
+		return 0, 0, err
 	}
 	info, err := js.StreamInfo("KV_" + bucket)
 	if err != nil {
-		return 0, err
+		return 0, 0, err
 	}
-	return float64(info.State.Bytes) / float64(info.State.Msgs), nil
+	return float64(info.State.Msgs), float64(info.State.Bytes), nil
+}
+
+// toldAll is nil once the accepting members have told the group of so many uses, or claimed them, and the first member
+// has heard of all that is in the bucket.
+func (g *scaled) toldAll(uses int) error {
+	told := 0.0
+	for _, m := range g.members[1:] {
+		for _, name := range []string{`svidd_told_total{outcome="told"}`, `svidd_claims_total{outcome="won"}`} {
+			n, err := g.metric(m, name)
+			if err != nil {
+				return err
+			}
+			told += n
+		}
+	}
+	heard, err := g.metric(g.members[0], "svidd_messages_taken_total")
+	if err != nil {
+		return err
+	}
+	values, _, err := g.inBucket()
+	if err == nil && (int(told) < uses || heard < values) {
+		err = fmt.Errorf("%.0f uses told, and %.0f of %.0f values heard", told, heard, values)
+	}
+	return err
 }
 
 // measure sends n tokens, and prints the row.
-func (g *scaled) measure(uses, n int) error {
+func (g *scaled) measure(n int) error {
 	tokens := mintAll(g.issuer, n, "scale")
 	before, err := g.read()
+	if err != nil {
+		return err
+	}
+	valuesBefore, bytesBefore, err := g.inBucket()
 	if err != nil {
 		return err
 	}
@@ -209,15 +237,7 @@ func (g *scaled) measure(uses, n int) error {
 		return err
 	}
 	sending := time.Since(from)
-	hears := g.members[0]
-	err = await("all uses to be heard", func() error {
-		heard, err := g.metric(hears, "svidd_messages_taken_total")
-		if err == nil && int(heard) < uses+n {
-			err = fmt.Errorf("%.0f of %d", heard, uses+n)
-		}
-		return err
-	})
-	if err != nil {
+	if err := await("all uses to be heard", func() error { return g.toldAll(n) }); err != nil {
 		return err
 	}
 	lag := time.Since(from) - sending
@@ -225,7 +245,7 @@ func (g *scaled) measure(uses, n int) error {
 	if err != nil {
 		return err
 	}
-	resident, err := g.metric(hears, "process_resident_memory_bytes")
+	resident, err := g.metric(g.members[0], "process_resident_memory_bytes")
 	if err != nil {
 		return err
 	}
@@ -238,17 +258,17 @@ func (g *scaled) measure(uses, n int) error {
 		return err
 	}
 	caughtUp := time.Since(from)
-	stored, err := g.inBucket()
+	valuesAfter, bytesAfter, err := g.inBucket()
 	if err != nil {
 		return err
 	}
 	members := len(g.members) - 1
 	each := func(d time.Duration) float64 { return float64(d.Microseconds()) / float64(n) }
 	hear := each(after.heard - before.heard)
-	fmt.Printf("| %s | %d | %.0f | %.1f | %.1f | %.0f | %.1f | %.0f | %.0f | %.0f | %.1f | %.0f | %.1f |\n", g.mode, members,
+	fmt.Printf("| %s | %d | %.0f | %.1f | %.1f | %.0f | %.1f | %.0f | %.1f | %.0f | %.0f | %.1f | %.0f | %.1f |\n", g.mode, members,
 		float64(n)/sending.Seconds(), percentile(took, 50), percentile(took, 99),
 		each(after.accepting-before.accepting)-float64(members-1)*hear, hear, each(after.broker-before.broker),
-		stored, (after.received-before.received)/float64(n), float64(lag.Milliseconds())/1000, resident/1e6, caughtUp.Seconds())
+		float64(n)/(valuesAfter-valuesBefore), (bytesAfter-bytesBefore)/float64(n), (after.received-before.received)/float64(n), float64(lag.Milliseconds())/1000, resident/1e6, caughtUp.Seconds())
 	return nil
 }
 

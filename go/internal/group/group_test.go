@@ -8,6 +8,8 @@ import (
 	"fmt"
 	"io"
 	"net"
+	"os"
+	"os/exec"
 	"runtime"
 	"strings"
 	"sync"
@@ -429,6 +431,61 @@ func TestAGapIsTold(t *testing.T) {
 	awaitHeld(t, b, tell(t, a, 4))
 	if got := b.inOrder(); got[2].Gap {
 		t.Error("a gap is told twice")
+	}
+}
+
+// A broker that loses its power loses its last values, and gives their places to others. A member that has read further
+// reads those too, though their places lie behind it.
+func TestValuesAtPlacesThatWereReadBefore(t *testing.T) {
+	dir, before := t.TempDir(), t.TempDir()
+	s, err := broker.New(dir)
+	if err != nil {
+		t.Fatal(err)
+	}
+	t.Cleanup(s.Kill)
+	begin := func() {
+		restart(t, s)
+		natstest.Await(t, "JetStream", s.Answers)
+	}
+	begin()
+	p := newProxy(t, s.URL)
+	a, b := join(t, options(1, s.URL)), join(t, options(2, p.URL))
+	awaitHeld(t, b, tell(t, a, 1))
+	s.Kill()
+	copyDir(t, dir, before)
+	begin()
+	for n := 2; n < 4; n++ {
+		awaitHeld(t, b, tell(t, a, n))
+	}
+	p.hold(true)
+	p.cut()
+	s.Kill()
+	if err := os.RemoveAll(dir); err != nil {
+		t.Fatal(err)
+	}
+	if err := os.Mkdir(dir, 0o700); err != nil {
+		t.Fatal(err)
+	}
+	copyDir(t, before, dir)
+	begin()
+	c := join(t, options(3, s.URL))
+	for n := 10; n < 13; n++ {
+		awaitHeld(t, c, tell(t, c, n))
+	}
+	p.hold(false)
+	for n := 10; n < 13; n++ {
+		awaitHeld(t, b, batch(key(n), c.place))
+	}
+	if got := b.inOrder(); !got[3].Gap || !b.logged("the broker has lost values") {
+		t.Errorf("%+v %v", got, b.lines)
+	}
+}
+
+// copyDir copies a folder of a server that does not run.
+func copyDir(t *testing.T, from, to string) {
+	t.Helper()
+	if out, err := exec.Command("cp", "-a", from+"/.", to+"/").CombinedOutput(); err != nil {
+		t.Fatalf("%v: %s", err, out)
 	}
 }
 

@@ -27,11 +27,12 @@ const (
 type reader struct {
 	group  *Group
 	bucket bucket
-	seen   uint64    // the number of the last value that was read
+	seen   uint64    // the place of the last value that was read
+	stamp  time.Time // when the broker stored that
 	last   time.Time // when a value came, or reading began
 
-	// Of the last value that was read: the consumer that brought it, which the client makes anew where values are
-	// missing, and the value's number there.
+	// Of the last value that was read: the consumer that brought it, which the client makes anew where the broker was
+	// away or values are missing, and the value's number there.
 	consumer string
 	number   uint64
 
@@ -120,9 +121,16 @@ func (r *reader) values(from *nats.Subscription, m *nats.Msg) error {
 			r.group.take(all)
 			return err
 		}
+		if about.Consumer != r.consumer {
+			r.group.take(all)
+			all = all[:0]
+			if err := r.isSame(); err != nil {
+				return err
+			}
+		}
 		place := about.Sequence.Stream
 		r.gap = r.gap || r.seen > 0 && place != r.seen+1
-		r.seen, r.last, r.vain, r.lack = place, time.Now(), 0, 0
+		r.seen, r.stamp, r.last, r.vain, r.lack = place, about.Timestamp, time.Now(), 0, 0
 		r.consumer, r.number = about.Consumer, about.Sequence.Consumer
 		if m.Header.Get(operationName) == "" {
 			v := r.group.valueOf(m, place)
@@ -144,6 +152,29 @@ func (r *reader) values(from *nats.Subscription, m *nats.Msg) error {
 		all[i] = Value{} // The room keeps no message alive.
 	}
 	r.catchUp()
+	return nil
+}
+
+// isSame returns nil if the bucket still has the value that was read last, at its place: then what comes behind it goes on
+// where reading ended. A broker that lost its last values with its power gives their places to others, which would be
+// passed over, so reading begins anew then.
+func (r *reader) isSame() error {
+	if r.seen == 0 {
+		return nil
+	}
+	ctx, cancel := context.WithTimeout(r.group.life, readWait)
+	defer cancel()
+	m, err := r.group.js.GetMsg(r.group.stream, r.seen, nats.Context(ctx))
+	switch {
+	case errors.Is(err, nats.ErrMsgNotFound): // It has expired, or someone removed it.
+		r.gap = true
+		return nil
+	case err != nil:
+		return err
+	case !m.Time.Equal(r.stamp):
+		r.begin(r.bucket)
+		return errors.New("the bucket has another value than before at the place of the last one: the broker has lost values")
+	}
 	return nil
 }
 

@@ -81,6 +81,7 @@ type Engine struct {
 	validator *svid.Validator
 	claims    claims
 	verified  verified // in mode reuse
+	keeper    keeper   // in mode strict
 	group     atomic.Pointer[joined]
 	untold    chan svid.Use
 	values    atomic.Uint64 // numbers of what was put into the group's bucket, except for claims

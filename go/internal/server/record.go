@@ -83,7 +83,9 @@ func (e *Engine) Take(values []group.Value) []error {
 			t.messages[i], late = e.claims.firsts(v.Message)
 			if open := e.claims.arrived(v.Own); len(open) > 0 {
 				t.upTo(i)
-				e.decide(open, late)
+				won := e.decide(open, late)
+				t.upTo(i + 1)
+				e.endWon(won, t.errorOf(i))
 			}
 		}
 	}
@@ -98,6 +100,13 @@ type taking struct {
 	messages [][]byte // what the record is to take of each
 	done     int      // so many were taken, or put aside
 	errs     []error  // nil, or one for each value
+}
+
+func (t *taking) errorOf(i int) error {
+	if t.errs == nil {
+		return nil
+	}
+	return t.errs[i]
 }
 
 // upTo gives the record the messages that it has not been given yet, up to one of them. To take several at once takes half
@@ -181,6 +190,7 @@ func (e *Engine) Run(ctx context.Context) {
 	timer := time.AfterFunc(tellWait, giveUp)
 	<-told
 	timer.Stop()
+	e.keeper.tasks.Wait()
 	if e.Journal != nil && e.loaded.Load() {
 		e.snapshot()
 	}

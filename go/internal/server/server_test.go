@@ -470,6 +470,53 @@ func TestRequestsWaitForAnOpenClaim(t *testing.T) {
 	}
 }
 
+// The disk has the uses of claims that won soon, and those alone; no answer waits for it, or fails where it does.
+func TestStrictKeepsWhatItWon(t *testing.T) {
+	b, d := &broker{}, &disk{}
+	var out bytes.Buffer
+	kept := b.join(ready(t, engine(t, Options{Mode: Strict, Grouped: true, Journal: d, Log: NewLog(&out, Errors)})))
+	other := b.join(ready(t, engine(t, Options{Mode: Strict, Grouped: true, Place: svid.Place{2}})))
+	slow := make(chan struct{})
+	d.before = func() { <-slow }
+	const many = 100
+	for i := 0; i < many; i++ {
+		if err := check(kept.engine, token(fmt.Sprint(i))); err != nil {
+			t.Fatal(err)
+		}
+	}
+	kept.hold(true)
+	first := claimed(other, token("another's"))
+	lost := claimed(kept, token("another's"))
+	other.hold(false)
+	kept.hold(false)
+	if err := <-first; err != nil {
+		t.Error(err)
+	}
+	if err := <-lost; err != svid.Replayed {
+		t.Error(err)
+	}
+	close(slow)
+	kept.engine.keeper.tasks.Wait()
+	if _, uses, err := svid.Uses(d.kept); err != nil || len(uses) != many {
+		t.Errorf("the disk has %d uses, want %d (%v)", len(uses), many, err)
+	}
+	d.fault = errors.New("it is full")
+	if err := check(kept.engine, token("full")); err != nil {
+		t.Error(err)
+	}
+	kept.engine.keeper.tasks.Wait()
+	if n := kept.engine.Metrics.JournalFailures.Load(); n != 1 || !strings.Contains(out.String(), "it is full") {
+		t.Errorf("%d failures, log %s", n, &out)
+	}
+	kept.engine.keeper.batches = make([]byte, mostUnkept)
+	if err := check(kept.engine, token("slow")); err != nil {
+		t.Error(err)
+	}
+	if n := kept.engine.Metrics.JournalFailures.Load(); n != 2 {
+		t.Errorf("%d failures", n)
+	}
+}
+
 // Claims that come while the broker has not answered share a value, of bounded length.
 func TestClaimsShareAValue(t *testing.T) {
 	all, b := strict(t, 2)

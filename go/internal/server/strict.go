@@ -28,12 +28,12 @@ var errGap = errors.New("values of the group's bucket are gone: whether another 
 //     as the token lives, on as many servers as the bucket has replicas, and its place among all values never changes.
 //     A crash from here on burns the token.
 //  4. This sidecar reads its own value back, at its place. By then it has taken every value in front of it, and none behind
-//     it (Engine.Take). If one of those claims the token, this claim is lost. Else the validator judges the token once more
-//     and adds the claimed use, under one lock. So a second claim of this sidecar is lost as well, and a token that has
-//     expired or was revoked meanwhile is rejected, and burnt. Every other sidecar finds this claim in front of its own.
-//  5. Where there is a state folder, the use goes to the disk. It isn't what makes the token unusable (the bucket is), but
-//     it outlives the broker's disk.
-//  6. Only now the answer is 200. So each 200 has the first claim of its token, and that is one.
+//     it (Engine.Take). The validator judges the token once more: if one of those claims it, this claim is lost. So is a
+//     second claim of this sidecar, and a token that has expired or was revoked meanwhile is rejected, and burnt. Else the
+//     record takes the use, before the next value is read. Every other sidecar finds this claim in front of its own.
+//  5. Only now the answer is 200. So each 200 has the first claim of its token, and that is one.
+//  6. Where there is a state folder, the uses that won go to the disk, without an answer that waits for it. It isn't what
+//     makes a token unusable (the bucket is), but it outlives the broker's disk.
 //
 // If the value does not come back in time (the broker is away), or if values in front of it are gone, the answer is 503.
 // The token is burnt then if the value is in the bucket, now or later: who reads it takes its uses.
@@ -59,9 +59,6 @@ func (e *Engine) checkStrict(ctx context.Context, token string, yes []svid.Quest
 		<-mine.done
 		if mine.err != nil {
 			return svid.Accepted{}, mine.err
-		}
-		if err := e.keep(mine.use.Batch()); err != nil {
-			return svid.Accepted{}, err
 		}
 		return mine.accepted, nil
 	}
@@ -103,30 +100,51 @@ func (e *Engine) sendClaims() {
 	}()
 }
 
-// decide settles the claims of an own value, which this engine reads at its place in the bucket: the record has taken all
-// values in front of it. late are the tokens that those have claimed.
-func (e *Engine) decide(open []*claim, late []svid.TokenKey) {
+// decide judges the claims of an own value, which this engine reads at its place in the bucket: the record has taken all
+// values in front of it. late are the tokens that those have claimed. It returns the claims that won, whose uses the record
+// is to gain now, and ends the others.
+func (e *Engine) decide(open []*claim, late []svid.TokenKey) (won []*claim) {
 	for _, c := range open {
-		c.accepted, c.err = e.outcome(c, late)
+		if c.accepted, c.err = e.validator.Judge(e.Now(), c.token, c.yes); c.err == nil && isAmong(late, c.use.Key) {
+			c.err = ErrClaimed // by a value that was put aside: else the validator says Replayed
+		}
 		if c.err == nil {
-			e.Metrics.ClaimsWon.Add(1)
+			c.accepted.Use = c.use // with the time of the claim, as the bucket has it
+			won = append(won, c)
 		} else {
 			e.Metrics.ClaimsLost.Add(1)
+			e.claims.end(c)
 		}
-		e.claims.end(c)
 	}
+	return won
 }
 
-func (e *Engine) outcome(c *claim, late []svid.TokenKey) (svid.Accepted, error) {
-	for _, key := range late {
-		if key != c.use.Key {
-			continue
+func isAmong(keys []svid.TokenKey, key svid.TokenKey) bool {
+	for _, other := range keys {
+		if other == key {
+			return true
 		}
-		// The validator says Replayed, except where the other claim was put aside.
-		if _, err := e.validator.Judge(e.Now(), c.token, c.yes); err != nil {
-			return svid.Accepted{}, err
-		}
-		return svid.Accepted{}, ErrClaimed
 	}
-	return e.validator.CheckClaimed(e.Now(), c.token, c.yes, c.use.Batch())
+	return false
+}
+
+// endWon ends claims that won. err says that the record could not take their uses.
+func (e *Engine) endWon(won []*claim, err error) {
+	if len(won) == 0 {
+		return
+	}
+	if err != nil {
+		e.Metrics.ClaimsFailed.Add(uint64(len(won)))
+	} else {
+		e.Metrics.ClaimsWon.Add(uint64(len(won)))
+		uses := make([]svid.Use, len(won))
+		for i, c := range won {
+			uses[i] = c.use
+		}
+		e.keepSoon(svid.Batches(uses))
+	}
+	for _, c := range won {
+		c.err = err
+		e.claims.end(c)
+	}
 }

@@ -1,0 +1,63 @@
+package server
+
+import (
+	"errors"
+	"sync"
+)
+
+// mostUnkept is how many bytes may wait for the disk behind their answers.
+const mostUnkept = 64 << 20
+
+var errUnkept = errors.New("the state folder is too slow: uses are kept by the group's bucket alone")
+
+// A keeper holds batches that wait for the disk, and for which no answer waits.
+type keeper struct {
+	mu      sync.Mutex
+	batches []byte
+	busy    bool // a goroutine brings them there
+	full    bool // and it said so
+	tasks   sync.WaitGroup
+}
+
+// keepSoon brings batches to the disk, where there is a state folder, and returns before that. Those that come while
+// others are on their way share the next write.
+func (e *Engine) keepSoon(batches []byte) {
+	if e.Journal == nil {
+		return
+	}
+	k := &e.keeper
+	k.mu.Lock()
+	defer k.mu.Unlock()
+	if len(k.batches)+len(batches) > mostUnkept {
+		e.Metrics.JournalFailures.Add(1)
+		if !k.full {
+			e.Log.Error("journal", errUnkept)
+		}
+		k.full = true
+		return
+	}
+	k.batches = append(k.batches, batches...)
+	if !k.busy {
+		k.busy = true
+		k.tasks.Add(1)
+		go e.keepWaiting()
+	}
+}
+
+func (e *Engine) keepWaiting() {
+	k := &e.keeper
+	defer k.tasks.Done()
+	for {
+		k.mu.Lock()
+		batches := k.batches
+		k.batches, k.full = nil, false
+		k.busy = len(batches) > 0
+		k.mu.Unlock()
+		if len(batches) == 0 {
+			return
+		}
+		if err := e.keep(batches); err != nil {
+			e.Log.Error("journal", err)
+		}
+	}
+}
