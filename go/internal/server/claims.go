@@ -12,8 +12,9 @@ const (
 	// claimPause is between two values with claims: those that come meanwhile share the next one. Nobody waits for it at
 	// a quiet time.
 	claimPause = time.Millisecond
-	// claimFlight is how long the next value waits for the broker's answer to the last one.
-	claimFlight = 2 * time.Millisecond
+	// claimFlight is how long the next value waits for the broker's answer to the last one: so a broker that is busy gets
+	// fewer values, with more claims each.
+	claimFlight = 20 * time.Millisecond
 	// mostClaims is how many claims share a value. It has 33 kB then: each broker takes that.
 	mostClaims = 512
 )
