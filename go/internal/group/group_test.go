@@ -434,6 +434,28 @@ func TestAGapIsTold(t *testing.T) {
 	}
 }
 
+// Values that have expired, or that someone removed, are no gap to who has read them, or comes when none is left.
+func TestValuesThatWereReadAreNoGap(t *testing.T) {
+	s := natstest.Start(t)
+	p := newProxy(t, s.URL)
+	a, b := join(t, options(1, s.URL)), join(t, options(2, p.URL))
+	for n := 0; n < 3; n++ {
+		awaitHeld(t, b, tell(t, a, n))
+	}
+	if err := a.js.PurgeStream("KV_test"); err != nil {
+		t.Fatal(err)
+	}
+	p.cut()
+	c := join(t, options(3, s.URL))
+	last := tell(t, a, 3)
+	for _, m := range []*member{a, b, c} {
+		awaitHeld(t, m, last)
+		if got := m.inOrder(); got[len(got)-1].Gap {
+			t.Errorf("%+v", got)
+		}
+	}
+}
+
 // A broker that loses its power loses its last values, and gives their places to others. A member that has read further
 // reads those too, though their places lie behind it.
 func TestValuesAtPlacesThatWereReadBefore(t *testing.T) {

@@ -166,8 +166,7 @@ func (r *reader) isSame() error {
 	defer cancel()
 	m, err := r.group.js.GetMsg(r.group.stream, r.seen, nats.Context(ctx))
 	switch {
-	case errors.Is(err, nats.ErrMsgNotFound): // It has expired, or someone removed it.
-		r.gap = true
+	case errors.Is(err, nats.ErrMsgNotFound): // It has expired, or someone removed it. Nothing else took its place.
 		return nil
 	case err != nil:
 		return err
