@@ -29,7 +29,8 @@ type claims struct {
 	number uint64                   // of the last value
 	at     time.Time                // when that went out
 	flying bool                     // the broker has not answered to it
-	armed  bool                     // a timer will ask for the next value
+	timer  *time.Timer              // asks for the next value, where one waits
+	due    time.Time                // when it does
 
 	claimed recent
 	aside   map[svid.TokenKey]uint64 // tokens that were claimed by values which the record did not take, and when they expire
@@ -76,15 +77,7 @@ func (c *claims) next(again func()) (number uint64, uses []svid.Use) {
 		pause = claimFlight
 	}
 	if left := pause - time.Since(c.at); left > 0 {
-		if !c.armed {
-			c.armed = true
-			time.AfterFunc(left, func() {
-				c.mu.Lock()
-				c.armed = false
-				c.mu.Unlock()
-				again()
-			})
-		}
+		c.arm(left, again)
 		return 0, nil
 	}
 	now := c.gather
@@ -95,10 +88,34 @@ func (c *claims) next(again func()) (number uint64, uses []svid.Use) {
 	c.number++
 	c.sent[c.number] = now
 	c.at, c.flying = time.Now(), true
+	if len(c.gather) > 0 {
+		c.arm(claimFlight, again)
+	}
 	for _, mine := range now {
 		uses = append(uses, mine.use)
 	}
 	return c.number, uses
+}
+
+// arm lets again be called after a while, if nothing is to call it before. The caller holds mu.
+func (c *claims) arm(wait time.Duration, again func()) {
+	due := time.Now().Add(wait)
+	if c.timer != nil {
+		if !due.Before(c.due) {
+			return
+		}
+		c.timer.Stop()
+	}
+	var timer *time.Timer
+	timer = time.AfterFunc(wait, func() {
+		c.mu.Lock()
+		if c.timer == timer {
+			c.timer = nil
+		}
+		c.mu.Unlock()
+		again()
+	})
+	c.timer, c.due = timer, due
 }
 
 // landed is told what became of a value: the broker has stored it, or err. In the second case its claims end, and landed
@@ -183,22 +200,18 @@ func (c *claims) finish(mine *claim) {
 	close(mine.done)
 }
 
-// firsts returns a value of claims without those uses whose token was claimed before in the bucket, and the keys of these.
-// So a record holds the use of the sidecar that accepted a token, and none of those that lost.
-func (c *claims) firsts(message []byte) (kept []byte, late []svid.TokenKey) {
+// firsts returns a value of claims without those uses whose token was claimed before in the bucket. So a record holds the
+// use of the sidecar that accepted a token, and none of those that lost.
+func (c *claims) firsts(message []byte) []byte {
 	c.mu.Lock()
 	defer c.mu.Unlock()
-	kept = svid.Without(message, func(use svid.Use) bool {
+	return svid.Without(message, func(use svid.Use) bool {
 		if use.Withdrawn {
 			return false
 		}
-		if _, isAside := c.aside[use.Key]; !isAside && c.claimed.add(use.Key) {
-			return false
-		}
-		late = append(late, use.Key)
-		return true
+		_, isAside := c.aside[use.Key]
+		return isAside || !c.claimed.add(use.Key)
 	})
-	return kept, late
 }
 
 // putAside remembers the tokens of claims that the record did not take, so that they are claimed all the same.

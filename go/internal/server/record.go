@@ -79,11 +79,10 @@ func (e *Engine) Take(values []group.Value) []error {
 		case group.Answer:
 			t.messages[i] = e.claims.without(v.Message)
 		case group.Claims:
-			var late []svid.TokenKey
-			t.messages[i], late = e.claims.firsts(v.Message)
+			t.messages[i] = e.claims.firsts(v.Message)
 			if open := e.claims.arrived(v.Own); len(open) > 0 {
 				t.upTo(i)
-				won := e.decide(open, late)
+				won := e.decide(open, t.messages[i])
 				t.upTo(i + 1)
 				e.endWon(won, t.errorOf(i))
 			}

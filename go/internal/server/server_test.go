@@ -115,6 +115,7 @@ type tie struct {
 	ready  chan struct{}
 	fault  error         // what Put answers, behind storing the value
 	answer chan struct{} // Put waits for it, behind storing the value
+	forged []byte        // stands in the place of the value that Put stores, if it is set
 	aside  int
 
 	// Of reading the log, guarded by broker.mu.
@@ -128,6 +129,9 @@ func (t *tie) Taken() uint64          { return 0 }
 func (t *tie) Aside() uint64          { return 0 }
 
 func (t *tie) Put(ctx context.Context, kind group.Kind, number uint64, message []byte) error {
+	if t.forged != nil {
+		message = t.forged
+	}
 	t.put(stored{t, kind, number, message})
 	if t.answer != nil {
 		select {
@@ -551,6 +555,34 @@ func TestClaimsShareAValue(t *testing.T) {
 	wantUses(t, all, many)
 }
 
+// Where the broker answers, the next value does not wait as long as for an answer that stays away.
+func TestTheNextValueGoesOutOnceTheLastOneLanded(t *testing.T) {
+	c := newClaims()
+	open := func(n byte) { c.begin(&claim{use: svid.Use{Key: svid.TokenKey{n}}, done: make(chan struct{})}) }
+	called := make(chan time.Time, 10)
+	again := func() { called <- time.Now() }
+	open(1)
+	if number, _ := c.next(again); number != 1 {
+		t.Fatal(number)
+	}
+	from := time.Now()
+	open(2)
+	if number, _ := c.next(again); number != 0 {
+		t.Fatal("the last value has not landed")
+	}
+	c.landed(1, nil)
+	c.next(again)
+	if took := (<-called).Sub(from); took > claimFlight/2 {
+		t.Errorf("after %v", took)
+	}
+	if number, uses := c.next(again); number != 2 || len(uses) != 1 {
+		t.Error(number, uses)
+	}
+	if len(called) != 0 {
+		t.Error("asked twice")
+	}
+}
+
 // A claim that is given up before its value goes out is not sent.
 func TestAClaimThatWaitsCanBeTakenBack(t *testing.T) {
 	c := newClaims()
@@ -612,6 +644,28 @@ func TestALostClaimIsNeverAccepted(t *testing.T) {
 	if n := len(e.claims.aside); n > 1030 || e.claims.aside[judged.Key] != moment+300 {
 		t.Errorf("%d claims aside", n)
 	}
+}
+
+// Where someone else has given a value the key that a sidecar's own one was to have, nothing is accepted by that which the
+// bucket does not have.
+func TestAValueUnderAnotherOnesKey(t *testing.T) {
+	all, b := strict(t, 2)
+	m := b.members[0]
+	other := svid.Use{Key: svid.TokenKey{1}, Expires: moment + 300, At: moment, Place: svid.Place{1}}
+	for _, forged := range [][]byte{other.Batch(), []byte("garbage"), {}} {
+		m.forged = forged
+		if err := check(all[0], token("a")); !errors.Is(err, ErrClaimed) {
+			t.Errorf("%q: %v", forged, err)
+		}
+	}
+	m.forged = nil
+	if err := check(all[1], token("a")); err != nil {
+		t.Error(err)
+	}
+	if err := check(all[0], token("a")); err != svid.Replayed {
+		t.Error(err)
+	}
+	wantUses(t, all, 2)
 }
 
 // A token that is revoked while it is claimed is rejected, and burnt.

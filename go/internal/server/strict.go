@@ -101,12 +101,20 @@ func (e *Engine) sendClaims() {
 }
 
 // decide judges the claims of an own value, which this engine reads at its place in the bucket: the record has taken all
-// values in front of it. late are the tokens that those have claimed. It returns the claims that won, whose uses the record
-// is to gain now, and ends the others.
-func (e *Engine) decide(open []*claim, late []svid.TokenKey) (won []*claim) {
+// values in front of it. firsts is the value without uses of tokens that were claimed before. It returns the claims that
+// won, whose uses the record is to gain now, and ends the others.
+//
+// Only what stands in the bucket wins: whoever can write there could give another value the key of this one.
+func (e *Engine) decide(open []*claim, firsts []byte) (won []*claim) {
+	uses := make(map[svid.TokenKey]svid.Use)
+	if _, all, err := svid.Uses(firsts); err == nil {
+		for _, use := range all {
+			uses[use.Key] = use
+		}
+	}
 	for _, c := range open {
-		if c.accepted, c.err = e.validator.Judge(e.Now(), c.token, c.yes); c.err == nil && isAmong(late, c.use.Key) {
-			c.err = ErrClaimed // by a value that was put aside: else the validator says Replayed
+		if c.accepted, c.err = e.validator.Judge(e.Now(), c.token, c.yes); c.err == nil && uses[c.use.Key] != c.use {
+			c.err = ErrClaimed // by a value that was put aside, or is not this one: else the validator says Replayed
 		}
 		if c.err == nil {
 			c.accepted.Use = c.use // with the time of the claim, as the bucket has it
@@ -117,15 +125,6 @@ func (e *Engine) decide(open []*claim, late []svid.TokenKey) (won []*claim) {
 		}
 	}
 	return won
-}
-
-func isAmong(keys []svid.TokenKey, key svid.TokenKey) bool {
-	for _, other := range keys {
-		if other == key {
-			return true
-		}
-	}
-	return false
 }
 
 // endWon ends claims that won. err says that the record could not take their uses.
