@@ -14,7 +14,7 @@ import (
 const (
 	idleUntilReady  = time.Second      // without a value, before the reader asks how far the bucket is
 	idleWait        = 5 * time.Second  // the same once it has caught up
-	ownWait         = time.Second / 2  // without a value though an own one is stored, before reading begins anew: a claim waits for it
+	ownWait         = time.Second / 2  // without a value though an own one is stored, before reading begins again: a claim waits for it
 	stallWait       = 10 * time.Second // without a value that is there, before reading begins anew; longer after each time in vain
 	mostAtOnce      = 256              // values are given to the sink
 	mostBytesAtOnce = 1 << 20          // of these, before the last
@@ -31,7 +31,7 @@ type reader struct {
 	stamp  time.Time // when the broker stored that
 	last   time.Time // when a value came, or reading began
 
-	// Of the last value that was read: the consumer that brought it, which the client makes anew where the broker was
+	// Of the last value that was read: the consumer that brought it, which the client makes again where the broker was
 	// away or values are missing, and the value's number there.
 	consumer string
 	number   uint64
@@ -157,7 +157,7 @@ func (r *reader) values(from *nats.Subscription, m *nats.Msg) error {
 
 // isSame returns nil if the bucket still has the value that was read last, at its place: then what comes behind it goes on
 // where reading ended. A broker that lost its last values with its power gives their places to others, which would be
-// passed over, so reading begins anew then.
+// passed over, so all is read again then.
 func (r *reader) isSame() error {
 	if r.seen == 0 {
 		return nil

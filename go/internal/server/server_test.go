@@ -521,36 +521,41 @@ func TestStrictKeepsWhatItWon(t *testing.T) {
 	}
 }
 
-// Claims that come while the broker has not answered share a value, of bounded length.
+// Claims that wait share a value, of bounded length; the next one goes out though the broker has not answered.
 func TestClaimsShareAValue(t *testing.T) {
 	all, b := strict(t, 2)
-	m := b.members[0]
+	e, m := all[0], b.members[0]
 	m.answer = make(chan struct{})
-	all[0].Wait = time.Minute
+	defer close(m.answer)
+	e.Wait = time.Minute
 	const many = 2 * mostClaims
 	var tokens []string
 	for i := 0; i < many; i++ {
 		tokens = append(tokens, token(fmt.Sprint(i)))
 	}
+	e.claims.at = time.Now().Add(time.Hour) // nothing goes out yet
 	answers := make(chan error, many)
 	for _, one := range tokens {
-		go func(one string) { answers <- check(all[0], one) }(one)
+		go func(one string) { answers <- check(e, one) }(one)
 	}
+	await(t, "all claims", func() bool {
+		e.claims.mu.Lock()
+		defer e.claims.mu.Unlock()
+		return len(e.claims.gather) == many
+	})
+	e.claims.mu.Lock()
+	e.claims.at = time.Time{}
+	e.claims.mu.Unlock()
+	e.sendClaims()
 	for range tokens {
 		if err := <-answers; err != nil {
 			t.Fatal(err)
 		}
 	}
-	close(m.answer)
 	b.mu.Lock()
 	defer b.mu.Unlock()
-	if n := len(b.log); n > many/4 {
-		t.Errorf("%d values for %d claims", n, many)
-	}
-	for _, v := range b.log {
-		if len(v.message) > 17*2+65*mostClaims {
-			t.Errorf("a value of %d bytes", len(v.message))
-		}
+	if len(b.log) != 2 || len(b.log[0].message) != 17+65*mostClaims || len(b.log[1].message) != 17+65*mostClaims {
+		t.Errorf("%d values", len(b.log))
 	}
 	wantUses(t, all, many)
 }
@@ -559,28 +564,31 @@ func TestClaimsShareAValue(t *testing.T) {
 func TestTheNextValueGoesOutOnceTheLastOneLanded(t *testing.T) {
 	c := newClaims()
 	open := func(n byte) { c.begin(&claim{use: svid.Use{Key: svid.TokenKey{n}}, done: make(chan struct{})}) }
-	called := make(chan time.Time, 10)
-	again := func() { called <- time.Now() }
+	again := func() { t.Error("the hour is over") }
 	open(1)
 	if number, _ := c.next(again); number != 1 {
 		t.Fatal(number)
 	}
-	from := time.Now()
+	c.at = time.Now().Add(time.Hour) // so that this test has time
 	open(2)
-	if number, _ := c.next(again); number != 0 {
-		t.Fatal("the last value has not landed")
+	for _, row := range []struct {
+		what string
+		do   func()
+		want time.Duration
+	}{
+		{"no answer", func() {}, claimFlight},
+		{"the answer", func() { c.landed(1, nil) }, claimPause},
+		{"another claim", func() { open(3) }, claimPause},
+	} {
+		row.do()
+		if number, _ := c.next(again); number != 0 {
+			t.Fatal(row.what, number)
+		}
+		if late := c.due.Sub(c.at.Add(row.want)); late < 0 || late > claimFlight/4 {
+			t.Errorf("%s: the next value is due %v late", row.what, late)
+		}
 	}
-	c.landed(1, nil)
-	c.next(again)
-	if took := (<-called).Sub(from); took > claimFlight/2 {
-		t.Errorf("after %v", took)
-	}
-	if number, uses := c.next(again); number != 2 || len(uses) != 1 {
-		t.Error(number, uses)
-	}
-	if len(called) != 0 {
-		t.Error("asked twice")
-	}
+	c.timer.Stop()
 }
 
 // A claim that is given up before its value goes out is not sent.
