@@ -15,4 +15,3 @@ pub mod TwiceLemmas
 pub mod UseLemmas
 pub mod UsesLemmas
 pub mod WalksLemmas
-pub mod WeightsLemmas

@@ -1,13 +1,14 @@
 -- Runs, their filters and their front, and the store of them.
-use Rattle.std.proofs.Common.{◌≡◌, ℕ, ◌<◌, ◌≤◌, ◌+◌, zero, suc, Bool, true, false, ◌||◌, ◌&&◌, List, [], ◌∷◌, ◌++◌, length, drop, take, get_or, cond, ◌-◌, nat_lt, not, filter, append_assoc, refl, sym, ◌∙◌, ap, subst, arith}
-use Rattle.std.proofs.lemmas.List.{append-nil, drop_all, take_all, take_more, length-drop, take-append-drop, length-append}
+use Rattle.std.proofs.Common.{◌≡◌, ℕ, ◌<◌, ◌≤◌, ◌+◌, zero, suc, Bool, true, false, ◌||◌, ◌&&◌, List, [], ◌∷◌, ◌++◌, length, drop, take, get_or, cond, ◌-◌, nat_eq, nat_lt, not, filter, append_assoc, refl, sym, ◌∙◌, ap, subst, arith}
+use Rattle.std.proofs.lemmas.List.{append-nil, drop_all, length-append, length-drop, length-take, take-append-drop, take-append-le, take-take, take_all, take_more}
+use Rattle.std.proofs.lemmas.Bool.Decides.{nat_tests}
 use Rattle.std.proofs.Math.Seq.{drop-cons, take-suc, take-suc-set}
 use Rattle.std.proofs.Math.ListN.{set}
 use Rattle.std.proofs.lemmas.List.{length-set}
 use Rattle.std.proofs.lemmas.List.Folds.{list_any-append}
 use Rattle.std.proofs.lemmas.List.Sums.{prefix_len-le-length}
 use Rattle.std.specs.List.{prefix_len}
-use Rattle.svid_replay.specs.Runs.{all_of, live_of, ArePutIn, HasSame}
+use Rattle.svid_replay.specs.Runs.{all_of, live_of, AreMerged, ArePutIn, HasSame}
 use Rattle.svid_replay.specs.Sets.{holds}
 use Rattle.svid_replay.specs.Uses.{uses_in}
 use Rattle.std.proofs.Common.{find, Option, Some, None}
@@ -28,20 +29,20 @@ use Rattle.svid_replay.proofs.KeysLemmas.{left_is_all, live_left, tell_live, tel
 use Rattle.svid_replay.proofs.MergeLemmas.{first_alike, merge, merge_has, merge_length, merge_rises, below_all, by_rank}
 use Rattle.std.proofs.lemmas.Cmp.{tied_itself}
 use Rattle.std.specs.Ordering.{is_lt}
-use Rattle.svid_replay.specs.Runs.{least_from, least_of, new_among, HasBits, IsFront, IsRun, IsRuns, mask_of, place_of}
+use Rattle.svid_replay.specs.Runs.{least_from, least_of, new_among, HasBits, IsRun, IsRuns, mask_of, place_of}
 use Rattle.svid_replay.specs.Twice.{has_key}
 use Rattle.svid_replay.specs.Sets.{rising, with, with_all}
 use Rattle.svid_replay.specs.Uses.{Uses, count, live, next_above}
 use Rattle.svid_replay.proofs.ListLemmas.{any_none, each_true, each_append, each_drop, each_take, each_weaker, filter-in, filter-out}
 use Rattle.svid_replay.proofs.SetsLemmas.{rising_rises, holds-rising, holds-with, holds-with_all, same_rising}
-use Rattle.svid_replay.proofs.UsesLemmas.{drop-expired, left_rises, left_is, left_count, rising-uses_in, uses_in-filter, same_uses, holds-uses_in, with-held, rising-keep, IsPruned, any-filter}
+use Rattle.svid_replay.proofs.UsesLemmas.{drop-expired, left_rises, left_is, left_count, rising-uses_in, uses_in-filter, same_uses, holds-uses_in, with-held, rising-keep, any-filter, to_front}
 use Rattle.std.specs.List.{AllByRecursion, list_any}
 use Rattle.std.specs.List.Sorted.{IsStrictlySortedBy}
 use Rattle.std.specs.Ordering.{eq_by_cmp, is_eq, ordering_reverse}
 use Rattle.std.specs.declared.cmp.Ordering.TheVariants.{Less}
 use Rattle.svid_replay.specs.declared.token_use.Use.{Use}
 use Rattle.svid_replay.specs.Use.{use_cmp, IsRising}
-use Rattle.svid_replay.proofs.TestsLemmas.{and-comm, equal, first_true, one_test, or-false, or-true}
+use Rattle.svid_replay.proofs.TestsLemmas.{and-comm, equal, first_true, one_test, or-comm, or-true}
 use Rattle.svid_replay.proofs.IndexedLemmas.{any_use, same_key, sought_key}
 use Rattle.svid_replay.proofs.UseLemmas.{use_total, use_exact}
 
@@ -86,56 +87,33 @@ pub run_gone : (items : List Use) (start : ℕ) (keyed : Bool) (keys : List Expi
 run_gone items start keyed keys expired_by later key_filter e is = subst (λ g. IsRun items start keyed keys g key_filter) (sym e) is
 
 -- the same with the front taken off, and the keys that are gone
-pub run_moved : (items now : List Use) (start : ℕ) (keyed : Bool) (keys swept : List Expiry) (expired_by : Option ℕ) (key_filter : List ℕ) → IsRun items start keyed keys expired_by key_filter → now ≡ drop start items → swept ≡ left_of expired_by keys → IsRun now 0 keyed swept None key_filter
-run_moved items now start keyed keys swept expired_by key_filter is e clean = record {
+pub run_moved : (items now : List Use) (start : ℕ) (keyed : Bool) (keys swept : List Expiry) (expired_by : Option ℕ) (key_filter renewed : List ℕ) → IsRun items start keyed keys expired_by key_filter → now ≡ drop start items → swept ≡ left_of expired_by keys → 0 < length renewed → AllByRecursion (λ u. HasBits renewed u.key) now → IsRun now 0 keyed swept None renewed
+run_moved items now start keyed keys swept expired_by key_filter renewed is e clean some known = record {
   bound = omega arith;
   rising = subst IsRising (sym e) is.rising;
   sorted = subst AreKeys (sym clean) (IsStrictlySortedBy-filter expiry_cmp (λ k. is_left expired_by k.exp) keys is.sorted);
   told = λ kept. subst (TellUses (left_of None swept)) (sym e) (subst (λ ks. TellUses ks (drop start items)) (sym (left_is_all swept ∙ clean)) (is.told kept));
   live = each_true _ (λ u. refl) now;
+  some = some;
+  known = known;
+}
+
+-- the same without the keys that are gone
+pub run_swept : (items : List Use) (start : ℕ) (keyed : Bool) (keys swept : List Expiry) (expired_by : Option ℕ) (key_filter : List ℕ) → IsRun items start keyed keys expired_by key_filter → swept ≡ left_of expired_by keys → IsRun items start keyed swept None key_filter
+run_swept items start keyed keys swept expired_by key_filter is clean = record {
+  bound = is.bound;
+  rising = is.rising;
+  sorted = subst AreKeys (sym clean) (IsStrictlySortedBy-filter expiry_cmp (λ k. is_left expired_by k.exp) keys is.sorted);
+  told = λ kept. subst (λ ks. TellUses ks (drop start items)) (sym (left_is_all swept ∙ clean)) (is.told kept);
+  live = each_true _ (λ u. refl) (drop start items);
   some = is.some;
-  known = subst (AllByRecursion (λ u. HasBits key_filter u.key)) (sym e) is.known;
+  known = is.known;
 }
 
 -- the uses of all runs
 pub all_append : (rs ss : List (List Use)) → all_of (rs ++ ss) ≡ all_of rs ++ all_of ss
 all_append [] ss = refl
 all_append (r ∷ rs) ss = ap (λ us. r ++ us) (all_append rs ss) ∙ sym (append_assoc r (all_of rs) (all_of ss))
-
--- where the last two runs stand
-pub last_two : (rs : List (List Use)) (k : ℕ) (older newer : List Use) → length rs ≡ suc (suc k) → older ≡ get_or rs k older → newer ≡ get_or rs (suc k) newer → all_of rs ≡ all_of (take k rs) ++ (older ++ newer)
-last_two rs k older newer long at_older at_newer =
-    let one : drop k rs ≡ older ∷ drop (suc k) rs = drop-cons rs k older (omega (arith, long)) ∙ ap (λ r. r ∷ drop (suc k) rs) (sym at_older) in
-    let two : drop (suc k) rs ≡ newer ∷ [] = drop-cons rs (suc k) newer (omega (arith, long)) ∙ (λ i. sym at_newer i ∷ drop_all (suc (suc k)) rs (omega (arith, long)) i) in
-    ap all_of (sym (take-append-drop k rs) ∙ ap (λ ss. take k rs ++ ss) (one ∙ ap (λ ss. older ∷ ss) two))
-    ∙ all_append (take k rs) (older ∷ newer ∷ []) ∙ ap (λ us. all_of (take k rs) ++ (older ++ us)) (append-nil newer)
-
-pub same_with_merged : (us older newer : List Use) → HasSame (us ++ (older ++ newer)) (us ++ merge use_cmp older newer)
-same_with_merged us older newer q =
-    let tie = eq_by_cmp use_cmp q in
-    list_any-append tie us (merge use_cmp older newer) ∙ ap (λ b. list_any tie us || b) (merge_has use_total use_exact (eq_by_cmp use_cmp q) older newer ∙ sym (list_any-append tie older newer)) ∙ sym (list_any-append tie us (older ++ newer))
-
--- the runs where the last two are merged
-pub record IsMergedLast (rs ss : List (List Use)) : Type 0 where
-  pub same : HasSame (all_of rs) (all_of ss)
-  pub less : length (all_of ss) ≤ length (all_of rs)
-
-pub merged_last : (rs ss : List (List Use)) (k : ℕ) (older newer : List Use) → length rs ≡ suc (suc k) → older ≡ get_or rs k older → newer ≡ get_or rs (suc k) newer → ss ≡ take k rs ++ merge use_cmp older newer ∷ [] → IsMergedLast rs ss
-merged_last rs ss k older newer long at_older at_newer is =
-    let before = last_two rs k older newer long at_older at_newer in
-    let after : all_of ss ≡ all_of (take k rs) ++ merge use_cmp older newer = ap all_of is ∙ all_append (take k rs) (merge use_cmp older newer ∷ []) ∙ ap (λ us. all_of (take k rs) ++ us) (append-nil (merge use_cmp older newer)) in
-    record {
-      same = λ q. ap (list_any (eq_by_cmp use_cmp q)) after ∙ same_with_merged (all_of (take k rs)) older newer q ∙ sym (ap (list_any (eq_by_cmp use_cmp q)) before);
-      less = omega (arith, ap length before, ap length after, length-append (all_of (take k rs)) (merge use_cmp older newer), length-append (all_of (take k rs)) (older ++ newer), length-append older newer, merge_length use_cmp older newer);
-    }
-
--- as the code does it: the merged run in the place of the last but one, and the last taken off
-pub merged_two : (rs ss : List (List Use)) (count : ℕ) (older newer merged : List Use) → 2 ≤ count → count ≡ length rs → older ≡ get_or rs (count - 2) older → newer ≡ get_or rs (count - 1) newer → merged ≡ merge use_cmp older newer → ss ≡ take (count - 1) (set rs (count - 2) merged) → IsMergedLast rs ss
-merged_two rs ss count older newer merged two long at_older at_newer is after =
-    let k = count - 2 in
-    let next : suc k ≡ count - 1 = omega arith in
-    merged_last rs ss k older newer (omega arith) at_older (at_newer ∙ ap (λ n. get_or rs n newer) (sym next))
-    (after ∙ ap (λ n. take n (set rs k merged)) (sym next) ∙ take-suc-set rs k merged (omega arith) ∙ ap (λ m. take k rs ++ m ∷ []) is)
 
 -- one more run without what is expired
 pub record IsDroppedSoFar (now old : List (List Use)) (i moment dropped : ℕ) : Type 0 where
@@ -226,116 +204,73 @@ once_filter p us once =
     omega (arith, kept, left, both_parts p us, both_parts p (rising (uses_in us)), once, count_le (filter p us), count_le (filter q us))
 
 -- the whole store
-pub runs_none : IsRuns [] [] 0
-unfolding IsStrictlySortedBy
-runs_none = record { rising = tt; long = refl; once = sym count_none }
+pub runs_none : IsRuns [] 0
+runs_none = record { few = omega arith; long = refl; once = sym count_none }
 
-pub record IsDropped (front gone_front : List Use) (runs gone_runs : List (List Use)) (total dropped moment : ℕ) (s : Uses) : Type 0 where
+pub record IsDropped (rest : List (List Use)) (total dropped moment : ℕ) (s : Uses) : Type 0 where
   pub bound : dropped ≤ total
-  pub is : IsRuns gone_front gone_runs (total - dropped)
-  pub kept : uses_in (gone_front ++ all_of gone_runs) ≡ live s moment
-  pub counted : dropped + count (uses_in (gone_front ++ all_of gone_runs)) ≡ count s
+  pub is : IsRuns rest (total - dropped)
+  pub kept : uses_in (all_of rest) ≡ live s moment
+  pub counted : dropped + count (uses_in (all_of rest)) ≡ count s
 
-pub runs_dropped : (front left : List Use) (runs rest : List (List Use)) (total expired expired_by moment : ℕ) (s : Uses) → IsRuns front runs total → uses_in (front ++ all_of runs) ≡ s → IsPruned front moment expired left
-    → all_of rest ≡ live_of moment (all_of runs) → expired_by + length (all_of rest) ≡ length (all_of runs) → IsDropped front left runs rest total (expired + expired_by) moment s
-runs_dropped front left runs rest total expired expired_by moment s is view cut kept counted =
-    let front_live : left ≡ live_of moment front = left_is front moment expired left is.rising cut in
-    let all_live : left ++ all_of rest ≡ live_of moment (front ++ all_of runs) = (λ i. front_live i ++ kept i) ∙ sym (live_append moment front (all_of runs)) in
-    let once = once_filter (λ u. nat_lt moment u.exp) (front ++ all_of runs) (length-append front (all_of runs) ∙ sym is.long ∙ is.once) in
-    let long = length-append left (all_of rest) in
-    let front_count = left_count front moment expired left (uses_in front) is.rising refl cut in
-    let front_long : count (uses_in front) ≡ length front = ap length (rising-uses_in front is.rising) in
-    let left_rise = left_rises front moment expired left is.rising cut in
-    let left_long : count (uses_in left) ≡ length left = ap length (rising-uses_in left left_rise) in
-    let after : length (left ++ all_of rest) ≡ count (uses_in (left ++ all_of rest)) = ap length all_live ∙ once ∙ ap (λ us. count (uses_in us)) (sym all_live) in
+pub runs_dropped : (runs rest : List (List Use)) (total dropped moment : ℕ) (s : Uses) → IsRuns runs total → uses_in (all_of runs) ≡ s → all_of rest ≡ live_of moment (all_of runs) → dropped + length (all_of rest) ≡ length (all_of runs) → length rest ≡ length runs → IsDropped rest total dropped moment s
+runs_dropped runs rest total dropped moment s is view kept counted same =
+    let once = once_filter (λ u. nat_lt moment u.exp) (all_of runs) (sym is.long ∙ is.once) in
+    let after : length (all_of rest) ≡ count (uses_in (all_of rest)) = ap length kept ∙ once ∙ ap (λ us. count (uses_in us)) (sym kept) in
     let old : count s ≡ total = ap count (sym view) ∙ sym is.once in
     record {
-      bound = omega (arith, is.long, front_count, front_long, left_long, counted);
+      bound = omega (arith, is.long, counted);
       is = record {
-        rising = left_rise;
-        long = omega (arith, is.long, front_count, front_long, left_long, counted);
-        once = omega (arith, is.long, front_count, front_long, left_long, counted, after, long);
+        few = omega (arith, is.few, same);
+        long = omega (arith, is.long, counted);
+        once = omega (arith, is.long, counted, after);
       };
-      kept = ap uses_in all_live ∙ uses_in-filter (λ u. nat_lt moment u.exp) (front ++ all_of runs) ∙ ap (λ t. live t moment) view;
-      counted = omega (arith, is.long, front_count, front_long, left_long, counted, after, long, old);
+      kept = ap uses_in kept ∙ uses_in-filter (λ u. nat_lt moment u.exp) (all_of runs) ∙ ap (λ t. live t moment) view;
+      counted = omega (arith, is.long, counted, after, old);
     }
 
 same_sets : (us vs : List Use) → HasSame us vs → uses_in vs ≡ uses_in us
 same_sets us vs same = same_uses (uses_in vs) (uses_in us) (λ q. holds-uses_in vs q ∙ same q ∙ sym (holds-uses_in us q))
 
--- moved about within the store
-pub record IsSettled (front : List Use) (runs : List (List Use)) (total : ℕ) (s : Uses) : Type 0 where
-  pub is : IsRuns front runs total
-  pub view : uses_in (front ++ all_of runs) ≡ s
+-- a store, and what it holds
+pub record IsStored (runs : List (List Use)) (total : ℕ) (s : Uses) : Type 0 where
+  pub is : IsRuns runs total
+  pub view : uses_in (all_of runs) ≡ s
 
-pub runs_settled : (front now : List Use) (runs rest : List (List Use)) (total : ℕ) (s : Uses) → IsSettled front runs total s → IsRising now → HasSame (front ++ all_of runs) (now ++ all_of rest) → length now + length (all_of rest) ≤ length front + length (all_of runs) → IsSettled now rest total s
-runs_settled front now runs rest total s was up same less =
-    let sets = same_sets (front ++ all_of runs) (now ++ all_of rest) same in
-    let few = count_le (now ++ all_of rest) in
+-- runs moved about within the store
+pub runs_merged : (runs rest : List (List Use)) (total : ℕ) (s : Uses) → IsStored runs total s → AreMerged runs rest → IsStored rest total s
+runs_merged runs rest total s was merged =
+    let sets = same_sets (all_of runs) (all_of rest) merged.same in
     let counts = ap count sets in
     record {
       is = record {
-        rising = up;
-        long = omega (arith, few, counts, length-append now (all_of rest), was.is.long, was.is.once, less);
+        few = omega (arith, was.is.few, merged.fewer);
+        long = omega (arith, count_le (all_of rest), counts, was.is.long, was.is.once, merged.less);
         once = was.is.once ∙ sym counts;
       };
       view = sets ∙ was.view;
     }
 
--- the runs merged
-pub runs_merged : (front : List Use) (runs rest : List (List Use)) (total : ℕ) (s : Uses) → IsSettled front runs total s → HasSame (all_of runs) (all_of rest) → length (all_of rest) ≤ length (all_of runs) → IsSettled front rest total s
-runs_merged front runs rest total s was same less =
-    runs_settled front front runs rest total s was was.is.rising
-    (λ q. let tie = eq_by_cmp use_cmp q in list_any-append tie front (all_of rest) ∙ ap (λ b. list_any tie front || b) (same q) ∙ sym (list_any-append tie front (all_of runs)))
-    (omega (arith, less))
+pub runs_tidied : (runs rest : List (List Use)) (total : ℕ) (s : Uses) → IsStored runs total s → all_of rest ≡ all_of runs → length rest ≤ length runs → IsStored rest total s
+runs_tidied runs rest total s was same fewer = runs_merged runs rest total s was (record { same = λ q. ap (list_any (eq_by_cmp use_cmp q)) same; less = omega (arith, ap length same); fewer = fewer })
 
--- one use more in the front
-pub runs_more : (front now : List Use) (runs : List (List Use)) (total : ℕ) (s : Uses) (new : Use) → IsSettled front runs total s → IsRising now → uses_in now ≡ with (uses_in front) new → length front < length now → list_any (eq_by_cmp use_cmp new) (all_of runs) ≡ false → IsSettled now runs (total + 1) (with s new)
-runs_more front now runs total s new was up is longer absent =
-    let front_long : count (uses_in front) ≡ length front = ap length (rising-uses_in front was.is.rising) in
-    let now_long : count (uses_in now) ≡ length now = ap length (rising-uses_in now up) in
-    let grown : count (uses_in now) ≡ cond (holds (uses_in front) new) (count (uses_in front)) (count (uses_in front) + 1) = ap count is ∙ count-with (uses_in front) new in
-    let free : holds (uses_in front) new ≡ false = elim (holds (uses_in front) new) as (λ b. count (uses_in now) ≡ cond b (count (uses_in front)) (count (uses_in front) + 1) → b ≡ false) [ true ↦ λ e. absurd (omega (arith, e, front_long, now_long, longer)) | false ↦ λ e. refl ] grown in
-    let one : length now ≡ length front + 1 = omega (arith, front_long, now_long, grown ∙ ap (λ b. cond b (count (uses_in front)) (count (uses_in front) + 1)) free) in
-    let sets : uses_in (now ++ all_of runs) ≡ with s new = same_uses _ _ (λ q.
-    let tie = eq_by_cmp use_cmp q in
-    holds-uses_in (now ++ all_of runs) q ∙ list_any-append tie now (all_of runs)
-    ∙ ap (λ b. b || list_any tie (all_of runs)) (sym (holds-uses_in now q) ∙ ap (λ t. holds t q) is ∙ holds-with use_total use_exact (uses_in front) new q ∙ ap (λ b. tie new || b) (holds-uses_in front q))
-    ∙ sym (first_alike (tie new) (list_any tie front) (list_any tie (all_of runs)))
-    ∙ ap (λ b. tie new || b) (sym (list_any-append tie front (all_of runs)) ∙ sym (holds-uses_in (front ++ all_of runs) q) ∙ ap (λ t. holds t q) was.view)
-    ∙ sym (holds-with use_total use_exact s new q)) in
-    let none : holds s new ≡ false = ap (λ t. holds t new) (sym was.view) ∙ holds-uses_in (front ++ all_of runs) new ∙ list_any-append (eq_by_cmp use_cmp new) front (all_of runs) ∙ (λ i. (sym (holds-uses_in front new) ∙ free) i || absent i) in
-    let whole : count (with s new) ≡ count s + 1 = count-with s new ∙ ap (λ b. cond b (count s) (count s + 1)) none in
-    record {
-      is = record {
-        rising = up;
-        long = omega (arith, was.is.long, one);
-        once = omega (arith, was.is.once, ap count was.view, ap count sets, whole);
-      };
-      view = sets;
-    }
+-- what the store holds is what the runs have
+store_holds : (runs : List (List Use)) (s : Uses) (u : Use) → uses_in (all_of runs) ≡ s → holds s u ≡ list_any (eq_by_cmp use_cmp u) (all_of runs)
+store_holds runs s u view = ap (λ t. holds t u) (sym view) ∙ holds-uses_in (all_of runs) u
 
--- the front has not grown: the use was there
-pub runs_same : (front now : List Use) (runs : List (List Use)) (total : ℕ) (s : Uses) (new : Use) → IsSettled front runs total s → IsRising now → uses_in now ≡ with (uses_in front) new → length now ≤ length front → IsSettled now runs total (with s new)
-runs_same front now runs total s new was up is short =
-    let front_long : count (uses_in front) ≡ length front = ap length (rising-uses_in front was.is.rising) in
-    let now_long : count (uses_in now) ≡ length now = ap length (rising-uses_in now up) in
-    let grown : count (uses_in now) ≡ cond (holds (uses_in front) new) (count (uses_in front)) (count (uses_in front) + 1) = ap count is ∙ count-with (uses_in front) new in
-    let there : holds (uses_in front) new ≡ true = elim (holds (uses_in front) new) as (λ b. count (uses_in now) ≡ cond b (count (uses_in front)) (count (uses_in front) + 1) → b ≡ true) [ true ↦ λ e. refl | false ↦ λ e. absurd (omega (arith, e, front_long, now_long, short)) ] grown in
-    let same : now ≡ front = sym (rising-uses_in now up) ∙ ap rising (is ∙ sym (with-held (uses_in front) new there)) ∙ rising-uses_in front was.is.rising in
-    let held : holds s new ≡ true = ap (λ t. holds t new) (sym was.view) ∙ holds-uses_in (front ++ all_of runs) new ∙ list_any-append (eq_by_cmp use_cmp new) front (all_of runs) ∙ ap (λ b. b || list_any (eq_by_cmp use_cmp new) (all_of runs)) (sym (holds-uses_in front new) ∙ there) in
-    record {
-      is = subst (λ us. IsRuns us runs total) (sym same) was.is;
-      view = ap (λ us. uses_in (us ++ all_of runs)) same ∙ was.view ∙ with-held s new held;
-    }
+pub runs_held : (runs : List (List Use)) (s : Uses) (u : Use) → uses_in (all_of runs) ≡ s → list_any (eq_by_cmp use_cmp u) (all_of runs) ≡ true → s ≡ with s u
+runs_held runs s u view held = with-held s u (store_holds runs s u view ∙ held)
 
-pub runs_held : (front : List Use) (runs : List (List Use)) (s : Uses) (new : Use) → uses_in (front ++ all_of runs) ≡ s → list_any (eq_by_cmp use_cmp new) (all_of runs) ≡ true → s ≡ with s new
-runs_held front runs s new view held =
-    with-held s new (ap (λ t. holds t new) (sym view) ∙ holds-uses_in (front ++ all_of runs) new ∙ list_any-append (eq_by_cmp use_cmp new) front (all_of runs) ∙ ap (λ b. list_any (eq_by_cmp use_cmp new) front || b) held ∙ or-true (list_any (eq_by_cmp use_cmp new) front))
+pub runs_lack : (runs : List (List Use)) (s : Uses) (u : Use) → uses_in (all_of runs) ≡ s → list_any (eq_by_cmp use_cmp u) (all_of runs) ≡ false → holds s u ≡ false
+runs_lack runs s u view lacks = store_holds runs s u view ∙ lacks
 
 pub rising_none : (us : List Use) → us ≡ [] → IsRising us
 unfolding IsStrictlySortedBy
 rising_none us e = subst IsRising (sym e) tt
+
+pub rising_one : (u : Use) → IsRising (u ∷ [])
+unfolding IsStrictlySortedBy
+rising_one u = (tt, tt)
 
 pub front_is : (moment n : ℕ) (us vs : List Use) → n ≡ prefix_len (λ u. not (nat_lt moment u.exp)) us → us ≡ vs → n ≡ prefix_len (λ u. not (nat_lt moment u.exp)) vs
 front_is moment n us vs e same = e ∙ ap (prefix_len (λ u. not (nat_lt moment u.exp))) same
@@ -353,14 +288,8 @@ any_rising p us =
     let same = λ (q : Use). sym (holds-rising use_cmp (uses_in us) q) ∙ holds-uses_in us q in
     one_test _ _ (any_within p (rising (uses_in us)) us (λ q t. sym (same q) ∙ t)) (any_within p us (rising (uses_in us)) (λ q t. same q ∙ t))
 
-runs_has : (p : Use → Bool) (front : List Use) (runs : List (List Use)) (s : Uses) → uses_in (front ++ all_of runs) ≡ s → (list_any p front || list_any p (all_of runs)) ≡ list_any p (rising s)
-runs_has p front runs s view = sym (list_any-append p front (all_of runs)) ∙ sym (any_rising p (front ++ all_of runs)) ∙ ap (λ t. list_any p (rising t)) view
-
-pub has_in_front : (p : Use → Bool) (front : List Use) (runs : List (List Use)) (s : Uses) (found : Bool) → uses_in (front ++ all_of runs) ≡ s → found ≡ list_any p front → found ≡ true → found ≡ list_any p (rising s)
-has_in_front p front runs s found view is e = e ∙ ap (λ b. b || list_any p (all_of runs)) (sym e ∙ is) ∙ runs_has p front runs s view
-
-pub has_in_runs : (p : Use → Bool) (front : List Use) (runs : List (List Use)) (s : Uses) (found later : Bool) → uses_in (front ++ all_of runs) ≡ s → found ≡ list_any p front → found ≡ false → later ≡ list_any p (all_of runs) → later ≡ list_any p (rising s)
-has_in_runs p front runs s found later view is none here = here ∙ ap (λ b. b || list_any p (all_of runs)) (sym none ∙ is) ∙ runs_has p front runs s view
+pub runs_has : (p : Use → Bool) (runs : List (List Use)) (s : Uses) (found : Bool) → uses_in (all_of runs) ≡ s → found ≡ list_any p (all_of runs) → found ≡ list_any p (rising s)
+runs_has p runs s found view is = is ∙ sym (any_rising p (all_of runs)) ∙ ap (λ t. list_any p (rising t)) view
 
 -- the next use
 least_none : (o : Option Use) → least_of o None ≡ o
@@ -421,19 +350,12 @@ next_in_all after us [] = ap (λ vs. next_above (uses_in vs) after) (sym (append
 next_in_all after us (r ∷ runs) =
     ap (least_from after runs) (next_both us r after) ∙ next_in_all after (us ++ r) runs ∙ ap (λ vs. next_above (uses_in vs) after) (append_assoc us r (all_of runs))
 
-pub store_next : (after found : Option Use) (front : List Use) (runs : List (List Use)) (s : Uses) → IsRising front → uses_in (front ++ all_of runs) ≡ s → found ≡ least_from after runs (find (is_after after) front) → found ≡ next_above s after
-store_next after found front runs s up view is =
-    is ∙ ap (λ us. least_from after runs (find (is_after after) us)) (sym (rising-uses_in front up)) ∙ next_in_all after front runs ∙ ap (λ t. next_above t after) view
+none_rising : rising (uses_in []) ≡ []
+unfolding IsStrictlySortedBy
+none_rising = rising-uses_in [] tt
 
--- what the store holds: what the front or the runs have
-store_holds : (front : List Use) (runs : List (List Use)) (s : Uses) (u : Use) → uses_in (front ++ all_of runs) ≡ s → holds s u ≡ (list_any (eq_by_cmp use_cmp u) front || list_any (eq_by_cmp use_cmp u) (all_of runs))
-store_holds front runs s u view = ap (λ t. holds t u) (sym view) ∙ holds-uses_in (front ++ all_of runs) u ∙ list_any-append (eq_by_cmp use_cmp u) front (all_of runs)
-
-pub front_held : (front : List Use) (runs : List (List Use)) (s : Uses) (u : Use) → uses_in (front ++ all_of runs) ≡ s → list_any (eq_by_cmp use_cmp u) front ≡ true → s ≡ with s u
-front_held front runs s u view e = with-held s u (store_holds front runs s u view ∙ ap (λ b. b || list_any (eq_by_cmp use_cmp u) (all_of runs)) e)
-
-pub held_in_front : (front : List Use) (runs : List (List Use)) (s : Uses) (u : Use) → uses_in (front ++ all_of runs) ≡ s → list_any (eq_by_cmp use_cmp u) (all_of runs) ≡ false → holds s u ≡ list_any (eq_by_cmp use_cmp u) front
-held_in_front front runs s u view none = store_holds front runs s u view ∙ ap (λ b. list_any (eq_by_cmp use_cmp u) front || b) none ∙ or-false (list_any (eq_by_cmp use_cmp u) front)
+pub store_next : (after found : Option Use) (runs : List (List Use)) (s : Uses) → uses_in (all_of runs) ≡ s → found ≡ least_from after runs None → found ≡ next_above s after
+store_next after found runs s view is = is ∙ ap (λ us. least_from after runs (find (is_after after) us)) (sym none_rising) ∙ next_in_all after [] runs ∙ ap (λ t. next_above t after) view
 
 pub run_next : (us vs : List Use) (after found : Option Use) → IsRising us → us ≡ vs → found ≡ find (is_after after) us → found ≡ next_above (uses_in vs) after
 run_next us vs after found up e is = is ∙ ap (find (is_after after)) (sym (rising-uses_in us up)) ∙ (λ i. next_above (uses_in (e i)) after)
@@ -504,21 +426,9 @@ keys_merged items told others told' start start' keyed keyed' keys keys' expired
       subst (TellUses merged) (sym f) (subst (λ ks. TellUses ks (merge use_cmp told told')) (sym e) (tell_merged (left_of expired_by keys) (left_of expired_by' keys') told told' (run_tells items told start keyed keys expired_by key_filter is view (first_true keyed keyed' both)) (run_tells others told' start' keyed' keys' expired_by' key_filter' is' view' (first_true keyed' keyed (and-comm keyed' keyed ∙ both)))));
 }
 
--- the front
-pub front_none : (us : List Use) (key_filter : List ℕ) → us ≡ [] → length key_filter ≡ 64 → IsFront us key_filter
-front_none us key_filter none long = record { long = long; rising = rising_none us none; known = subst (AllByRecursion (λ u. HasBits key_filter u.key)) (sym none) tt }
-
 -- a use in a place, among uses of which the same holds
 pub known_insert : (key_filter : List ℕ) (us : List Use) (place : ℕ) (new : Use) → HasBits key_filter new.key → AllByRecursion (λ u. HasBits key_filter u.key) us → AllByRecursion (λ u. HasBits key_filter u.key) (take place us ++ new ∷ drop place us)
 known_insert key_filter us place new here known = each_append _ (take place us) (new ∷ drop place us) (each_take _ place us known) (here, each_drop _ place us known)
-
--- a key whose bits are not there is none of theirs
-pub front_unknown : (key_filter : List ℕ) (us : List Use) (key : List ℕ) (p : Use → Bool) → AllByRecursion (λ u. HasBits key_filter u.key) us → (HasBits key_filter key → ⊥) → ((u : Use) → p u ≡ true → has_key key u ≡ true) → list_any p us ≡ false
-front_unknown key_filter [] key p known unknown finds = refl
-front_unknown key_filter (u ∷ us) key p known unknown finds = elim (p u) as (λ b. p u ≡ b → (b || list_any p us) ≡ false) [
-  | true ↦ λ e. absurd (unknown (subst (HasBits key_filter) (same_key key u.key (finds u e)) known.0))
-  | false ↦ λ e. front_unknown key_filter us key p known.1 unknown finds
-] refl
 
 -- many uses at once
 greater_differs : (u v : Use) → use_cmp u v ≡ Less → eq_by_cmp use_cmp v u ≡ false
@@ -536,57 +446,153 @@ count_new s (u ∷ us) up new =
     let one : count (with s u) ≡ count s + 1 = count-with s u ∙ ap (λ b. cond b (count s) (count s + 1)) new.0 in
     omega (arith, one, count_new (with s u) us up.1 (still_new s u us up.0 new.1))
 
-second_first : (a b c : Bool) → ((a || b) || c) ≡ (b || (a || c))
-second_first true true c = refl
-second_first true false c = refl
-second_first false b c = refl
-
 -- uses put in that the store does not hold
-pub runs_all : (front now : List Use) (runs rest : List (List Use)) (total : ℕ) (s : Uses) (new : List Use) → IsSettled front runs total s → IsRising new → AllByRecursion (λ u. holds s u ≡ false) new → ArePutIn new front runs now rest → IsSettled now rest (total + length new) (with_all s new)
-runs_all front now runs rest total s new was up absent put =
-    let sets : uses_in (now ++ all_of rest) ≡ with_all s new = same_uses _ _ (λ q.
+pub runs_all : (runs rest : List (List Use)) (total : ℕ) (s : Uses) (new : List Use) → IsStored runs total s → IsRising new → AllByRecursion (λ u. holds s u ≡ false) new → ArePutIn new runs rest → IsStored rest (total + length new) (with_all s new)
+runs_all runs rest total s new was up absent put =
+    let sets : uses_in (all_of rest) ≡ with_all s new = same_uses _ _ (λ q.
     let tie = eq_by_cmp use_cmp q in
-    holds-uses_in (now ++ all_of rest) q ∙ put.same q ∙ list_any-append tie new (front ++ all_of runs)
-    ∙ ap (λ b. list_any tie new || b) (sym (holds-uses_in (front ++ all_of runs) q) ∙ ap (λ t. holds t q) was.view)
+    holds-uses_in (all_of rest) q ∙ put.same q ∙ list_any-append tie new (all_of runs)
+    ∙ ap (λ b. list_any tie new || b) (sym (store_holds runs s q was.view))
     ∙ sym (holds-with_all use_total use_exact s new q)) in
     let grown : count (with_all s new) ≡ count s + length new = count_new s new up absent in
-    let few = count_le (now ++ all_of rest) in
     record {
       is = record {
-        rising = put.rising;
-        long = omega (arith, few, ap count sets, grown, length-append now (all_of rest), was.is.long, was.is.once, ap count was.view, put.less);
+        few = put.few was.is.few;
+        long = omega (arith, count_le (all_of rest), ap count sets, grown, was.is.long, was.is.once, ap count was.view, put.less);
         once = omega (arith, ap count sets, grown, was.is.once, ap count was.view);
       };
       view = sets;
     }
 
--- put into the front
-pub put_in_front : (new front merged now : List Use) (runs : List (List Use)) → IsRising front → IsRising new → merged ≡ merge use_cmp front new → now ≡ merged → ArePutIn new front runs now runs
-put_in_front new front merged now runs up rises is same =
-    let all = same ∙ is in
+-- one run that has new uses too, in its place
+set_has : (p : Use → Bool) (new : List Use) (runs : List (List Use)) (i : ℕ) (run now : List Use) → i < length runs → run ≡ get_or runs i run → list_any p now ≡ (list_any p new || list_any p run) → list_any p (all_of (set runs i now)) ≡ (list_any p new || list_any p (all_of runs))
+set_has p new [] i run now within at has = absurd (omega (arith, within))
+set_has p new (r ∷ rs) zero run now within at has =
+    list_any-append p now (all_of rs) ∙ ap (λ b. b || list_any p (all_of rs)) (has ∙ ap (λ us. list_any p new || list_any p us) at)
+    ∙ sym (first_alike (list_any p new) (list_any p r) (list_any p (all_of rs))) ∙ ap (λ b. list_any p new || b) (sym (list_any-append p r (all_of rs)))
+set_has p new (r ∷ rs) (suc i) run now within at has =
+    list_any-append p r (all_of (set rs i now)) ∙ ap (λ b. list_any p r || b) (set_has p new rs i run now (omega (arith, within)) at has)
+    ∙ to_front (list_any p r) (list_any p new) (list_any p (all_of rs)) ∙ ap (λ b. list_any p new || b) (sym (list_any-append p r (all_of rs)))
+
+pub put_in_place : (new : List Use) (runs rest : List (List Use)) (i : ℕ) (run now : List Use) → i < length runs → run ≡ get_or runs i run → HasSame (new ++ run) now → length now ≤ length new + length run → rest ≡ set runs i now → ArePutIn new runs rest
+put_in_place new runs rest i run now within at same less is =
+    let long = set_length runs i run now within at in
     record {
-      rising = subst IsRising (sym all) (merge_rises use_total use_exact front new up rises);
       same = λ q.
           let tie = eq_by_cmp use_cmp q in
-          ap (λ us. list_any tie (us ++ all_of runs)) all ∙ list_any-append tie (merge use_cmp front new) (all_of runs)
-          ∙ ap (λ b. b || list_any tie (all_of runs)) (merge_has use_total use_exact tie front new) ∙ second_first (list_any tie front) (list_any tie new) (list_any tie (all_of runs))
-          ∙ ap (λ b. list_any tie new || b) (sym (list_any-append tie front (all_of runs))) ∙ sym (list_any-append tie new (front ++ all_of runs));
-      less = omega (arith, ap length all, merge_length use_cmp front new);
+          ap (λ rs. list_any tie (all_of rs)) is ∙ set_has tie new runs i run now within at (same q ∙ list_any-append tie new run) ∙ sym (list_any-append tie new (all_of runs));
+      less = omega (arith, long, less, ap (λ rs. length (all_of rs)) is);
+      few = λ few. omega (arith, few, ap length is, length-set runs i now);
     }
 
--- a run of them and those of the front
-pub put_in_run : (new front merged run now : List Use) (runs rest : List (List Use)) → merged ≡ merge use_cmp front new → run ≡ merged → HasSame (run ++ all_of runs) (all_of rest) → length (all_of rest) ≤ length run + length (all_of runs) → now ≡ [] → ArePutIn new front runs now rest
-put_in_run new front merged run now runs rest is made same less none =
-    let all = made ∙ is in
+-- a run of them behind the others
+pub put_behind : (new : List Use) (runs rest : List (List Use)) (run : List Use) → run ≡ new → (length runs ≤ 64 → length runs < 64) → rest ≡ runs ++ run ∷ [] → ArePutIn new runs rest
+put_behind new runs rest run same room is =
+    let all : all_of rest ≡ all_of runs ++ new = ap all_of is ∙ all_append runs (run ∷ []) ∙ ap (λ us. all_of runs ++ us) (append-nil run ∙ same) in
     record {
-      rising = rising_none now none;
       same = λ q.
           let tie = eq_by_cmp use_cmp q in
-          ap (λ us. list_any tie (us ++ all_of rest)) none ∙ same q ∙ ap (λ us. list_any tie (us ++ all_of runs)) all ∙ list_any-append tie (merge use_cmp front new) (all_of runs)
-          ∙ ap (λ b. b || list_any tie (all_of runs)) (merge_has use_total use_exact tie front new) ∙ second_first (list_any tie front) (list_any tie new) (list_any tie (all_of runs))
-          ∙ ap (λ b. list_any tie new || b) (sym (list_any-append tie front (all_of runs))) ∙ sym (list_any-append tie new (front ++ all_of runs));
-      less = omega (arith, ap length none, less, ap length all, merge_length use_cmp front new);
+          ap (list_any tie) all ∙ list_any-append tie (all_of runs) new ∙ or-comm (list_any tie (all_of runs)) (list_any tie new) ∙ sym (list_any-append tie new (all_of runs));
+      less = omega (arith, ap length all, length-append (all_of runs) new);
+      few = λ few. omega (arith, room few, ap length is, length-append runs (run ∷ []));
     }
+
+-- runs that are merged, step by step
+pub merged_none : (rs : List (List Use)) → AreMerged rs rs
+merged_none rs = record { same = λ q. refl; less = omega arith; fewer = omega arith }
+
+pub merged_more : (rs ss ts : List (List Use)) → AreMerged rs ss → AreMerged ss ts → AreMerged rs ts
+merged_more rs ss ts a b = record { same = λ q. b.same q ∙ a.same q; less = omega (arith, a.less, b.less); fewer = omega (arith, a.fewer, b.fewer) }
+
+-- a run that took in others
+pub merged_has : (new run other now : List Use) → now ≡ merge use_cmp run other → other ≡ new → HasSame (new ++ run) now
+merged_has new run other now is same q =
+    let tie = eq_by_cmp use_cmp q in
+    ap (list_any tie) is ∙ merge_has use_total use_exact tie run other ∙ ap (λ us. list_any tie run || list_any tie us) same ∙ or-comm (list_any tie run) (list_any tie new) ∙ sym (list_any-append tie new run)
+
+pub merged_less : (new run other now : List Use) → now ≡ merge use_cmp run other → other ≡ new → length now ≤ length new + length run
+merged_less new run other now is same = omega (arith, ap length is, merge_length use_cmp run other, ap length same)
+
+-- the last run merged into the one in front of it, and taken off
+pub merged_two : (rs lent front last back over now : List (List Use)) (count n : ℕ) (older newer merged : List Use) → 2 ≤ count → count ≡ length rs → count ≤ n → lent ≡ rs → front ≡ take (count - 1) lent → older ≡ get_or front (count - 2) older → last ≡ drop (count - 1) lent → newer ≡ get_or last 0 newer → merged ≡ merge use_cmp older newer → now ≡ take (count - 1) (take n ((set front (count - 2) merged ++ back) ++ over)) → AreMerged rs now
+merged_two rs lent front last back over now count n older newer merged two long room same part at_older rest at_last made after =
+    let is : front ≡ take (count - 1) rs = part ∙ ap (take (count - 1)) same in
+    let at_newer : newer ≡ get_or (drop (count - 1) rs) 0 newer = at_last ∙ ap (λ ss. get_or ss 0 newer) (rest ∙ ap (drop (count - 1)) same) in
+    let flong : length front ≡ count - 1 = omega (arith, ap length is, length-take (count - 1) rs, long, two) in
+    let end : drop (count - 1) rs ≡ get_or rs (count - 1) newer ∷ [] = drop-cons rs (count - 1) newer (omega (arith, long, two)) ∙ ap (λ ss. get_or rs (count - 1) newer ∷ ss) (drop_all (suc (count - 1)) rs (omega (arith, long, two))) in
+    let at : newer ≡ get_or rs (count - 1) newer = at_newer ∙ ap (λ ss. get_or ss 0 newer) end in
+    let whole : rs ≡ front ++ newer ∷ [] = sym (take-append-drop (count - 1) rs) ∙ (λ i. sym is i ++ (end ∙ ap (λ r. r ∷ []) (sym at)) i) in
+    let all : all_of rs ≡ all_of front ++ newer = ap all_of whole ∙ all_append front (newer ∷ []) ∙ ap (λ us. all_of front ++ us) (append-nil newer) in
+    let fits : length (set front (count - 2) merged) ≡ count - 1 = length-set front (count - 2) merged ∙ flong in
+    let placed : now ≡ set front (count - 2) merged = after ∙ take-take (count - 1) n ((set front (count - 2) merged ++ back) ++ over) (omega (arith, room)) ∙ ap (take (count - 1)) (append_assoc (set front (count - 2) merged) back over) ∙ take-append-le (count - 1) (set front (count - 2) merged) (back ++ over) (omega (arith, fits)) ∙ take_all (count - 1) (set front (count - 2) merged) (omega (arith, fits)) in
+    let step : ArePutIn newer front now = put_in_place newer front now (count - 2) older merged (omega (arith, flong, two)) at_older (merged_has newer older newer merged made refl) (merged_less newer older newer merged made refl) placed in
+    record {
+      same = λ q.
+          let tie = eq_by_cmp use_cmp q in
+          step.same q ∙ list_any-append tie newer (all_of front) ∙ or-comm (list_any tie newer) (list_any tie (all_of front)) ∙ sym (list_any-append tie (all_of front) newer) ∙ sym (ap (list_any tie) all);
+      less = omega (arith, step.less, ap length all, length-append (all_of front) newer);
+      fewer = omega (arith, ap length placed, fits, long);
+    }
+
+-- without those that have no uses
+pub all_filled : (rs : List (List Use)) → all_of (filter (λ run. not (nat_eq (length run) 0)) rs) ≡ all_of rs
+all_filled [] = refl
+all_filled ([] ∷ rs) = all_filled rs
+all_filled ((u ∷ us) ∷ rs) =
+    let kept = filter (λ (run : List Use). not (nat_eq (length run) 0)) rs in
+    let some : not (nat_eq (suc (length us)) 0) ≡ true = grind (arith, nat_tests) in
+    ap (λ b. all_of (cond b ((u ∷ us) ∷ kept) kept)) some ∙ ap (λ vs. (u ∷ us) ++ vs) (all_filled rs)
+
+pub each_filled : (rs : List (List Use)) → AllByRecursion (λ run. 0 < length run) (filter (λ run. not (nat_eq (length run) 0)) rs)
+each_filled rs =
+    let test = λ (run : List Use). not (nat_eq (length run) 0) in
+    each_weaker (λ run. test run ≡ true) _ (λ run e. grind (arith, nat_tests, e)) (filter test rs) (recursion_from_All _ (filter test rs) (filter_passes test rs))
+
+-- a run with a use put in, and a filter
+pub run_grown : (now : List Use) (start : ℕ) (keys : List Expiry) (key_filter : List ℕ) → start ≤ length now → IsRising (drop start now) → AreKeys keys → 0 < length key_filter → AllByRecursion (λ u. HasBits key_filter u.key) (drop start now) → IsRun now start false keys None key_filter
+run_grown now start keys key_filter bound up sorted some known = record {
+  bound = bound;
+  rising = up;
+  sorted = sorted;
+  told = λ kept. absurd (false≢true kept);
+  live = each_true _ (λ u. refl) (drop start now);
+  some = some;
+  known = known;
+}
+
+-- the same with other keys that tell of its uses
+pub run_keyed : (items told us : List Use) (start : ℕ) (keyed : Bool) (keys others : List Expiry) (expired_by : Option ℕ) (key_filter : List ℕ) → IsRun items start keyed keys expired_by key_filter → drop start items ≡ told → us ≡ told → AreKeys others → TellUses others us → IsRun items start true others None key_filter
+run_keyed items told us start keyed keys others expired_by key_filter is view same sorted tells = record {
+  bound = is.bound;
+  rising = is.rising;
+  sorted = sorted;
+  told = λ kept. subst (TellUses (left_of None others)) (same ∙ sym view) (subst (λ ks. TellUses ks us) (sym (left_is_all others)) tells);
+  live = each_true _ (λ u. refl) (drop start items);
+  some = is.some;
+  known = is.known;
+}
+
+pub keys_none : (keys : List Expiry) → keys ≡ [] → AreKeys keys
+unfolding IsStrictlySortedBy
+keys_none keys e = subst AreKeys (sym e) tt
+
+-- as a vector is after a change by its slice
+pub written_back : (n : ℕ) (now old : List ℕ) → length now ≡ n → take n (now ++ drop (length now) old) ≡ now
+written_back n now old long = take-append-le n now (drop (length now) old) (omega (arith, long)) ∙ take_all n now (omega (arith, long))
+
+pub longer_by_one : (run now : List Use) (new : Use) → IsRising run → IsRising now → uses_in now ≡ with (uses_in run) new → length now ≤ length run + 1
+longer_by_one run now new up rises is =
+    let before : count (uses_in run) ≡ length run = ap length (rising-uses_in run up) in
+    let after : count (uses_in now) ≡ length now = ap length (rising-uses_in now rises) in
+    elim (holds (uses_in run) new) as (λ b. count (uses_in now) ≡ cond b (count (uses_in run)) (count (uses_in run) + 1) → length now ≤ length run + 1) [
+      | true ↦ λ e. omega (arith, e, before, after)
+      | false ↦ λ e. omega (arith, e, before, after)
+    ] (ap count is ∙ count-with (uses_in run) new)
+
+-- what a run has with a use put in
+pub has_with : (run now : List Use) (new : Use) → IsRising run → uses_in now ≡ with (uses_in run) new → HasSame (new ∷ run) now
+has_with run now new up is q =
+    sym (holds-uses_in now q) ∙ ap (λ t. holds t q) is ∙ holds-with use_total use_exact (uses_in run) new q ∙ ap (λ b. eq_by_cmp use_cmp q new || b) (holds-uses_in run q)
 
 was_not : (b : Bool) → not b ≡ true → b ≡ false
 was_not true e = absurd (false≢true e)

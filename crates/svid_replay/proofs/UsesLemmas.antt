@@ -2,7 +2,7 @@ use Rattle.std.proofs.Common.{◌≡◌, ℕ, ◌<◌, ◌≤◌, ◌+◌, ◌-�
 use Rattle.std.proofs.lemmas.Bool.Decides.{nat_tests}
 use Rattle.std.proofs.lemmas.Cmp.{tied_itself, ranked, by_ranked}
 use Rattle.std.proofs.lemmas.List.Sorted.{searchable_from_sorted}
-use Rattle.std.proofs.lemmas.List.{take-append-drop, length-drop, nil_from_length}
+use Rattle.std.proofs.lemmas.List.{get_or_default, take-append-drop, length-drop, nil_from_length}
 use Rattle.std.proofs.lemmas.List.Elements.{recursion_from_All, filter_agree, Contains-get_or, All-contains_itself}
 use Rattle.std.proofs.lemmas.List.Kept.{IsStrictlySortedBy-filter}
 use Rattle.std.proofs.lemmas.List.Sums.{prefix_len_is, prefix_len-le-length}
@@ -115,6 +115,12 @@ rising-keep test s =
     ap (λ (t : Uses). rising (keep test t)) (sym (uses_in-rising s)) ∙ ap rising (sym (uses_in-filter test (rising s)))
     ∙ rising-uses_in (filter test (rising s)) (IsStrictlySortedBy-filter use_cmp test (rising s) (rising_rises use_cmp s))
 
+-- a use put in behind a front that is left off
+pub drop-insert : (n i : ℕ) (us : List Use) (new : Use) → n ≤ length us → drop n (insert us (n + i) new) ≡ insert (drop n us) i new
+drop-insert zero i us new within = let e : 0 + i ≡ i = omega arith in ap (λ k. insert us k new) e
+drop-insert (suc n) i [] new within = absurd (omega (arith, within))
+drop-insert (suc n) i (u ∷ us) new within = let e : suc n + i ≡ suc (n + i) = omega arith in ap (λ k. drop (suc n) (insert (u ∷ us) k new)) e ∙ drop-insert n i us new (omega (arith, within))
+
 pub uses_in-insert : (us : List Use) (i : ℕ) (new : Use) → uses_in (insert us i new) ≡ with (uses_in us) new
 uses_in-insert us i new = same_uses (uses_in (insert us i new)) (with (uses_in us) new) (λ u.
     let tied = eq_by_cmp use_cmp u in
@@ -179,10 +185,10 @@ pub not_after_parted : (last : Use) (us : List Use) → IsRising us → IsPartit
 not_after_parted last us up = parted_by use_cmp (λ u. not (is_after (Some last) u)) (λ u v less e. not_before last u v less e (use_cmp last u) refl) us up
 
 -- the uses in front of a place are those that are not greater, if the one in front of it is not and the one there is
-pub place_is : (last : Use) (us : List Use) (i : ℕ) → IsRising us → i ≤ length us → ((d : Use) → 0 < i → is_after (Some last) (get_or us (i - 1) d) ≡ false) → ((d : Use) → i < length us → is_after (Some last) (get_or us i d) ≡ true) → i ≡ prefix_len (λ u. not (is_after (Some last) u)) us
-place_is last us i up bound front rest =
+pub place_is : (last : Use) (us : List Use) (i : ℕ) (d e : Use) → IsRising us → i ≤ length us → (0 < i → is_after (Some last) (get_or us (i - 1) d) ≡ false) → (i < length us → is_after (Some last) (get_or us i e) ≡ true) → i ≡ prefix_len (λ u. not (is_after (Some last) u)) us
+place_is last us i d e up bound front rest =
     let p = λ (u : Use). not (is_after (Some last) u) in
-    sym (prefix_len_is p us i last bound (λ k low. not_after_parted last us up k (i - 1) last (omega (arith, low)) (omega (arith, low, bound)) (ap not (front last (omega (arith, low))))) (λ low. ap not (rest last low)))
+    sym (prefix_len_is p us i last bound (λ k low. not_after_parted last us up k (i - 1) last (omega (arith, low)) (omega (arith, low, bound)) (ap p (get_or_default us (i - 1) last d (omega (arith, low, bound))) ∙ ap not (front (omega (arith, low))))) (λ low. ap p (get_or_default us i last e low) ∙ ap not (rest low)))
 
 not_not : (b : Bool) → not (not b) ≡ b
 not_not true = refl

@@ -26,9 +26,8 @@ impl Expiry {
         let Use {
             exp,
             key,
-            place: _,
-            at: _,
             withdrawn,
+            ..
         } = used;
         Expiry {
             kind: KeyKind { key, withdrawn },

@@ -5,6 +5,7 @@ ghost use Rattle.std.specs.List.{AllByRecursion};
 ghost use Rattle.svid_replay.specs.Runs.{HasBits, mask_of, place_of};
 
 use crate::Use;
+use crate::runs::FRONT;
 use std::alloc::{AllocError, Global};
 
 /// The number whose bytes are the first 8, the greatest first.
@@ -67,14 +68,24 @@ pub(crate) fn no_keys(alloc: Global, count: usize) -> Result<Vec<u64>, AllocErro
     vec![in alloc; 0u64; count / 5 + 1]
 }
 
-/// A filter of the keys of some uses.
+/// A filter of the keys of some uses, with place for so many as a run has before it is closed.
 pub(crate) fn filter_of(alloc: Global, uses: &[Use]) -> Result<Vec<u64>, AllocError>
     ensures some { IfOk result (λ key_filter. 0 < length key_filter.items) }
     ensures known { IfOk result (λ key_filter. AllByRecursion (λ u. HasBits key_filter.items u.key) uses.now) }
 {
-    let mut key_filter = no_keys(alloc, uses.len())?;
+    let mut key_filter = no_keys(alloc, uses.len().max(FRONT))?;
     add_all(&mut key_filter, uses);
     Ok(key_filter)
+}
+
+/// The keys of some uses in the place of all others.
+pub(crate) fn renew(key_filter: &mut Vec<u64>, uses: &[Use])
+    requires { 0 < length key_filter.old.items }
+    ensures long { length key_filter.new.items ≡ length key_filter.old.items }
+    ensures known { AllByRecursion (λ u. HasBits key_filter.new.items u.key) uses.now }
+{
+    key_filter.fill(0);
+    add_all(key_filter, uses);
 }
 
 /// Whether a key may be among those put in.

@@ -1,8 +1,7 @@
 //! The keys of uses, sorted, each with its kind and with when it expires.
-ghost use Rattle.std.specs.Prelude.{◌≡◌, ◌++◌, List, true, IfOk};
+ghost use Rattle.std.specs.Prelude.{◌≡◌, List, IfOk};
 ghost use Rattle.std.specs.List.{dedup, list_any};
 ghost use Rattle.std.specs.Ordering.{eq_by_cmp, is_eq};
-ghost use Rattle.std.specs.Set.{sorted_merge};
 ghost use Rattle.svid_replay.specs.Indexed.{is_sought};
 ghost use Rattle.svid_replay.specs.Keys.{AreKeys, TellUses, expired_by_then, is_held, left_of, kind_cmp, kind_of, expiry_cmp, expiry_of};
 ghost use Rattle.svid_replay.specs.declared.token_use.Use.{Use};
@@ -10,7 +9,6 @@ ghost use Rattle.svid_replay.specs.declared.token_use.Use.{Use};
 use crate::Use;
 use crate::expiry::{Expiry, KeyKind};
 use std::alloc::{AllocError, Global};
-use std::cmp::Ordering;
 
 // The keys of uses.
 pub(crate) fn keys_of(alloc: Global, uses: &[Use]) -> Result<Vec<Expiry>, AllocError>
@@ -31,63 +29,6 @@ fn drop_repeats(keys: &mut Vec<Expiry>)
     ensures { keys.new.items ≡ dedup (eq_by_cmp expiry_cmp) keys.old.items }
 {
     keys.dedup_by(|one, other| (*one).cmp(&*other).is_eq());
-}
-
-// Puts those that are left behind the others.
-fn push_left(
-    keys: &mut Vec<Expiry>,
-    more: &[Expiry],
-    expired_by: Option<u64>,
-) -> Result<(), AllocError>
-    ensures { IfOk result (λ u. keys.new.items ≡ keys.old.items ++ left_of expired_by more.now) }
-{
-    for expiry in more {
-        if expiry.is_left(expired_by) {
-            keys.push(*expiry)?;
-        }
-    }
-    Ok(())
-}
-
-// What is left of both in one, sorted; what both have comes once.
-pub(crate) fn merge_keys(
-    alloc: Global,
-    a: &[Expiry],
-    a_expired_by: Option<u64>,
-    b: &[Expiry],
-    b_expired_by: Option<u64>,
-) -> Result<Vec<Expiry>, AllocError>
-    ensures { IfOk result (λ merged. merged.items ≡ sorted_merge expiry_cmp true (left_of a_expired_by a.now) (left_of b_expired_by b.now)) }
-{
-    let mut merged = Vec::with_capacity(alloc, a.len() + b.len())?;
-    let mut i = 0;
-    let mut j = 0;
-    while i < a.len() && j < b.len() {
-        if !a[i].is_left(a_expired_by) {
-            i += 1;
-        } else if !b[j].is_left(b_expired_by) {
-            j += 1;
-        } else {
-            match a[i].cmp(&b[j]) {
-                Ordering::Less => {
-                    merged.push(a[i])?;
-                    i += 1;
-                }
-                Ordering::Equal => {
-                    merged.push(a[i])?;
-                    i += 1;
-                    j += 1;
-                }
-                Ordering::Greater => {
-                    merged.push(b[j])?;
-                    j += 1;
-                }
-            }
-        }
-    }
-    push_left(&mut merged, &a[i..], a_expired_by)?;
-    push_left(&mut merged, &b[j..], b_expired_by)?;
-    Ok(merged)
 }
 
 // By when all has expired that is gone, once what expired by one moment more goes too.

@@ -1,28 +1,31 @@
 //! Uses that rise, as a run of a larger set.
-ghost use Rattle.std.specs.Prelude.{◌≡◌, ◌+◌, ◌++◌, ◌<◌, false, length, drop, filter, max, nat_lt, true, IsTrue, IfOk, Some};
+ghost use Rattle.std.specs.Prelude.{◌≡◌, ◌+◌, ◌∷◌, ◌≤◌, length, drop, filter, nat_lt, true, IfOk, OnOk, OnErr};
 ghost use Rattle.std.specs.List.{list_any};
 ghost use Rattle.std.specs.Ordering.{eq_by_cmp};
 ghost use Rattle.std.specs.Set.{sorted_merge};
 ghost use Rattle.svid_replay.specs.Indexed.{is_sought};
+ghost use Rattle.svid_replay.specs.Runs.{HasSame};
 ghost use Rattle.svid_replay.specs.Use.{IsRising, use_cmp};
 ghost use Rattle.svid_replay.specs.Uses.{next_above, uses_in};
 ghost use Rattle.svid_replay.specs.declared.token_use.Use.{Use};
 
 use crate::Use;
 use crate::expiry::Expiry;
-use crate::filter::{filter_of, may_have};
-use crate::keys::{expired_by_then, keys_of, merge_keys, sweep, tell_key};
-use crate::sorted::{count_expired, drop_front, first_after, first_near, has_sought};
+use crate::filter::{add, filter_of, may_have, renew};
+use crate::keys::{expired_by_then, keys_of, sweep, tell_key};
+use crate::merge::merge;
+use crate::sorted::{count_expired, drop_front, first_near, has_sought, insert_use};
 use std::alloc::{AllocError, Global};
-use std::cmp::Ordering;
 use std::marker::Model;
 
-// Uses that rise, with a filter of their keys, `key_filter`; where it is `keyed`, `by_key` has the keys, sorted, and else
-// nothing. The uses in front of `start` are gone: they expired by the moment `expired_by`. Their keys may still be there.
+// Uses that rise, with a filter of their keys, `key_filter`. New uses go into it while it is `open`, and then it has no
+// other keys. Where it is `keyed`, `by_key` has them, sorted. The uses in front of `start` are gone: they expired by the
+// moment `expired_by`. Their keys may still be there.
 #[derive(Debug, Drop)]
 pub(crate) struct Run {
     by_use: Vec<Use>,
     start: usize,
+    open: bool,
     keyed: bool,
     by_key: Vec<Expiry>,
     expired_by: Option<u64>,
@@ -43,55 +46,7 @@ impl Model for Run {
     ghost invariant = { λ r. IsRun r.by_use.items r.start r.keyed r.by_key.items r.expired_by r.key_filter.items };
 }
 
-// Whether the last of the one list is less than the first of the other.
-fn are_apart(a: &[Use], b: &[Use]) -> bool
-    ensures { IsTrue result → IsRising a.now → sorted_merge use_cmp true a.now b.now ≡ a.now ++ b.now }
-{
-    match a {
-        [] => false,
-        [.., last] => match b {
-            [] => false,
-            [first, ..] => last.cmp(first).is_lt(),
-        },
-    }
-}
-
-// Both lists in one, rising; a use that both have comes once.
-pub(crate) fn merge_uses(alloc: Global, a: &[Use], b: &[Use]) -> Result<Vec<Use>, AllocError>
-    requires { IsRising a.now }
-    ensures { IfOk result (λ merged. merged.items ≡ sorted_merge use_cmp true a.now b.now) }
-{
-    let mut merged = Vec::with_capacity(alloc, a.len() + b.len())?;
-    if are_apart(a, b) {
-        merged.extend_from_slice(a)?;
-        merged.extend_from_slice(b)?;
-        return Ok(merged);
-    }
-    let mut i = 0;
-    let mut j = 0;
-    while i < a.len() && j < b.len() {
-        match a[i].cmp(&b[j]) {
-            Ordering::Less => {
-                merged.push(a[i])?;
-                i += 1;
-            }
-            Ordering::Equal => {
-                merged.push(a[i])?;
-                i += 1;
-                j += 1;
-            }
-            Ordering::Greater => {
-                merged.push(b[j])?;
-                j += 1;
-            }
-        }
-    }
-    merged.extend_from_slice(&a[i..])?;
-    merged.extend_from_slice(&b[j..])?;
-    Ok(merged)
-}
-
-pub(crate) fn holds_use(uses: &[Use], used: &Use) -> bool
+fn holds_use(uses: &[Use], used: &Use) -> bool
     requires { IsRising uses.now }
     ensures { result ≡ list_any (eq_by_cmp use_cmp used.now) uses.now }
 {
@@ -101,45 +56,75 @@ pub(crate) fn holds_use(uses: &[Use], used: &Use) -> bool
     }
 }
 
-// The uses whose keys a run has.
-fn to_key(keyed: bool, uses: &[Use]) -> &[Use]
-    ensures { IsTrue keyed → result.now ≡ uses.now }
-{
-    if keyed { uses } else { &[] }
-}
-
 impl Run {
-    pub(crate) fn of(alloc: Global, keyed: bool, uses: &[Use]) -> Result<Run, AllocError>
-        requires { IsRising uses.now }
-        ensures { IfOk result (λ run. run ≡ uses.now) }
+    // An open run of these uses.
+    pub(crate) fn of(alloc: Global, by_use: Vec<Use>) -> Result<Run, AllocError>
+        requires { IsRising by_use.items }
+        ensures { IfOk result (λ run. run ≡ by_use.items) }
     {
-        let by_use = Vec::from_slice(alloc, uses)?;
-        let by_key = keys_of(alloc, to_key(keyed, uses))?;
-        let key_filter = filter_of(alloc, uses)?;
+        let key_filter = filter_of(alloc, &by_use)?;
         Ok(Run {
             by_use,
             start: 0,
-            keyed,
-            by_key,
+            open: true,
+            keyed: false,
+            by_key: Vec::new(alloc),
             expired_by: None,
             key_filter,
         })
     }
 
-    pub(crate) fn merged(alloc: Global, a: &Run, b: &Run) -> Result<Run, AllocError>
-        ensures { IfOk result (λ run. run ≡ sorted_merge use_cmp true a.now b.now) }
+    // Whether new uses go into it.
+    pub(crate) fn is_open(&self) -> bool {
+        self.open
+    }
+
+    // Puts in a use. The run is open then.
+    pub(crate) fn insert(&mut self, new: Use) -> Result<(), AllocError>
+        ensures ok { OnOk result (HasSame (new ∷ self.old) self.new) }
+        ensures less { length self.new ≤ length self.old + 1 }
+        ensures err { OnErr result (self.new ≡ self.old) }
     {
-        let by_use = merge_uses(alloc, a.uses(), b.uses())?;
-        let by_key = merge_keys(alloc, &a.by_key, a.expired_by, &b.by_key, b.expired_by)?;
-        let key_filter = filter_of(alloc, &by_use)?;
-        Ok(Run {
-            by_use,
-            start: 0,
-            keyed: a.keyed & b.keyed,
-            by_key,
-            expired_by: None,
-            key_filter,
-        })
+        insert_use(&mut self.by_use, self.start, new)?;
+        add(&mut self.key_filter, &new.key);
+        self.open = true;
+        self.keyed = false;
+        self.expired_by = None;
+        Ok(())
+    }
+
+    // Takes in the uses of another run. It is open where either was, and has keys where both had them.
+    pub(crate) fn absorb(&mut self, alloc: Global, other: &mut Run) -> Result<(), AllocError>
+        ensures ok { OnOk result (self.new ≡ sorted_merge use_cmp true self.old other.old) }
+        ensures err { OnErr result (self.new ≡ self.old) }
+        ensures other { other.new ≡ other.old }
+    {
+        let by_use = merge(alloc, self.uses(), other.uses())?;
+        sweep(&mut self.by_key, self.expired_by);
+        self.expired_by = None;
+        sweep(&mut other.by_key, other.expired_by);
+        other.expired_by = None;
+        let by_key = merge(alloc, &self.by_key, &other.by_key)?;
+        self.key_filter = filter_of(alloc, &by_use)?;
+        self.by_use = by_use;
+        self.by_key = by_key;
+        self.start = 0;
+        self.open |= other.open;
+        self.keyed &= other.keyed;
+        Ok(())
+    }
+
+    // New uses go elsewhere from now on. It gets keys where it is to have them, if memory is given for these.
+    pub(crate) fn close(&mut self, alloc: Global, keyed: bool) -> Result<(), AllocError>
+        ensures { self.new ≡ self.old }
+    {
+        if keyed && !self.keyed {
+            self.by_key = keys_of(alloc, self.uses())?;
+            self.expired_by = None;
+            self.keyed = true;
+        }
+        self.open = false;
+        Ok(())
     }
 
     pub(crate) fn uses(&self) -> &[Use]
@@ -147,14 +132,6 @@ impl Run {
         ensures rising { IsRising result.now }
     {
         &self.by_use[self.start..]
-    }
-
-    // How many uses there are; one, where there are none.
-    pub(crate) fn weight(&self) -> usize
-        ensures value { result ≡ max (length self.now) 1 }
-        ensures some { 0 < result }
-    {
-        self.uses().len().max(1)
     }
 
     pub(crate) fn holds(&self, used: &Use) -> bool
@@ -182,17 +159,11 @@ impl Run {
         }
     }
 
-    pub(crate) fn next_after(&self, after: Option<Use>) -> Option<Use>
+    // The first use, or what comes next behind one, which is mostly near a place.
+    pub(crate) fn next_near(&self, after: Option<Use>, near: &mut u16) -> Option<Use>
         ensures { result ≡ next_above (uses_in self.now) after }
     {
-        first_after(self.uses(), after)
-    }
-
-    // What comes next behind the last, which is mostly near a place.
-    pub(crate) fn next_near(&self, last: &Use, near: &mut u16) -> Option<Use>
-        ensures { result ≡ next_above (uses_in self.now) (Some last.now) }
-    {
-        first_near(self.uses(), last, near)
+        first_near(self.uses(), after, near)
     }
 
     // Moves the start behind the uses that expire by a moment, and answers how many these are. `tidy` gives back their
@@ -218,6 +189,7 @@ impl Run {
         sweep(&mut self.by_key, self.expired_by);
         self.start = 0;
         self.expired_by = None;
+        renew(&mut self.key_filter, &self.by_use);
         self.by_use.shrink_to_fit();
         self.by_key.shrink_to_fit();
     }

@@ -1,116 +1,204 @@
-//! The runs of a set: few, since the weight of each is at least twice that of the next.
-ghost use Rattle.std.specs.Prelude.{◌≡◌, ◌+◌, ◌<◌, ◌≤◌, ◌++◌, ◌∷◌, ◌^◌, ◌-◌, [], false, length, max, nat_lt, take, true, IsTrue, IfOk, OnOk, OnErr};
-ghost use Rattle.std.specs.List.{AllByRecursion};
-ghost use Rattle.svid_replay.specs.Runs.{all_of, live_of, AreHalving, AreWeighed, HasSame, IsMergedBehind};
+//! Runs that are one set: each has at least about twice the uses of the next, so that they are few.
+ghost use Rattle.std.specs.Prelude.{◌≡◌, ◌+◌, ◌<◌, ◌≤◌, ◌∷◌, ◌^◌, [], None, false, length, IsTrue, IfOk, OnOk, OnErr};
+ghost use Rattle.std.specs.List.{AllByRecursion, list_any};
+ghost use Rattle.std.specs.Ordering.{eq_by_cmp};
+ghost use Rattle.svid_replay.specs.Indexed.{is_sought};
+ghost use Rattle.svid_replay.specs.Runs.{all_of, least_from, least_of, live_of, new_among, AreMerged, ArePutIn, IsHalved};
+ghost use Rattle.svid_replay.specs.Use.{IsRising, use_cmp};
+ghost use Rattle.svid_replay.specs.Uses.{uses_in};
+ghost use Rattle.svid_replay.specs.Walks.{next_few};
 
+use crate::Use;
+use crate::near::Near;
+use crate::room::Room;
 use crate::run::Run;
+use crate::sorted::rest_after;
 use std::alloc::{AllocError, Global};
-use std::marker::Model;
 
-// A new run is merged with the one in front of it while that was not made of so many times its uses.
-const FACTOR: usize = 2;
+/// The last run is closed when it is so long.
+pub(crate) const FRONT: usize = 256;
 
-// So many runs are left when all are merged for walks. The first is mostly half of the set, so the merge takes half of
-// the set's memory once more.
+// There are at most so many runs. If there are, new uses go into the last, even if it is closed.
+const MOST: usize = 64;
+
+// So many runs are left when all but the first are merged for walks. The first is mostly half of the set, so the merge
+// takes half of the set's memory once more.
 const WALKED: usize = 2;
 
-// Runs, the oldest first. For each `weights` has of how many uses it was made, at least; what expired since counts. A
-// weight is at least twice the next, so there are at most 64 runs.
-#[derive(Debug, Drop)]
-pub(crate) struct Runs {
-    runs: Vec<Run>,
-    weights: Vec<usize>,
-}
+// A run that was closed is merged with the one in front of it while that has not so many times its uses.
+const FACTOR: usize = 2;
 
-impl Model for Runs {
-    ghost use Rattle.std.specs.Prelude.{List};
-    ghost use Rattle.svid_replay.specs.Runs.{AreWeighed, runs_code};
-    ghost use Rattle.svid_replay.specs.declared.token_use.Use.{Use};
-
-    ghost Value = { List (List Use) };
-
-    ghost coded = { runs_code };
-
-    ghost view = { λ r. r.runs.items };
-
-    ghost invariant = { λ r. AreWeighed r.weights.items r.runs.items };
-}
-
-// Whether something of this weight can stand behind those.
-fn fits(weights: &[usize], weight: usize) -> bool
-    ensures halving { IsTrue result → 0 < weight → AreHalving (2 ^ 64 - 1) weights.now → AreHalving (2 ^ 64 - 1) (weights.now ++ weight ∷ []) }
-    ensures some { result ≡ false → 0 < length weights.now }
+// Whether one of the runs has the use.
+pub(crate) fn any_holds(runs: &[Run], used: &Use) -> bool
+    ensures { result ≡ list_any (eq_by_cmp use_cmp used.now) (all_of runs.now) }
 {
-    match weights {
-        [] => true,
-        [.., last] => last / FACTOR >= weight,
+    for run in runs {
+        if run.holds(used) {
+            return true;
+        }
+    }
+    false
+}
+
+// Whether one of the runs has a use of this key, or a withdrawal of it.
+pub(crate) fn any_has(runs: &[Run], key: &[u8; 32], withdrawn: bool) -> bool
+    ensures { result ≡ list_any (is_sought withdrawn key.now) (all_of runs.now) }
+{
+    for run in runs {
+        if run.has(key, withdrawn) {
+            return true;
+        }
+    }
+    false
+}
+
+// Those of the uses that no run has. Takes no memory where they all are there.
+pub(crate) fn new_uses(alloc: Global, runs: &[Run], uses: &[Use]) -> Result<Vec<Use>, AllocError>
+    ensures { IfOk result (λ new. new.items ≡ new_among (all_of runs.now) uses.now) }
+{
+    let mut new = Vec::new(alloc);
+    for used in uses {
+        if !any_holds(runs, used) {
+            new.push(*used)?;
+        }
+    }
+    Ok(new)
+}
+
+// The lesser of two uses that may be there.
+fn lesser(one: Option<Use>, other: Option<Use>) -> Option<Use>
+    ensures { result ≡ least_of one other }
+{
+    match one {
+        None => other,
+        Some(a) => match other {
+            None => Some(a),
+            Some(b) => if b.cmp(&a).is_lt() { Some(b) } else { Some(a) },
+        },
     }
 }
 
-// A run with those at the end merged into it behind which it does not fit, and how many are left in front of it.
-fn merge_last(
-    alloc: Global,
-    runs: &[Run],
-    weights: &[usize],
-    run: Run,
-) -> Result<(Run, usize), AllocError>
-    requires { length weights.now ≡ length runs.now }
-    ensures merged { IfOk result (λ last. IsMergedBehind runs.now run last.0 last.1) }
-    ensures fits { IfOk result (λ last. AreHalving (2 ^ 64 - 1) weights.now → AreHalving (2 ^ 64 - 1) (take last.1 weights.now ++ max (length last.0) 1 ∷ [])) }
+// The least of what comes next in each run, where that is mostly near a place. The last place does for all runs that are
+// left.
+pub(crate) fn least_near(runs: &[Run], after: Option<Use>, near: &mut Near) -> Option<Use>
+    ensures { result ≡ least_from after runs.now None }
 {
-    let mut kept = runs.len();
-    let mut merged = run;
-    while !fits(&weights[..kept], merged.weight()) {
-        kept -= 1;
-        merged = Run::merged(alloc, &runs[kept], &merged)?;
+    let mut least = None;
+    let mut at = 0;
+    for run in runs {
+        least = lesser(least, run.next_near(after, &mut near.places[at]));
+        at = (at + 1).min(7);
     }
-    Ok((merged, kept))
+    least
 }
 
-// Puts something in the place of all that stands behind the first so many. Takes memory only where nothing does.
-fn put_behind<T: Drop>(list: &mut Vec<T>, kept: usize, new: T) -> Result<(), AllocError>
-    requires { kept ≤ length list.old.items }
-    ensures ok { OnOk result (list.new.items ≡ take kept list.old.items ++ new ∷ []) }
-    ensures err { OnErr result (list.new.items ≡ list.old.items) }
-    ensures full { OnErr result (kept ≡ length list.old.items) }
+// Puts into an empty room what comes next in the runs.
+pub(crate) fn merge_next(runs: &[Run], after: Option<Use>, room: &mut Room)
+    requires { room.old ≡ [] }
+    ensures { room.new ≡ next_few (uses_in (all_of runs.now)) after }
 {
-    if kept < list.len() {
-        list[kept] = new;
-        list.truncate(kept + 1);
+    for run in runs {
+        room.merge(rest_after(run.uses(), after));
+    }
+}
+
+// Whether new uses go into the last run.
+fn goes_on(runs: &[Run]) -> bool
+    ensures some { IsTrue result → 0 < length runs.now }
+    ensures room { result ≡ false → length runs.now ≤ 64 → length runs.now < 64 }
+{
+    match runs {
+        [] => false,
+        [.., last] => last.is_open() || runs.len() >= MOST,
+    }
+}
+
+// Puts a use that is in no run into the last, or makes it one.
+pub(crate) fn put_one(alloc: Global, runs: &mut Vec<Run>, new: Use) -> Result<(), AllocError>
+    ensures ok { OnOk result (ArePutIn (new ∷ []) runs.old.items runs.new.items) }
+    ensures err { OnErr result (runs.new.items ≡ runs.old.items) }
+{
+    if goes_on(runs) {
+        let last = runs.len() - 1;
+        let run = &mut runs[last];
+        run.insert(new)?;
         return Ok(());
     }
-    list.push(new)?;
+    let run = Run::of(alloc, Vec::from_slice(alloc, &[new])?)?;
+    runs.push(run)?;
     Ok(())
+}
+
+// Puts rising uses into the last run, or makes them one.
+pub(crate) fn put_all(alloc: Global, runs: &mut Vec<Run>, new: Vec<Use>) -> Result<(), AllocError>
+    requires { IsRising new.items }
+    ensures ok { OnOk result (ArePutIn new.items runs.old.items runs.new.items) }
+    ensures err { OnErr result (runs.new.items ≡ runs.old.items) }
+{
+    let mut run = Run::of(alloc, new)?;
+    if goes_on(runs) {
+        let last = runs.len() - 1;
+        let front = &mut runs[last];
+        front.absorb(alloc, &mut run)?;
+        return Ok(());
+    }
+    runs.push(run)?;
+    Ok(())
+}
+
+// Closes the last run, if there is one and memory is given for its keys.
+fn close_last(alloc: Global, keyed: bool, runs: &mut Vec<Run>) -> bool
+    ensures { runs.new.items ≡ runs.old.items }
+{
+    if runs.is_empty() {
+        return false;
+    }
+    let last = runs.len() - 1;
+    let run = &mut runs[last];
+    run.close(alloc, keyed).is_ok()
 }
 
 // Merges the last two runs, if there are two. Where memory is refused they stay two.
 fn merge_two(alloc: Global, runs: &mut Vec<Run>) -> bool
-    ensures same { HasSame (all_of runs.old.items) (all_of runs.new.items) }
-    ensures less { length (all_of runs.new.items) ≤ length (all_of runs.old.items) }
+    ensures merged { AreMerged runs.old.items runs.new.items }
     ensures fewer { IsTrue result → length runs.new.items < length runs.old.items }
-    ensures no_more { length runs.new.items ≤ length runs.old.items }
 {
     let count = runs.len();
     if count < 2 {
         return false;
     }
-    let older = &runs[count - 2];
-    let newer = &runs[count - 1];
-    match Run::merged(alloc, older, newer) {
-        Err(_) => false,
-        Ok(merged) => {
-            runs[count - 2] = merged;
-            runs.truncate(count - 1);
-            true
+    let (front, back) = runs.split_at_mut(count - 1);
+    if front[count - 2].absorb(alloc, &mut back[0]).is_err() {
+        return false;
+    }
+    runs.truncate(count - 1);
+    true
+}
+
+// Whether the last run is short beside the one in front of it, or there is none.
+fn is_halved(runs: &[Run]) -> bool
+    ensures { IsTrue result → IsHalved runs.now }
+{
+    let count = runs.len();
+    count < 2 || runs[count - 2].uses().len() / FACTOR >= runs[count - 1].uses().len()
+}
+
+// Merges the last runs until the last is short beside the one in front of it; says whether memory was given for that.
+fn merge_short(alloc: Global, runs: &mut Vec<Run>) -> bool
+    ensures merged { AreMerged runs.old.items runs.new.items }
+    ensures halved { IsTrue result → IsHalved runs.new.items }
+{
+    while !is_halved(runs) {
+        if !merge_two(alloc, runs) {
+            return false;
         }
     }
+    true
 }
 
 // Merges the last runs until few are left, as far as memory is given.
 fn merge_most(alloc: Global, runs: &mut Vec<Run>)
-    ensures same { HasSame (all_of runs.old.items) (all_of runs.new.items) }
-    ensures less { length (all_of runs.new.items) ≤ length (all_of runs.old.items) }
-    ensures no_more { length runs.new.items ≤ length runs.old.items }
+    ensures { AreMerged runs.old.items runs.new.items }
 {
     while runs.len() > WALKED {
         if !merge_two(alloc, runs) {
@@ -119,8 +207,30 @@ fn merge_most(alloc: Global, runs: &mut Vec<Run>)
     }
 }
 
+// Closes the last run where it is long, and merges it with those in front of it, as far as memory is given.
+pub(crate) fn settle(alloc: Global, keyed: bool, runs: &mut Vec<Run>)
+    ensures { AreMerged runs.old.items runs.new.items }
+{
+    let long = match &runs[..] {
+        [.., last] => last.uses().len() >= FRONT,
+        [] => false,
+    };
+    if long && close_last(alloc, keyed, runs) {
+        merge_short(alloc, runs);
+    }
+}
+
+// Merges all runs but the first, as far as memory is given. One that is open may stand behind them.
+pub(crate) fn compact(alloc: Global, keyed: bool, runs: &mut Vec<Run>)
+    ensures { AreMerged runs.old.items runs.new.items }
+{
+    if runs.len() > WALKED + 1 && close_last(alloc, keyed, runs) {
+        merge_most(alloc, runs);
+    }
+}
+
 // Takes the expired uses out of the runs, and answers how many went.
-fn drop_all_expired(runs: &mut Vec<Run>, moment: u64) -> usize
+pub(crate) fn drop_expired(runs: &mut Vec<Run>, moment: u64) -> usize
     requires { length (all_of runs.old.items) < 2 ^ 64 }
     ensures kept { all_of runs.new.items ≡ live_of moment (all_of runs.old.items) }
     ensures dropped { result + length (all_of runs.new.items) ≡ length (all_of runs.old.items) }
@@ -134,91 +244,15 @@ fn drop_all_expired(runs: &mut Vec<Run>, moment: u64) -> usize
     dropped
 }
 
-// Gives back memory that each of the runs can do without.
-fn tidy_each(runs: &mut Vec<Run>)
-    ensures { runs.new.items ≡ runs.old.items }
+// Lets go of the runs that have no uses, and gives back memory that the others can do without.
+pub(crate) fn tidy(runs: &mut Vec<Run>)
+    ensures same { all_of runs.new.items ≡ all_of runs.old.items }
+    ensures filled { AllByRecursion (λ run. 0 < length run) runs.new.items }
+    ensures no_more { length runs.new.items ≤ length runs.old.items }
 {
+    runs.retain(|run| !run.uses().is_empty());
     for i in 0..runs.len() {
         let run = &mut runs[i];
         run.tidy();
-    }
-}
-
-// Lets go of the runs that have no uses, and of their weights.
-fn remove_empty(runs: &mut Vec<Run>, weights: &mut Vec<usize>)
-    requires { AreWeighed weights.old.items runs.old.items }
-    ensures same { all_of runs.new.items ≡ all_of runs.old.items }
-    ensures filled { AllByRecursion (λ run. nat_lt 0 (length run) ≡ true) runs.new.items }
-    ensures weighed { AreWeighed weights.new.items runs.new.items }
-{
-    let mut i = 0;
-    while i < runs.len() {
-        if runs[i].uses().is_empty() {
-            runs.remove(i);
-            weights.remove(i);
-        } else {
-            i += 1;
-        }
-    }
-}
-
-impl Runs {
-    // No runs. Takes no memory.
-    pub(crate) fn new(alloc: Global) -> Runs
-        ensures { result ≡ [] }
-    {
-        Runs {
-            runs: Vec::new(alloc),
-            weights: Vec::new(alloc),
-        }
-    }
-
-    pub(crate) fn list(&self) -> &[Run]
-        ensures value { result.now ≡ self.now }
-        ensures few { length result.now ≤ 64 }
-    {
-        &self.runs
-    }
-
-    // Puts a run behind the others, and first merges it with those behind which it does not fit.
-    pub(crate) fn push(&mut self, alloc: Global, run: Run) -> Result<(), AllocError>
-        ensures same { OnOk result (HasSame (run ++ all_of self.old) (all_of self.new)) }
-        ensures less { OnOk result (length (all_of self.new) ≤ length run + length (all_of self.old)) }
-        ensures err { OnErr result (self.new ≡ self.old) }
-    {
-        let (merged, kept) = merge_last(alloc, &self.runs, &self.weights, run)?;
-        let weight = merged.weight();
-        put_behind(&mut self.weights, kept, weight)?;
-        if let Err(error) = put_behind(&mut self.runs, kept, merged) {
-            self.weights.truncate(kept);
-            return Err(error);
-        }
-        Ok(())
-    }
-
-    // Merges all but the first, as far as memory is given.
-    pub(crate) fn compact(&mut self, alloc: Global)
-        ensures same { HasSame (all_of self.old) (all_of self.new) }
-        ensures less { length (all_of self.new) ≤ length (all_of self.old) }
-    {
-        merge_most(alloc, &mut self.runs);
-        self.weights.truncate(self.runs.len());
-    }
-
-    // Takes the expired uses out, and answers how many went. The runs stay, also those that have no uses left.
-    pub(crate) fn drop_expired(&mut self, moment: u64) -> usize
-        requires { length (all_of self.old) < 2 ^ 64 }
-        ensures kept { all_of self.new ≡ live_of moment (all_of self.old) }
-        ensures dropped { result + length (all_of self.new) ≡ length (all_of self.old) }
-    {
-        drop_all_expired(&mut self.runs, moment)
-    }
-
-    // Lets go of the runs that have no uses, and gives back memory that the others can do without.
-    pub(crate) fn tidy(&mut self)
-        ensures { all_of self.new ≡ all_of self.old }
-    {
-        remove_empty(&mut self.runs, &mut self.weights);
-        tidy_each(&mut self.runs);
     }
 }

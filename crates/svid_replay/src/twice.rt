@@ -1,6 +1,7 @@
 ghost use Rattle.std.specs.Prelude.{◌≡◌, ℕ, List, IfOk, take, drop, length, nat_lt};
 ghost use Rattle.std.specs.List.{prefix_len};
-ghost use Rattle.svid_replay.specs.Twice.{IsKeySorted, has_key, twice_of, uses_of, withdraws};
+ghost use Rattle.svid_replay.specs.Indexed.{is_sought};
+ghost use Rattle.svid_replay.specs.Twice.{IsKeySorted, has_key, twice_of, uses_of};
 
 use crate::{Use, UseList};
 use std::alloc::{AllocError, Global};
@@ -20,10 +21,11 @@ pub(crate) fn has_key(key: &[u8; 32], used: &Use) -> bool
     key.cmp(&used.key).is_eq()
 }
 
-pub(crate) fn withdraws(key: &[u8; 32], used: &Use) -> bool
-    ensures { result ≡ withdraws key.now used.now }
+// Whether a use has this key, or is a withdrawal of it.
+pub(crate) fn is_sought(withdrawn: bool, key: &[u8; 32], used: &Use) -> bool
+    ensures { result ≡ is_sought withdrawn key.now used.now }
 {
-    has_key(key, used) && used.withdrawn
+    has_key(key, used) && (used.withdrawn || !withdrawn)
 }
 
 // Whether a key with these uses was used twice.

@@ -1,11 +1,7 @@
-use Rattle.std.proofs.Common.{rules, arith}
+use Rattle.std.proofs.Common.{arith, rules}
 use Rattle.svid_replay.proofs.RunsLemmas.{merged_two}
 use Rattle.svid_replay.proofs.runs.merge_two.Goals as goal
 
-pub returns-in-Ok-clause-same : goal.returns-in-Ok-clause-same
-returns-in-Ok-clause-same c =
-    (merged_two c.args.runs.now.items _ c.len-count.result _ _ _ (omega (arith, c.if-count-lt2.false)) (search rules) c.index-older.ensures c.index-newer.ensures c.in-Ok.ensures c.truncate.ensures.items).same
-
-pub returns-in-Ok-clause-less : goal.returns-in-Ok-clause-less
-returns-in-Ok-clause-less c =
-    (merged_two c.args.runs.now.items _ c.len-count.result _ _ _ (omega (arith, c.if-count-lt2.false)) (search rules) c.index-older.ensures c.index-newer.ensures c.in-Ok.ensures c.truncate.ensures.items).less
+pub returns-clause-merged : goal.returns-clause-merged
+returns-clause-merged c =
+    merged_two c.args.runs.now.items _ _ _ _ _ _ c.len-count.result _ _ _ _ (omega (arith, c.if-count-lt2.false)) (search rules) (omega (arith, c.len-count.ensures)) c.deref_mut.ensures.value c.split_at_mut-front.ensures.front c.index-front-count.is c.split_at_mut-front.ensures.back c.index-back-0.is (search rules) c.truncate.ensures.items

@@ -6,4 +6,4 @@ use Rattle.svid_replay.proofs.sorted.SortedUsesUseStore.has.Goals as goal
 
 pub returns : goal.returns
 returns c =
-    c.has_use_of.ensures ∙ ap (list_any (has_key c.args.key.now)) (c.deref.ensures.value ∙ sym (stored _ _ c.self.invariant c.self.view_is))
+    c.has_sought.ensures ∙ ap (list_any (has_key c.args.key.now)) (c.deref.ensures.value ∙ sym (stored _ _ c.self.invariant c.self.view_is))

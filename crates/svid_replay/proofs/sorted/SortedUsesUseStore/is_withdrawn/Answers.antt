@@ -6,4 +6,4 @@ use Rattle.svid_replay.proofs.sorted.SortedUsesUseStore.is_withdrawn.Goals as go
 
 pub returns : goal.returns
 returns c =
-    c.has_withdrawal_of.ensures ∙ ap (list_any (withdraws c.args.key.now)) (c.deref.ensures.value ∙ sym (stored _ _ c.self.invariant c.self.view_is))
+    c.has_sought.ensures ∙ ap (list_any (withdraws c.args.key.now)) (c.deref.ensures.value ∙ sym (stored _ _ c.self.invariant c.self.view_is))

@@ -1,6 +1,0 @@
-use Rattle.std.proofs.Common.{◌≡◌, ◌++◌, take}
-use Rattle.svid_replay.specs.Runs.{all_of, new_among}
-use Rattle.svid_replay.proofs.run_uses.new_uses.Given as goal
-
-abbrev pub invariant-loop-used : goal.invariant-loop-used
-invariant-loop-used l = l.new.items ≡ new_among (l.front ++ all_of l.runs) (take l.used-index l.uses)
