@@ -1,16 +1,16 @@
 //! The keys of uses, sorted, each with its kind and with when it expires.
 ghost use Rattle.std.specs.Prelude.{◌≡◌, List, IfOk};
-ghost use Rattle.std.specs.List.{dedup, list_any};
-ghost use Rattle.std.specs.Ordering.{eq_by_cmp, is_eq};
+ghost use Rattle.std.specs.List.{list_any};
+ghost use Rattle.std.specs.Ordering.{is_eq};
 ghost use Rattle.svid_replay.specs.Indexed.{is_sought};
-ghost use Rattle.svid_replay.specs.Keys.{AreKeys, TellUses, expired_by_then, is_held, left_of, kind_cmp, kind_of, expiry_cmp, expiry_of};
+ghost use Rattle.svid_replay.specs.Keys.{AreKeys, TellUses, expired_by_then, is_held, left_of, kind_cmp, kind_of, expiry_of};
 ghost use Rattle.svid_replay.specs.declared.token_use.Use.{Use};
 
 use crate::Use;
 use crate::expiry::{Expiry, KeyKind};
 use std::alloc::{AllocError, Global};
 
-// The keys of uses.
+// The keys of uses, each once.
 pub(crate) fn keys_of(alloc: Global, uses: &[Use]) -> Result<Vec<Expiry>, AllocError>
     ensures sorted { IfOk result (λ keys. AreKeys keys.items) }
     ensures told { IfOk result (λ keys. TellUses keys.items uses.now) }
@@ -20,15 +20,8 @@ pub(crate) fn keys_of(alloc: Global, uses: &[Use]) -> Result<Vec<Expiry>, AllocE
         keys.push(Expiry::of(*used))?;
     }
     keys.sort_unstable();
-    drop_repeats(&mut keys);
-    Ok(keys)
-}
-
-// Of equal ones that stand side by side it leaves one.
-fn drop_repeats(keys: &mut Vec<Expiry>)
-    ensures { keys.new.items ≡ dedup (eq_by_cmp expiry_cmp) keys.old.items }
-{
     keys.dedup_by(|one, other| (*one).cmp(&*other).is_eq());
+    Ok(keys)
 }
 
 // By when all has expired that is gone, once what expired by one moment more goes too.

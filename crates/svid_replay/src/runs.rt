@@ -146,16 +146,15 @@ pub(crate) fn put_all(alloc: Global, runs: &mut Vec<Run>, new: Vec<Use>) -> Resu
     Ok(())
 }
 
-// Closes the last run, if there is one and memory is given for its keys.
-fn close_last(alloc: Global, keyed: bool, runs: &mut Vec<Run>) -> bool
+// Closes the last run, if it has so many uses and memory is given for its keys.
+fn close_last(alloc: Global, keyed: bool, runs: &mut Vec<Run>, least: usize) -> bool
     ensures { runs.new.items ≡ runs.old.items }
 {
-    if runs.is_empty() {
+    let Some(last) = runs.len().checked_sub(1) else {
         return false;
-    }
-    let last = runs.len() - 1;
+    };
     let run = &mut runs[last];
-    run.close(alloc, keyed).is_ok()
+    run.uses().len() >= least && run.close(alloc, keyed).is_ok()
 }
 
 // Merges the last two runs, if there are two. Where memory is refused they stay two.
@@ -211,11 +210,7 @@ fn merge_most(alloc: Global, runs: &mut Vec<Run>)
 pub(crate) fn settle(alloc: Global, keyed: bool, runs: &mut Vec<Run>)
     ensures { AreMerged runs.old.items runs.new.items }
 {
-    let long = match &runs[..] {
-        [.., last] => last.uses().len() >= FRONT,
-        [] => false,
-    };
-    if long && close_last(alloc, keyed, runs) {
+    if close_last(alloc, keyed, runs, FRONT) {
         merge_short(alloc, runs);
     }
 }
@@ -224,7 +219,7 @@ pub(crate) fn settle(alloc: Global, keyed: bool, runs: &mut Vec<Run>)
 pub(crate) fn compact(alloc: Global, keyed: bool, runs: &mut Vec<Run>)
     ensures { AreMerged runs.old.items runs.new.items }
 {
-    if runs.len() > WALKED + 1 && close_last(alloc, keyed, runs) {
+    if runs.len() > WALKED + 1 && close_last(alloc, keyed, runs, 0) {
         merge_most(alloc, runs);
     }
 }

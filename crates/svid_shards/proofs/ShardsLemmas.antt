@@ -31,7 +31,7 @@ use Rattle.svid_replay.specs.declared.ahead.Ahead.{Ahead}
 use Rattle.svid_replay.proofs.BucketsLemmas.{bucket_holds_its_uses}
 use Rattle.svid_replay.proofs.IndexedLemmas.{same_key}
 use Rattle.svid_replay.proofs.ListLemmas.{any_none, each_weaker}
-use Rattle.svid_replay.proofs.RunsLemmas.{count-with, has_in_runs, next_in_all}
+use Rattle.svid_replay.proofs.RunsLemmas.{count-with, next_in_all, runs_has}
 use Rattle.svid_replay.proofs.SetsLemmas.{holds-rising, rising_rises, same_rising}
 use Rattle.svid_replay.proofs.TestsLemmas.{equal, or-false}
 use Rattle.svid_replay.proofs.UseLemmas.{use_exact, use_total}
@@ -83,7 +83,7 @@ as_runs (s ∷ ss) = ap (λ us. rising s ++ us) (as_runs ss)
 pub any_found : (p : Use → Bool) (k : ℕ) (ss : List Uses) → AreApart ss → ((u : Use) → p u ≡ true → bucket_of u ≡ k) → list_any p (rising (all_in ss)) ≡ list_any p (rising (shard ss k))
 unfolding all_in
 any_found p k ss apart at =
-    sym (ap (λ us. list_any p us) (sym (as_runs ss)) ∙ has_in_runs p [] (map rising ss) (uses_in (flat_map rising ss)) false (list_any p (all_of (map rising ss))) (ap uses_in (as_runs ss)) refl refl refl)
+    sym (ap (λ us. list_any p us) (sym (as_runs ss)) ∙ runs_has p (map rising ss) (uses_in (flat_map rising ss)) (list_any p (all_of (map rising ss))) (ap uses_in (as_runs ss)) refl)
     ∙ any_at p 0 k ss (from_first ss apart) (λ u e. omega (arith, at u e))
 
 -- the set of all shards holds what the shard of a use holds
