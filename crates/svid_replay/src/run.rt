@@ -160,8 +160,8 @@ impl Run {
     }
 
     // The first use, or what comes next behind one, which is mostly near a place.
-    pub(crate) fn next_near(&self, after: Option<Use>, near: &mut u16) -> Option<Use>
-        ensures { result ≡ next_above (uses_in self.now) after }
+    pub(crate) fn next_near(&self, after: &Option<Use>, near: &mut u16) -> Option<Use>
+        ensures { result ≡ next_above (uses_in self.now) after.now }
     {
         first_near(self.uses(), after, near)
     }

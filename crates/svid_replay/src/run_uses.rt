@@ -154,7 +154,7 @@ impl UseStore for RunUses {
     }
 
     fn next_near(&self, after: Option<Use>, near: &mut Near) -> Option<Use> {
-        least_near(&self.runs, after, near)
+        least_near(&self.runs, &after, near)
     }
 
     fn next_uses(&self, after: Option<Use>, room: &mut Room) {

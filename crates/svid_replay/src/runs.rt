@@ -80,8 +80,8 @@ fn lesser(one: Option<Use>, other: Option<Use>) -> Option<Use>
 
 // The least of what comes next in each run, where that is mostly near a place. The last place does for all runs that are
 // left.
-pub(crate) fn least_near(runs: &[Run], after: Option<Use>, near: &mut Near) -> Option<Use>
-    ensures { result ≡ least_from after runs.now None }
+pub(crate) fn least_near(runs: &[Run], after: &Option<Use>, near: &mut Near) -> Option<Use>
+    ensures { result ≡ least_from after.now runs.now None }
 {
     let mut least = None;
     let mut at = 0;

@@ -112,21 +112,21 @@ fn count_near(uses: &[Use], last: &Use, near: usize) -> usize
 }
 
 // Those of the uses that are greater than the one given, where they mostly begin near a place, or all.
-fn rest_near<'a>(uses: &'a [Use], after: Option<Use>, near: &mut u16) -> &'a [Use]
+fn rest_near<'a>(uses: &'a [Use], after: &Option<Use>, near: &mut u16) -> &'a [Use]
     requires { IsRising uses.now }
-    ensures { result.now ≡ filter (is_after after) uses.now }
+    ensures { result.now ≡ filter (is_after after.now) uses.now }
 {
     let Some(last) = after else {
         return uses;
     };
-    let place = count_near(uses, &last, *near as usize);
+    let place = count_near(uses, last, *near as usize);
     *near = u16::try_from(place).unwrap_or(0);
     &uses[place..]
 }
 
-pub(crate) fn first_near(uses: &[Use], after: Option<Use>, near: &mut u16) -> Option<Use>
+pub(crate) fn first_near(uses: &[Use], after: &Option<Use>, near: &mut u16) -> Option<Use>
     requires { IsRising uses.now }
-    ensures { result ≡ find (is_after after) uses.now }
+    ensures { result ≡ find (is_after after.now) uses.now }
 {
     rest_near(uses, after, near).first().copied()
 }
