@@ -1,5 +1,5 @@
 //! Uses that rise, as a run of a larger set.
-ghost use Rattle.std.specs.Prelude.{◌≡◌, ◌+◌, ◌∷◌, ◌≤◌, length, drop, filter, nat_lt, true, IfOk, OnOk, OnErr};
+ghost use Rattle.std.specs.Prelude.{◌≡◌, ◌+◌, ◌∷◌, ◌≤◌, length, drop, filter, nat_lt, true, IfOk, OnOk, OnErr, option_copied};
 ghost use Rattle.std.specs.List.{list_any};
 ghost use Rattle.std.specs.Ordering.{eq_by_cmp};
 ghost use Rattle.std.specs.Set.{sorted_merge};
@@ -160,8 +160,8 @@ impl Run {
     }
 
     // The first use, or what comes next behind one, which is mostly near a place.
-    pub(crate) fn next_near(&self, after: &Option<Use>, near: &mut u16) -> Option<Use>
-        ensures { result ≡ next_above (uses_in self.now) after.now }
+    pub(crate) fn next_near(&self, after: &Option<Use>, near: &mut u16) -> Option<&Use>
+        ensures { option_copied result ≡ next_above (uses_in self.now) after.now }
     {
         first_near(self.uses(), after, near)
     }

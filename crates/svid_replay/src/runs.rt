@@ -1,5 +1,5 @@
 //! Runs that are one set: each has at least about twice the uses of the next, so that they are few.
-ghost use Rattle.std.specs.Prelude.{◌≡◌, ◌+◌, ◌<◌, ◌≤◌, ◌∷◌, ◌^◌, [], None, false, length, IsTrue, IfOk, OnOk, OnErr};
+ghost use Rattle.std.specs.Prelude.{◌≡◌, ◌+◌, ◌<◌, ◌≤◌, ◌∷◌, ◌^◌, [], None, false, length, IsTrue, IfOk, OnOk, OnErr, option_copied};
 ghost use Rattle.std.specs.List.{AllByRecursion, list_any};
 ghost use Rattle.std.specs.Ordering.{eq_by_cmp};
 ghost use Rattle.svid_replay.specs.Indexed.{is_sought};
@@ -66,14 +66,14 @@ pub(crate) fn new_uses(alloc: Global, runs: &[Run], uses: &[Use]) -> Result<Vec<
 }
 
 // The lesser of two uses that may be there.
-fn lesser(one: Option<Use>, other: Option<Use>) -> Option<Use>
-    ensures { result ≡ least_of one other }
+fn lesser<'a>(one: Option<&'a Use>, other: Option<&'a Use>) -> Option<&'a Use>
+    ensures { option_copied result ≡ least_of (option_copied one.entry) (option_copied other.entry) }
 {
     match one {
         None => other,
         Some(a) => match other {
             None => Some(a),
-            Some(b) => if b.cmp(&a).is_lt() { Some(b) } else { Some(a) },
+            Some(b) => if b.cmp(a).is_lt() { Some(b) } else { Some(a) },
         },
     }
 }
@@ -89,7 +89,7 @@ pub(crate) fn least_near(runs: &[Run], after: &Option<Use>, near: &mut Near) -> 
         least = lesser(least, run.next_near(after, &mut near.places[at]));
         at = (at + 1).min(7);
     }
-    least
+    least.copied()
 }
 
 // Puts into an empty room what comes next in the runs.

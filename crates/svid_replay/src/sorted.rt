@@ -1,4 +1,4 @@
-ghost use Rattle.std.specs.Prelude.{◌≡◌, ◌≤◌, ℕ, List, length, Some, drop, filter, find, not, nat_lt, IsTrue, IsOk, OnOk, OnErr};
+ghost use Rattle.std.specs.Prelude.{◌≡◌, ◌≤◌, ℕ, List, length, Some, drop, filter, find, not, nat_lt, IsTrue, IsOk, OnOk, OnErr, option_copied};
 ghost use Rattle.std.specs.List.{AllByRecursion, list_any, prefix_len};
 ghost use Rattle.svid_replay.specs.Batches.{is_after};
 ghost use Rattle.svid_replay.specs.Indexed.{is_sought};
@@ -124,11 +124,15 @@ fn rest_near<'a>(uses: &'a [Use], after: &Option<Use>, near: &mut u16) -> &'a [U
     &uses[place..]
 }
 
-pub(crate) fn first_near(uses: &[Use], after: &Option<Use>, near: &mut u16) -> Option<Use>
+pub(crate) fn first_near<'a>(
+    uses: &'a [Use],
+    after: &Option<Use>,
+    near: &mut u16,
+) -> Option<&'a Use>
     requires { IsRising uses.now }
-    ensures { result ≡ find (is_after after.now) uses.now }
+    ensures { option_copied result ≡ find (is_after after.now) uses.now }
 {
-    rest_near(uses, after, near).first().copied()
+    rest_near(uses, after, near).first()
 }
 
 // Those of the uses that are greater than the one given, or all.
