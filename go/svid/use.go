@@ -74,18 +74,23 @@ type Use struct {
 
 // Batch returns the use as a message: a batch of one use, 82 bytes.
 func (u Use) Batch() []byte {
-	b := make([]byte, batchHeadLen+useLen)
-	copy(b, batchHead[:])
-	binary.BigEndian.PutUint64(b[5:], u.At)
-	binary.BigEndian.PutUint32(b[13:], 1)
-	binary.BigEndian.PutUint64(b[17:], u.Expires)
-	copy(b[25:], u.Key[:])
-	copy(b[57:], u.Place[:])
-	binary.BigEndian.PutUint64(b[73:], u.At)
+	return u.appendTo(appendHead(make([]byte, 0, batchHeadLen+useLen), u.At))
+}
+
+// appendHead appends the head of a batch of one use, of a moment.
+func appendHead(to []byte, moment uint64) []byte {
+	to = binary.BigEndian.AppendUint64(append(to, batchHead[:]...), moment)
+	return binary.BigEndian.AppendUint32(to, 1)
+}
+
+// appendTo appends the 65 bytes of the use.
+func (u *Use) appendTo(b []byte) []byte {
+	b = append(binary.BigEndian.AppendUint64(b, u.Expires), u.Key[:]...)
+	b = binary.BigEndian.AppendUint64(append(b, u.Place[:]...), u.At)
 	if u.Withdrawn {
-		b[81] = 1
+		return append(b, 1)
 	}
-	return b
+	return append(b, 0)
 }
 
 // Batches returns uses as messages: a batch for each time at which uses were accepted or revoked, as Uses reads them.
@@ -106,9 +111,9 @@ func Batches(uses []Use) []byte {
 		switch {
 		case i == 0 || u.At != inOrder[i-1].At:
 			head = len(out)
-			out = append(out, u.Batch()...)
+			out = u.appendTo(appendHead(out, u.At))
 		case *u != inOrder[i-1]:
-			out = append(out, u.Batch()[batchHeadLen:]...)
+			out = u.appendTo(out)
 			binary.BigEndian.PutUint32(out[head+countAt:], uint32((len(out)-head-batchHeadLen)/useLen))
 		}
 	}
