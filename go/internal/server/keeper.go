@@ -3,7 +3,11 @@ package server
 import (
 	"errors"
 	"sync"
+	"time"
 )
+
+// keepPause is between two writes for which no answer waits: what comes meanwhile shares the next one.
+const keepPause = 20 * time.Millisecond
 
 // mostUnkept is how many bytes may wait for the disk behind their answers.
 const mostUnkept = 64 << 20
@@ -59,5 +63,6 @@ func (e *Engine) keepWaiting() {
 		if err := e.keep(batches); err != nil {
 			e.Log.Error("journal", err)
 		}
+		time.Sleep(keepPause)
 	}
 }
