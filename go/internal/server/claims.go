@@ -3,6 +3,7 @@ package server
 import (
 	"fmt"
 	"sync"
+	"sync/atomic"
 	"time"
 
 	"svid.example/go/svid"
@@ -12,6 +13,9 @@ const (
 	// claimPause is between two values with claims: those that come meanwhile share the next one. Nobody waits for it at
 	// a quiet time.
 	claimPause = time.Millisecond
+	// claimCompany is the same at a busy time, until twice as many claims wait as requests are being worked on. A value
+	// costs the same with more claims, and the processors have those requests to work on until it is back.
+	claimCompany = 3 * time.Millisecond
 	// claimFlight is how long the next value waits for the broker's answer to the last one: so a broker that is busy gets
 	// fewer values, with more claims each.
 	claimFlight = 20 * time.Millisecond
@@ -22,6 +26,8 @@ const (
 // claims are the claims of tokens: this sidecar's own ones, on their way through the bucket, and which tokens others have
 // claimed. Its methods may be called by many goroutines at once.
 type claims struct {
+	requests atomic.Int64 // that are being worked on, or wait for an outcome
+
 	mu     sync.Mutex
 	open   map[svid.TokenKey]*claim // whose outcome is open, one a token
 	gather []*claim                 // these wait for a value to go out
@@ -65,7 +71,7 @@ func (c *claims) begin(mine *claim) (other *claim) {
 }
 
 // next returns the number and the uses of the value that is to go out now, if one is. Else it calls again later, where
-// claims wait: when the last value lands, or once they have waited long enough.
+// claims wait: once they have waited long enough, if nothing calls next before.
 func (c *claims) next(again func()) (number uint64, uses []svid.Use) {
 	c.mu.Lock()
 	defer c.mu.Unlock()
@@ -73,33 +79,35 @@ func (c *claims) next(again func()) (number uint64, uses []svid.Use) {
 		return 0, nil
 	}
 	pause := claimPause
-	if c.flying {
+	if working := int(c.requests.Load()) - len(c.open); c.flying {
 		pause = claimFlight
+	} else if 2*working > len(c.gather) {
+		pause = claimCompany
 	}
-	if left := pause - time.Since(c.at); left > 0 {
-		c.arm(left, again)
+	now := time.Now()
+	if due := c.at.Add(pause); due.After(now) {
+		c.arm(due, again)
 		return 0, nil
 	}
-	now := c.gather
-	if len(now) > mostClaims {
-		now = now[:mostClaims:mostClaims]
+	these := c.gather
+	if len(these) > mostClaims {
+		these = these[:mostClaims:mostClaims]
 	}
-	c.gather = append([]*claim(nil), c.gather[len(now):]...)
+	c.gather = append([]*claim(nil), c.gather[len(these):]...)
 	c.number++
-	c.sent[c.number] = now
-	c.at, c.flying = time.Now(), true
+	c.sent[c.number] = these
+	c.at, c.flying = now, true
 	if len(c.gather) > 0 {
-		c.arm(claimFlight, again)
+		c.arm(now.Add(claimFlight), again)
 	}
-	for _, mine := range now {
+	for _, mine := range these {
 		uses = append(uses, mine.use)
 	}
 	return c.number, uses
 }
 
-// arm lets again be called after a while, if nothing is to call it before. The caller holds mu.
-func (c *claims) arm(wait time.Duration, again func()) {
-	due := time.Now().Add(wait)
+// arm lets again be called at a time, if nothing is to call it before. The caller holds mu.
+func (c *claims) arm(due time.Time, again func()) {
 	if c.timer != nil {
 		if !due.Before(c.due) {
 			return
@@ -107,7 +115,7 @@ func (c *claims) arm(wait time.Duration, again func()) {
 		c.timer.Stop()
 	}
 	var timer *time.Timer
-	timer = time.AfterFunc(wait, func() {
+	timer = time.AfterFunc(time.Until(due), func() {
 		c.mu.Lock()
 		if c.timer == timer {
 			c.timer = nil
@@ -119,7 +127,7 @@ func (c *claims) arm(wait time.Duration, again func()) {
 }
 
 // landed is told what became of a value: the broker has stored it, or err. In the second case its claims end, and landed
-// says how many these are.
+// says how many these are. A value that has come back already has none.
 func (c *claims) landed(number uint64, err error) (failed int) {
 	c.mu.Lock()
 	defer c.mu.Unlock()
@@ -183,14 +191,19 @@ func (c *claims) arrived(number uint64) (open []*claim) {
 		}
 	}
 	delete(c.sent, number)
+	if number == c.number {
+		c.flying = false // The broker has stored it, though its answer may come later.
+	}
 	return open
 }
 
-// end ends a claim that arrived has returned. Its outcome is set.
-func (c *claims) end(mine *claim) {
+// end ends claims that arrived has returned. Their outcome is set.
+func (c *claims) end(all ...*claim) {
 	c.mu.Lock()
 	defer c.mu.Unlock()
-	c.finish(mine)
+	for _, mine := range all {
+		c.finish(mine)
+	}
 }
 
 // finish lets the requests go on that wait for a claim. The caller holds mu.

@@ -213,6 +213,10 @@ func (e *Engine) Check(ctx context.Context, token string) (svid.Accepted, error)
 	if e.Mode == Reuse {
 		return e.checkReuse(token)
 	}
+	if e.Mode == Strict {
+		e.claims.requests.Add(1)
+		defer e.claims.requests.Add(-1)
+	}
 	yes, err := e.verify(token)
 	if err != nil {
 		return svid.Accepted{}, err

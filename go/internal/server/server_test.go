@@ -560,35 +560,43 @@ func TestClaimsShareAValue(t *testing.T) {
 	wantUses(t, all, many)
 }
 
-// Where the broker answers, the next value does not wait as long as for an answer that stays away.
+// Once the last value is stored, the next one does not wait as long as for an answer that stays away. While requests are
+// being worked on, it waits for their claims.
 func TestTheNextValueGoesOutOnceTheLastOneLanded(t *testing.T) {
-	c := newClaims()
-	open := func(n byte) { c.begin(&claim{use: svid.Use{Key: svid.TokenKey{n}}, done: make(chan struct{})}) }
-	again := func() { t.Error("the hour is over") }
-	open(1)
-	if number, _ := c.next(again); number != 1 {
-		t.Fatal(number)
-	}
-	c.at = time.Now().Add(time.Hour) // so that this test has time
-	open(2)
-	for _, row := range []struct {
-		what string
-		do   func()
-		want time.Duration
-	}{
-		{"no answer", func() {}, claimFlight},
-		{"the answer", func() { c.landed(1, nil) }, claimPause},
-		{"another claim", func() { open(3) }, claimPause},
+	for how, land := range map[string]func(c *claims){
+		"the answer":  func(c *claims) { c.landed(1, nil) },
+		"the value":   func(c *claims) { c.end(c.arrived(1)...) },
+		"its failure": func(c *claims) { c.landed(1, errors.New("time is up")) },
 	} {
-		row.do()
-		if number, _ := c.next(again); number != 0 {
-			t.Fatal(row.what, number)
+		c := newClaims()
+		open := func(n byte) { c.begin(&claim{use: svid.Use{Key: svid.TokenKey{n}}, done: make(chan struct{})}) }
+		again := func() { t.Error("the hour is over") }
+		open(1)
+		if number, _ := c.next(again); number != 1 {
+			t.Fatal(number)
 		}
-		if late := c.due.Sub(c.at.Add(row.want)); late < 0 || late > claimFlight/4 {
-			t.Errorf("%s: the next value is due %v late", row.what, late)
+		c.at = time.Now().Add(time.Hour) // so that this test has time
+		open(2)
+		working := func(n int) { c.requests.Store(int64(len(c.open) + n)) }
+		for _, row := range []struct {
+			what string
+			do   func()
+			want time.Duration
+		}{
+			{"nothing", func() { working(9) }, claimFlight},
+			{how, func() { land(&c); working(1) }, claimCompany},
+			{"half as many in work as wait", func() { open(3); working(1) }, claimPause},
+		} {
+			row.do()
+			if number, _ := c.next(again); number != 0 {
+				t.Fatal(row.what, number)
+			}
+			if got := c.due.Sub(c.at); got != row.want {
+				t.Errorf("%s: the next value is due after %v", row.what, got)
+			}
 		}
+		c.timer.Stop()
 	}
-	c.timer.Stop()
 }
 
 // A claim that is given up before its value goes out is not sent.

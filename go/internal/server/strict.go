@@ -38,7 +38,7 @@ var errGap = errors.New("values of the group's bucket are gone: whether another 
 // If the value does not come back in time (the broker is away), or if values in front of it are gone, the answer is 503.
 // The token is burnt then if the value is in the bucket, now or later: who reads it takes its uses.
 func (e *Engine) checkStrict(ctx context.Context, token string, yes []svid.Question) (svid.Accepted, error) {
-	end := time.Now().Add(e.Wait)
+	var late <-chan time.Time // Where this request goes on alone, the time of its value is enough.
 	for {
 		judged, err := e.validator.Judge(e.Now(), token, yes)
 		if err != nil {
@@ -46,13 +46,18 @@ func (e *Engine) checkStrict(ctx context.Context, token string, yes []svid.Quest
 		}
 		mine := &claim{use: judged.Use, token: token, yes: yes, done: make(chan struct{})}
 		if other := e.claims.begin(mine); other != nil {
-			if err := other.await(ctx, end); err != nil {
+			if late == nil {
+				timer := time.NewTimer(e.Wait)
+				defer timer.Stop()
+				late = timer.C
+			}
+			if err := other.await(ctx, late); err != nil {
 				return svid.Accepted{}, fmt.Errorf("waiting for the claim of another request: %w", err)
 			}
 			continue
 		}
 		e.sendClaims()
-		if err := mine.await(ctx, end); err != nil && e.claims.giveUp(mine) {
+		if err := mine.await(ctx, late); err != nil && e.claims.giveUp(mine) {
 			e.Metrics.ClaimsFailed.Add(1)
 			return svid.Accepted{}, fmt.Errorf("the token could not be claimed: %w", err)
 		}
@@ -64,40 +69,39 @@ func (e *Engine) checkStrict(ctx context.Context, token string, yes []svid.Quest
 	}
 }
 
-// await waits for the outcome of a claim.
-func (c *claim) await(ctx context.Context, end time.Time) error {
+// await waits for the outcome of a claim, until late says that it takes too long. (nil never does.)
+func (c *claim) await(ctx context.Context, late <-chan time.Time) error {
 	select {
 	case <-c.done:
 		return nil
-	default:
-	}
-	timer := time.NewTimer(time.Until(end))
-	defer timer.Stop()
-	select {
-	case <-c.done:
-		return nil
-	case <-timer.C:
+	case <-late:
 		return context.DeadlineExceeded
 	case <-ctx.Done():
 		return ctx.Err()
 	}
 }
 
-// sendClaims sends the claims that are to go out now, in one value, and lets others follow.
+// sendClaims sends the claims that are to go out now, in one value, and lets others follow. A value that has not come back
+// in time ends its claims.
 func (e *Engine) sendClaims() {
 	number, uses := e.claims.next(e.sendClaims)
 	if len(uses) == 0 {
 		return
 	}
+	time.AfterFunc(e.Wait, func() { e.landed(number, context.DeadlineExceeded) })
+	ctx, cancel := context.WithTimeout(context.Background(), e.Wait)
 	go func() {
-		ctx, cancel := context.WithTimeout(context.Background(), e.Wait)
 		defer cancel()
-		err := e.group.Load().Put(ctx, group.Claims, number, svid.Batches(uses))
-		if lost := e.claims.landed(number, err); lost > 0 {
-			e.Metrics.ClaimsFailed.Add(uint64(lost))
-		}
+		e.landed(number, e.group.Load().Put(ctx, group.Claims, number, svid.Batches(uses)))
 		e.sendClaims()
 	}()
+}
+
+// landed is told what became of a value: the broker has stored it, or err.
+func (e *Engine) landed(number uint64, err error) {
+	if lost := e.claims.landed(number, err); lost > 0 {
+		e.Metrics.ClaimsFailed.Add(uint64(lost))
+	}
 }
 
 // decide judges the claims of an own value, which this engine reads at its place in the bucket: the record has taken all
@@ -106,7 +110,7 @@ func (e *Engine) sendClaims() {
 //
 // Only what stands in the bucket wins: whoever can write there could give another value the key of this one.
 func (e *Engine) decide(open []*claim, firsts []byte) (won []*claim) {
-	uses := make(map[svid.TokenKey]svid.Use)
+	uses := make(map[svid.TokenKey]svid.Use, len(open))
 	if _, all, err := svid.Uses(firsts); err == nil {
 		for _, use := range all {
 			uses[use.Key] = use
@@ -144,6 +148,6 @@ func (e *Engine) endWon(won []*claim, err error) {
 	}
 	for _, c := range won {
 		c.err = err
-		e.claims.end(c)
 	}
+	e.claims.end(won...)
 }
