@@ -85,7 +85,7 @@ func (e *Engine) Take(values []group.Value) []error {
 				won := e.decide(open, t.messages[i])
 				t.upTo(i + 1)
 				e.endWon(won, t.errorOf(i))
-				e.sendClaims()
+				e.sendClaims() // The next value need not wait for what the broker answers to this one.
 			}
 		}
 	}
