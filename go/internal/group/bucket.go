@@ -15,9 +15,13 @@ type bucket struct {
 	last    uint64 // the number of its last value
 }
 
+// settled is how often in a row a cluster of brokers must say the same of a new bucket: members that start together may
+// each make it, and then it is made again under the one that looked first.
+const settled = 10
+
 // openBucket makes the bucket, or opens the one that is there if it keeps what it is given. It tries until ctx ends.
 func (g *Group) openBucket(ctx context.Context) (b bucket, err error) {
-	said := ""
+	said, same := "", 0
 	err = persist(ctx, "group: open the bucket", func() (bool, error) {
 		attempt, cancel := context.WithTimeout(ctx, attemptWait)
 		defer cancel()
@@ -32,8 +36,13 @@ func (g *Group) openBucket(ctx context.Context) (b bucket, err error) {
 			g.logChange(&said, "bucket not opened", err)
 			return false, err
 		}
+		if same++; !info.Created.Equal(b.created) {
+			same = 1
+		}
 		b = bucket{info.Created, info.State.LastSeq}
-		return true, g.keeps(info.Config)
+		isNew := g.options.Replicas > 1 && b.last == 0 && same < settled
+		err = g.keeps(info.Config)
+		return err != nil || !isNew, err
 	})
 	return b, err
 }
