@@ -15,8 +15,8 @@ type bucket struct {
 	last    uint64 // the number of its last value
 }
 
-// settled is how often in a row a cluster of brokers must say the same of a new bucket: members that start together may
-// each make it, and then it is made again under the one that looked first.
+// settled is how often in a row a cluster of brokers must say the same of a new bucket. Members that start together may
+// each ask for it, and the time at which it was made may then change behind the first look.
 const settled = 10
 
 // openBucket makes the bucket, or opens the one that is there if it keeps what it is given. It tries until ctx ends.

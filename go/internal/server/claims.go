@@ -126,8 +126,8 @@ func (c *claims) arm(due time.Time, again func()) {
 	c.timer, c.due = timer, due
 }
 
-// landed is told what became of a value: the broker has stored it, or err. In the second case its claims end, and landed
-// says how many these are. A value that has come back already has none.
+// landed records that the broker has stored a value, or else why not. In the second case its claims end, and landed says
+// how many these are. A value that has come back already has none.
 func (c *claims) landed(number uint64, err error) (failed int) {
 	c.mu.Lock()
 	defer c.mu.Unlock()

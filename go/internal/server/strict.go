@@ -97,7 +97,7 @@ func (e *Engine) sendClaims() {
 	}()
 }
 
-// landed is told what became of a value: the broker has stored it, or err.
+// landed records that the broker has stored a value, or else why not, and counts the claims that failed by that.
 func (e *Engine) landed(number uint64, err error) {
 	if lost := e.claims.landed(number, err); lost > 0 {
 		e.Metrics.ClaimsFailed.Add(uint64(lost))
