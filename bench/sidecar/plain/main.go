@@ -1,7 +1,8 @@
 // Plain is what a service writes today to accept a JWT-SVID once: the standard library's HTTP server, JSON reader and
-// ES256, and SET NX in Redis. bench/sidecar measures svidd beside it.
+// ES256, and SET NX in Redis. Without the address of a Redis it accepts a token as often as it comes, so it shows what a
+// request costs whose signature is verified, and nothing else. bench/sidecar measures svidd beside both.
 //
-//	plain ADDRESS BUNDLE AUDIENCE REDIS
+//	plain ADDRESS BUNDLE AUDIENCE [REDIS]
 package main
 
 import (
@@ -23,14 +24,17 @@ import (
 )
 
 func main() {
-	if len(os.Args) != 5 {
-		log.Fatal("usage: plain ADDRESS BUNDLE AUDIENCE REDIS")
+	if len(os.Args) != 4 && len(os.Args) != 5 {
+		log.Fatal("usage: plain ADDRESS BUNDLE AUDIENCE [REDIS]")
 	}
 	keys, err := readKeys(os.Args[2])
 	if err != nil {
 		log.Fatal(err)
 	}
-	s := &server{keys: keys, audience: os.Args[3], redis: pool{address: os.Args[4], idle: make(chan *conn, 256)}}
+	s := &server{keys: keys, audience: os.Args[3]}
+	if len(os.Args) == 5 {
+		s.redis = &pool{address: os.Args[4], idle: make(chan *conn, 256)}
+	}
 	log.Fatal(http.ListenAndServe(os.Args[1], s))
 }
 
@@ -60,7 +64,7 @@ func readKeys(name string) (map[string]*ecdsa.PublicKey, error) {
 type server struct {
 	keys     map[string]*ecdsa.PublicKey
 	audience string
-	redis    pool
+	redis    *pool // nil where no token is remembered
 }
 
 type claims struct {
@@ -74,7 +78,10 @@ func (s *server) ServeHTTP(w http.ResponseWriter, r *http.Request) {
 		http.Error(w, err.Error(), http.StatusUnauthorized)
 		return
 	}
-	first, err := s.redis.setNX(c.Jti, c.Exp-time.Now().Unix())
+	first := true
+	if s.redis != nil {
+		first, err = s.redis.setNX(c.Jti, c.Exp-time.Now().Unix())
+	}
 	switch {
 	case err != nil:
 		http.Error(w, err.Error(), http.StatusServiceUnavailable)
