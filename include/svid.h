@@ -239,6 +239,11 @@ uint32_t svid_validator_judge(svid_validator *v, uint64_t now, const svid_questi
                               const uint8_t *token, size_t token_len, uint8_t *out, size_t out_len,
                               svid_use *used, svid_told *told);
 
+/* Judges again a token that was accepted, or judged so, by the `key` and `exp` of its use alone: reads no token, verifies nothing, and adds
+ * nothing. At a `now` that is no earlier, and with the same trust bundles, the status is that of svid_validator_judge: SVID_OK, or
+ * SVID_EXPIRED, SVID_WITHDRAWN or SVID_REPLAYED. It first advances the record to `now`. SVID_JUMP. */
+uint32_t svid_validator_judge_again(svid_validator *v, uint64_t now, const svid_key *key, uint64_t exp, svid_told *told);
+
 /* Withdraws the token with this key, which expires at `exp`: it is refused as SVID_WITHDRAWN from now on, also by the validators that are told of
  * it. `used` is what the record gained. SVID_GONE if the token has expired; SVID_JUMP; SVID_NO_MEMORY. */
 uint32_t svid_validator_withdraw(svid_validator *v, uint64_t now, const svid_key *key, uint64_t exp,

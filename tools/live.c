@@ -65,8 +65,8 @@ typedef struct { uint32_t status; svid_told told; svid_use used; svid_part part;
 
 static uint32_t open_it(svid_validator *v, svid_told *told) { return svid_validator_open(v, &TERMS, (const uint8_t *)"ledger\n\nother", 13, bundles, bundles_len, told); }
 
-enum { OPEN, OPEN_BY_LENGTHS, BUNDLES, ASK, CHECK, JUDGE, WITHDRAW, TICK, TAKE, TELL, PARTS, SUMMARY, ANSWER, CALLS };
-static const char *const NAMES[] = { "open", "open_by_lengths", "bundles", "ask", "check", "judge", "withdraw", "tick", "take", "tell", "parts", "summary", "answer" };
+enum { OPEN, OPEN_BY_LENGTHS, BUNDLES, ASK, CHECK, JUDGE, JUDGE_AGAIN, WITHDRAW, TICK, TAKE, TELL, PARTS, SUMMARY, ANSWER, CALLS };
+static const char *const NAMES[] = { "open", "open_by_lengths", "bundles", "ask", "check", "judge", "judge_again", "withdraw", "tick", "take", "tell", "parts", "summary", "answer" };
 static uint8_t summary[SVID_SUMMARY_LEN];
 
 /* What a call is lent: inputs with their lengths in bytes, and structures and a room that it may write. */
@@ -91,6 +91,7 @@ static uint32_t call_with(int which, const loan *l) {
     case ASK: return svid_validator_ask(l->v, in[TOKEN].bytes, in[TOKEN].len, l->out, l->room, l->told);
     case CHECK: return svid_validator_check(l->v, NOW, in[YES].bytes, in[YES].len / 32, in[TOKEN].bytes, in[TOKEN].len, l->out, l->room, l->used, l->told);
     case JUDGE: return svid_validator_judge(l->v, NOW, in[YES].bytes, in[YES].len / 32, in[TOKEN].bytes, in[TOKEN].len, l->out, l->room, l->used, l->told);
+    case JUDGE_AGAIN: return svid_validator_judge_again(l->v, NOW, l->key, NOW + 100, l->told);
     case WITHDRAW: return svid_validator_withdraw(l->v, NOW, l->key, NOW + 100, l->used, l->told);
     case TICK: return svid_validator_tick(l->v, NOW, l->told);
     case TAKE: return svid_validator_take(l->v, NOW, in[MESSAGES].bytes, in[MESSAGES].len, l->told);
@@ -127,6 +128,7 @@ static size_t record(svid_validator *v, uint8_t *out, size_t room) {
 }
 
 static void verified(void);
+static void judged_again(void);
 
 static void refused(void) {
     static answer due, got, none;
@@ -208,6 +210,7 @@ static void refused(void) {
     svid_validator_close(&v);
     svid_validator_close(&w);
     verified();
+    judged_again();
     holds(standing == 0, "memory is held after close");
     printf("%ld allocations refused", tried);
 }
@@ -249,6 +252,35 @@ static void verified(void) {
     svid_validator_close(&v);
     answered = svid_validator_verify(&v, NOW, token, token_len, says, &yes_of_all, rows, sizeof rows, out, sizeof out, &used, &told);
     holds(answered == SVID_CLOSED, "a closed validator");
+}
+
+/* An accepted token is judged by its use as it is judged by itself: when it is new, when it was used or withdrawn, and about when it expires. */
+static void judged_again(void) {
+    uint8_t out[SVID_ID_ROOM];
+    svid_told told;
+    at = "svid_validator_judge_again";
+    for (int kind = 0; kind < 3; kind++) {
+        svid_validator v;
+        svid_use used, other;
+        svid_key key;
+        begin(TELL, &v);
+        holds(svid_validator_judge(&v, NOW, yes, yes_len, token, token_len, out, sizeof out, &used, &told) == SVID_OK, "the token");
+        memcpy(key.bytes, used.key, sizeof key.bytes);
+        if (kind == 1) holds(svid_validator_check(&v, NOW, yes, yes_len, token, token_len, out, sizeof out, &other, &told) == SVID_OK, "its check");
+        if (kind == 2) holds(svid_validator_withdraw(&v, NOW, &key, used.exp, &other, &told) == SVID_OK, "its withdrawal");
+        static const uint32_t due[] = { SVID_OK, SVID_REPLAYED, SVID_WITHDRAWN };
+        uint64_t moments[] = { NOW, NOW + 86400, used.exp - 1, used.exp }, moment = NOW, step;
+        for (size_t i = 0; i < sizeof moments / sizeof *moments; i++) {
+            for (; moment < moments[i]; moment += step) {
+                step = moments[i] - moment < TERMS.step ? moments[i] - moment : TERMS.step;
+                holds(svid_validator_tick(&v, moment + step, &told) == SVID_OK, "a step of the clock");
+            }
+            answered = svid_validator_judge_again(&v, moments[i], &key, used.exp, &told);
+            holds(answered == (moments[i] < used.exp ? due[kind] : SVID_EXPIRED) && told.len == 0, "what it answers");
+            holds(answered == svid_validator_judge(&v, moments[i], yes, yes_len, token, token_len, out, sizeof out, &other, &told), "a judgment of the token answers otherwise");
+        }
+        svid_validator_close(&v);
+    }
 }
 
 /* So many bytes between two pages that can't be touched, right behind the first or right before the second; which are these bytes, where some are given. */

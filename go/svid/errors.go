@@ -21,6 +21,8 @@ var (
 	ErrTooFar = errors.New("svid: the message is from further in the future than clocks may differ")
 	// ErrJump: now is more than Options.Step seconds past the record's moment.
 	ErrJump = errors.New("svid: the clock went further than one step may")
+	// ErrRenewed: the trust bundles are other ones than when the token was accepted.
+	ErrRenewed = errors.New("svid: the trust bundles were replaced since the token was judged: judge it again")
 	// ErrTooMuch: an input of messages has more than MaxMessages bytes.
 	ErrTooMuch = errors.New("svid: more than 67108864 bytes of messages in one call")
 	// ErrNotSummary: the input is not one summary.

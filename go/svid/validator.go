@@ -59,6 +59,8 @@ type Options struct {
 type Accepted struct {
 	ID  string // the SPIFFE ID of its subject
 	Use Use    // what the record gained by it, or would gain
+
+	bundles uint64 // which of the validator's bundles it was judged by
 }
 
 // A Validator judges tokens, and keeps the record of those that were used or
@@ -71,7 +73,10 @@ type Validator struct {
 	// What a call writes, kept here so that it needs no new memory. Guarded by mu.
 	told C.svid_told
 	used C.svid_use
+	key  C.svid_key
 	id   [C.SVID_ID_ROOM]byte
+
+	bundles uint64 // how often there were other bundles, the first included; guarded by mu
 }
 
 // Open returns a validator with an empty record. To go on with a saved record,
@@ -85,7 +90,7 @@ func Open(o Options) (*Validator, error) {
 	for i, b := range o.Place {
 		terms.place[i] = C.uint8_t(b)
 	}
-	v := &Validator{}
+	v := &Validator{bundles: 1}
 	status := C.svid_validator_open(&v.handle, &terms, start(own), C.size_t(len(own)),
 		start(o.Bundles), C.size_t(len(o.Bundles)), &v.told)
 	if err := failure(status, &v.told); err != nil {
@@ -126,7 +131,11 @@ func (v *Validator) SetBundles(bundles []byte) error {
 	v.mu.Lock()
 	defer v.mu.Unlock()
 	status := C.svid_validator_bundles(&v.handle, start(bundles), C.size_t(len(bundles)), &v.told)
-	return failure(status, &v.told)
+	if err := failure(status, &v.told); err != nil {
+		return err
+	}
+	v.bundles++
+	return nil
 }
 
 // Check judges the token, and if it accepts it, adds the use to the record, so
@@ -158,6 +167,24 @@ func (v *Validator) judge(now uint64, token string, yes []Question) (Accepted, e
 	return v.accepted(status)
 }
 
+// JudgeAgain answers what Judge would answer for a token that this validator has
+// accepted, by Check or Judge: nil, or Expired, Withdrawn or Replayed. now must be
+// no earlier than then. It goes by the use alone, so it takes a fraction of the
+// time. Nothing is added to the record.
+//
+// ErrRenewed: the trust bundles were replaced since. Judge the token. ErrJump,
+// ErrClosed.
+func (v *Validator) JudgeAgain(now uint64, accepted Accepted) error {
+	v.mu.Lock()
+	defer v.mu.Unlock()
+	if accepted.bundles != v.bundles {
+		return ErrRenewed
+	}
+	*(*TokenKey)(unsafe.Pointer(&v.key)) = accepted.Use.Key
+	status := C.svid_validator_judge_again(&v.handle, C.uint64_t(now), &v.key, C.uint64_t(accepted.Use.Expires), &v.told)
+	return failure(status, &v.told)
+}
+
 // CheckClaimed is the Check of a token whose use was made public before, by a
 // batch of one use: it judges the token, and if it accepts it, adds exactly
 // that use. (Check would add a use with the time of its own call, so that the
@@ -181,7 +208,7 @@ func (v *Validator) accepted(status C.uint32_t) (Accepted, error) {
 	if err := failure(status, &v.told); err != nil {
 		return Accepted{}, err
 	}
-	return Accepted{ID: string(v.id[:v.told.len]), Use: v.use(false)}, nil
+	return Accepted{ID: string(v.id[:v.told.len]), Use: v.use(false), bundles: v.bundles}, nil
 }
 
 func (v *Validator) use(withdrawn bool) Use {

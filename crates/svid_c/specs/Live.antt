@@ -2,7 +2,7 @@
 use Rattle.std.specs.Prelude.{◌≡◌, ◌&&◌, ◌-◌, ℕ, Bool, true, false, ◌<◌, ◌≤◌, nat_lt, List, [], ◌∷◌, length, Option, None, Some, Result, Ok}
 use Rattle.std.specs.List.{flat_map}
 use Rattle.svid_id.specs.Id.{id_text}
-use Rattle.svid_token.specs.Rows.{Refuses}
+use Rattle.svid_token.specs.Rows.{Refuses, first_row}
 use Rattle.svid_token.specs.declared.refusal.Refusal.{Refusal}
 use Rattle.svid_keys.specs.Bundles.{Bundle}
 use Rattle.svid_replay.specs.Buckets.{answer_to, raised_to}
@@ -14,7 +14,7 @@ use Rattle.svid_wire.specs.BatchText.{batch_text}
 use Rattle.svid_wire.specs.declared.message.Message.TheVariants.{Summary}
 use Rattle.svid_check.specs.Changes.{gains, horizon, withdrawal}
 use Rattle.svid_check.specs.Setting.{Held, setting_by, with_bundles, with_state}
-use Rattle.svid_check.specs.Verdict.{verdict}
+use Rattle.svid_check.specs.Verdict.{again_rows, verdict}
 use Rattle.svid_check.specs.declared.accepted.Accepted.{Accepted}
 use Rattle.svid_share.specs.declared.tool_fault.ToolFault.{ToolFault}
 use Rattle.svid_c.specs.Answered.{says_yes}
@@ -90,6 +90,17 @@ adds r used = gains r (Some used)
 -- a judgment adds nothing
 abbrev pub adds_nothing : State → Use → State
 adds_nothing r used = r
+
+-- the number of what refuses a token, or 0
+abbrev pub number_if_refused : Option Refusal → ℕ
+number_if_refused None = 0
+number_if_refused (Some why) = refusal_number why
+
+-- what judging an accepted token again does: the record is raised, and the answer is what refuses the token there, if something does
+pub record JudgesAgain (now : ℕ) (key : List ℕ) (exp status : ℕ) (told : SvidTold) (old new : Kept) : Type 0 where
+  pub answer : status ≡ number_if_refused (first_row (again_rows (raised_to old.state now).moment (raised_to old.state now).uses key exp))
+  pub length : told ≡ told_length 0
+  pub raised : new ≡ with_state old (raised_to old.state now)
 
 -- what renewing the bundles does: other bundles stand in the place of those that there were; or they are refused, and nothing happens
 pub data Renews (text : List ℕ) (status : ℕ) (told : SvidTold) (old new : Kept) : Type 0 where

@@ -15,6 +15,7 @@ mod inputs;
 mod join;
 mod lent;
 mod live;
+mod live_again;
 mod live_check;
 mod live_judge;
 mod names;

@@ -1,5 +1,5 @@
 -- The verdict on a token: a table of 25 refusals, and the acceptance where none of them holds.
-use Rattle.std.specs.Prelude.{◌≢◌, ℕ, ◌+◌, Bool, false, not, nat_lt, ◌==◌, List, [], ◌∷◌, ◌++◌, length, bytes_eq, Option, Some, None, is_none, option_map, Result, Ok}
+use Rattle.std.specs.Prelude.{◌≡◌, ◌≢◌, ◌≤◌, ℕ, ◌+◌, Bool, false, not, nat_lt, ◌==◌, List, [], ◌∷◌, ◌++◌, length, bytes_eq, Option, Some, None, is_none, option_map, Result, Ok}
 use Rattle.std.specs.List.{list_any}
 use Rattle.sha2.specs.Sha256.{sha256}
 use Rattle.svid_token.specs.declared.refusal.Refusal.{Refusal}
@@ -90,3 +90,17 @@ verdict s moment uses token = judged (first_row (verdict_rows s moment uses toke
 -- no verdict accepts a token that does not say all
 abbrev pub AcceptsNoSilence : Type 0
 AcceptsNoSilence = (s : Setting) (moment : ℕ) (uses : Uses) (token : List ℕ) → verdict s moment uses token ≢ Ok None
+
+-- the refusals of an accepted token, by its key and when it expires: of the table, what may come to hold while the setting stays
+abbrev pub again_rows : ℕ → Uses → List ℕ → ℕ → List Row
+again_rows moment uses key exp = (Expired, not (nat_lt moment exp)) ∷ record_rows uses key
+
+-- an acceptance, made at another moment
+abbrev pub made_at : ℕ → Accepted → Accepted
+made_at moment a = record { id = a.id; used = record { exp = a.used.exp; key = a.used.key; place = a.used.place; at = moment; withdrawn = a.used.withdrawn } }
+
+-- once a token was accepted, its use tells each later verdict on it, while the setting stays
+abbrev pub AcceptedAreJudgedAgain : Type 0
+AcceptedAreJudgedAgain = (s : Setting) (moment later : ℕ) (uses others : Uses) (token : List ℕ) (a : Accepted)
+    → verdict s moment uses token ≡ Ok (Some a) → moment ≤ later
+    → verdict s later others token ≡ judged (first_row (again_rows later others a.used.key a.used.exp)) (Some (made_at later a))

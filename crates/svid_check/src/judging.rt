@@ -72,7 +72,7 @@ fn is_signed<V: Verifier>(given: &Given, verifier: &V, reading: &Reading<'_>) ->
 
 // Why the record refuses a key. A withdrawal is one of its uses, so one look tells of a key that is new.
 #[tactic(auto, using(crate::proofs::VerdictLemmas::withdrawn_is_held))]
-fn record_refusal<S: UseStore>(replay: &Record<S>, key: &[u8; 32]) -> Option<Refusal>
+pub(crate) fn record_refusal<S: UseStore>(replay: &Record<S>, key: &[u8; 32]) -> Option<Refusal>
     ensures { result ≡ first_row (record_rows replay.now.uses key.now) }
 {
     if !replay.has(key) {

@@ -13,7 +13,7 @@ ghost use Rattle.svid_check.specs.Said.{UnrefusedIsSaid};
 ghost use Rattle.svid_check.specs.Saves.{CallsLeaveLater, LaterGoesOn, SavesLoseNothing};
 ghost use Rattle.svid_check.specs.Table.{TableIsOneList};
 ghost use Rattle.svid_check.specs.Told.{BeginsAsGiven};
-ghost use Rattle.svid_check.specs.Verdict.{AcceptsNoSilence};
+ghost use Rattle.svid_check.specs.Verdict.{AcceptedAreJudgedAgain, AcceptsNoSilence};
 ghost use Rattle.svid_check.specs.Verifiers.{TablesStand};
 
 /// A token that nothing refuses by itself says all that must be there, so that no verdict is 'accepted'
@@ -38,6 +38,12 @@ pub fn verdicts_are_lawful()
     ensures fresh { IsFresh }
     ensures of_its_input { IsOfItsInput }
     ensures in_range { IsInRange }
+{}
+
+/// Once a token was accepted, or judged so, its key and when it expires tell each later verdict on it: while audiences,
+/// trust bundles, verifier and longest life stay, it can only expire, be withdrawn or be used.
+pub fn accepted_tokens_are_judged_again()
+    ensures { AcceptedAreJudgedAgain }
 {}
 
 /// A validator that is given a record begins as one that was told the record's moment and its uses.

@@ -36,6 +36,7 @@ mod answering;
 mod event;
 mod given;
 mod judging;
+mod judging_again;
 pub mod laws;
 mod reading;
 mod renewing;

@@ -2,7 +2,7 @@ ghost use Rattle.std.specs.Prelude.{◌≡◌, replicate, IfOk};
 ghost use Rattle.svid_replay.specs.Uses.{no_uses};
 
 use crate::shards::{
-    SHARDS, TENDED, compact_some, drop_all_expired, insert_into, next_after, next_ahead,
+    ROUND, SHARDS, TENDED, compact_some, drop_all_expired, insert_into, next_after, next_ahead,
     shard_holds, shard_of, tidy_some,
 };
 use std::alloc::{AllocError, Global};
@@ -14,7 +14,7 @@ use svid_replay::{Ahead, Raised, Room, RunUses, Use, UseStore};
 ///
 /// A walk looks into each of the stores once, where it begins, and then into one for each use. What expires is taken out of all stores, but only where
 /// the moment has come to a second in which a use may expire. A call of `tidy` or `compact` has to do with four of the
-/// stores, so 64 calls do it in all.
+/// stores, so 64 calls do it in all. Behind these, `tidy` does nothing until uses may have expired again.
 #[derive(Debug, Drop)]
 pub struct ShardedUses<S: UseStore> {
     shards: Vec<S>,
@@ -24,6 +24,8 @@ pub struct ShardedUses<S: UseStore> {
     // (the numbers of the shards that are tidied and compacted next)
     next_tidied: u8,
     next_compacted: u8,
+    // (so many calls of `tidy` have shards to tidy, since uses went)
+    untidied: u8,
 }
 
 impl<S: UseStore> Model for ShardedUses<S> {
@@ -63,6 +65,7 @@ impl ShardedUses<RunUses> {
             first: u64::MAX,
             next_tidied: 0,
             next_compacted: 0,
+            untidied: 0,
         })
     }
 }
@@ -94,12 +97,17 @@ impl<S: UseStore> UseStore for ShardedUses<S> {
             return Raised { dropped: 0 };
         }
         let dropped = drop_all_expired(&mut self.shards, moment);
+        self.untidied = ROUND;
         self.total -= dropped;
         self.first = moment.saturating_add(1);
         Raised { dropped }
     }
 
     fn tidy(&mut self) {
+        if self.untidied == 0 {
+            return;
+        }
+        self.untidied -= 1;
         tidy_some(&mut self.shards, self.next_tidied);
         self.next_tidied = self.next_tidied.wrapping_add(TENDED);
     }

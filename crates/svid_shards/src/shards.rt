@@ -17,6 +17,9 @@ pub(crate) const SHARDS: usize = 256;
 // So many shards are tidied or compacted at a time: few, so that a call is short.
 pub(crate) const TENDED: u8 = 4;
 
+// So many times tend to all shards.
+pub(crate) const ROUND: u8 = 64;
+
 // The number of the shard that uses of a key lie in.
 pub(crate) fn shard_of(key: &[u8; 32]) -> usize
     ensures value { result ≡ slice_index key.now 0 }

@@ -1,0 +1,52 @@
+ghost use Rattle.std.specs.Prelude.{◌≡◌};
+ghost use Rattle.svid_c.specs.Live.{CallsAt, JudgesAgain};
+
+use crate::live::Live;
+use crate::refusal::refusal_number;
+use crate::told::{SvidTold, told_length};
+use crate::validator::{SvidValidator, only};
+use crate::withdraw::SvidKey;
+use std::alloc::Global;
+
+// Judges an accepted token again.
+fn judge_again(live: &mut Live, now: u64, key: &[u8; 32], exp: u64, told: &mut SvidTold) -> u32
+    ensures does { JudgesAgain now key.now exp result told.new live.old.validator live.new.validator }
+    ensures step { live.new.step ≡ live.old.step }
+{
+    *told = told_length(0);
+    match live.validator.judge_again(now, key, exp) {
+        None => 0,
+        Some(refusal) => refusal_number(refusal),
+    }
+}
+
+/// Judges a token again that was accepted, or judged so, by the key of its use and by when it expires: at the moment `now`, in seconds,
+/// which is no earlier, and with the same trust bundles. Reads no token, adds no use, and takes no memory.
+///
+/// The call first advances the record to `now`, and judges at the record's moment, which may be later. 0 where
+/// [`svid_validator_judge`](crate::live_judge::svid_validator_judge) would accept the token then, and else the number that it would
+/// answer: 118 where it has expired, 124 where it was withdrawn, and 125 where it was used. 5 where the validator is closed, and 9 where
+/// `now` is more than `step` past the record's moment: then nothing happened.
+#[unsafe(no_mangle)]
+pub extern "C" fn svid_validator_judge_again(
+    alloc: Global,
+    v: &mut SvidValidator,
+    now: u64,
+    key: &SvidKey,
+    exp: u64,
+    told: &mut SvidTold,
+) -> u32
+    ensures { CallsAt now (Unit {0}) (JudgesAgain now key.now.bytes exp result told.new) result told.new v.old.handle.live v.new.handle.live }
+{
+    let Some(mut live) = v.take(alloc) else {
+        return only(5, told);
+    };
+    if live.jumps(now) {
+        v.put(live);
+        return only(9, told);
+    }
+    let bytes = key.bytes;
+    let status = judge_again(&mut live, now, &bytes, exp, told);
+    v.put(live);
+    status
+}
