@@ -57,8 +57,8 @@ func TestComposeFile(t *testing.T) {
 	var all []*process
 	for _, name := range []string{"svidd-1", "svidd-2"} {
 		service := compose.Services[name]
-		if _, err := os.Stat(filepath.Join("../../deploy", service.Build.Context, service.Build.Dockerfile)); err != nil {
-			t.Error(err)
+		if context := filepath.Join("../../deploy", service.Build.Context); context != imageContext || service.Build.Dockerfile != "" {
+			t.Errorf("%s is built from %s %s, and not as TestImage does", name, context, service.Build.Dockerfile)
 		}
 		if of := strings.TrimPrefix(service.Network, "service:"); compose.Services[of].Image == "" || of == service.Network {
 			t.Errorf("%s has the network of %q", name, service.Network)

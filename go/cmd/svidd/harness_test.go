@@ -11,6 +11,7 @@ import (
 	"os"
 	"os/exec"
 	"path/filepath"
+	"strconv"
 	"strings"
 	"sync"
 	"syscall"
@@ -82,6 +83,7 @@ func writeBundle(t testing.TB, name string, i *issuer.Issuer) {
 // A process is a running svidd.
 type process struct {
 	t       testing.TB
+	program []string // what runs svidd with its words behind: the test's own binary where empty
 	args    []string
 	address string
 	run     *exec.Cmd
@@ -110,7 +112,13 @@ func (l *lines) String() string {
 // start starts svidd serve on a free port, and waits until it is ready.
 func start(t testing.TB, args ...string) *process {
 	t.Helper()
-	p := &process{t: t, address: freeAddress(t), log: &lines{}, client: &http.Client{
+	return startBy(t, nil, args...)
+}
+
+// startBy starts it by another program.
+func startBy(t testing.TB, program []string, args ...string) *process {
+	t.Helper()
+	p := &process{t: t, program: program, address: freeAddress(t), log: &lines{}, client: &http.Client{
 		Timeout: patience, Transport: &http.Transport{MaxIdleConnsPerHost: 64},
 	}}
 	p.args = append([]string{"serve", "--audience", "ledger", "--longest", "3600", "--listen", p.address}, args...)
@@ -144,6 +152,10 @@ func (p *process) start() {
 func (p *process) launch() {
 	p.t.Helper()
 	p.run = command(p.args...)
+	if len(p.program) > 0 {
+		words := append(p.program[:len(p.program):len(p.program)], p.args...)
+		p.run = exec.Command(words[0], words[1:]...)
+	}
 	p.run.Stderr = p.log
 	if err := p.run.Start(); err != nil {
 		p.t.Fatal(err)
@@ -163,7 +175,7 @@ func (p *process) await(what string, is func() bool) {
 // kill ends the process as a crash does, if it runs.
 func (p *process) kill() {
 	if p.run != nil && p.run.ProcessState == nil {
-		_ = p.run.Process.Kill()
+		_ = p.signal(syscall.SIGKILL)
 		_ = p.run.Wait()
 	}
 	p.client.CloseIdleConnections()
@@ -172,13 +184,34 @@ func (p *process) kill() {
 // end ends it by SIGTERM, and wants it to end well.
 func (p *process) end() {
 	p.t.Helper()
-	if err := p.run.Process.Signal(syscall.SIGTERM); err != nil {
+	if err := p.signal(syscall.SIGTERM); err != nil {
 		p.t.Fatal(err)
 	}
 	if err := p.run.Wait(); err != nil {
 		p.t.Fatalf("svidd: %v\n%s", err, p.log)
 	}
 	p.client.CloseIdleConnections()
+}
+
+// signal sends svidd a signal. Another program that runs it (the last word of which is svidd) need not pass signals on: so
+// it goes to the process with svidd's own command line, where there is one.
+func (p *process) signal(s syscall.Signal) error {
+	pid := p.run.Process.Pid
+	if n := len(p.program); n > 0 {
+		line := strings.Join(append(p.program[n-1:n:n], p.args...), "\x00") + "\x00"
+		processes, err := filepath.Glob("/proc/[0-9]*")
+		if err != nil {
+			return err
+		}
+		for _, folder := range processes {
+			if text, err := os.ReadFile(filepath.Join(folder, "cmdline")); err == nil && string(text) == line {
+				if pid, err = strconv.Atoi(filepath.Base(folder)); err != nil {
+					return err
+				}
+			}
+		}
+	}
+	return syscall.Kill(pid, s)
 }
 
 func (p *process) get(path string) (status int, body string) {
