@@ -192,6 +192,59 @@ func Split(messages []byte, most int) [][]byte {
 	return pieces
 }
 
+// Pieces cuts batches into pieces of most uses each, and what is left into a last one. The pieces have the uses in the order
+// of Uses. Each piece is whole batches: where a cut goes through a batch, both sides have its head.
+//
+// Batches of at most most uses are one piece, as they are. So are bytes that are no whole batches, which AreBatches denies,
+// for Validator.Take to reject. No bytes are no piece. A most below 1 counts as 1.
+func Pieces(batches []byte, most int) [][]byte {
+	if most < 1 {
+		most = 1
+	}
+	if len(batches) == 0 {
+		return nil
+	}
+	if !AreBatches(batches) {
+		return [][]byte{batches}
+	}
+	all := 0
+	for rest := batches; len(rest) > 0; rest = rest[messageLen(rest):] {
+		all += batchCount(rest)
+	}
+	if all <= most {
+		return [][]byte{batches}
+	}
+	cuts := (all - 1) / most
+	pieces := make([][]byte, 0, cuts+1)
+	out := make([]byte, 0, len(batches)+cuts*batchHeadLen) // all pieces, one after the other
+	begin, room := 0, most                                 // of the piece that is being written
+	for len(batches) > 0 {
+		count, length := batchCount(batches), messageLen(batches)
+		head, uses := batches[:batchHeadLen], batches[batchHeadLen:length]
+		batches = batches[length:]
+		for {
+			if room == 0 && count > 0 {
+				pieces = append(pieces, out[begin:len(out):len(out)])
+				begin, room = len(out), most
+			}
+			n := count
+			if n > room {
+				n = room
+			}
+			out = binary.BigEndian.AppendUint32(append(out, head[:countAt]...), uint32(n))
+			out = append(out, uses[:n*useLen]...)
+			uses, count, room = uses[n*useLen:], count-n, room-n
+			if count == 0 {
+				break
+			}
+		}
+	}
+	return append(pieces, out[begin:])
+}
+
+// batchCount is how many uses the first batch has.
+func batchCount(batches []byte) int { return int(binary.BigEndian.Uint32(batches[countAt:])) }
+
 // messageLen is the length of the first message, or all that is there where
 // that is no whole message.
 func messageLen(b []byte) int {
@@ -233,6 +286,9 @@ func Uses(messages []byte) (moment uint64, uses []Use, err error) {
 		}
 		if m := binary.BigEndian.Uint64(batch[5:]); m > moment {
 			moment = m
+		}
+		if uses == nil && count > 0 {
+			uses = make([]Use, 0, count)
 		}
 		for text := batch[batchHeadLen:]; len(text) > 0; text = text[useLen:] {
 			uses = append(uses, readUse(text))
