@@ -13,8 +13,8 @@ const (
 	// claimPause is between two values with claims: those that come meanwhile share the next one. Nobody waits for it at
 	// a quiet time.
 	claimPause = time.Millisecond
-	// claimCompany is the same at a busy time, until twice as many claims wait as requests are being worked on. A value
-	// costs the same with more claims, and the processors have those requests to work on until it is back.
+	// claimCompany is the same at a busy time, until as many claims wait as requests are being worked on. A value costs the
+	// same with more claims, and the processors have those requests to work on until it is back.
 	claimCompany = 3 * time.Millisecond
 	// claimFlight is how long the next value waits for the broker's answer to the last one: so a broker that is busy gets
 	// fewer values, with more claims each.
@@ -81,7 +81,7 @@ func (c *claims) next(again func()) (number uint64, uses []svid.Use) {
 	pause := claimPause
 	if working := int(c.requests.Load()) - len(c.open); c.flying {
 		pause = claimFlight
-	} else if 2*working > len(c.gather) {
+	} else if working > len(c.gather) {
 		pause = claimCompany
 	}
 	now := time.Now()

@@ -584,8 +584,8 @@ func TestTheNextValueGoesOutOnceTheLastOneLanded(t *testing.T) {
 			want time.Duration
 		}{
 			{"nothing", func() { working(9) }, claimFlight},
-			{how, func() { land(&c); working(1) }, claimCompany},
-			{"half as many in work as wait", func() { open(3); working(1) }, claimPause},
+			{how, func() { land(&c); working(2) }, claimCompany},
+			{"as many in work as wait", func() { open(3); working(2) }, claimPause},
 		} {
 			row.do()
 			if number, _ := c.next(again); number != 0 {
