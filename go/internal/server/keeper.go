@@ -25,14 +25,18 @@ type keeper struct {
 
 // keepSoon brings batches to the disk, where there is a state folder, and returns before that. Those that come while
 // others are on their way share the next write.
-func (e *Engine) keepSoon(batches []byte) {
-	if e.Journal == nil {
+func (e *Engine) keepSoon(batches ...[]byte) {
+	length := 0
+	for _, b := range batches {
+		length += len(b)
+	}
+	if e.Journal == nil || length == 0 {
 		return
 	}
 	k := &e.keeper
 	k.mu.Lock()
 	defer k.mu.Unlock()
-	if len(k.batches)+len(batches) > mostUnkept {
+	if len(k.batches)+length > mostUnkept {
 		e.Metrics.JournalFailures.Add(1)
 		if !k.full {
 			e.Log.Error("journal", errUnkept)
@@ -40,7 +44,9 @@ func (e *Engine) keepSoon(batches []byte) {
 		k.full = true
 		return
 	}
-	k.batches = append(k.batches, batches...)
+	for _, b := range batches {
+		k.batches = append(k.batches, b...)
+	}
 	if !k.busy {
 		k.busy = true
 		k.tasks.Add(1)

@@ -63,7 +63,7 @@ func (e *Engine) Load(messages []byte) error {
 // Take gives the record values of the group, in their order. An error says that a value is put aside: it is no message, or
 // of a time further ahead than Options.Ahead.
 //
-// A value of claims that this engine has sent is where those are decided (Engine.decide): with all values in front of it
+// A value of claims that this engine has sent is where those are decided (taking.decide): with all values in front of it
 // in the record, and none behind it.
 func (e *Engine) Take(values []group.Value) []error {
 	t := taking{engine: e, values: values, messages: make([][]byte, len(values))}
@@ -81,11 +81,7 @@ func (e *Engine) Take(values []group.Value) []error {
 		case group.Claims:
 			t.messages[i] = e.claims.firsts(v.Message)
 			if open := e.claims.arrived(v.Own); len(open) > 0 {
-				t.upTo(i)
-				won := e.decide(open, t.messages[i])
-				t.upTo(i + 1)
-				e.endWon(won, t.errorOf(i))
-				e.sendClaims() // The next value need not wait for what the broker answers to this one.
+				t.decide(i, open)
 			}
 		}
 	}
@@ -100,13 +96,6 @@ type taking struct {
 	messages [][]byte // what the record is to take of each
 	done     int      // so many were taken, or put aside
 	errs     []error  // nil, or one for each value
-}
-
-func (t *taking) errorOf(i int) error {
-	if t.errs == nil {
-		return nil
-	}
-	return t.errs[i]
 }
 
 // upTo gives the record the messages that it has not been given yet, up to one of them. To take several at once takes half
@@ -133,16 +122,24 @@ func (t *taking) upTo(end int) {
 		if e.Log.Writes(All) {
 			e.Log.Detail("message", "bytes", len(t.messages[i]), "error", err)
 		}
-		if err == nil {
-			continue
+		if err != nil {
+			t.putAside(i, err, t.messages[i])
 		}
-		if t.errs == nil {
-			t.errs = make([]error, len(t.values))
-		}
-		t.errs[i] = err
-		if t.values[i].Kind == group.Claims {
-			e.claims.putAside(t.messages[i], e.Now())
-		}
+	}
+}
+
+// putAside records why the record did not take a value, or these messages of it.
+func (t *taking) putAside(i int, err error, messages ...[]byte) {
+	if t.errs == nil {
+		t.errs = make([]error, len(t.values))
+	}
+	t.errs[i] = err
+	if t.values[i].Kind != group.Claims {
+		return
+	}
+	now := t.engine.Now()
+	for _, m := range messages {
+		t.engine.claims.putAside(m, now)
 	}
 }
 

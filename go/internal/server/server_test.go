@@ -474,7 +474,8 @@ func TestRequestsWaitForAnOpenClaim(t *testing.T) {
 	}
 }
 
-// The disk has the uses of claims that won soon, and those alone; no answer waits for it, or fails where it does.
+// The disk soon has what the record took of own values, and no claim that was lost. No answer waits for it, or fails where
+// it does.
 func TestStrictKeepsWhatItWon(t *testing.T) {
 	b, d := &broker{}, &disk{}
 	var out bytes.Buffer
@@ -516,6 +517,7 @@ func TestStrictKeepsWhatItWon(t *testing.T) {
 	if err := check(kept.engine, token("slow")); err != nil {
 		t.Error(err)
 	}
+	kept.engine.keeper.tasks.Wait()
 	if n := kept.engine.Metrics.JournalFailures.Load(); n != 2 {
 		t.Errorf("%d failures", n)
 	}
@@ -558,6 +560,346 @@ func TestClaimsShareAValue(t *testing.T) {
 		t.Errorf("%d values", len(b.log))
 	}
 	wantUses(t, all, many)
+}
+
+// gather sends tokens to an engine whose claims do not go out yet, and returns once all of them wait.
+func gather(t *testing.T, m *tie, tokens []string) (answers []chan error) {
+	t.Helper()
+	m.hold(true)
+	c := &m.engine.claims
+	c.mu.Lock()
+	c.at = time.Now().Add(time.Hour)
+	want := len(c.gather) + len(tokens)
+	c.mu.Unlock()
+	for _, one := range tokens {
+		answer := make(chan error, 1)
+		answers = append(answers, answer)
+		go func(one string) { answer <- check(m.engine, one) }(one)
+	}
+	await(t, "all claims", func() bool {
+		c.mu.Lock()
+		defer c.mu.Unlock()
+		return len(c.gather) == want
+	})
+	return answers
+}
+
+// send lets claims that gather gathered go out in one value, and returns once that is in the log.
+func send(t *testing.T, m *tie) {
+	t.Helper()
+	c := &m.engine.claims
+	c.mu.Lock()
+	c.at = time.Time{}
+	c.mu.Unlock()
+	m.mu.Lock()
+	before := len(m.log)
+	m.mu.Unlock()
+	m.engine.sendClaims()
+	await(t, "the value", func() bool {
+		m.mu.Lock()
+		defer m.mu.Unlock()
+		return len(m.log) == before+1
+	})
+}
+
+// inOrderOf returns tokens and the uses of their claims, in the order in which a value has those.
+func inOrderOf(t *testing.T, e *Engine, count int) (tokens []string, uses []svid.Use) {
+	t.Helper()
+	byKey := make(map[svid.TokenKey]string)
+	for i := 0; i < count; i++ {
+		one := token(fmt.Sprint("of a value ", i))
+		found, err := e.Find(one)
+		if err != nil {
+			t.Fatal(err)
+		}
+		byKey[found.Key] = one
+		uses = append(uses, svid.Use{Key: found.Key, Expires: found.Expires, At: moment, Place: e.Place})
+	}
+	_, uses, err := svid.Uses(svid.Batches(uses))
+	if err != nil {
+		t.Fatal(err)
+	}
+	for _, use := range uses {
+		tokens = append(tokens, byKey[use.Key])
+	}
+	return tokens, uses
+}
+
+// wantClaims wants so many claims to have ended in each way.
+func wantClaims(t *testing.T, e *Engine, won, lost, failed uint64) {
+	t.Helper()
+	m := &e.Metrics
+	if w, l, f := m.ClaimsWon.Load(), m.ClaimsLost.Load(), m.ClaimsFailed.Load(); w != won || l != lost || f != failed {
+		t.Errorf("%d claims won, %d lost, %d failed; want %d, %d, %d", w, l, f, won, lost, failed)
+	}
+	e.claims.mu.Lock()
+	defer e.claims.mu.Unlock()
+	if n := len(e.claims.open) + len(e.claims.sent) + len(e.claims.gather); n != 0 {
+		t.Errorf("%d claims are kept", n)
+	}
+}
+
+// The claims of a value end piece by piece, each one before the next one is judged, and each use is in the record once.
+func TestAValueIsAnsweredInPieces(t *testing.T) {
+	all, b := strict(t, 2)
+	e, m := all[0], b.members[0]
+	e.Wait = time.Minute
+	const pieces, many = 3, 2*claimPiece + 5
+	tokens, uses := inOrderOf(t, e, many)
+	var reading atomic.Bool
+	var answered, judged atomic.Int32
+	e.Now = func() uint64 {
+		if reading.Load() { // Each piece asks once for the time, before its claims are judged.
+			piece := judged.Add(1) - 1
+			for end := time.Now().Add(30 * time.Second); answered.Load() < piece*claimPiece; time.Sleep(time.Millisecond) {
+				if time.Now().After(end) {
+					t.Errorf("piece %d is judged, and %d claims are answered", piece, answered.Load())
+					break
+				}
+			}
+			if n := answered.Load(); n > piece*claimPiece {
+				t.Errorf("piece %d is not judged, and %d claims are answered", piece, n)
+			}
+			if _, got, err := svid.Uses(saved(t, e)); err != nil || piece >= pieces || fmt.Sprint(got) != fmt.Sprint(uses[:piece*claimPiece]) {
+				t.Errorf("piece %d is judged, and the record has %d uses (%v)", piece, len(got), err)
+			}
+		}
+		return moment
+	}
+	answers := gather(t, m, tokens)
+	send(t, m)
+	for _, answer := range answers {
+		go func(answer chan error) {
+			err := <-answer
+			answered.Add(1)
+			answer <- err
+		}(answer)
+	}
+	reading.Store(true)
+	m.hold(false)
+	reading.Store(false)
+	await(t, "all answers", func() bool { return answered.Load() == many })
+	for i, answer := range answers {
+		if err := <-answer; err != nil {
+			t.Errorf("claim %d: %v", i, err)
+		}
+	}
+	if n := judged.Load(); n != pieces {
+		t.Errorf("%d pieces", n)
+	}
+	wantClaims(t, e, many, 0, 0)
+	wantUses(t, all, many)
+	for _, one := range []string{tokens[0], tokens[many-1]} {
+		if err := check(e, one); err != svid.Replayed {
+			t.Errorf("again: %v", err)
+		}
+	}
+}
+
+// A claim of any piece loses against what stands in front of it, in another value or in the same one. Others of its value win.
+func TestAClaimOfALaterPieceLoses(t *testing.T) {
+	const many = 3 * claimPiece
+	for what, row := range map[string]struct {
+		front func(mine svid.Use) svid.Use // this stands in front of the claims
+		kind  group.Kind                   // in a value of its own, or in that of the claims where this is 0
+		want  error
+	}{
+		"another sidecar's claim":       {func(u svid.Use) svid.Use { u.Place = svid.Place{9}; return u }, group.Claims, svid.Replayed},
+		"a use that was told":           {func(u svid.Use) svid.Use { u.Place = svid.Place{9}; return u }, group.Uses, svid.Replayed},
+		"a withdrawal":                  {func(u svid.Use) svid.Use { u.Withdrawn = true; return u }, group.Uses, svid.Withdrawn},
+		"a claim that is put aside":     {func(u svid.Use) svid.Use { u.At += 200; return u }, group.Claims, ErrClaimed},
+		"a withdrawal of its own value": {func(u svid.Use) svid.Use { u.Withdrawn, u.Expires = true, u.Expires-1; return u }, 0, svid.Withdrawn},
+	} {
+		for _, place := range []int{claimPiece, 2*claimPiece + 3, many - 1} {
+			all, b := strict(t, 1)
+			e, m := all[0], b.members[0]
+			e.Wait = time.Minute
+			tokens, uses := inOrderOf(t, e, many)
+			answers := gather(t, m, tokens)
+			if front := row.front(uses[place]); row.kind != 0 {
+				b.put(stored{kind: row.kind, message: front.Batch()})
+			} else {
+				m.forged = svid.Batches(append([]svid.Use{front}, uses...))
+			}
+			send(t, m)
+			m.hold(false)
+			for i, answer := range answers {
+				want := row.want
+				if i != place {
+					want = nil
+				}
+				if err := <-answer; err != want {
+					t.Errorf("%s: claim %d, against %d: %v, want %v", what, i, place, err, want)
+				}
+			}
+			wantClaims(t, e, many-1, 1, 0)
+		}
+	}
+}
+
+// The first piece that the record does not take, and those behind it, are put aside: their claims fail, and their tokens are
+// claimed. Claims of the pieces in front have won. A sidecar that puts the whole value aside accepts none of its tokens.
+func TestAPieceThatTheRecordRefuses(t *testing.T) {
+	const early, many = claimPiece + 4, 3 * claimPiece
+	for what, row := range map[string]struct {
+		late  uint64 // the second batch of the value is so many seconds ahead of a clock that has gone back meanwhile
+		forge func(message []byte)
+		is    func(err error) bool // what the refused claims end with
+	}{
+		"too far ahead": {100, nil, func(err error) bool { return errors.Is(err, svid.ErrTooFar) }},
+		// The third piece would be good alone.
+		"a bad use": {0, func(message []byte) { message[17+65*early-1] = 7 }, func(err error) bool {
+			var bad *svid.MessageError
+			return errors.As(err, &bad) && bad.Reason == "UseKind"
+		}},
+	} {
+		var now atomic.Uint64
+		now.Store(moment)
+		b, d := &broker{}, &disk{}
+		e := ready(t, engine(t, Options{Mode: Strict, Grouped: true, Journal: d, Now: now.Load, Wait: time.Minute}))
+		m := b.join(e)
+		other := b.join(ready(t, engine(t, Options{Mode: Strict, Grouped: true, Place: svid.Place{2}})))
+		tokens, uses := inOrderOf(t, e, many)
+		if row.forge != nil {
+			m.forged = svid.Batches(uses)
+			row.forge(m.forged)
+		}
+		answers := gather(t, m, tokens[:early])
+		now.Store(moment + row.late)
+		answers = append(answers, gather(t, m, tokens[early:])...)
+		send(t, m)
+		m.forged = nil
+		now.Store(moment)
+		m.hold(false)
+		for i, answer := range answers {
+			if err := <-answer; i < claimPiece && err != nil || i >= claimPiece && !row.is(err) {
+				t.Errorf("%s: claim %d: %v", what, i, err)
+			}
+		}
+		wantClaims(t, e, claimPiece, 0, many-claimPiece)
+		if m.aside != 1 || len(e.claims.aside) != many-claimPiece || other.aside != 1 || len(other.engine.claims.aside) != many {
+			t.Errorf("%s: %d and %d values aside, with %d and %d tokens", what, m.aside, other.aside, len(e.claims.aside), len(other.engine.claims.aside))
+		}
+		e.keeper.tasks.Wait()
+		for where, messages := range map[string][]byte{"the record": saved(t, e), "the disk": d.kept} {
+			if _, got, err := svid.Uses(messages); err != nil || fmt.Sprint(got) != fmt.Sprint(uses[:claimPiece]) {
+				t.Errorf("%s: %s has %d uses (%v)", what, where, len(got), err)
+			}
+		}
+		for i, one := range tokens {
+			want := ErrClaimed
+			if i < claimPiece {
+				want = svid.Replayed
+			}
+			if err := check(e, one); err != want {
+				t.Errorf("%s: token %d, again: %v, want %v", what, i, err, want)
+			}
+			if i%claimPiece == 0 {
+				if err := check(other.engine, one); err != ErrClaimed {
+					t.Errorf("%s: token %d at the other sidecar: %v", what, i, err)
+				}
+			}
+		}
+	}
+}
+
+// While the clock jumps ahead the record takes no piece: all claims end with that.
+func TestAClockThatJumpsWhileClaimsAreRead(t *testing.T) {
+	var now atomic.Uint64
+	now.Store(moment)
+	b := &broker{}
+	e := ready(t, engine(t, Options{Mode: Strict, Grouped: true, Now: now.Load, Step: 600, Wait: time.Minute}))
+	m := b.join(e)
+	const many = claimPiece + 1
+	tokens, _ := inOrderOf(t, e, many)
+	answers := gather(t, m, tokens)
+	send(t, m)
+	now.Store(moment + 100_000)
+	m.hold(false)
+	for i, answer := range answers {
+		if err := <-answer; !errors.Is(err, svid.ErrJump) {
+			t.Errorf("claim %d: %v", i, err)
+		}
+	}
+	if m.aside != 1 || len(e.claims.aside) != many {
+		t.Errorf("%d values aside, with %d tokens", m.aside, len(e.claims.aside))
+	}
+	now.Store(moment)
+	for i, one := range tokens {
+		if err := check(e, one); err != ErrClaimed {
+			t.Errorf("token %d, once the clock is right again: %v", i, err)
+		}
+	}
+}
+
+// The disk gets what the record gained by an own value, also the uses of claims that were given up meanwhile, in batches that
+// can be read back. It gets nothing of a value that is no whole batches.
+func TestTheDiskGetsWhatTheRecordGained(t *testing.T) {
+	const many = 2*claimPiece + 1
+	for what, row := range map[string]struct {
+		forge func(uses []svid.Use) []byte // the value's bytes, or nil for those of the claims
+		won   bool                         // what the claims do
+		kept  int
+	}{
+		"claims": {nil, true, many},
+		// Such a batch is good in each piece alone, and bad as a whole: the disk would refuse it, with all that it shares a write with.
+		"a value out of order": {func(uses []svid.Use) []byte {
+			turned := append(append([]svid.Use(nil), uses[many-claimPiece:]...), uses[:many-claimPiece]...)
+			message := turned[0].Batch()
+			message[16] = many
+			for _, use := range turned[1:] {
+				message = append(message, use.Batch()[17:]...)
+			}
+			return message
+		}, true, many},
+		"a batch of version 1": {func(uses []svid.Use) []byte {
+			message := uses[0].Batch()
+			message[3] = 1
+			return message[:81]
+		}, false, 0},
+		"a batch without uses": {func(uses []svid.Use) []byte { return append(uses[0].Batch()[:13], 0, 0, 0, 0) }, false, 0},
+	} {
+		b, d := &broker{}, &disk{}
+		e := ready(t, engine(t, Options{Mode: Strict, Grouped: true, Journal: d, Wait: time.Minute}))
+		m := b.join(e)
+		tokens, uses := inOrderOf(t, e, many)
+		if row.forge != nil {
+			m.forged = row.forge(uses)
+		}
+		answers := gather(t, m, tokens[:many-1])
+		// One request more, which goes away once its claim has gone out.
+		request, give := context.WithCancel(context.Background())
+		gone := make(chan error, 1)
+		go func() { _, err := e.Check(request, tokens[many-1]); gone <- err }()
+		await(t, "one more", func() bool {
+			e.claims.mu.Lock()
+			defer e.claims.mu.Unlock()
+			return len(e.claims.gather) == many
+		})
+		send(t, m)
+		give()
+		if err := <-gone; !errors.Is(err, context.Canceled) {
+			t.Errorf("%s: the request that went away: %v", what, err)
+		}
+		m.hold(false)
+		for i, answer := range answers {
+			if err := <-answer; row.won != (err == nil) {
+				t.Errorf("%s: claim %d: %v", what, i, err)
+			}
+		}
+		e.keeper.tasks.Wait()
+		if _, got, err := svid.Uses(d.kept); err != nil || len(got) != row.kept {
+			t.Errorf("%s: the disk has %d uses, want %d (%v)", what, len(got), row.kept, err)
+		}
+		if row.won {
+			again := ready(t, engine(t, Options{Mode: Strict}))
+			if err := again.Load(d.kept); err != nil || !bytes.Equal(saved(t, again), saved(t, e)) {
+				t.Errorf("%s: the record that the disk has is another one (%v)", what, err)
+			}
+		} else if len(d.kept) > 0 {
+			t.Errorf("%s: the disk has %d bytes", what, len(d.kept))
+		}
+	}
 }
 
 // Once the last value is stored, the next one does not wait as long as for an answer that stays away. While requests are

@@ -28,12 +28,16 @@ var errGap = errors.New("values of the group's bucket are gone: whether another 
 //     as the token lives, on as many servers as the bucket has replicas, and its place among all values never changes.
 //     A crash from here on burns the token.
 //  4. This sidecar reads its own value back, at its place. By then it has taken every value in front of it, and none behind
-//     it (Engine.Take). The validator judges the token once more: if one of those claims it, this claim is lost. So is a
-//     second claim of this sidecar, and a token that has expired or was revoked meanwhile is rejected, and burnt. Else the
-//     record takes the use, before the next value is read. Every other sidecar finds this claim in front of its own.
-//  5. Only now the answer is 200. So each 200 has the first claim of its token, and that is one.
-//  6. Where there is a state folder, the uses that won go to the disk, without an answer that waits for it. It isn't what
-//     makes a token unusable (the bucket is), but it outlives the broker's disk.
+//     it (Engine.Take). It goes through the uses of its value in their order, piece by piece (taking.decide). The validator
+//     judges each claim of a piece once more. The record has all that stands in front of the piece by then: the other
+//     values, and the earlier pieces. If one of those claims the token, this claim is lost. So is a second claim of this
+//     sidecar, and a token that has expired or was revoked meanwhile is rejected, and burnt. Then the record takes the
+//     piece, before the next one is judged, and the next value is read behind the last one. Every other sidecar finds this
+//     claim in front of its own.
+//  5. Only now the answer is 200, while the next piece is judged. So each 200 has the first claim of its token, and that is
+//     one: a value has one claim of a token at most (claims.firsts), so the claims of a piece don't meet.
+//  6. Where there is a state folder, what the record took of the value goes to the disk, behind the answers: none waits for
+//     it. It isn't what makes a token unusable (the bucket is), but it outlives the broker's disk.
 //
 // If the value does not come back in time (the broker is away), or if values in front of it are gone, the answer is 503.
 // The token is burnt then if the value is in the bucket, now or later: who reads it takes its uses.
@@ -104,50 +108,124 @@ func (e *Engine) landed(number uint64, err error) {
 	}
 }
 
-// decide judges the claims of an own value, which this engine reads at its place in the bucket: the record has taken all
-// values in front of it. firsts is the value without uses of tokens that were claimed before. It returns the claims that
-// won, whose uses the record is to gain now, and ends the others.
+// claimPiece is how many uses of an own value the record takes at a time. The claims among them end then: other processors
+// answer them, while this one judges the next ones.
+const claimPiece = 16
+
+// decide ends the open claims of value i, which this engine has sent, and now reads at its place in the bucket. First the
+// record takes all values in front of it. Then it takes the uses of this value in their order, piece by piece. The claims
+// of a piece are judged before the record takes it, and end behind that. If the record does not take a piece, this one and
+// those behind it are put aside. Their claims fail, except where the validator rejects the token.
 //
-// Only what stands in the bucket wins: whoever can write there could give another value the key of this one.
-func (e *Engine) decide(open []*claim, firsts []byte) (won []*claim) {
-	uses := make(map[svid.TokenKey]svid.Use, len(open))
-	if _, all, err := svid.Uses(firsts); err == nil {
-		for _, use := range all {
-			uses[use.Key] = use
+// Only what stands in the bucket wins: whoever can write there could give another value the key of this one. So a claim
+// whose use is not in the value is lost, and is judged first, to say why.
+func (t *taking) decide(i int, open []*claim) {
+	e, message := t.engine, t.messages[i]
+	t.upTo(i)
+	t.done = i + 1
+	e.keeper.tasks.Add(1) // Claims end before the keeper has their uses. So Run waits for this value too.
+	defer e.keeper.tasks.Done()
+
+	claims, missing := inOrder(message, open)
+	for len(missing) > 0 {
+		these := missing[:atMost(claimPiece, len(missing))]
+		missing = missing[len(these):]
+		now := e.Now()
+		for _, c := range these {
+			if e.judge(now, c); c.err == nil {
+				c.err = ErrClaimed // by a value that was put aside, or is not this one: else the validator says Replayed
+			}
+		}
+		e.end(these, nil)
+	}
+
+	pieces, taken, rest := svid.Pieces(message, claimPiece), 0, claims
+	these := make([]*claim, 0, claimPiece)
+	var err error
+	for _, piece := range pieces {
+		now := e.Now()
+		n := atMost(claimPiece, len(rest))
+		these = these[:0]
+		for _, c := range rest[:n] {
+			if c != nil {
+				e.judge(now, c)
+				these = append(these, c)
+			}
+		}
+		rest = rest[n:]
+		if err == nil {
+			if err = e.validator.Take(now, piece); err == nil {
+				taken++
+			}
+		}
+		e.end(these, err)
+	}
+	if e.Log.Writes(All) {
+		e.Log.Detail("message", "bytes", len(message), "error", err)
+	}
+	if err != nil {
+		t.putAside(i, err, pieces[taken:]...)
+	}
+	// The next value need not wait for what the broker answers to this one.
+	e.sendClaims()
+	// The pieces go to the disk, not the message: it may be bad as a whole, if another member wrote it.
+	if len(claims) > 0 { // So it is whole batches, and has uses.
+		e.keepSoon(pieces[:taken]...)
+	}
+}
+
+// inOrder returns for each use of an own value the open claim of that use, or nil, and the claims whose use is not there.
+func inOrder(message []byte, open []*claim) (claims, missing []*claim) {
+	byKey := make(map[svid.TokenKey]*claim, len(open))
+	for _, c := range open {
+		byKey[c.use.Key] = c
+	}
+	_, uses, _ := svid.Uses(message) // It has none if it is no whole batches.
+	claims = make([]*claim, len(uses))
+	for i := range uses {
+		if c := byKey[uses[i].Key]; c != nil && c.use == uses[i] {
+			claims[i] = c
+			delete(byKey, c.use.Key)
 		}
 	}
 	for _, c := range open {
-		if c.accepted, c.err = e.validator.Judge(e.Now(), c.token, c.yes); c.err == nil && uses[c.use.Key] != c.use {
-			c.err = ErrClaimed // by a value that was put aside, or is not this one: else the validator says Replayed
-		}
-		if c.err == nil {
-			c.accepted.Use = c.use // with the time of the claim, as the bucket has it
-			won = append(won, c)
-		} else {
-			e.Metrics.ClaimsLost.Add(1)
-			e.claims.end(c)
+		if len(byKey) > 0 && byKey[c.use.Key] == c {
+			missing = append(missing, c)
 		}
 	}
-	return won
+	return claims, missing
 }
 
-// endWon ends claims that won. err says that the record could not take their uses.
-func (e *Engine) endWon(won []*claim, err error) {
-	if len(won) == 0 {
-		return
-	}
-	if err != nil {
-		e.Metrics.ClaimsFailed.Add(uint64(len(won)))
-	} else {
-		e.Metrics.ClaimsWon.Add(uint64(len(won)))
-		uses := make([]svid.Use, len(won))
-		for i, c := range won {
-			uses[i] = c.use
+// judge judges the token of a claim at the claim's place in the bucket.
+func (e *Engine) judge(now uint64, c *claim) {
+	c.accepted, c.err = e.validator.Judge(now, c.token, c.yes)
+	c.accepted.Use = c.use // with the time of the claim, as the bucket has it
+}
+
+// end ends claims that were judged. Those whose token was rejected are lost. The others have won, or else err says why the
+// record did not take their uses.
+func (e *Engine) end(these []*claim, err error) {
+	var won, lost, failed uint64
+	for _, c := range these {
+		switch {
+		case c.err != nil:
+			lost++
+		case err != nil:
+			c.err = err
+			failed++
+		default:
+			won++
 		}
-		e.keepSoon(svid.Batches(uses))
 	}
-	for _, c := range won {
-		c.err = err
+	e.Metrics.ClaimsWon.Add(won)
+	e.Metrics.ClaimsLost.Add(lost)
+	e.Metrics.ClaimsFailed.Add(failed)
+	e.claims.end(these...)
+}
+
+func atMost(most, n int) int {
+	if n > most {
+		return most
 	}
-	e.claims.end(won...)
+	return n
 }
