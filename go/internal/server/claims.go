@@ -26,7 +26,8 @@ const (
 // claims are the claims of tokens: this sidecar's own ones, on their way through the bucket, and which tokens others have
 // claimed. Its methods may be called by many goroutines at once.
 type claims struct {
-	requests atomic.Int64 // that are being worked on, or wait for an outcome
+	requests atomic.Int64   // that are being worked on, or wait for an outcome
+	failed   *atomic.Uint64 // counts claims whose outcome stays unknown
 
 	mu     sync.Mutex
 	open   map[svid.TokenKey]*claim // whose outcome is open, one a token
@@ -54,8 +55,8 @@ type claim struct {
 	decided  bool // the outcome is there, or is being made: nobody gives the claim up any more; guarded by claims.mu
 }
 
-func newClaims() claims {
-	return claims{open: make(map[svid.TokenKey]*claim), sent: make(map[uint64][]*claim), aside: make(map[svid.TokenKey]uint64)}
+func newClaims(failed *atomic.Uint64) claims {
+	return claims{failed: failed, open: make(map[svid.TokenKey]*claim), sent: make(map[uint64][]*claim), aside: make(map[svid.TokenKey]uint64)}
 }
 
 // begin opens a claim, or returns the one that is open for the same token.
@@ -126,25 +127,25 @@ func (c *claims) arm(due time.Time, again func()) {
 	c.timer, c.due = timer, due
 }
 
-// landed records that the broker has stored a value, or else why not. In the second case its claims end, and landed says
-// how many these are. A value that has come back already has none.
-func (c *claims) landed(number uint64, err error) (failed int) {
+// landed records that the broker has stored a value, or else why not. In the second case its claims end. A value that has
+// come back already has none.
+func (c *claims) landed(number uint64, err error) {
 	c.mu.Lock()
 	defer c.mu.Unlock()
 	if number == c.number {
 		c.flying = false
 	}
-	if err == nil {
-		return 0
+	if err != nil {
+		c.fail(number, fmt.Errorf("the token could not be claimed: %w", err))
 	}
-	return c.fail(number, fmt.Errorf("the token could not be claimed: %w", err))
 }
 
-// fail ends the claims of a value whose outcome stays unknown. The caller holds mu.
+// fail ends the claims of a value whose outcome stays unknown, and says how many these are. The caller holds mu.
 func (c *claims) fail(number uint64, err error) (failed int) {
 	for _, mine := range c.sent[number] {
 		if !mine.decided {
 			mine.err = err
+			c.failed.Add(1) // (before its answer goes out)
 			c.finish(mine)
 			failed++
 		}

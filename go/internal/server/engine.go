@@ -126,7 +126,8 @@ func NewEngine(o Options) (*Engine, error) {
 		keyring.Close()
 		return nil, err
 	}
-	e := &Engine{Options: o, keyring: keyring, validator: validator, untold: make(chan svid.Use, mostUntold), claims: newClaims()}
+	e := &Engine{Options: o, keyring: keyring, validator: validator, untold: make(chan svid.Use, mostUntold)}
+	e.claims = newClaims(&e.Metrics.ClaimsFailed)
 	return e, nil
 }
 

@@ -71,7 +71,6 @@ func (e *Engine) Take(values []group.Value) []error {
 		t.messages[i] = v.Message
 		if v.Gap {
 			if failed := e.claims.failAll(errGap); failed > 0 {
-				e.Metrics.ClaimsFailed.Add(uint64(failed))
 				e.Log.Error("claims", errGap, "claims", failed)
 			}
 		}

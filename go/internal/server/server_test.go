@@ -113,7 +113,7 @@ type tie struct {
 	*broker
 	engine *Engine
 	ready  chan struct{}
-	fault  error         // what Put answers, behind storing the value
+	fault  error         // what Put answers, behind storing the value; guarded by broker.mu
 	answer chan struct{} // Put waits for it, behind storing the value
 	forged []byte        // stands in the place of the value that Put stores, if it is set
 	aside  int
@@ -140,6 +140,8 @@ func (t *tie) Put(ctx context.Context, kind group.Kind, number uint64, message [
 			return ctx.Err()
 		}
 	}
+	t.mu.Lock()
+	defer t.mu.Unlock()
 	return t.fault
 }
 
@@ -415,7 +417,9 @@ func TestAClaimOfUnknownOutcomeAcceptsNobody(t *testing.T) {
 		if n := m.engine.Metrics.ClaimsFailed.Load(); n != 1 {
 			t.Errorf("%s: %d claims failed", what, n)
 		}
+		m.mu.Lock()
 		m.fault = nil
+		m.mu.Unlock()
 		m.hold(false)
 		for i, e := range all {
 			if err := check(e, token("a")); err != svid.Replayed {
@@ -423,9 +427,12 @@ func TestAClaimOfUnknownOutcomeAcceptsNobody(t *testing.T) {
 			}
 		}
 		wantUses(t, all, 1)
-		if n := len(m.engine.claims.open) + len(m.engine.claims.sent); n != 0 {
+		c := &m.engine.claims
+		c.mu.Lock()
+		if n := len(c.open) + len(c.sent); n != 0 {
 			t.Errorf("%s: %d claims are kept", what, n)
 		}
+		c.mu.Unlock()
 	}
 }
 
@@ -910,7 +917,7 @@ func TestTheNextValueGoesOutOnceTheLastOneLanded(t *testing.T) {
 		"the value":   func(c *claims) { c.end(c.arrived(1)...) },
 		"its failure": func(c *claims) { c.landed(1, errors.New("time is up")) },
 	} {
-		c := newClaims()
+		c := newClaims(new(atomic.Uint64))
 		open := func(n byte) { c.begin(&claim{use: svid.Use{Key: svid.TokenKey{n}}, done: make(chan struct{})}) }
 		again := func() { t.Error("the hour is over") }
 		open(1)
@@ -943,7 +950,7 @@ func TestTheNextValueGoesOutOnceTheLastOneLanded(t *testing.T) {
 
 // A claim that is given up before its value goes out is not sent.
 func TestAClaimThatWaitsCanBeTakenBack(t *testing.T) {
-	c := newClaims()
+	c := newClaims(new(atomic.Uint64))
 	never := func() { t.Error("claims are sent that nobody waits for") }
 	one, two := &claim{use: svid.Use{Key: svid.TokenKey{1}}, done: make(chan struct{})}, &claim{use: svid.Use{Key: svid.TokenKey{2}}, done: make(chan struct{})}
 	c.begin(one)
@@ -957,8 +964,8 @@ func TestAClaimThatWaitsCanBeTakenBack(t *testing.T) {
 	if open := c.arrived(1); len(open) != 1 || open[0] != two || c.giveUp(two) {
 		t.Error("a claim whose value is there is given up")
 	}
-	if n := c.landed(1, errors.New("late")); n != 0 {
-		t.Errorf("%d claims fail whose outcome is there", n)
+	if c.landed(1, errors.New("late")); c.failed.Load() != 0 {
+		t.Error("a claim fails whose outcome is there")
 	}
 	c.end(two)
 	<-two.done

@@ -29,11 +29,11 @@ var errGap = errors.New("values of the group's bucket are gone: whether another 
 //     A crash from here on burns the token.
 //  4. This sidecar reads its own value back, at its place. By then it has taken every value in front of it, and none behind
 //     it (Engine.Take). It goes through the uses of its value in their order, piece by piece (taking.decide). The validator
-//     judges each claim of a piece once more. The record has all that stands in front of the piece by then: the other
-//     values, and the earlier pieces. If one of those claims the token, this claim is lost. So is a second claim of this
-//     sidecar, and a token that has expired or was revoked meanwhile is rejected, and burnt. Then the record takes the
-//     piece, before the next one is judged, and the next value is read behind the last one. Every other sidecar finds this
-//     claim in front of its own.
+//     judges each claim of a piece again (JudgeAgain, or Judge if bundles were replaced since step 1). The record has all
+//     that stands in front of the piece by then: the other values, and the earlier pieces. If one of those claims the token,
+//     this claim is lost. So is a second claim of this sidecar, and a token that has expired or was revoked meanwhile is
+//     rejected, and burnt. Then the record takes the piece, before the next one is judged, and the next value is read behind
+//     the last one. Every other sidecar finds this claim in front of its own.
 //  5. Only now the answer is 200, while the next piece is judged. So each 200 has the first claim of its token, and that is
 //     one: a value has one claim of a token at most (claims.firsts), so the claims of a piece don't meet.
 //  6. Where there is a state folder, what the record took of the value goes to the disk, behind the answers: none waits for
@@ -48,7 +48,7 @@ func (e *Engine) checkStrict(ctx context.Context, token string, yes []svid.Quest
 		if err != nil {
 			return svid.Accepted{}, err
 		}
-		mine := &claim{use: judged.Use, token: token, yes: yes, done: make(chan struct{})}
+		mine := &claim{use: judged.Use, token: token, yes: yes, accepted: judged, done: make(chan struct{})}
 		if other := e.claims.begin(mine); other != nil {
 			if late == nil {
 				timer := time.NewTimer(e.Wait)
@@ -92,20 +92,13 @@ func (e *Engine) sendClaims() {
 	if len(uses) == 0 {
 		return
 	}
-	time.AfterFunc(e.Wait, func() { e.landed(number, context.DeadlineExceeded) })
+	time.AfterFunc(e.Wait, func() { e.claims.landed(number, context.DeadlineExceeded) })
 	ctx, cancel := context.WithTimeout(context.Background(), e.Wait)
 	go func() {
 		defer cancel()
-		e.landed(number, e.group.Load().Put(ctx, group.Claims, number, svid.Batches(uses)))
+		e.claims.landed(number, e.group.Load().Put(ctx, group.Claims, number, svid.Batches(uses)))
 		e.sendClaims()
 	}()
-}
-
-// landed records that the broker has stored a value, or else why not, and counts the claims that failed by that.
-func (e *Engine) landed(number uint64, err error) {
-	if lost := e.claims.landed(number, err); lost > 0 {
-		e.Metrics.ClaimsFailed.Add(uint64(lost))
-	}
 }
 
 // claimPiece is how many uses of an own value the record takes at a time. The claims among them end then: other processors
@@ -196,10 +189,13 @@ func inOrder(message []byte, open []*claim) (claims, missing []*claim) {
 	return claims, missing
 }
 
-// judge judges the token of a claim at the claim's place in the bucket.
+// judge judges the token of a claim again, at the claim's place in the bucket: by its use alone, which takes a fraction of
+// the time, unless there are other bundles since.
 func (e *Engine) judge(now uint64, c *claim) {
-	c.accepted, c.err = e.validator.Judge(now, c.token, c.yes)
-	c.accepted.Use = c.use // with the time of the claim, as the bucket has it
+	if c.err = e.validator.JudgeAgain(now, c.accepted); c.err == svid.ErrRenewed {
+		c.accepted, c.err = e.validator.Judge(now, c.token, c.yes)
+		c.accepted.Use = c.use // with the time of the claim, as the bucket has it
+	}
 }
 
 // end ends claims that were judged. Those whose token was rejected are lost. The others have won, or else err says why the
