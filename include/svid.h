@@ -37,9 +37,9 @@ extern "C" {
 
 /* The version of this header; svid_version() is that of the library: 10,000 times the major, 100 times the minor number, and the patch. */
 #define SVID_VERSION_MAJOR 1
-#define SVID_VERSION_MINOR 0
+#define SVID_VERSION_MINOR 1
 #define SVID_VERSION_PATCH 0
-#define SVID_VERSION 10000
+#define SVID_VERSION 10100
 
 #define SVID_ID_ROOM 2048            /* enough room for any SPIFFE ID */
 #define SVID_SUMMARY_LEN 8205        /* the length of each summary */
@@ -239,9 +239,10 @@ uint32_t svid_validator_judge(svid_validator *v, uint64_t now, const svid_questi
                               const uint8_t *token, size_t token_len, uint8_t *out, size_t out_len,
                               svid_use *used, svid_told *told);
 
-/* Judges again a token that was accepted, or judged so, by the `key` and `exp` of its use alone: reads no token, verifies nothing, and adds
- * nothing. At a `now` that is no earlier, and with the same trust bundles, the status is that of svid_validator_judge: SVID_OK, or
- * SVID_EXPIRED, SVID_WITHDRAWN or SVID_REPLAYED. It first advances the record to `now`. SVID_JUMP. */
+/* Judges again a token that this validator has accepted, or judged so: `key` and `exp` are those of `used`. While the bundles stay, the
+ * status is what svid_validator_judge would answer for that token and the same `yes`: SVID_OK, or SVID_EXPIRED, SVID_WITHDRAWN or
+ * SVID_REPLAYED. It reads no token, so it takes a fraction of the time. It first advances the record to `now`, and adds nothing. SVID_JUMP.
+ * (Since version 1.1.) */
 uint32_t svid_validator_judge_again(svid_validator *v, uint64_t now, const svid_key *key, uint64_t exp, svid_told *told);
 
 /* Withdraws the token with this key, which expires at `exp`: it is refused as SVID_WITHDRAWN from now on, also by the validators that are told of

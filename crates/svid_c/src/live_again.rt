@@ -20,13 +20,13 @@ fn judge_again(live: &mut Live, now: u64, key: &[u8; 32], exp: u64, told: &mut S
     }
 }
 
-/// Judges a token again that was accepted, or judged so, by the key of its use and by when it expires: at the moment `now`, in seconds,
-/// which is no earlier, and with the same trust bundles. Reads no token, adds no use, and takes no memory.
+/// Judges a token again that this validator has accepted, or judged so: `key` and `exp` are those of its use. Reads no token, adds no use,
+/// and takes no memory.
 ///
-/// The call first advances the record to `now`, and judges at the record's moment, which may be later. 0 where
-/// [`svid_validator_judge`](crate::live_judge::svid_validator_judge) would accept the token then, and else the number that it would
-/// answer: 118 where it has expired, 124 where it was withdrawn, and 125 where it was used. 5 where the validator is closed, and 9 where
-/// `now` is more than `step` past the record's moment: then nothing happened.
+/// The call first advances the record to `now`, and judges at the record's moment, which may be later. While the bundles stay, it answers
+/// what [`svid_validator_judge`](crate::live_judge::svid_validator_judge) would answer for that token and the same `yes`: 0 where it would
+/// accept the token, 118 where that has expired, 124 where it was withdrawn, and 125 where it was used. 5 where the validator is closed, and
+/// 9 where `now` is more than `step` past the record's moment: then nothing happened.
 #[unsafe(no_mangle)]
 pub extern "C" fn svid_validator_judge_again(
     alloc: Global,

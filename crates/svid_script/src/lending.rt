@@ -10,7 +10,7 @@ use crate::stop::Stop;
 use crate::use_words::use_if_any;
 use crate::validators::verifier_if_any;
 use crate::verifier::AnyVerifier;
-use crate::words::{number, word};
+use crate::words::{key, number, word};
 use std::alloc::AllocError;
 use svid_check::{Accepted, TakeFault, Validator};
 use svid_keys::Bundles;
@@ -69,6 +69,30 @@ pub fn judge(out: &mut Out<'_>, env: &mut Env, words: &[&str]) -> Result<(), Sto
     say_checked(
         out,
         over_any!(AnyValidator, validator, v => judge_in(v, &asked)),
+    )
+}
+
+fn judge_again_in<S: UseStore>(
+    validator: &mut Validator<AnyVerifier, S>,
+    now: u64,
+    key: &[u8; 32],
+    exp: u64,
+) -> Result<(), Refusal> {
+    match validator.judge_again(now, key, exp) {
+        None => Ok(()),
+        Some(refusal) => Err(refusal),
+    }
+}
+
+/// `judge_again NAME NOW KEY EXP`
+pub fn judge_again(out: &mut Out<'_>, env: &mut Env, words: &[&str]) -> Result<(), Stop> {
+    let now = number(word(words, 2))?;
+    let key = key(word(words, 3))?;
+    let exp = number(word(words, 4))?;
+    let validator = env.validators.get_mut(word(words, 1))?;
+    done(
+        out,
+        over_any!(AnyValidator, validator, v => judge_again_in(v, now, &key, exp)),
     )
 }
 

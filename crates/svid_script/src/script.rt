@@ -195,6 +195,7 @@ fn lending_call(out: &mut Out<'_>, env: &mut Env, words: &[&str]) -> Result<(), 
     match word(words, 0) {
         "check_by" => lending::check(out, env, words),
         "judge_by" => lending::judge(out, env, words),
+        "judge_again" => lending::judge_again(out, env, words),
         "validator.candidates" => lending::candidates(out, env, words),
         "renew" => lending::renew(env, words),
         "take_record" => lending::take_record(out, env, words),
