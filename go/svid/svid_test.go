@@ -546,6 +546,16 @@ func TestJudgeAgainWithOtherBundles(t *testing.T) {
 	if err := v.JudgeAgain(moment, svid.Accepted{ID: accepted.ID, Use: accepted.Use}); err != svid.ErrRenewed {
 		t.Errorf("an acceptance that no validator made: %v", err)
 	}
+	other := open(t, 1)
+	if err := other.SetBundles(example.Bundles()); err != nil {
+		t.Fatal(err)
+	}
+	if err := other.JudgeAgain(moment, accepted); err != svid.ErrRenewed {
+		t.Errorf("an acceptance of another validator: %v", err)
+	}
+	if err := v.JudgeAgain(moment+86401, accepted); err != svid.ErrJump {
+		t.Errorf("too far ahead: %v", err)
+	}
 	v.Close()
 	if err := v.JudgeAgain(moment, accepted); err != svid.ErrClosed {
 		t.Errorf("closed: %v", err)

@@ -60,7 +60,8 @@ type Accepted struct {
 	ID  string // the SPIFFE ID of its subject
 	Use Use    // what the record gained by it, or would gain
 
-	bundles uint64 // which of the validator's bundles it was judged by
+	by      *Validator // whose verdict it is
+	bundles uint64     // which of its bundles it was judged by
 }
 
 // A Validator judges tokens, and keeps the record of those that were used or
@@ -168,20 +169,20 @@ func (v *Validator) judge(now uint64, token string, yes []Question) (Accepted, e
 }
 
 // JudgeAgain answers what Judge would answer for a token that this validator has
-// accepted, by Check or Judge: nil, or Expired, Withdrawn or Replayed. now must be
-// no earlier than then. It goes by the use alone, so it takes a fraction of the
-// time. Nothing is added to the record.
+// accepted, by Check or Judge, with the same questions: nil, or Expired, Withdrawn
+// or Replayed. It goes by the use alone, so it takes a fraction of the time. The
+// record advances to now first, and nothing is added to it.
 //
-// ErrRenewed: the trust bundles were replaced since. Judge the token. ErrJump,
-// ErrClosed.
+// ErrRenewed: the trust bundles were replaced since, or another validator accepted
+// the token. Judge the token. ErrJump, ErrClosed.
 func (v *Validator) JudgeAgain(now uint64, accepted Accepted) error {
 	v.mu.Lock()
 	defer v.mu.Unlock()
-	if accepted.bundles != v.bundles {
-		return ErrRenewed
-	}
 	*(*TokenKey)(unsafe.Pointer(&v.key)) = accepted.Use.Key
 	status := C.svid_validator_judge_again(&v.handle, C.uint64_t(now), &v.key, C.uint64_t(accepted.Use.Expires), &v.told)
+	if status != C.SVID_CLOSED && status != C.SVID_JUMP && (accepted.by != v || accepted.bundles != v.bundles) {
+		return ErrRenewed
+	}
 	return failure(status, &v.told)
 }
 
@@ -208,7 +209,7 @@ func (v *Validator) accepted(status C.uint32_t) (Accepted, error) {
 	if err := failure(status, &v.told); err != nil {
 		return Accepted{}, err
 	}
-	return Accepted{ID: string(v.id[:v.told.len]), Use: v.use(false), bundles: v.bundles}, nil
+	return Accepted{ID: string(v.id[:v.told.len]), Use: v.use(false), by: v, bundles: v.bundles}, nil
 }
 
 func (v *Validator) use(withdrawn bool) Use {

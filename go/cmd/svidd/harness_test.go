@@ -175,7 +175,7 @@ func (p *process) await(what string, is func() bool) {
 // kill ends the process as a crash does, if it runs.
 func (p *process) kill() {
 	if p.run != nil && p.run.ProcessState == nil {
-		_ = p.signal(syscall.SIGKILL)
+		killAll(p.run.Process.Pid)
 		_ = p.run.Wait()
 	}
 	p.client.CloseIdleConnections()
@@ -191,6 +191,32 @@ func (p *process) end() {
 		p.t.Fatalf("svidd: %v\n%s", err, p.log)
 	}
 	p.client.CloseIdleConnections()
+}
+
+// killAll kills a process and all below it. They are stopped first, so that none starts another one meanwhile.
+func killAll(pid int) {
+	all := map[int]bool{}
+	for found := []int{pid}; len(found) > 0; {
+		for _, pid := range found {
+			all[pid] = true
+			_ = syscall.Kill(pid, syscall.SIGSTOP)
+		}
+		found = found[:0]
+		files, _ := filepath.Glob("/proc/[0-9]*/stat")
+		for _, file := range files {
+			text, _ := os.ReadFile(file)
+			var child, parent int
+			var state string
+			_, _ = fmt.Sscan(string(text), &child)
+			_, _ = fmt.Sscan(string(text[bytes.LastIndexByte(text, ')')+1:]), &state, &parent)
+			if all[parent] && !all[child] {
+				found = append(found, child)
+			}
+		}
+	}
+	for pid := range all {
+		_ = syscall.Kill(pid, syscall.SIGKILL)
+	}
 }
 
 // signal sends svidd a signal. Another program that runs it (the last word of which is svidd) need not pass signals on: so

@@ -35,7 +35,7 @@ func rootArchive(t *testing.T, umask string) []byte {
 }
 
 // A buildah keeps its images and containers in a folder of the test. They are plain folders (vfs), so nothing is mounted
-// that would outlive a test that fails.
+// that would outlive a test that fails. (Elsewhere it writes one cache, /var/lib/containers/cache.)
 type buildah struct {
 	t      *testing.T
 	folder string
@@ -78,7 +78,7 @@ type imageConfig struct {
 	Volumes     map[string]struct{}
 }
 
-// The image is built without a network, by what go/deploy/Dockerfile says. It has the files that are due and no other, and
+// The image is built by what go/deploy/Dockerfile says. It has the files that are due and no other, and
 // svidd works in it.
 func TestImage(t *testing.T) {
 	if testing.Short() {
@@ -136,6 +136,12 @@ drwxr-xr-x 0:0 /usr
 drwxr-xr-x 0:0 /usr/local
 drwxr-xr-x 0:0 /usr/local/bin
 -rwxr-xr-x 0:0 /usr/local/bin/svidd
+drwxr-xr-x 0:0 /usr/share
+drwxr-xr-x 0:0 /usr/share/doc
+drwxr-xr-x 0:0 /usr/share/doc/libc6
+-rw-r--r-- 0:0 /usr/share/doc/libc6/copyright
+drwxr-xr-x 0:0 /usr/share/doc/svidd
+-rw-r--r-- 0:0 /usr/share/doc/svidd/copyright
 drwxr-xr-x 0:0 /var
 drwxr-xr-x 0:0 /var/lib
 drwx------ 65532:65532 /var/lib/svidd`
@@ -162,7 +168,7 @@ drwx------ 65532:65532 /var/lib/svidd`
 		program := append(b.in(container, "--volume="+state+":/var/lib/svidd", "--volume="+bundle+":/etc/svidd/bundle.json:ro"), config.Entrypoint...)
 		return startBy(t, program, bundleOption("/etc/svidd/bundle.json"), "--state", "/var/lib/svidd", "--admin", "/run/svidd/admin.sock")
 	}
-	one := token(t, "image", time.Minute)
+	one := token(t, "image", 50*time.Minute)
 	p := serve("first")
 	p.want(one, 200, "")
 	p.want(one, 401, "Replayed")
@@ -187,6 +193,6 @@ drwx------ 65532:65532 /var/lib/svidd`
 
 	again := serve("second")
 	again.want(one, 401, "Replayed")
-	again.want(token(t, "image2", time.Minute), 200, "")
+	again.want(token(t, "image2", 50*time.Minute), 200, "")
 	again.end()
 }

@@ -82,6 +82,7 @@ type Engine struct {
 	claims    claims
 	verified  verified // in mode reuse
 	keeper    keeper   // in mode strict
+	late      late
 	group     atomic.Pointer[joined]
 	untold    chan svid.Use
 	values    atomic.Uint64 // numbers of what was put into the group's bucket, except for claims
@@ -128,6 +129,7 @@ func NewEngine(o Options) (*Engine, error) {
 	}
 	e := &Engine{Options: o, keyring: keyring, validator: validator, untold: make(chan svid.Use, mostUntold)}
 	e.claims = newClaims(&e.Metrics.ClaimsFailed)
+	e.keeper.idle = sync.NewCond(&e.keeper.mu)
 	return e, nil
 }
 

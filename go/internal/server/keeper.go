@@ -20,7 +20,32 @@ type keeper struct {
 	batches []byte
 	busy    bool // a goroutine brings them there
 	full    bool // and it said so
-	tasks   sync.WaitGroup
+	tasks   int  // that goroutine, and values whose uses are still to come
+	idle    *sync.Cond
+}
+
+// begin says that uses are to come, until end.
+func (k *keeper) begin() {
+	k.mu.Lock()
+	defer k.mu.Unlock()
+	k.tasks++
+}
+
+func (k *keeper) end() {
+	k.mu.Lock()
+	defer k.mu.Unlock()
+	if k.tasks--; k.tasks == 0 {
+		k.idle.Broadcast()
+	}
+}
+
+// wait waits until all that came is on the disk, or could not be kept.
+func (k *keeper) wait() {
+	k.mu.Lock()
+	defer k.mu.Unlock()
+	for k.tasks > 0 {
+		k.idle.Wait()
+	}
 }
 
 // keepSoon brings batches to the disk, where there is a state folder, and returns before that. Those that come while
@@ -49,14 +74,14 @@ func (e *Engine) keepSoon(batches ...[]byte) {
 	}
 	if !k.busy {
 		k.busy = true
-		k.tasks.Add(1)
+		k.tasks++
 		go e.keepWaiting()
 	}
 }
 
 func (e *Engine) keepWaiting() {
 	k := &e.keeper
-	defer k.tasks.Done()
+	defer k.end()
 	for {
 		k.mu.Lock()
 		batches := k.batches

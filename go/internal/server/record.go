@@ -31,6 +31,8 @@ const (
 	tellWait = 10 * time.Second
 	// tickEvery is how often the record's moment follows the clock.
 	tickEvery = time.Second
+	// mostLate is how many bytes of messages wait for a clock that is too far ahead.
+	mostLate = 64 << 20
 	// jumpPatience is how long a clock may be too far ahead before it seems to be right.
 	jumpPatience = time.Minute
 	// measureEvery is how often the uses of the record are counted, and measureShare times as long as it took is the
@@ -133,12 +135,56 @@ func (t *taking) putAside(i int, err error, messages ...[]byte) {
 		t.errs = make([]error, len(t.values))
 	}
 	t.errs[i] = err
+	e := t.engine
+	if errors.Is(err, svid.ErrJump) {
+		e.late.add(messages)
+	}
 	if t.values[i].Kind != group.Claims {
 		return
 	}
-	now := t.engine.Now()
+	now := e.Now()
+	if e.validator.Tick(now) != nil {
+		now = 0 // By a time that the record has not reached, no token has expired.
+	}
 	for _, m := range messages {
-		t.engine.claims.putAside(m, now)
+		e.claims.putAside(m, now)
+	}
+}
+
+// late are messages that came while the clock was too far ahead. The record takes them once it is right again.
+type late struct {
+	mu       sync.Mutex
+	messages [][]byte
+	bytes    int
+}
+
+// add keeps messages, as far as there is room. The group's summaries bring back the others.
+func (l *late) add(messages [][]byte) {
+	l.mu.Lock()
+	defer l.mu.Unlock()
+	for _, m := range messages {
+		if l.bytes+len(m) <= mostLate {
+			l.messages, l.bytes = append(l.messages, m), l.bytes+len(m)
+		}
+	}
+}
+
+// takeLate gives the record what came while the clock was too far ahead.
+func (e *Engine) takeLate() {
+	l := &e.late
+	l.mu.Lock()
+	messages := l.messages
+	l.messages, l.bytes = nil, 0
+	l.mu.Unlock()
+	for i, m := range messages {
+		err := e.validator.Take(e.Now(), m)
+		if errors.Is(err, svid.ErrJump) {
+			l.add(messages[i:])
+			return
+		}
+		if err != nil {
+			e.Log.Error("message", err)
+		}
 	}
 }
 
@@ -186,7 +232,7 @@ func (e *Engine) Run(ctx context.Context) {
 	timer := time.AfterFunc(tellWait, giveUp)
 	<-told
 	timer.Stop()
-	e.keeper.tasks.Wait()
+	e.keeper.wait()
 	if e.Journal != nil && e.loaded.Load() {
 		e.snapshot()
 	}
@@ -281,6 +327,9 @@ func (e *Engine) tick() {
 	}
 	if err != nil && !jumped {
 		e.Log.Error("tick", err)
+	}
+	if !jumped {
+		e.takeLate()
 	}
 }
 

@@ -3,6 +3,7 @@ package server
 import (
 	"bytes"
 	"context"
+	"encoding/binary"
 	"encoding/json"
 	"errors"
 	"fmt"
@@ -508,7 +509,7 @@ func TestStrictKeepsWhatItWon(t *testing.T) {
 		t.Error(err)
 	}
 	close(slow)
-	kept.engine.keeper.tasks.Wait()
+	kept.engine.keeper.wait()
 	if _, uses, err := svid.Uses(d.kept); err != nil || len(uses) != many {
 		t.Errorf("the disk has %d uses, want %d (%v)", len(uses), many, err)
 	}
@@ -516,7 +517,7 @@ func TestStrictKeepsWhatItWon(t *testing.T) {
 	if err := check(kept.engine, token("full")); err != nil {
 		t.Error(err)
 	}
-	kept.engine.keeper.tasks.Wait()
+	kept.engine.keeper.wait()
 	if n := kept.engine.Metrics.JournalFailures.Load(); n != 1 || !strings.Contains(out.String(), "it is full") {
 		t.Errorf("%d failures, log %s", n, &out)
 	}
@@ -524,7 +525,7 @@ func TestStrictKeepsWhatItWon(t *testing.T) {
 	if err := check(kept.engine, token("slow")); err != nil {
 		t.Error(err)
 	}
-	kept.engine.keeper.tasks.Wait()
+	kept.engine.keeper.wait()
 	if n := kept.engine.Metrics.JournalFailures.Load(); n != 2 {
 		t.Errorf("%d failures", n)
 	}
@@ -787,7 +788,7 @@ func TestAPieceThatTheRecordRefuses(t *testing.T) {
 		if m.aside != 1 || len(e.claims.aside) != many-claimPiece || other.aside != 1 || len(other.engine.claims.aside) != many {
 			t.Errorf("%s: %d and %d values aside, with %d and %d tokens", what, m.aside, other.aside, len(e.claims.aside), len(other.engine.claims.aside))
 		}
-		e.keeper.tasks.Wait()
+		e.keeper.wait()
 		for where, messages := range map[string][]byte{"the record": saved(t, e), "the disk": d.kept} {
 			if _, got, err := svid.Uses(messages); err != nil || fmt.Sprint(got) != fmt.Sprint(uses[:claimPiece]) {
 				t.Errorf("%s: %s has %d uses (%v)", what, where, len(got), err)
@@ -831,11 +832,79 @@ func TestAClockThatJumpsWhileClaimsAreRead(t *testing.T) {
 	if m.aside != 1 || len(e.claims.aside) != many {
 		t.Errorf("%d values aside, with %d tokens", m.aside, len(e.claims.aside))
 	}
+	wantClaims(t, e, 0, 0, many)
 	now.Store(moment)
 	for i, one := range tokens {
 		if err := check(e, one); err != ErrClaimed {
 			t.Errorf("token %d, once the clock is right again: %v", i, err)
 		}
+	}
+	wantClaims(t, e, 0, many, many)
+	e.tick()
+	for i, one := range tokens {
+		if err := check(e, one); err != svid.Replayed {
+			t.Errorf("token %d, a tick later: %v", i, err)
+		}
+	}
+}
+
+// Nothing is forgotten that the group tells while a sidecar's clock is too far ahead: claims stay claimed, however many there
+// are, and the record takes what came once the clock is right again.
+func TestWhatComesWhileTheClockIsTooFarAhead(t *testing.T) {
+	var now atomic.Uint64
+	now.Store(moment)
+	b := &broker{}
+	right := ready(t, engine(t, Options{Mode: Strict, Grouped: true, Place: svid.Place{2}}))
+	b.join(right)
+	e := ready(t, engine(t, Options{Mode: Strict, Grouped: true, Now: now.Load, Step: 600, Wait: time.Minute}))
+	m := b.join(e)
+	now.Store(moment + 100_000)
+	e.tick()
+	used, revoked := token("used"), token("revoked")
+	if err := check(right, used); err != nil {
+		t.Fatal(err)
+	}
+	found, err := right.Find(revoked)
+	if err != nil {
+		t.Fatal(err)
+	}
+	if _, err := right.Withdraw(context.Background(), found.Key, found.Expires); err != nil {
+		t.Fatal(err)
+	}
+	const others = 3 * mostClaims // so that those which have expired are taken out
+	for n := uint64(0); n < others; {
+		var uses []svid.Use
+		for len(uses) < mostClaims {
+			use := svid.Use{Expires: moment + 300, At: moment, Place: svid.Place{9}}
+			n++
+			binary.BigEndian.PutUint64(use.Key[:], n)
+			uses = append(uses, use)
+		}
+		b.put(stored{kind: group.Claims, message: svid.Batches(uses)})
+	}
+	if n := len(e.claims.aside); n != others+1 {
+		t.Errorf("%d tokens are remembered as claimed", n)
+	}
+	if err := e.Ready(); err == nil {
+		t.Error("the sidecar is ready with a clock that jumped")
+	}
+	now.Store(moment)
+	if err := check(e, used); err != ErrClaimed {
+		t.Errorf("a token that was claimed meanwhile, before a tick: %v", err)
+	}
+	e.tick()
+	if err := check(e, used); err != svid.Replayed {
+		t.Errorf("a token that was claimed meanwhile: %v", err)
+	}
+	if err := check(e, revoked); err != svid.Withdrawn {
+		t.Errorf("a token that was revoked meanwhile: %v", err)
+	}
+	if err := e.Ready(); err != nil || len(e.late.messages) != 0 {
+		t.Errorf("ready: %v; %d messages wait", err, len(e.late.messages))
+	}
+	wantUses(t, []*Engine{e}, others+2)
+	if m.aside != others/mostClaims+2 {
+		t.Errorf("%d values were put aside", m.aside)
 	}
 }
 
@@ -894,7 +963,7 @@ func TestTheDiskGetsWhatTheRecordGained(t *testing.T) {
 				t.Errorf("%s: claim %d: %v", what, i, err)
 			}
 		}
-		e.keeper.tasks.Wait()
+		e.keeper.wait()
 		if _, got, err := svid.Uses(d.kept); err != nil || len(got) != row.kept {
 			t.Errorf("%s: the disk has %d uses, want %d (%v)", what, len(got), row.kept, err)
 		}

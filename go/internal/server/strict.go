@@ -108,7 +108,8 @@ const claimPiece = 16
 // decide ends the open claims of value i, which this engine has sent, and now reads at its place in the bucket. First the
 // record takes all values in front of it. Then it takes the uses of this value in their order, piece by piece. The claims
 // of a piece are judged before the record takes it, and end behind that. If the record does not take a piece, this one and
-// those behind it are put aside. Their claims fail, except where the validator rejects the token.
+// those behind it are put aside. Their claims fail, except where the validator rejects the token. (A value without open
+// claims is taken as those of others are, and is not kept.)
 //
 // Only what stands in the bucket wins: whoever can write there could give another value the key of this one. So a claim
 // whose use is not in the value is lost, and is judged first, to say why.
@@ -116,8 +117,8 @@ func (t *taking) decide(i int, open []*claim) {
 	e, message := t.engine, t.messages[i]
 	t.upTo(i)
 	t.done = i + 1
-	e.keeper.tasks.Add(1) // Claims end before the keeper has their uses. So Run waits for this value too.
-	defer e.keeper.tasks.Done()
+	e.keeper.begin() // Claims end before the keeper has their uses. So Run waits for this value too.
+	defer e.keeper.end()
 
 	claims, missing := inOrder(message, open)
 	for len(missing) > 0 {
@@ -198,14 +199,17 @@ func (e *Engine) judge(now uint64, c *claim) {
 	}
 }
 
-// end ends claims that were judged. Those whose token was rejected are lost. The others have won, or else err says why the
-// record did not take their uses.
+// end ends claims that were judged. They have won, unless the token was rejected or is claimed by another sidecar: then
+// they are lost. Else the record could not tell, or err says why it did not take their uses: then they failed.
 func (e *Engine) end(these []*claim, err error) {
 	var won, lost, failed uint64
 	for _, c := range these {
+		_, refused := refusalOf(c.err)
 		switch {
-		case c.err != nil:
+		case refused || c.err == ErrClaimed:
 			lost++
+		case c.err != nil:
+			failed++
 		case err != nil:
 			c.err = err
 			failed++
