@@ -129,6 +129,7 @@ static size_t record(svid_validator *v, uint8_t *out, size_t room) {
 
 static void verified(void);
 static void judged_again(void);
+static void given_back(void);
 
 static void refused(void) {
     static answer due, got, none;
@@ -211,6 +212,7 @@ static void refused(void) {
     svid_validator_close(&w);
     verified();
     judged_again();
+    given_back();
     holds(standing == 0, "memory is held after close");
     printf("%ld allocations refused", tried);
 }
@@ -281,6 +283,38 @@ static void judged_again(void) {
         }
         svid_validator_close(&v);
     }
+}
+
+/* The memory of uses that have expired is given back by the 64 calls behind that, each time anew. (No contract says so.) The 256 stores keep a
+ * block each: the list of their runs. */
+static void given_back(void) {
+    enum { USES = 1024, HEAD = 17, USE = 65 };
+    static uint8_t batch[HEAD + USES * USE];
+    svid_validator v;
+    svid_told told;
+    at = "the memory of what has expired";
+    begin(TELL, &v);
+    long before = standing;
+    uint64_t now = NOW;
+    for (int wave = 0; wave < 3; wave++, now += 100) {
+        memset(batch, 0, sizeof batch);
+        memcpy(batch, "JSR\2\1", 5);
+        for (int k = 0; k < 8; k++) batch[5 + k] = (uint8_t)(now >> (56 - 8 * k));
+        batch[15] = USES >> 8, batch[16] = USES & 255;
+        for (int i = 0; i < USES; i++) {
+            uint8_t *use = batch + HEAD + i * USE;
+            for (int k = 0; k < 8; k++) use[k] = (uint8_t)((now + 50) >> (56 - 8 * k)), use[56 + k] = batch[5 + k];
+            use[8] = (uint8_t)(i / 4), use[9] = (uint8_t)(i % 4);
+        }
+        answered = svid_validator_take(&v, now, batch, sizeof batch, &told);
+        holds(answered == SVID_OK && standing - before > 2 * 256, "the uses are not taken");
+        for (int calls = 0; calls < 64; calls++) {
+            holds(standing - before > 256, "it is given back before all stores had their turn");
+            holds(svid_validator_tick(&v, now + 50, &told) == SVID_OK, "a tick");
+        }
+        holds(standing - before <= 256, "it is kept");
+    }
+    svid_validator_close(&v);
 }
 
 /* So many bytes between two pages that can't be touched, right behind the first or right before the second; which are these bytes, where some are given. */

@@ -219,8 +219,8 @@ func killAll(pid int) {
 	}
 }
 
-// signal sends svidd a signal. Another program that runs it (the last word of which is svidd) need not pass signals on: so
-// it goes to the process with svidd's own command line, where there is one.
+// signal sends svidd a signal. buildah, which may run it, passes none on. So the signal goes to the process with svidd's own
+// command line, where there is one.
 func (p *process) signal(s syscall.Signal) error {
 	pid := p.run.Process.Pid
 	if n := len(p.program); n > 0 {
