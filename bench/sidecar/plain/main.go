@@ -1,21 +1,16 @@
-// Plain is what a service writes today to accept a JWT-SVID once: the standard library's HTTP server, JSON reader and
-// ES256, and SET NX in Redis. Without the address of a Redis it accepts a token as often as it comes, so it shows what a
-// request costs whose signature is verified, and nothing else. bench/sidecar measures svidd beside both.
+// Plain is what a service writes today to accept a JWT-SVID once: Go's HTTP server, and SET NX in Redis. Without the address
+// of a Redis it accepts a token as often as it comes, so it shows what a request costs that is verified, and nothing else.
+// bench/sidecar measures svidd beside it.
 //
-//	plain ADDRESS BUNDLE AUDIENCE [REDIS]
+//	plain standard ADDRESS BUNDLE AUDIENCE [REDIS]   verifies by the standard library, as little as will do
+//	plain jose ADDRESS BUNDLE AUDIENCE [REDIS]       verifies by go-jose, in the steps of go-spiffe
 package main
 
 import (
 	"bufio"
-	"crypto/ecdsa"
-	"crypto/elliptic"
-	"crypto/sha256"
-	"encoding/base64"
-	"encoding/json"
 	"errors"
 	"fmt"
 	"log"
-	"math/big"
 	"net"
 	"net/http"
 	"os"
@@ -24,52 +19,44 @@ import (
 )
 
 func main() {
-	if len(os.Args) != 4 && len(os.Args) != 5 {
-		log.Fatal("usage: plain ADDRESS BUNDLE AUDIENCE [REDIS]")
+	if len(os.Args) != 5 && len(os.Args) != 6 {
+		log.Fatal("usage: plain standard|jose ADDRESS BUNDLE AUDIENCE [REDIS]")
 	}
-	keys, err := readKeys(os.Args[2])
+	bundle, err := os.ReadFile(os.Args[3])
 	if err != nil {
 		log.Fatal(err)
 	}
-	s := &server{keys: keys, audience: os.Args[3]}
-	if len(os.Args) == 5 {
-		s.redis = &pool{address: os.Args[4], idle: make(chan *conn, 256)}
+	makers := map[string]func(bundle []byte, audience string) (verifier, error){"standard": newStandard, "jose": newJose}
+	maker := makers[os.Args[1]]
+	if maker == nil {
+		log.Fatalf("%s is neither standard nor jose", os.Args[1])
 	}
-	log.Fatal(http.ListenAndServe(os.Args[1], s))
+	s := &server{}
+	if s.verifier, err = maker(bundle, os.Args[4]); err != nil {
+		log.Fatal(err)
+	}
+	if len(os.Args) == 6 {
+		s.redis = &pool{address: os.Args[5], idle: make(chan *conn, 256)}
+	}
+	log.Fatal(http.ListenAndServe(os.Args[2], s))
 }
 
-// readKeys reads the ES256 keys of a JWK set.
-func readKeys(name string) (map[string]*ecdsa.PublicKey, error) {
-	text, err := os.ReadFile(name)
-	if err != nil {
-		return nil, err
-	}
-	var set struct {
-		Keys []struct{ Kid, Crv, X, Y string }
-	}
-	if err := json.Unmarshal(text, &set); err != nil {
-		return nil, err
-	}
-	keys := map[string]*ecdsa.PublicKey{}
-	for _, k := range set.Keys {
-		x, errX := base64.RawURLEncoding.DecodeString(k.X)
-		y, errY := base64.RawURLEncoding.DecodeString(k.Y)
-		if k.Crv == "P-256" && errX == nil && errY == nil {
-			keys[k.Kid] = &ecdsa.PublicKey{Curve: elliptic.P256(), X: new(big.Int).SetBytes(x), Y: new(big.Int).SetBytes(y)}
-		}
-	}
-	return keys, nil
+// A verifier answers what an accepted token says.
+type verifier interface {
+	verify(token string) (claims, error)
 }
 
-type server struct {
-	keys     map[string]*ecdsa.PublicKey
-	audience string
-	redis    *pool // nil where no token is remembered
-}
-
+// claims are those that the server needs.
 type claims struct {
 	Sub, Aud, Jti string
 	Exp           int64
+}
+
+var errToken = errors.New("bad token")
+
+type server struct {
+	verifier
+	redis *pool // nil where no token is remembered
 }
 
 func (s *server) ServeHTTP(w http.ResponseWriter, r *http.Request) {
@@ -90,41 +77,6 @@ func (s *server) ServeHTTP(w http.ResponseWriter, r *http.Request) {
 	default:
 		w.Header().Set("X-Spiffe-Id", c.Sub)
 	}
-}
-
-var errToken = errors.New("bad token")
-
-func (s *server) verify(token string) (c claims, err error) {
-	parts := strings.Split(token, ".")
-	if len(parts) != 3 {
-		return c, errToken
-	}
-	var header struct{ Alg, Kid string }
-	if err := decode(parts[0], &header); err != nil {
-		return c, err
-	}
-	if err := decode(parts[1], &c); err != nil {
-		return c, err
-	}
-	key := s.keys[header.Kid]
-	signature, err := base64.RawURLEncoding.DecodeString(parts[2])
-	if err != nil || header.Alg != "ES256" || key == nil || len(signature) != 64 {
-		return c, errToken
-	}
-	digest := sha256.Sum256([]byte(parts[0] + "." + parts[1]))
-	good := ecdsa.Verify(key, digest[:], new(big.Int).SetBytes(signature[:32]), new(big.Int).SetBytes(signature[32:]))
-	if !good || c.Aud != s.audience || c.Exp <= time.Now().Unix() || !strings.HasPrefix(c.Sub, "spiffe://example.org/") || c.Jti == "" {
-		return c, errToken
-	}
-	return c, nil
-}
-
-func decode(part string, into any) error {
-	text, err := base64.RawURLEncoding.DecodeString(part)
-	if err != nil {
-		return err
-	}
-	return json.Unmarshal(text, into)
 }
 
 // A pool keeps connections to Redis that nobody uses at the moment.

@@ -54,7 +54,8 @@ func (e *Engine) Handler() http.Handler {
 //	503  the token could not be judged; it is not accepted
 func (e *Engine) serveCheck(w http.ResponseWriter, r *http.Request) {
 	from := time.Now()
-	w.Header().Set("Cache-Control", "no-store")
+	headers := w.Header()
+	headers["Cache-Control"] = noStore
 	token, problem := bearer(r.Header)
 	if problem != nil {
 		e.Metrics.noToken.Add(1)
@@ -69,11 +70,14 @@ func (e *Engine) serveCheck(w http.ResponseWriter, r *http.Request) {
 		answerTo(err).write(w)
 		return
 	}
-	w.Header().Set("X-Spiffe-Id", accepted.ID)
-	w.Header().Set("X-Svid-Audience", e.audience(token))
-	w.Header().Set("X-Svid-Expires", strconv.FormatUint(accepted.Use.Expires, 10))
+	// (Header.Set would make each name canonical, and ask for memory for each value.)
+	values := [...]string{accepted.ID, e.audience(token), strconv.FormatUint(accepted.Use.Expires, 10)}
+	headers["X-Spiffe-Id"], headers["X-Svid-Audience"], headers["X-Svid-Expires"] = values[0:1:1], values[1:2:2], values[2:3:3]
 	w.WriteHeader(http.StatusOK)
 }
+
+// noStore is the Cache-Control of each answer. Nobody may change it.
+var noStore = []string{"no-store"}
 
 // bearer finds the token of a request (RFC 6750, section 2.1).
 func bearer(h http.Header) (string, *answer) {
