@@ -29,12 +29,14 @@ const (
 )
 
 const usage = `usage:
-  svidd serve    --audience NAME.. --bundle DOMAIN=FILE|https://..  --longest SECONDS [option..]
-  svidd verify   --audience NAME.. --bundle DOMAIN=FILE [--longest SECONDS] < token
+  svidd serve    --audience NAME.. BUNDLES --longest SECONDS [option..]
+  svidd verify   --audience NAME.. BUNDLES [--longest SECONDS] < token
   svidd withdraw --admin SOCKET (TOKEN | --key HEX --exp SECONDS)
   svidd report   --admin SOCKET [--json]
   svidd ready    [--listen ADDRESS]
   svidd version
+
+BUNDLES: --workload-api unix:///run/spire/agent.sock, --bundle DOMAIN=FILE|https://.. or --bundles DIR
 
 'svidd COMMAND --help' lists the options of a command.
 `

@@ -19,6 +19,7 @@ import (
 	"svid.example/go/internal/bundles"
 	"svid.example/go/internal/group"
 	"svid.example/go/internal/server"
+	"svid.example/go/internal/workload"
 )
 
 // A list is an option that may be given more than once.
@@ -61,6 +62,7 @@ func (s *seconds) Set(text string) error {
 type options struct {
 	audiences, bundles list
 	bundleFolder       string
+	workload           string // the address of the Workload API
 	longest, ahead     seconds
 
 	listen, admin string
@@ -87,6 +89,7 @@ func (o *options) addCommon(f *flag.FlagSet) {
 	f.Var(&o.audiences, "audience", "`NAME` by which tokens may call the service; may be repeated")
 	f.Var(&o.bundles, "bundle", "trust bundle `DOMAIN=FILE` (JWK set, as spire-server bundle show -format spiffe prints it)\nor DOMAIN=https://..; may be repeated")
 	f.StringVar(&o.bundleFolder, "bundles", "", "folder `DIR` of trust bundles, each DOMAIN.json")
+	f.StringVar(&o.workload, "workload-api", "", "`ADDRESS` of the SPIFFE Workload API that gives the trust bundles, as unix:///run/spire/agent.sock;\nSPIFFE_ENDPOINT_SOCKET counts where no bundles are given")
 	f.Var(&o.longest, "longest", "the most `SECONDS` that a token may have to live")
 	f.StringVar(&o.config, "config", "", "`FILE` of options, as TOML (audience = [\"ledger\"]) or as a JSON object")
 }
@@ -231,7 +234,7 @@ func (o *options) problems() []string {
 	for _, a := range o.audiences {
 		wrong(strings.ContainsAny(a, "\r\n"), "--audience %q holds a line break", a)
 	}
-	wrong(len(o.bundles) == 0 && o.bundleFolder == "", "--bundle or --bundles is missing: without trust bundles no token can be accepted")
+	wrong(!o.hasBundles(), "--workload-api, --bundle or --bundles is missing: without trust bundles no token can be accepted")
 	if _, err := o.specs(); err != nil {
 		wrong(true, "--bundle: %v", err)
 	}
@@ -282,7 +285,18 @@ func (o *options) servers() []string {
 	return all
 }
 
-// specs are the sources of the trust bundles.
+// specs are the sources of the trust bundles. A workload is told the address of its Workload API by the environment, which
+// counts where nothing else is said.
 func (o *options) specs() ([]bundles.Spec, error) {
-	return bundles.ParseSpecs(o.bundles, o.bundleFolder)
+	api := o.workload
+	if api == "" && len(o.bundles) == 0 && o.bundleFolder == "" {
+		api = os.Getenv(workload.EndpointSocket)
+	}
+	return bundles.ParseSpecs(o.bundles, o.bundleFolder, api)
+}
+
+// hasBundles says whether there is a source of trust bundles.
+func (o *options) hasBundles() bool {
+	specs, err := o.specs()
+	return err != nil || len(specs) > 0
 }

@@ -15,7 +15,7 @@ import (
 	"svid.example/go/svid"
 )
 
-// fetchWait is how long verify waits for the bundles that come over https.
+// fetchWait is how long verify waits for the bundles that come over https or from a Workload API.
 const fetchWait = 20 * time.Second
 
 // verify judges the token of standard input by itself: there is no record, so a
@@ -28,8 +28,8 @@ func verify(args []string, std stdio) int {
 	if err := parse(f, &o, args); err != nil {
 		return fail(std, err)
 	}
-	if len(o.audiences) == 0 || len(o.bundles) == 0 && o.bundleFolder == "" || f.NArg() > 0 {
-		return fail(std, errors.New("verify wants --audience, and --bundle or --bundles, and reads the token from standard input"))
+	if len(o.audiences) == 0 || !o.hasBundles() || f.NArg() > 0 {
+		return fail(std, errors.New("verify wants --audience, and --workload-api, --bundle or --bundles, and reads the token from standard input"))
 	}
 	text, err := io.ReadAll(io.LimitReader(std.in, svid.MaxToken+2))
 	if err != nil {
@@ -98,7 +98,7 @@ func (o *options) readBundles(std stdio) ([]byte, error) {
 	ctx, cancel := context.WithTimeout(context.Background(), fetchWait)
 	defer cancel()
 	changes, faults := make(chan map[string]json.RawMessage, 1), make(chan error, 1)
-	_, err = bundles.Watch(ctx, specs, func(domains map[string]json.RawMessage) {
+	watcher, err := bundles.Watch(ctx, specs, func(domains map[string]json.RawMessage) {
 		select {
 		case <-changes: // only the newest counts
 		default:
@@ -118,7 +118,7 @@ func (o *options) readBundles(std stdio) ([]byte, error) {
 	for {
 		select {
 		case domains := <-changes:
-			if hasAll(domains, wanted) {
+			if hasAll(domains, wanted) && watcher.Answered() {
 				return json.Marshal(domains)
 			}
 		case err := <-faults:

@@ -1,11 +1,12 @@
-// Package bundles keeps the trust bundles of a service up to date. They come from files, from folders, and over https
-// as SPIFFE federation has it (profile https_web).
+// Package bundles keeps the trust bundles of a service up to date. They come from a SPIFFE Workload API, from files, from
+// folders, and over https as SPIFFE federation has it (profile https_web).
 //
 // A bundle is a SPIFFE bundle document, as `spire-server bundle show -format spiffe` prints it. It is handed on as it
 // is. Entries that sign no token (those for X.509-SVIDs, say) are named in the log, once each.
 //
 // A source that can't be read, or gives no bundle, changes nothing: the last good bundle stays, and the log says so.
-// Only a file that is gone from a folder takes its trust domain with it.
+// Only a file that is gone from a folder takes its trust domain with it, and so does a Workload API that names a trust
+// domain no more.
 package bundles
 
 import (
@@ -53,7 +54,7 @@ type Watcher struct {
 	onChange func(map[string]json.RawMessage)
 	options  Options
 	client   *http.Client
-	again    map[string]chan struct{} // by the domain of an address: ask now
+	again    map[string]chan struct{} // by the domain of an address, and by "" for the Workload API: ask now
 
 	reading sync.Mutex // one look at the files at a time
 	telling sync.Mutex // one call of onChange at a time, the newest last
@@ -62,6 +63,8 @@ type Watcher struct {
 	held   map[string]*bundle
 	faults map[string]string                     // by source: what was last wrong with it
 	said   map[string]map[[sha256.Size]byte]bool // by domain: the passed over entries of its bundle that were logged
+	live   bool                                  // the Workload API has given its bundles, and would tell of a change
+	had    bool                                  // it has given bundles before
 }
 
 // A bundle is the last good one of a trust domain.
@@ -73,7 +76,8 @@ type bundle struct {
 
 // Watch reads the files and folders of the specs, begins to ask the addresses, and goes on until ctx ends.
 //
-// onChange receives all bundles by trust domain, at the start if one could be read, and whenever one has changed. It
+// onChange receives all bundles by trust domain, at the start if one could be read, whenever one has changed, and once the
+// Workload API has answered. It
 // must not change the documents, and may not call the watcher. An error says that a spec is bad; a source that can't be
 // read is none, since it may come.
 func Watch(ctx context.Context, specs []Spec, onChange func(domains map[string]json.RawMessage), o Options) (*Watcher, error) {
@@ -90,20 +94,23 @@ func Watch(ctx context.Context, specs []Spec, onChange func(domains map[string]j
 		held: map[string]*bundle{}, faults: map[string]string{}, said: map[string]map[[sha256.Size]byte]bool{}}
 	w.readFiles()
 	for _, s := range specs {
-		if s.isAddress() {
+		if s.isAddress() || s.api {
 			w.again[s.Domain] = make(chan struct{}, 1)
 		}
 	}
 	for _, s := range specs {
-		if s.isAddress() {
+		switch {
+		case s.isAddress():
 			go w.follow(ctx, s)
+		case s.api:
+			go w.attend(ctx, s)
 		}
 	}
 	go w.look(ctx)
 	return w, nil
 }
 
-// Reload reads the files and folders now, and has each address asked now.
+// Reload reads the files and folders now, and has each address asked now, and a Workload API that does not answer.
 func (w *Watcher) Reload() {
 	w.readFiles()
 	for _, again := range w.again {
@@ -125,6 +132,7 @@ func (w *Watcher) Age(domain string) (age time.Duration, ok bool) {
 func (w *Watcher) Ages() map[string]time.Duration {
 	w.mu.Lock()
 	defer w.mu.Unlock()
+	w.stillGood()
 	now, ages := time.Now(), map[string]time.Duration{}
 	for domain, b := range w.held {
 		ages[domain] = now.Sub(b.good)
@@ -155,7 +163,7 @@ func (w *Watcher) readFiles() {
 		switch {
 		case s.isFolder():
 			changed = w.readFolder(s.Source) || changed
-		case !s.isAddress():
+		case !s.isAddress() && !s.api:
 			changed = w.readFile(s.Domain, s.Source) || changed
 		}
 	}
@@ -227,7 +235,7 @@ func (w *Watcher) isNamed(source string) bool {
 // ofFolder is an error where the bundle of a trust domain is not to be read from a folder.
 func (w *Watcher) ofFolder(domain string) error {
 	for _, s := range w.specs {
-		if s.Domain == domain && !s.isFolder() {
+		if s.Domain == domain && s.Domain != "" {
 			return fmt.Errorf("the bundle of %s comes from %s", domain, s.Source)
 		}
 	}

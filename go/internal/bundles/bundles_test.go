@@ -135,7 +135,7 @@ func write(t *testing.T, name, text string) {
 func TestFile(t *testing.T) {
 	name := filepath.Join(t.TempDir(), "bundle.json")
 	write(t, name, spire)
-	w, o := watch(t, nil, Spec{"example.org", name})
+	w, o := watch(t, nil, Spec{Domain: "example.org", Source: name})
 	o.want(t, map[string]string{"example.org": spire}) // as it is
 	o.wantLines(t, 1, "key passed over domain example.org source "+name+" entry 0 why it is for X.509-SVIDs")
 	o.wantLines(t, 1, "bundle read domain example.org source "+name+" keys 1")
@@ -188,7 +188,7 @@ func TestManyEntriesThatArePassedOver(t *testing.T) {
 		return `{"keys":[` + strings.Join(entries, ",") + `]}`
 	}
 	write(t, name, many(0))
-	w, o := watch(t, nil, Spec{"example.org", name})
+	w, o := watch(t, nil, Spec{Domain: "example.org", Source: name})
 	for round := 1; round < 4; round++ {
 		write(t, name, many(round))
 		w.Reload()
@@ -204,7 +204,7 @@ func TestManyEntriesThatArePassedOver(t *testing.T) {
 func TestFaultsOfFilesThatAreGone(t *testing.T) {
 	dir := t.TempDir()
 	named := filepath.Join(dir, "a file that is named")
-	w, _ := watch(t, nil, Folder(dir), Spec{"named", named})
+	w, _ := watch(t, nil, Folder(dir), Spec{Domain: "named", Source: named})
 	for i := 0; i < 50; i++ {
 		bad := filepath.Join(dir, fmt.Sprintf("d%d.json", i))
 		write(t, bad, "half")
@@ -241,7 +241,7 @@ func TestAnEndpointThatHangs(t *testing.T) {
 		o.Limit = 500 * time.Millisecond
 		o.Roots = x509.NewCertPool()
 		o.Roots.AddCert(e.Certificate())
-	}, Spec{"example.org", e.URL})
+	}, Spec{Domain: "example.org", Source: e.URL})
 	o.await(t, "the bundle", func() bool { return o.last["example.org"] == spire })
 	for _, half := range []bool{false, true} {
 		hang <- half
@@ -265,7 +265,7 @@ func TestTheEndLeavesNothing(t *testing.T) {
 	ctx, cancel := context.WithCancel(context.Background())
 	roots := x509.NewCertPool()
 	roots.AddCert(e.Certificate())
-	if _, err := Watch(ctx, []Spec{{"example.org", e.URL}, Folder(t.TempDir())}, func(map[string]json.RawMessage) {}, Options{Roots: roots}); err != nil {
+	if _, err := Watch(ctx, []Spec{{Domain: "example.org", Source: e.URL}, Folder(t.TempDir())}, func(map[string]json.RawMessage) {}, Options{Roots: roots}); err != nil {
 		t.Fatal(err)
 	}
 	<-asked
@@ -279,7 +279,7 @@ func TestTheEndLeavesNothing(t *testing.T) {
 
 func TestFileThatComesLater(t *testing.T) {
 	name := filepath.Join(t.TempDir(), "bundle.json")
-	_, o := watch(t, func(o *Options) { o.Every = time.Millisecond }, Spec{"example.org", name})
+	_, o := watch(t, func(o *Options) { o.Every = time.Millisecond }, Spec{Domain: "example.org", Source: name})
 	if o.calls != 0 {
 		t.Error("told of nothing")
 	}
@@ -299,7 +299,7 @@ func TestFolder(t *testing.T) {
 	write(t, filepath.Join(dir, "named.json"), `{"keys":[1]}`)
 	named := filepath.Join(t.TempDir(), "other")
 	write(t, named, spire)
-	w, o := watch(t, nil, Folder(dir), Spec{"named", named})
+	w, o := watch(t, nil, Folder(dir), Spec{Domain: "named", Source: named})
 	o.want(t, map[string]string{"example.org": spire, "named": spire})
 	o.wantLines(t, 1, `"Example.com" is no trust domain's name`)
 	o.wantLines(t, 1, "the bundle of named comes from "+named)
@@ -334,7 +334,7 @@ func TestCheckKeepsTheLastGoodBundle(t *testing.T) {
 			}
 			return nil
 		}
-	}, Spec{"example.org", name})
+	}, Spec{Domain: "example.org", Source: name})
 	write(t, name, `{"keys":["bad"]}`)
 	w.Reload()
 	o.want(t, map[string]string{"example.org": spire})
@@ -383,7 +383,7 @@ func (e *endpoint) trusted(o *Options) {
 
 func TestAddress(t *testing.T) {
 	e := newEndpoint(t)
-	w, o := watch(t, e.trusted, Spec{"example.org", e.URL})
+	w, o := watch(t, e.trusted, Spec{Domain: "example.org", Source: e.URL})
 	o.await(t, "the bundle", func() bool { return o.last["example.org"] == spire })
 	plain := httptest.NewServer(http.NotFoundHandler())
 	defer plain.Close()
@@ -407,7 +407,7 @@ func TestAddress(t *testing.T) {
 
 func TestAddressOfAnAuthorityThatIsNotTrusted(t *testing.T) {
 	e := newEndpoint(t)
-	_, o := watch(t, nil, Spec{"example.org", e.URL})
+	_, o := watch(t, nil, Spec{Domain: "example.org", Source: e.URL})
 	o.await(t, "a fault", func() bool { return len(o.lines) > 0 })
 	o.wantLines(t, 1, "certificate")
 	if o.calls != 0 {
@@ -455,9 +455,9 @@ func TestEntriesThatArePassedOver(t *testing.T) {
 
 func TestSpecs(t *testing.T) {
 	for text, want := range map[string]Spec{
-		"example.org=bundle.json":          {"example.org", "bundle.json"},
-		"a=/etc/b=c.json":                  {"a", "/etc/b=c.json"},
-		"example.org=https://h:8443/b?x=1": {"example.org", "https://h:8443/b?x=1"},
+		"example.org=bundle.json":          {Domain: "example.org", Source: "bundle.json"},
+		"a=/etc/b=c.json":                  {Domain: "a", Source: "/etc/b=c.json"},
+		"example.org=https://h:8443/b?x=1": {Domain: "example.org", Source: "https://h:8443/b?x=1"},
 	} {
 		if got, err := Parse(text); got != want || err != nil {
 			t.Errorf("%s: %v %v", text, got, err)
@@ -469,16 +469,21 @@ func TestSpecs(t *testing.T) {
 			t.Errorf("%q is %v", bad, got)
 		}
 	}
-	specs, err := ParseSpecs([]string{"a=b", "c=https://d"}, "dir")
-	if want := []Spec{{"a", "b"}, {"c", "https://d"}, Folder("dir")}; !reflect.DeepEqual(specs, want) || err != nil {
+	specs, err := ParseSpecs([]string{"a=b", "c=https://d"}, "dir", "")
+	if want := []Spec{{Domain: "a", Source: "b"}, {Domain: "c", Source: "https://d"}, Folder("dir")}; !reflect.DeepEqual(specs, want) || err != nil {
+		t.Errorf("%v %v, want %v", specs, err, want)
+	}
+	specs, err = ParseSpecs([]string{"a=b"}, "", "unix:/c")
+	if want := []Spec{{Domain: "a", Source: "b"}, WorkloadAPI("unix:/c")}; !reflect.DeepEqual(specs, want) || err != nil {
 		t.Errorf("%v %v, want %v", specs, err, want)
 	}
 	for _, bad := range [][]string{{"a"}, {"a=b", "a=c"}} {
-		if _, err := ParseSpecs(bad, ""); err == nil {
+		if _, err := ParseSpecs(bad, "", ""); err == nil {
 			t.Errorf("%q was read", bad)
 		}
 	}
-	for _, bad := range [][]Spec{{{"a", "b"}, {"a", "c"}}, {Folder("a"), Folder("b")}, {{"A", "b"}}} {
+	for _, bad := range [][]Spec{{{Domain: "a", Source: "b"}, {Domain: "a", Source: "c"}}, {Folder("a"), Folder("b")}, {Folder("a"), WorkloadAPI("unix:/b")},
+		{WorkloadAPI("b")}, {{Domain: "A", Source: "b"}}} {
 		if _, err := Watch(context.Background(), bad, nil, Options{}); err == nil {
 			t.Errorf("%v was taken", bad)
 		}

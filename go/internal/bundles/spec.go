@@ -5,14 +5,19 @@ import (
 	"fmt"
 	"net/url"
 	"strings"
+
+	"svid.example/go/internal/workload"
 )
 
-// A Spec says where bundles come from: one trust domain's from a file or an https address, or a folder's.
+// A Spec says where bundles come from: one trust domain's from a file or an https address, or those of many from a folder
+// or a Workload API.
 type Spec struct {
-	// Domain is the trust domain's name. It is empty for a folder, whose files name theirs.
+	// Domain is the trust domain's name. It is empty for a folder and a Workload API, which name theirs.
 	Domain string
-	// Source is a file, an https address, or a folder.
+	// Source is a file, an https address, a folder, or the address of a Workload API.
 	Source string
+
+	api bool // Source is a Workload API's
 }
 
 // Parse reads what stands behind --bundle: example.org=FILE or example.org=https://HOST/PATH.
@@ -28,8 +33,12 @@ func Parse(text string) (Spec, error) {
 // Folder is the spec of a folder, whose file example.org.json is the bundle of example.org.
 func Folder(dir string) Spec { return Spec{Source: dir} }
 
-// ParseSpecs reads all that stands behind --bundle, and the folder behind --bundles, which may be "".
-func ParseSpecs(named []string, folder string) ([]Spec, error) {
+// WorkloadAPI is the spec of a Workload API, whose address is like unix:///run/spire/agent.sock.
+func WorkloadAPI(address string) Spec { return Spec{Source: address, api: true} }
+
+// ParseSpecs reads all that stands behind --bundle, the folder behind --bundles, and the address behind --workload-api. The
+// last two may be "".
+func ParseSpecs(named []string, folder, api string) ([]Spec, error) {
 	var specs []Spec
 	for _, text := range named {
 		s, err := Parse(text)
@@ -41,10 +50,19 @@ func ParseSpecs(named []string, folder string) ([]Spec, error) {
 	if folder != "" {
 		specs = append(specs, Folder(folder))
 	}
+	if api != "" {
+		specs = append(specs, WorkloadAPI(api))
+	}
 	return specs, checkAll(specs)
 }
 
 func (s Spec) check() error {
+	if s.api {
+		if _, err := workload.ParseAddress(s.Source); err != nil {
+			return fmt.Errorf("bundles: the address of the Workload API, %q: %w", s.Source, err)
+		}
+		return nil
+	}
 	if s.isFolder() {
 		return nil
 	}
@@ -63,7 +81,7 @@ func (s Spec) check() error {
 	return nil
 }
 
-func (s Spec) isFolder() bool  { return s.Domain == "" }
+func (s Spec) isFolder() bool  { return s.Domain == "" && !s.api }
 func (s Spec) isAddress() bool { return !s.isFolder() && strings.HasPrefix(s.Source, "https://") }
 
 // checkDomain is an error where a name is not a trust domain's (SPIFFE-ID, section 2.1).
@@ -79,15 +97,15 @@ func checkDomain(name string) error {
 	return nil
 }
 
-// checkAll is an error where a spec is bad, or two are for one trust domain, or two folders are given.
+// checkAll is an error where a spec is bad, or two are for one trust domain, or two sources that name their domains are given.
 func checkAll(specs []Spec) error {
 	seen := map[string]bool{}
 	for _, s := range specs {
 		if err := s.check(); err != nil {
 			return err
 		}
-		if seen[s.Domain] && s.isFolder() {
-			return errors.New("bundles: more than one folder is given")
+		if seen[s.Domain] && s.Domain == "" {
+			return errors.New("bundles: give one folder, or one Workload API")
 		}
 		if seen[s.Domain] {
 			return fmt.Errorf("bundles: %s is given twice", s.Domain)

@@ -1,0 +1,96 @@
+package main
+
+import (
+	"encoding/json"
+	"net/http"
+	"path/filepath"
+	"strings"
+	"testing"
+	"time"
+
+	"svid.example/go/internal/agenttest"
+	"svid.example/go/internal/issuer"
+)
+
+// agentBundles are an issuer's keys as the Workload API of SPIRE gives them: it names no use.
+func agentBundles(t *testing.T, i *issuer.Issuer) map[string]string {
+	t.Helper()
+	var set struct {
+		Keys []map[string]any `json:"keys"`
+	}
+	if err := json.Unmarshal(i.JWKSet(), &set); err != nil {
+		t.Fatal(err)
+	}
+	for _, key := range set.Keys {
+		delete(key, "use")
+	}
+	text, err := json.Marshal(set)
+	if err != nil {
+		t.Fatal(err)
+	}
+	return map[string]string{"spiffe://example.org": string(text)}
+}
+
+// A workload beside an agent needs no bundle: the environment says where to ask, and a change of keys comes by itself.
+func TestBundlesOfAWorkloadAPI(t *testing.T) {
+	agent := agenttest.Start(t)
+	agent.Refuse(t, "PERMISSION_DENIED", "no identity issued")
+	t.Setenv("SPIFFE_ENDPOINT_SOCKET", agent.Address)
+	p := &process{t: t, address: freeAddress(t), log: &lines{}, client: &http.Client{Timeout: patience}}
+	p.args = []string{"serve", "--audience", "ledger", "--longest", "3600", "--listen", p.address, "--state", filepath.Join(t.TempDir(), "state")}
+	t.Cleanup(p.kill)
+	p.launch()
+	p.await("a word of the refusal", func() bool { return strings.Contains(p.log.String(), "register svidd as a workload") })
+	if status, why := p.get("/readyz"); status != http.StatusServiceUnavailable || !strings.Contains(why, "no trust bundle") {
+		t.Errorf("%d %s", status, why)
+	}
+
+	agent.Give(t, agentBundles(t, example))
+	p.await("ready", func() bool { status, _ := p.get("/readyz"); return status == http.StatusOK })
+	one := token(t, "a", time.Hour)
+	p.want(one, 200, "")
+	p.want(one, 401, "Replayed")
+
+	// Other keys: the tokens of the old ones are none any more.
+	other, err := issuer.New("example.org")
+	if err != nil {
+		t.Fatal(err)
+	}
+	agent.Give(t, agentBundles(t, other))
+	p.await("the other keys", func() bool { return len(p.events("bundles")) == 2 })
+	claims := map[string]any{"sub": "spiffe://example.org/web", "aud": "ledger", "exp": time.Now().Add(time.Hour).Unix(), "jti": "b"}
+	if status, _, body := p.check(token(t, "c", time.Hour)); status != 401 {
+		t.Errorf("a token of a key that is gone: %d %s", status, body)
+	}
+	p.want(other.Token("ES256", claims), 200, "")
+
+	// Without the agent the keys stay.
+	agent.Kill(t)
+	p.await("the agent's end", func() bool { return strings.Count(p.log.String(), `"bundle not read; the last good one stays"`) > 1 })
+	claims["jti"] = "d"
+	p.want(other.Token("ES256", claims), 200, "")
+	agent.Again(t)
+	agent.Give(t, agentBundles(t, example))
+	p.await("the first keys again", func() bool { return len(p.events("bundles")) == 3 })
+	p.want(token(t, "e", time.Hour), 200, "")
+	p.want(one, 401, "Replayed")
+	p.end()
+}
+
+func TestVerifyAsksTheWorkloadAPI(t *testing.T) {
+	agent := agenttest.StartTCP(t)
+	agent.Give(t, agentBundles(t, example))
+	for _, more := range [][]string{{}, {bundleOption(bundleFile(t, example))}, {"--bundle=example.com=" + bundleFile(t, example)}} {
+		args := append([]string{"verify", "--audience", "ledger", "--workload-api", agent.Address}, more...)
+		if status, out, err := svidd(t, token(t, "a", time.Hour), args...); status != 0 || !strings.Contains(out, `"jti":"a"`) {
+			t.Errorf("%q: %d %s %s", more, status, out, err)
+		}
+	}
+	agent.Kill(t)
+	if status, _, err := svidd(t, token(t, "a", time.Hour), "verify", "--audience", "ledger", "--workload-api", agent.Address); status != 2 || !strings.Contains(err, "refused") {
+		t.Errorf("%d %s", status, err)
+	}
+	if status, _, err := svidd(t, "", "verify", "--audience", "ledger", "--workload-api", "agent.sock"); status != 2 || !strings.Contains(err, "unix:///run/spire/agent.sock") {
+		t.Errorf("%d %s", status, err)
+	}
+}

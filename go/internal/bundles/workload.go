@@ -1,0 +1,178 @@
+package bundles
+
+import (
+	"context"
+	"encoding/json"
+	"errors"
+	"sort"
+	"strings"
+	"time"
+
+	"svid.example/go/internal/workload"
+)
+
+// Between two attempts to reach a Workload API.
+const (
+	shortestPause = time.Second
+	longestPause  = 30 * time.Second
+)
+
+// attend keeps the bundles of a Workload API up to date: its stream gives all of them, at once and whenever one has changed.
+func (w *Watcher) attend(ctx context.Context, s Spec) {
+	address, err := workload.ParseAddress(s.Source)
+	if err != nil {
+		w.fault(s.Source, err) // (checkAll has read it)
+		return
+	}
+	client, pause := workload.NewClient(address), shortestPause
+	for {
+		err := client.WatchBundles(ctx, func(bundles map[string][]byte) {
+			pause = shortestPause
+			w.adopt(s, bundles)
+		})
+		if ctx.Err() != nil {
+			return
+		}
+		w.lost(s, err)
+		var retry <-chan time.Time
+		if !errors.Is(err, workload.ErrForGood) {
+			retry = time.After(pause)
+		}
+		select {
+		case <-ctx.Done():
+			return
+		case <-w.again[s.Domain]:
+		case <-retry:
+		}
+		if pause *= 2; pause > longestPause {
+			pause = longestPause
+		}
+	}
+}
+
+// of names the bundle of a trust domain that comes from a Workload API.
+func (s Spec) of(domain string) string { return domain + " of " + s.Source }
+
+var errNoBundles = errors.New("it gives no bundle")
+
+// adopt puts what a Workload API gave in the place of what it gave before. A bundle that can't be read leaves the last good
+// one in its place; one that is not among them any more goes.
+func (w *Watcher) adopt(s Spec, bundles map[string][]byte) {
+	if len(bundles) == 0 {
+		w.fault(s.Source, errNoBundles) // It always has the bundle of its own trust domain.
+		return
+	}
+	w.fault(s.Source, nil)
+	names := make([]string, 0, len(bundles))
+	for name := range bundles {
+		names = append(names, name)
+	}
+	sort.Strings(names)
+	changed, there := false, map[string]bool{}
+	for _, name := range names {
+		domain := strings.TrimPrefix(name, "spiffe://")
+		if w.isOfOne(domain) {
+			continue
+		}
+		there[s.of(domain)] = true
+		text, err := forTokens(bundles[name])
+		if wrong := checkDomain(domain); wrong != nil {
+			err = wrong
+		}
+		_, now := w.judge(domain, s.of(domain), text, err)
+		changed = now || changed
+	}
+	if w.dropOthers(s, there) || changed {
+		w.tell()
+	}
+}
+
+// isOfOne says whether a spec names this trust domain: then its bundle is not that of the Workload API.
+func (w *Watcher) isOfOne(domain string) bool {
+	for _, s := range w.specs {
+		if s.Domain == domain && s.Domain != "" {
+			return true
+		}
+	}
+	return false
+}
+
+// Answered says whether a Workload API has given its bundles, where one is asked.
+func (w *Watcher) Answered() bool {
+	w.mu.Lock()
+	defer w.mu.Unlock()
+	for _, s := range w.specs {
+		if s.api {
+			return w.had
+		}
+	}
+	return true
+}
+
+// dropOthers drops the bundles of a Workload API that it has not given any more, and what was wrong with them. From now on
+// it is live. It returns whether that is news.
+func (w *Watcher) dropOthers(s Spec, there map[string]bool) (changed bool) {
+	w.mu.Lock()
+	defer w.mu.Unlock()
+	changed = !w.had
+	w.live, w.had = true, true
+	for source := range w.faults {
+		if strings.HasSuffix(source, s.of("")) && !there[source] {
+			delete(w.faults, source)
+		}
+	}
+	for domain, b := range w.held {
+		if b.source == s.of(domain) && !there[b.source] {
+			delete(w.held, domain)
+			delete(w.said, domain)
+			w.log("bundle dropped: the Workload API has it no more", "domain", domain, "source", s.Source)
+			changed = true
+		}
+	}
+	return changed
+}
+
+// lost says that the stream of a Workload API has ended. Until then its bundles were good.
+func (w *Watcher) lost(s Spec, err error) {
+	w.mu.Lock()
+	w.stillGood()
+	w.live = false
+	w.mu.Unlock()
+	w.fault(s.Source, err)
+}
+
+// stillGood makes the bundles of a live Workload API as good as new, except where one could not be read. The caller holds mu.
+func (w *Watcher) stillGood() {
+	if !w.live {
+		return
+	}
+	for _, s := range w.specs {
+		for domain, b := range w.held {
+			if s.api && b.source == s.of(domain) && w.faults[b.source] == "" {
+				b.good = time.Now()
+			}
+		}
+	}
+}
+
+// forTokens gives each key that names no use the use "jwt-svid". A Workload API gives keys for JWT-SVIDs alone, and that of
+// SPIRE leaves the member out.
+func forTokens(text []byte) ([]byte, error) {
+	d, err := parse(text)
+	if err != nil {
+		return nil, err
+	}
+	for i, entry := range d.Keys {
+		var key map[string]json.RawMessage
+		if json.Unmarshal(entry, &key) != nil || key == nil {
+			continue // judge names it in the log.
+		}
+		if _, named := key["use"]; !named {
+			key["use"] = json.RawMessage(`"jwt-svid"`)
+			if d.Keys[i], err = json.Marshal(key); err != nil {
+				return nil, err
+			}
+		}
+	}
+	return json.Marshal(map[string][]json.RawMessage{"keys": d.Keys})
+}

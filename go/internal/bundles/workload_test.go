@@ -1,0 +1,159 @@
+package bundles
+
+import (
+	"encoding/json"
+	"errors"
+	"strings"
+	"testing"
+	"time"
+
+	"svid.example/go/internal/agenttest"
+)
+
+// bare is a bundle as the Workload API of SPIRE gives it: no key says its use. used is what the validator is given of it.
+const (
+	bare = `{"keys":[{"kty":"EC","kid":"a","crv":"P-256","x":"AA","y":"AA"}]}`
+	used = `{"keys":[{"crv":"P-256","kid":"a","kty":"EC","use":"jwt-svid","x":"AA","y":"AA"}]}`
+)
+
+// says says whether a line of the log holds this text.
+func (o *observer) says(text string) func() bool {
+	return func() bool {
+		for _, line := range o.lines {
+			if strings.Contains(line, text) {
+				return true
+			}
+		}
+		return false
+	}
+}
+
+// calledTimes says whether there were so many calls.
+func (o *observer) calledTimes(n int) func() bool { return func() bool { return o.calls == n } }
+
+func TestWorkloadAPI(t *testing.T) {
+	agent := agenttest.Start(t)
+	agent.Give(t, map[string]string{"spiffe://example.org": bare, "example.com": spire})
+	w, o := watch(t, nil, WorkloadAPI(agent.Address))
+	o.await(t, "the first bundles", o.calledTimes(1))
+	read := `{"keys":[` // of spire, which is written anew
+	if o.last["example.org"] != used || !strings.HasPrefix(o.last["example.com"], read) || len(o.last) != 2 {
+		t.Errorf("%q", o.last)
+	}
+	o.wantLines(t, 1, "bundle read domain example.org source example.org of "+agent.Address+" keys 1 passed over 0")
+	o.wantLines(t, 1, "bundle read domain example.com source example.com of "+agent.Address+" keys 1")
+	if !w.Answered() {
+		t.Error("it has not answered")
+	}
+
+	// The same again changes nothing. A bad bundle leaves the last good one in its place; a name that is none has no bundle.
+	agent.Give(t, map[string]string{"spiffe://example.org": bare, "example.com": spire})
+	agent.Give(t, map[string]string{"spiffe://example.org": "x", "spiffe://Example": bare, "example.com": spire})
+	o.await(t, "the bad ones", o.says("source Example of"))
+	o.wantLines(t, 1, "bundle not read; the last good one stays source example.org of "+agent.Address+" why it is no JSON object")
+	o.mu.Lock()
+	if o.calls != 1 {
+		t.Errorf("told %d times", o.calls)
+	}
+	o.mu.Unlock()
+
+	// What is given no more goes, and what was wrong with it.
+	agent.Give(t, map[string]string{"spiffe://example.org": bare})
+	o.await(t, "one bundle", o.calledTimes(2))
+	o.want(t, map[string]string{"example.org": used})
+	o.wantLines(t, 1, "bundle dropped: the Workload API has it no more domain example.com")
+	o.wantLines(t, 1, "bundle source is well again source example.org of")
+
+	// A response without bundles is none.
+	agent.Give(t, map[string]string{})
+	o.await(t, "the empty response", o.says(errNoBundles.Error()))
+	o.want(t, map[string]string{"example.org": used})
+}
+
+// While the agent is away the last good bundles stay, and grow old.
+func TestTheAgentIsAway(t *testing.T) {
+	agent := agenttest.Start(t)
+	agent.Give(t, map[string]string{"spiffe://example.org": bare})
+	w, o := watch(t, nil, WorkloadAPI(agent.Address))
+	o.await(t, "the bundle", o.calledTimes(1))
+	w.mu.Lock()
+	w.held["example.org"].good = time.Now().Add(-time.Hour)
+	w.mu.Unlock()
+	if age, ok := w.Age("example.org"); !ok || age > time.Minute {
+		t.Errorf("%v old, and the agent would tell of a change", age)
+	}
+	agent.Kill(t)
+	o.await(t, "the end of the stream", o.says("bundle not read; the last good one stays source "+agent.Address))
+	o.want(t, map[string]string{"example.org": used})
+	if first, ok := w.Age("example.org"); !ok || first > time.Minute {
+		t.Errorf("%v old: it was good until the agent went", first)
+	}
+	agent.Again(t)
+	agent.Give(t, map[string]string{"spiffe://example.org": spire})
+	o.await(t, "the other bundle", o.calledTimes(2))
+	o.await(t, "a word of it", o.says("bundle source is well again source "+agent.Address))
+}
+
+// A bundle that is named by itself counts before that of the Workload API.
+func TestANamedBundleBesideAWorkloadAPI(t *testing.T) {
+	agent := agenttest.Start(t)
+	agent.Give(t, map[string]string{"spiffe://example.org": bare, "spiffe://example.com": bare})
+	name := t.TempDir() + "/bundle.json"
+	write(t, name, spire)
+	_, o := watch(t, nil, WorkloadAPI(agent.Address), Spec{Domain: "example.org", Source: name})
+	o.await(t, "both", o.calledTimes(2))
+	o.want(t, map[string]string{"example.org": spire, "example.com": used})
+	agent.Give(t, map[string]string{"spiffe://example.org": bare})
+	o.await(t, "one", o.calledTimes(3))
+	o.want(t, map[string]string{"example.org": spire})
+}
+
+// A call that the agent rejects for good is made again when that is asked for.
+func TestReloadAsksTheAgentAgain(t *testing.T) {
+	agent := agenttest.Start(t)
+	agent.Refuse(t, "INVALID_ARGUMENT", "no")
+	w, o := watch(t, nil, WorkloadAPI(agent.Address))
+	o.await(t, "the refusal", o.says("it rejects the call itself"))
+	if w.Answered() {
+		t.Error("it has answered")
+	}
+	agent.Give(t, map[string]string{"spiffe://example.org": bare})
+	w.Reload()
+	o.await(t, "the bundle", o.calledTimes(1))
+}
+
+// A validator's own reader has the last word on a bundle.
+func TestABundleOfTheWorkloadAPIIsChecked(t *testing.T) {
+	agent := agenttest.Start(t)
+	agent.Give(t, map[string]string{"spiffe://example.org": bare, "spiffe://example.com": bare})
+	_, o := watch(t, func(options *Options) {
+		options.Check = func(domain string, document json.RawMessage) error {
+			if domain == "example.com" || string(document) != used {
+				return errors.New("no bundle for it")
+			}
+			return nil
+		}
+	}, WorkloadAPI(agent.Address))
+	o.await(t, "the bundles", o.calledTimes(1))
+	o.want(t, map[string]string{"example.org": used})
+	o.wantLines(t, 1, "why no bundle for it")
+}
+
+func TestForTokens(t *testing.T) {
+	for text, want := range map[string]string{
+		bare: used,
+		used: used,
+		`{"keys":[{"use":"x509-svid"},{"use":null},7,null,{}],"spiffe_sequence":1}`: `{"keys":[{"use":"x509-svid"},{"use":null},7,null,{"use":"jwt-svid"}]}`,
+		`{"keys":null}`: `{"keys":null}`,
+		`{"keys":[]}`:   `{"keys":[]}`,
+	} {
+		if got, err := forTokens([]byte(text)); string(got) != want || err != nil {
+			t.Errorf("%s: %s %v, want %s", text, got, err, want)
+		}
+	}
+	for _, bad := range []string{"", "null", "{}", `{"keys":7}`, "\xff"} {
+		if got, err := forTokens([]byte(bad)); err == nil {
+			t.Errorf("%q: %s", bad, got)
+		}
+	}
+}

@@ -1,0 +1,43 @@
+package workload
+
+import (
+	"errors"
+	"net"
+	"net/url"
+	"path"
+	"strconv"
+	"strings"
+)
+
+// EndpointSocket is the variable of the environment by which a workload is told the address of its Workload API (SPIFFE
+// Workload Endpoint, section 4).
+const EndpointSocket = "SPIFFE_ENDPOINT_SOCKET"
+
+// An Address is where a Workload API is served.
+type Address struct {
+	network string // unix or tcp
+	where   string // a path, or an IP address and a port
+}
+
+var errAddress = errors.New("it is not like unix:///run/spire/agent.sock or tcp://127.0.0.1:8081")
+
+// ParseAddress reads unix:PATH, where PATH begins with a slash, or tcp://IP:PORT (SPIFFE Workload Endpoint, section 4).
+func ParseAddress(text string) (Address, error) {
+	if where := strings.TrimPrefix(text, "unix:"); where != text {
+		if strings.HasPrefix(where, "//") {
+			where = where[2:]
+		}
+		if !path.IsAbs(where) || strings.ContainsAny(where, "?#") {
+			return Address{}, errAddress
+		}
+		return Address{"unix", where}, nil
+	}
+	u, err := url.Parse(text)
+	if err != nil || u.Scheme != "tcp" || u.User != nil || u.Path != "" || u.RawQuery != "" || u.Fragment != "" {
+		return Address{}, errAddress
+	}
+	if port, err := strconv.ParseUint(u.Port(), 10, 16); err != nil || port == 0 || net.ParseIP(u.Hostname()) == nil {
+		return Address{}, errAddress
+	}
+	return Address{"tcp", u.Host}, nil
+}
