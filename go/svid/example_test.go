@@ -55,6 +55,18 @@ func Example() {
 	// used before
 }
 
+// The keys of a SPIFFE Workload API, or of go-spiffe's package jwtbundle, name no use.
+func ExampleJoinBundles() {
+	bundles, err := svid.JoinBundles(map[string][]byte{
+		"spiffe://example.org": []byte(`{"keys":[{"kty":"EC","kid":"a","crv":"P-256","x":"..","y":".."}]}`),
+	})
+	if err != nil {
+		log.Fatal(err)
+	}
+	fmt.Printf("%s\n", bundles)
+	// Output: {"example.org":{"keys":[{"crv":"P-256","kid":"a","kty":"EC","use":"jwt-svid","x":"..","y":".."}]}}
+}
+
 // Two validators share their record: what one accepted, the other rejects.
 func ExampleValidator_Take() {
 	here, err := svid.Open(options(1))

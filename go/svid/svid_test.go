@@ -1022,3 +1022,57 @@ func TestUsesReadsARecord(t *testing.T) {
 		t.Errorf("a summary: %v", err)
 	}
 }
+
+// Keys that name no use count as keys for tokens once they are joined.
+func TestJoinBundles(t *testing.T) {
+	var set struct {
+		Keys []map[string]any `json:"keys"`
+	}
+	if err := json.Unmarshal(example.JWKSet(), &set); err != nil {
+		t.Fatal(err)
+	}
+	for _, key := range set.Keys {
+		delete(key, "use")
+	}
+	text, err := json.Marshal(set)
+	if err != nil {
+		t.Fatal(err)
+	}
+	one := example.Token("ES256", claims("join"))
+	for _, c := range []struct {
+		bundles []byte
+		want    error
+	}{
+		{[]byte(`{"example.org":` + string(text) + `}`), svid.NoKey},
+		{joined(t, "spiffe://example.org", text), nil},
+		{joined(t, "example.org", text), nil},
+		{joined(t, "example.org", example.JWKSet()), nil},
+	} {
+		keyring, err := svid.NewKeyring(c.bundles)
+		if err != nil {
+			t.Fatal(err)
+		}
+		if _, err := keyring.Verify(one); err != c.want {
+			t.Errorf("%v, want %v", err, c.want)
+		}
+		keyring.Close()
+	}
+	for what, sets := range map[string]map[string][]byte{
+		"no JSON":       {"example.org": []byte("{")},
+		"no keys":       {"example.org": []byte("{}")},
+		"two of a name": {"example.org": text, "spiffe://example.org": text},
+	} {
+		if got, err := svid.JoinBundles(sets); !errors.Is(err, svid.ErrBundles) || got != nil {
+			t.Errorf("%s: %s %v", what, got, err)
+		}
+	}
+}
+
+func joined(t *testing.T, domain string, set []byte) []byte {
+	t.Helper()
+	bundles, err := svid.JoinBundles(map[string][]byte{domain: set})
+	if err != nil {
+		t.Fatal(err)
+	}
+	return bundles
+}

@@ -37,7 +37,7 @@ type Options struct {
 	// Audiences are the names by which tokens may call this service.
 	Audiences []string
 	// Bundles are the trust bundles: a JSON object from trust domain names to
-	// JWK sets. Give the Keyring the same.
+	// JWK sets, as JoinBundles makes it. Give the Keyring the same.
 	Bundles []byte
 	// Longest is how many seconds past the record's moment a token may expire.
 	// It bounds the memory of the record. NoLimit for any.

@@ -2,12 +2,12 @@ package bundles
 
 import (
 	"context"
-	"encoding/json"
 	"errors"
 	"sort"
 	"strings"
 	"time"
 
+	"svid.example/go/internal/jwks"
 	"svid.example/go/internal/workload"
 )
 
@@ -75,11 +75,11 @@ func (w *Watcher) adopt(s Spec, bundles map[string][]byte) {
 			continue
 		}
 		there[s.of(domain)] = true
-		text, err := forTokens(bundles[name])
-		if wrong := checkDomain(domain); wrong != nil {
-			err = wrong
+		text := bundles[name]
+		if mended, err := jwks.ForTokens(text); err == nil {
+			text = mended // (else judge says what is wrong)
 		}
-		_, now := w.judge(domain, s.of(domain), text, err)
+		_, now := w.judge(domain, s.of(domain), text, checkDomain(domain))
 		changed = now || changed
 	}
 	if w.dropOthers(s, there) || changed {
@@ -153,26 +153,4 @@ func (w *Watcher) stillGood() {
 			}
 		}
 	}
-}
-
-// forTokens gives each key that names no use the use "jwt-svid". A Workload API gives keys for JWT-SVIDs alone, and that of
-// SPIRE leaves the member out.
-func forTokens(text []byte) ([]byte, error) {
-	d, err := parse(text)
-	if err != nil {
-		return nil, err
-	}
-	for i, entry := range d.Keys {
-		var key map[string]json.RawMessage
-		if json.Unmarshal(entry, &key) != nil || key == nil {
-			continue // judge names it in the log.
-		}
-		if _, named := key["use"]; !named {
-			key["use"] = json.RawMessage(`"jwt-svid"`)
-			if d.Keys[i], err = json.Marshal(key); err != nil {
-				return nil, err
-			}
-		}
-	}
-	return json.Marshal(map[string][]json.RawMessage{"keys": d.Keys})
 }

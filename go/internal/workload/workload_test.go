@@ -88,9 +88,6 @@ func TestEachMessageIsGiven(t *testing.T) {
 
 func TestAnEndSaysWhy(t *testing.T) {
 	agent := agenttest.Start(t)
-	agent.Give(t, map[string]string{"spiffe://example.org": "a"})
-	given, ended := watch(t, agent.Address)
-	<-given // so the status stands behind a message
 	for _, one := range []struct {
 		code, why, want string
 		forGood         bool
@@ -100,14 +97,19 @@ func TestAnEndSaysWhy(t *testing.T) {
 		{"INVALID_ARGUMENT", "no", "it rejects the call itself (InvalidArgument): no", true},
 		{"INTERNAL", "x", "it answers with code 13 of gRPC: x", false},
 	} {
-		agent.Refuse(t, one.code, one.why)
-		if err := <-ended; err == nil || err.Error() != one.want || errors.Is(err, ErrForGood) != one.forGood {
-			t.Errorf("%s: %v, want %q", one.code, err, one.want)
+		wantEnd := func(ended chan error) {
+			t.Helper()
+			if err := <-ended; err == nil || err.Error() != one.want || errors.Is(err, ErrForGood) != one.forGood {
+				t.Errorf("%s: %v, want %q", one.code, err, one.want)
+			}
 		}
-		_, ended = watch(t, agent.Address) // From now on it stands behind none.
-	}
-	if err := <-ended; err == nil || !strings.Contains(err.Error(), "code 13") {
-		t.Errorf("%v", err)
+		agent.Give(t, map[string]string{"spiffe://example.org": "a"})
+		given, ended := watch(t, agent.Address)
+		<-given
+		agent.Refuse(t, one.code, one.why) // The status stands behind a message,
+		wantEnd(ended)
+		_, ended = watch(t, agent.Address) // and here behind none.
+		wantEnd(ended)
 	}
 }
 
