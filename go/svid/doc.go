@@ -9,10 +9,12 @@
 //   - A [Validator] has the record. It judges a token whose signature is
 //     verified, and remembers that it was used.
 //
-// One check is two calls:
+// One call does both, for each request:
 //
-//	yes, err := keyring.Verify(token)              // signatures, in parallel
-//	accepted, err := validator.Check(svid.Now(), token, yes) // the verdict
+//	accepted, err := validator.Accept(keyring, svid.Now(), token)
+//
+// It verifies signatures in parallel (Keyring.Verify), and then holds the
+// validator's lock for the verdict (Validator.Check).
 //
 // An error that is a [Refusal] says why the token is rejected, and
 // errors.Is(err, svid.Replayed) tests for one reason. Any other error means

@@ -35,12 +35,7 @@ func Example() {
 		"sub": "spiffe://example.org/web", "aud": "ledger", "exp": now + 300,
 	})
 	for i := 0; i < 2; i++ {
-		yes, err := keyring.Verify(token)
-		if err != nil {
-			fmt.Println(err)
-			continue
-		}
-		accepted, err := validator.Check(now, token, yes)
+		accepted, err := validator.Accept(keyring, now, token)
 		switch {
 		case err == nil:
 			fmt.Println(accepted.ID, accepted.Use.Expires)

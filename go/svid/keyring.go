@@ -97,6 +97,7 @@ func (k *Keyring) Close() {
 	k.mu.Lock()
 	defer k.mu.Unlock()
 	closeAskers(k.askers)
+	k.keys = newKeyCache() // whose plans would answer without the library
 }
 
 // Candidates returns the keys that may have signed the token: those of the

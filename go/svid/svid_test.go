@@ -1076,3 +1076,47 @@ func joined(t *testing.T, domain string, set []byte) []byte {
 	}
 	return bundles
 }
+
+// Accept answers with the first refusal that holds, though the keyring rejects the token for a later one.
+func TestAcceptAnswersAsTheValidator(t *testing.T) {
+	keyring, err := svid.NewKeyring(example.Bundles())
+	if err != nil {
+		t.Fatal(err)
+	}
+	v, err := svid.Open(svid.Options{Audiences: []string{"ledger"}, Bundles: example.Bundles(), Longest: 3600, Place: svid.Place{1}})
+	if err != nil {
+		t.Fatal(err)
+	}
+	defer v.Close()
+	stranger, err := issuer.New("example.net")
+	if err != nil {
+		t.Fatal(err)
+	}
+	foreign := claims("foreign")
+	foreign["sub"], foreign["aud"] = "spiffe://example.net/web", "other"
+	one := example.Token("ES256", claims("accept"))
+	for _, c := range []struct {
+		token         string
+		byKey, byBoth error
+	}{
+		{stranger.Token("ES256", foreign), svid.UnknownDomain, svid.NotAudience},
+		{"a.b", svid.NotThreeParts, svid.NotThreeParts},
+		{one, nil, nil},
+		{one, nil, svid.Replayed},
+	} {
+		if _, err := keyring.Verify(c.token); err != c.byKey {
+			t.Errorf("the keyring says %v, want %v", err, c.byKey)
+		}
+		if _, err := v.Accept(keyring, moment, c.token); err != c.byBoth {
+			t.Errorf("%v, want %v", err, c.byBoth)
+		}
+	}
+	// A Step that is not given is none.
+	if _, err := v.Accept(keyring, moment+100_000, one); err != svid.Expired {
+		t.Errorf("a day later: %v", err)
+	}
+	keyring.Close()
+	if _, err := v.Accept(keyring, moment, one); !errors.Is(err, svid.ErrClosed) {
+		t.Errorf("with a closed keyring: %v", err)
+	}
+}

@@ -21,6 +21,7 @@ static uint32_t judge(svid_validator *v, uint64_t now, const svid_question *yes,
 import "C"
 
 import (
+	"errors"
 	"fmt"
 	"io"
 	"strings"
@@ -31,8 +32,8 @@ import (
 // NoLimit, as Options.Longest, Options.Ahead or Options.Step, sets no limit.
 const NoLimit = ^uint64(0)
 
-// Options say what a validator is for. Only Audiences, Bundles and Place must
-// be given; but a Longest of 0 rejects every token, and so does no audience.
+// Options say what a validator is for. Audiences, Bundles, Longest and Place must
+// be given: a Longest of 0 rejects every token, and so does no audience.
 type Options struct {
 	// Audiences are the names by which tokens may call this service.
 	Audiences []string
@@ -47,8 +48,8 @@ type Options struct {
 	Ahead uint64
 	// Step is how many seconds the clock may go ahead between two calls; past
 	// that they answer ErrJump, so that a wrong clock doesn't expire the whole
-	// record. NoLimit for any. The first time that a new record is told is
-	// never a jump.
+	// record. The first time that a new record is told is never a jump. 0 sets no
+	// limit, as NoLimit does.
 	Step uint64
 	// Place names this validator among all that share its record. Two
 	// validators of one place accept a token twice.
@@ -86,6 +87,9 @@ func Open(o Options) (*Validator, error) {
 	own, err := audienceLines(o.Audiences)
 	if err != nil {
 		return nil, err
+	}
+	if o.Step == 0 {
+		o.Step = NoLimit // (to the library, each second would be a jump)
 	}
 	terms := C.svid_terms{longest: C.uint64_t(o.Longest), ahead: C.uint64_t(o.Ahead), step: C.uint64_t(o.Step)}
 	for i, b := range o.Place {
@@ -152,6 +156,19 @@ func (v *Validator) Check(now uint64, token string, yes []Question) (Accepted, e
 	status := C.check(&v.handle, C.uint64_t(now), questions(yes), C.size_t(len(yes)), token,
 		start(v.id[:]), C.size_t(len(v.id)), &v.used, &v.told)
 	return v.accepted(status)
+}
+
+// Accept verifies the token's signature by the keyring, which has the same bundles,
+// and checks the token: all that a service does for a request. A token that the
+// keyring rejects is checked all the same, so the Refusal is the first that holds,
+// in the order of Refusals. Other errors are those of Keyring.Verify and Check.
+func (v *Validator) Accept(k *Keyring, now uint64, token string) (Accepted, error) {
+	yes, err := k.Verify(token)
+	var refusal Refusal
+	if err != nil && !errors.As(err, &refusal) {
+		return Accepted{}, err
+	}
+	return v.Check(now, token, yes)
 }
 
 // Judge answers what Check would answer, and adds nothing to the record: a later

@@ -143,14 +143,20 @@ func (s *sidecar) open(ctx context.Context) error {
 			return err
 		}
 	}
-	s.engine, err = server.NewEngine(server.Options{
-		Mode: server.Mode(s.replay), Audiences: s.audiences, Longest: s.longest.value, Ahead: s.ahead.value,
-		Step: clockStep, Jumped: func() { s.fail(errClock) }, Place: place, Journal: kept, Grouped: len(s.servers()) > 0, Wait: s.wait, Log: s.log,
-	})
+	specs, err := s.specs()
 	if err != nil {
 		return err
 	}
-	specs, err := s.specs()
+	var domains []string
+	for _, spec := range specs {
+		if spec.Domain != "" {
+			domains = append(domains, spec.Domain)
+		}
+	}
+	s.engine, err = server.NewEngine(server.Options{
+		Mode: server.Mode(s.replay), Audiences: s.audiences, Domains: domains, Longest: s.longest.value, Ahead: s.ahead.value,
+		Step: clockStep, Jumped: func() { s.fail(errClock) }, Place: place, Journal: kept, Grouped: len(s.servers()) > 0, Wait: s.wait, Log: s.log,
+	})
 	if err != nil {
 		return err
 	}

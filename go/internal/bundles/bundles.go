@@ -16,6 +16,7 @@ import (
 	"crypto/tls"
 	"crypto/x509"
 	"encoding/json"
+	"errors"
 	"fmt"
 	"net/http"
 	"os"
@@ -332,6 +333,9 @@ func (w *Watcher) judge(domain, source string, text []byte, err error) (wait tim
 	return d.refresh(), changed
 }
 
+// errNoKeys: a bundle verifies no token.
+var errNoKeys = errors.New(`no entry of it has the use "jwt-svid", so no token of this trust domain can be accepted`)
+
 // say logs a new bundle, and the entries of it that are passed over: each once, as long as it is in the bundle, and
 // where there are many, the first ones. (The bundle may be of a trust domain that means no good.)
 func (w *Watcher) say(domain, source string, d document) {
@@ -352,6 +356,9 @@ func (w *Watcher) say(domain, source string, d document) {
 	}
 	w.said[domain] = said
 	w.log("bundle read", "domain", domain, "source", source, "keys", keys, "passed over", over)
+	if keys == 0 {
+		w.log("bundle has no key", "domain", domain, "source", source, "why", errNoKeys)
+	}
 }
 
 // fault logs what is wrong with a source, when that is something else than before, and when it is well again.
@@ -365,7 +372,13 @@ func (w *Watcher) fault(source string, err error) {
 		w.log("bundle source is well again", "source", source)
 	case err != nil && err.Error() != last:
 		w.faults[source] = err.Error()
-		w.log("bundle not read; the last good one stays", "source", source, "why", err)
+		event := "bundle not read"
+		for _, b := range w.held {
+			if b.source == source || strings.HasSuffix(b.source, " of "+source) {
+				event = "bundle not read; the last good one stays"
+			}
+		}
+		w.log(event, "source", source, "why", err)
 	}
 }
 

@@ -489,3 +489,19 @@ func TestSpecs(t *testing.T) {
 		}
 	}
 }
+
+// A bundle whose keys name no use verifies no token. A source that was never read has no last good bundle.
+func TestWhatAnOperatorMustSee(t *testing.T) {
+	name := filepath.Join(t.TempDir(), "bundle.json")
+	w, o := watch(t, nil, Spec{Domain: "example.org", Source: name})
+	o.wantLines(t, 1, "bundle not read source "+name)
+	write(t, name, `{"keys":[{"kty":"EC","kid":"a"}]}`)
+	w.Reload()
+	o.wantLines(t, 1, "bundle read domain example.org source "+name+" keys 0 passed over 1")
+	o.wantLines(t, 1, "bundle has no key domain example.org source "+name+` why no entry of it has the use "jwt-svid"`)
+	if err := os.Remove(name); err != nil {
+		t.Fatal(err)
+	}
+	w.Reload()
+	o.wantLines(t, 1, "bundle not read; the last good one stays source "+name)
+}

@@ -35,6 +35,9 @@ const (
 // group's.
 var ErrNotReady = errors.New("not ready")
 
+// ErrNoBundle: the token is of a trust domain whose bundle could not be read yet.
+var ErrNoBundle = errors.New("the bundle of the token's trust domain was not read yet")
+
 // A Journal keeps acceptances on the disk.
 type Journal interface {
 	// Append returns after the batch is on the disk.
@@ -55,16 +58,19 @@ type Group interface {
 	Put(ctx context.Context, kind group.Kind, number uint64, message []byte) error
 	Taken() uint64
 	Aside() uint64
+	// Connected says whether the broker is there at this moment.
+	Connected() bool
 }
 
 // Options of an Engine.
 type Options struct {
 	Mode      Mode
 	Audiences []string
-	Longest   uint64 // seconds past now that a token may live
-	Ahead     uint64 // seconds that clocks of the group may differ
-	Step      uint64 // seconds that the clock may go ahead between two ticks; 0 for any
-	Jumped    func() // is called once the clock has been further ahead than Step for a minute; may be nil
+	Domains   []string // trust domains that are to have a bundle: until one has, its tokens can't be judged
+	Longest   uint64   // seconds past now that a token may live
+	Ahead     uint64   // seconds that clocks of the group may differ
+	Step      uint64   // seconds that the clock may go ahead between two ticks; 0 for any
+	Jumped    func()   // is called once the clock has been further ahead than Step for a minute; may be nil
 	Place     svid.Place
 	Journal   Journal       // nil keeps nothing on the disk
 	Grouped   bool          // the engine is not ready before it joined a group
@@ -91,6 +97,8 @@ type Engine struct {
 	draining atomic.Bool
 	jumped   atomic.Bool // the clock is further ahead than Options.Step
 	jumpedAt time.Time   // since then; tick alone uses it
+	began    uint64      // when the engine was made
+	mixedAt  time.Time   // when it was last logged that the group's modes differ; Take alone uses it
 
 	renewing sync.Mutex // held while bundles are replaced
 	bundles  atomic.Pointer[[]byte]
@@ -127,7 +135,7 @@ func NewEngine(o Options) (*Engine, error) {
 		keyring.Close()
 		return nil, err
 	}
-	e := &Engine{Options: o, keyring: keyring, validator: validator, untold: make(chan svid.Use, mostUntold)}
+	e := &Engine{Options: o, keyring: keyring, validator: validator, untold: make(chan svid.Use, mostUntold), began: o.Now()}
 	e.claims = newClaims(&e.Metrics.ClaimsFailed)
 	e.keeper.idle = sync.NewCond(&e.keeper.mu)
 	return e, nil
@@ -160,6 +168,9 @@ func (e *Engine) SetBundles(domains map[string]json.RawMessage) error {
 		return err
 	}
 	e.bundles.Store(&bundles)
+	if len(domains) == 0 {
+		e.bundles.Store(nil) // No token can be accepted, and it is not the tokens' fault.
+	}
 	e.verified.clear()
 	return nil
 }
@@ -188,7 +199,7 @@ func (e *Engine) Ready() error {
 func (e *Engine) canJudge() error {
 	switch g := e.group.Load(); {
 	case e.bundles.Load() == nil:
-		return errors.New("no trust bundle was read yet")
+		return errors.New("there is no trust bundle")
 	case !e.loaded.Load():
 		return errors.New("the state folder is being read")
 	case !e.Grouped:
@@ -213,6 +224,24 @@ func (e *Engine) Check(ctx context.Context, token string) (svid.Accepted, error)
 	if err := e.canJudge(); err != nil {
 		return svid.Accepted{}, fmt.Errorf("%w: %v", ErrNotReady, err)
 	}
+	accepted, err := e.check(ctx, token)
+	if err == svid.UnknownDomain && e.isToHaveBundle(domainOf(token)) {
+		err = ErrNoBundle
+	}
+	return accepted, err
+}
+
+// isToHaveBundle says whether a trust domain is one of Options.Domains.
+func (e *Engine) isToHaveBundle(domain string) bool {
+	for _, one := range e.Domains {
+		if one == domain {
+			return true
+		}
+	}
+	return false
+}
+
+func (e *Engine) check(ctx context.Context, token string) (svid.Accepted, error) {
 	if e.Mode == Reuse {
 		return e.checkReuse(token)
 	}

@@ -30,6 +30,7 @@ type Metrics struct {
 	Withdrawals                         atomic.Uint64
 	Snapshots, JournalFailures          atomic.Uint64
 	Uses, Moment                        atomic.Uint64
+	OtherMode                           atomic.Uint64
 
 	// BundleAges returns the seconds since each trust domain's bundle was read.
 	// It is set before the first request, or stays nil.
@@ -85,6 +86,8 @@ func (e *Engine) WriteMetrics(w io.Writer) error {
 	if g := e.group.Load(); g != nil {
 		p.counter("svidd_messages_taken_total", "Messages of the group that the record took.", g.Taken())
 		p.counter("svidd_messages_aside_total", "Messages of the group that were put aside.", g.Aside())
+		p.counter("svidd_messages_of_other_mode_total", "Messages of sidecars of the group that run in another mode.", m.OtherMode.Load())
+		p.gauge("svidd_broker_connected", "1 if the group's broker is there.", truth(g.Connected()))
 	}
 	p.gauge("svidd_record_uses", "Uses and withdrawals in the record, counted every 15 seconds.", float64(m.Uses.Load()))
 	p.gauge("svidd_record_moment_timestamp_seconds", "The record's clock, in seconds since 1970, when its uses were last counted.", float64(m.Moment.Load()))
@@ -94,22 +97,34 @@ func (e *Engine) WriteMetrics(w io.Writer) error {
 	if e.Grouped {
 		p.gauge("svidd_untold_uses", "Uses that wait to be told to the group.", float64(len(e.untold)))
 	}
-	p.gauge("svidd_ready", "1 if tokens are judged, 0 if they are answered 503.", truth(e.Ready() == nil))
+	p.gauge("svidd_ready", "1 once bundles, record and the group's bucket are read, until the sidecar ends. In mode strict it stays 1 while the broker is away.", truth(e.Ready() == nil))
 	if m.BundleAges != nil {
-		p.head("svidd_bundle_age_seconds", "gauge", "Time since a trust domain's bundle was last read.")
+		p.head("svidd_bundle_age_seconds", "gauge", "Time since a trust domain's bundle was last read; +Inf if it never was.")
 		ages := m.BundleAges()
+		for _, domain := range e.Domains {
+			if _, read := ages[domain]; !read {
+				ages[domain] = never
+			}
+		}
 		domains := make([]string, 0, len(ages))
 		for domain := range ages {
 			domains = append(domains, domain)
 		}
 		sort.Strings(domains)
 		for _, domain := range domains {
-			p.value(fmt.Sprintf("svidd_bundle_age_seconds{trust_domain=%q}", domain), ages[domain].Seconds())
+			age := ages[domain].Seconds()
+			if ages[domain] == never {
+				age = math.Inf(1)
+			}
+			p.value(fmt.Sprintf("svidd_bundle_age_seconds{trust_domain=%q}", domain), age)
 		}
 	}
 	p.process()
 	return p.w.Flush()
 }
+
+// never is the age of a bundle that was not read yet.
+const never = time.Duration(math.MaxInt64)
 
 var started = time.Now()
 

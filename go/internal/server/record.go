@@ -76,6 +76,7 @@ func (e *Engine) Take(values []group.Value) []error {
 				e.Log.Error("claims", errGap, "claims", failed)
 			}
 		}
+		e.noteMode(v)
 		switch v.Kind {
 		case group.Answer:
 			t.messages[i] = e.claims.without(v.Message)
@@ -88,6 +89,40 @@ func (e *Engine) Take(values []group.Value) []error {
 	}
 	t.upTo(len(values))
 	return t.errs
+}
+
+// errMixed: a sidecar of the group runs in another mode.
+var errMixed = errors.New("another sidecar of the group accepts tokens in another mode, so a token can be accepted twice: run all in one mode")
+
+// noteMode logs, once a minute, that another sidecar of the group runs in another mode, and counts such values. In mode strict
+// no sidecar tells of uses; in once none claims a token, and in reuse none does either. Values from before this sidecar began
+// may be of another mode.
+func (e *Engine) noteMode(v group.Value) {
+	other := v.Kind == group.Claims
+	switch e.Mode {
+	case Strict:
+		other = v.Kind == group.Uses
+	case Reuse:
+		other = v.Kind != group.Answer
+	}
+	if !other {
+		return
+	}
+	_, uses, err := svid.Uses(v.Message)
+	if err != nil {
+		return // It will be put aside.
+	}
+	for _, use := range uses {
+		if use.Withdrawn || use.At <= e.began+e.Ahead {
+			continue
+		}
+		e.Metrics.OtherMode.Add(1)
+		if now := time.Now(); now.Sub(e.mixedAt) > time.Minute {
+			e.mixedAt = now
+			e.Log.Error("mode", errMixed, "mode", string(e.Mode), "other", use.Place.String())
+		}
+		return
+	}
 }
 
 // taking is a call of Take.

@@ -128,6 +128,7 @@ type tie struct {
 func (t *tie) Ready() <-chan struct{} { return t.ready }
 func (t *tie) Taken() uint64          { return 0 }
 func (t *tie) Aside() uint64          { return 0 }
+func (t *tie) Connected() bool        { return true }
 
 func (t *tie) Put(ctx context.Context, kind group.Kind, number uint64, message []byte) error {
 	if t.forged != nil {
@@ -1314,7 +1315,7 @@ func TestTheAdminSocketsRequests(t *testing.T) {
 // Each line of /metrics is a comment or a name with a number, each name has a type before it, names are as Prometheus
 // wants them (counters end in _total, all of a name stands together, units are seconds and bytes), and buckets rise.
 func TestMetricsAreWellFormed(t *testing.T) {
-	e := ready(t, engine(t, Options{Mode: Once, Journal: &disk{}, Grouped: true}))
+	e := ready(t, engine(t, Options{Mode: Once, Journal: &disk{}, Grouped: true, Domains: []string{"example.com"}}))
 	e.Metrics.BundleAges = func() map[string]time.Duration {
 		return map[string]time.Duration{"example.org": 1500 * time.Millisecond}
 	}
@@ -1471,8 +1472,86 @@ func TestBadBundlesChangeNothing(t *testing.T) {
 	if err := e.SetBundles(map[string]json.RawMessage{}); err != nil {
 		t.Fatal(err)
 	}
-	if err := check(e, token("a")); err != svid.UnknownDomain {
+	if err := check(e, token("a")); !errors.Is(err, ErrNotReady) || e.Ready() == nil {
 		t.Errorf("without a bundle: %v", err)
+	}
+}
+
+// Tokens of a trust domain whose bundle could not be read yet are not rejected: nobody could judge them. Those of a trust
+// domain that nobody named are.
+func TestABundleThatWasNotReadYet(t *testing.T) {
+	for _, mode := range []Mode{Once, Strict, Reuse} {
+		e := ready(t, engine(t, Options{Mode: mode, Domains: []string{"example.org", "example.com"}}))
+		e.Metrics.BundleAges = func() map[string]time.Duration { return map[string]time.Duration{"example.org": time.Second} }
+		for domain, want := range map[string]error{"example.com": ErrNoBundle, "example.net": svid.UnknownDomain} {
+			other, err := issuer.New(domain)
+			if err != nil {
+				t.Fatal(err)
+			}
+			one := other.Token("ES256", map[string]any{"sub": "spiffe://" + domain + "/web", "aud": "ledger", "exp": moment + 300, "jti": "a"})
+			if err := check(e, one); err != want {
+				t.Errorf("%s, %s: %v, want %v", mode, domain, err, want)
+			}
+			if w := request(e.Handler(), "GET", "/check", "Bearer "+one); (w.Code == 503) != (want == ErrNoBundle) {
+				t.Errorf("%s, %s: status %d", mode, domain, w.Code)
+			}
+			if want != ErrNoBundle {
+				continue
+			}
+			if err := e.SetBundles(map[string]json.RawMessage{"example.org": example.JWKSet(), domain: other.JWKSet()}); err != nil {
+				t.Fatal(err)
+			}
+			if mode == Strict { // (there is no group here to claim it in)
+				continue
+			}
+			if err := check(e, one); err != nil {
+				t.Errorf("%s, %s: %v once its bundle was read", mode, domain, err)
+			}
+		}
+		page := request(e.Handler(), "GET", "/metrics").Body.String()
+		for _, line := range []string{`svidd_bundle_age_seconds{trust_domain="example.com"} +Inf`, `svidd_bundle_age_seconds{trust_domain="example.org"} 1`} {
+			if !strings.Contains(page, line+"\n") {
+				t.Errorf("/metrics has no %s", line)
+			}
+		}
+	}
+}
+
+// A sidecar says that another one of its group runs in another mode, once a minute; what is from before its own begin, and
+// what revokes tokens, may come in every mode.
+func TestAnotherModeInTheGroup(t *testing.T) {
+	use := svid.Use{Key: svid.TokenKey{1}, Expires: moment + 3000, At: moment + 40, Place: svid.Place{7}}
+	old, revoked := use, use
+	old.At, revoked.Withdrawn = moment-1, true
+	for _, c := range []struct {
+		mode Mode
+		kind group.Kind
+		use  svid.Use
+		said bool
+	}{
+		{Strict, group.Uses, use, true}, {Strict, group.Uses, old, false}, {Strict, group.Uses, revoked, false},
+		{Strict, group.Claims, use, false}, {Strict, group.Answer, use, false},
+		{Once, group.Claims, use, true}, {Once, group.Claims, old, false}, {Once, group.Uses, use, false},
+		{Reuse, group.Claims, use, true}, {Reuse, group.Uses, use, true}, {Reuse, group.Uses, revoked, false},
+	} {
+		var log bytes.Buffer
+		now := uint64(moment)
+		e := ready(t, engine(t, Options{Mode: c.mode, Now: func() uint64 { return now }, Log: NewLog(&log, Errors)}))
+		now = moment + 40
+		for i := byte(0); i < 2; i++ {
+			c.use.Key[1] = i
+			if errs := e.Take([]group.Value{{Kind: c.kind, Message: c.use.Batch()}}); errs != nil {
+				t.Error(errs)
+			}
+		}
+		want := uint64(0)
+		if c.said {
+			want = 2
+		}
+		lines := strings.Count(log.String(), `"event":"mode"`)
+		if e.Metrics.OtherMode.Load() != want || (lines == 1) != c.said || c.said && !strings.Contains(log.String(), c.use.Place.String()) {
+			t.Errorf("%+v: %d times, %s", c, e.Metrics.OtherMode.Load(), log.String())
+		}
 	}
 }
 

@@ -79,7 +79,7 @@ func (u unverified) key() string {
 		h.Write([]byte{0})
 		h.Write([]byte(u.token[:strings.LastIndexByte(u.token, '.')]))
 	} else {
-		domain, _, _ := strings.Cut(strings.TrimPrefix(u.Subject, "spiffe://"), "/")
+		domain := trustDomain(u.Subject)
 		var head [5]byte
 		head[0] = 1
 		binary.BigEndian.PutUint32(head[1:], uint32(len(domain)))
@@ -88,6 +88,15 @@ func (u unverified) key() string {
 	}
 	return hex.EncodeToString(h.Sum(nil))
 }
+
+// trustDomain is that of a SPIFFE ID.
+func trustDomain(id string) string {
+	domain, _, _ := strings.Cut(strings.TrimPrefix(id, "spiffe://"), "/")
+	return domain
+}
+
+// domainOf is the trust domain that a token names.
+func domainOf(token string) string { return trustDomain(text(members(payload(token))["sub"])) }
 
 // audience is the first of own that the token names.
 func (u unverified) audience(own []string) string {
