@@ -5,6 +5,7 @@ import (
 	"net/http"
 	"path/filepath"
 	"strings"
+	"syscall"
 	"testing"
 	"time"
 
@@ -93,4 +94,27 @@ func TestVerifyAsksTheWorkloadAPI(t *testing.T) {
 	if status, _, err := svidd(t, "", "verify", "--audience", "ledger", "--workload-api", "agent.sock"); status != 2 || !strings.Contains(err, "unix:///run/spire/agent.sock") {
 		t.Errorf("%d %s", status, err)
 	}
+}
+
+// A bundle that is named and not there yet: its tokens can't be judged, and all others can.
+func TestABundleThatIsNotThereYet(t *testing.T) {
+	other, err := issuer.New("example.com")
+	if err != nil {
+		t.Fatal(err)
+	}
+	name := filepath.Join(t.TempDir(), "example.com.json")
+	p := start(t, bundleOption(bundleFile(t, example)), "--bundle", "example.com="+name, "--state", filepath.Join(t.TempDir(), "state"))
+	p.want(token(t, "a", time.Hour), 200, "")
+	claims := map[string]any{"sub": "spiffe://example.com/web", "aud": "ledger", "exp": time.Now().Add(time.Hour).Unix(), "jti": "b"}
+	one := other.Token("ES256", claims)
+	p.want(one, 503, "the bundle of the token's trust domain was not read yet")
+	if age := p.metric(`svidd_bundle_age_seconds{trust_domain="example.com"}`); age != "+Inf" {
+		t.Errorf("its age is %s", age)
+	}
+	writeBundle(t, name, other)
+	if err := p.signal(syscall.SIGHUP); err != nil {
+		t.Fatal(err)
+	}
+	p.await("the bundle", func() bool { return len(p.events("bundles")) == 2 })
+	p.want(one, 200, "")
 }
