@@ -1,6 +1,7 @@
 package main
 
 import (
+	"bufio"
 	"bytes"
 	"context"
 	"errors"
@@ -300,6 +301,31 @@ func get(client *http.Client, url, token string) (status int, body string, err e
 		request.Header.Set("Authorization", "Bearer "+token)
 	}
 	answer, err := client.Do(request)
+	if err != nil {
+		return 0, "", err
+	}
+	defer answer.Body.Close()
+	text, err := io.ReadAll(answer.Body)
+	return answer.StatusCode, string(text), err
+}
+
+// getThrough asks nginx with this very header Authorization, blanks included. It forges the sidecar's three headers, as a
+// client may try.
+func getThrough(address, authorization string) (status int, body string, err error) {
+	connection, err := net.DialTimeout("tcp", address, patience)
+	if err != nil {
+		return 0, "", err
+	}
+	defer connection.Close()
+	if err := connection.SetDeadline(time.Now().Add(patience)); err != nil {
+		return 0, "", err
+	}
+	_, err = fmt.Fprintf(connection, "GET / HTTP/1.0\r\nHost: %s\r\nX-Spiffe-Id: spiffe://%s/admin\r\nX-Svid-Audience: all\r\n"+
+		"X-Svid-Expires: 1\r\nAuthorization: %s\r\n\r\n", address, domain, authorization)
+	if err != nil {
+		return 0, "", err
+	}
+	answer, err := http.ReadResponse(bufio.NewReader(connection), nil)
 	if err != nil {
 		return 0, "", err
 	}

@@ -63,16 +63,21 @@ func (c *cluster) throughNginx() error {
 		return err
 	}
 	c.say("nginx asks the sidecars by turns: http://%s/", address)
-	one := c.mint(1)[0].text
-	for i, want := range []string{"200 hello spiffe://example.org/billing", "401", "401", "401"} {
-		status, body, err := get(http.DefaultClient, "http://"+address+"/", one)
+	one := c.mint(1)[0]
+	for i, want := range []string{"200 " + one.hello(), "401", "401", "401"} {
+		status, body, err := getThrough(address, "Bearer "+one.text)
 		got := strings.TrimSpace(fmt.Sprint(status, " ", body))
 		if err != nil || !strings.HasPrefix(got, want) {
 			return fmt.Errorf("time %d of a token through nginx: %s %v, want %s", i+1, got, err, want)
 		}
 	}
-	c.say("a token through nginx: 200, and 401 each time after that")
+	c.say("a token through nginx: 200, and 401 each time after that; the service read the sidecar's three headers, not the client's")
 	return nil
+}
+
+// hello is what the service answers behind nginx, by the sidecar's headers.
+func (t token) hello() string {
+	return fmt.Sprintf("hello spiffe://%s/billing for %s until %d", domain, audience, t.exp)
 }
 
 // once: what slips in between is in every report.
@@ -252,7 +257,8 @@ func liar(c *cluster) error {
 	return err
 }
 
-// split: nginx sends each token to one of two groups by its text, so that each group hears of half of them.
+// split: nginx sends each token to one of two groups by its signed part, so that each group hears of half of them, and a
+// token reaches the same group however it is spelled.
 func split(c *cluster) error {
 	groups := []string{"split-1", "split-2"}
 	for i, name := range groups {
@@ -264,26 +270,33 @@ func split(c *cluster) error {
 	if err != nil {
 		return err
 	}
-	client := newClient()
-	sent := c.mint(tokens / 4)
-	for _, t := range sent {
-		const times = 4
+	sent, err := c.eachSpelling(address)
+	if err != nil {
+		return err
+	}
+	times := len(sent)
+	for _, t := range c.mint(tokens / 4) {
+		sent = append(sent, t)
+		spellings, err := t.spellings()
+		if err != nil {
+			return err
+		}
 		statuses := make(chan int, times)
-		for i := 0; i < times; i++ {
-			go func() {
-				status, _, err := get(client, "http://"+address+"/", t.text)
+		for _, one := range spellings {
+			go func(authorization string) {
+				status, _, err := getThrough(address, authorization)
 				if err != nil {
 					status = 0
 				}
 				statuses <- status
-			}()
+			}(one)
 		}
 		counts := map[int]int{}
-		for i := 0; i < times; i++ {
+		for range spellings {
 			counts[<-statuses]++
 		}
 		if counts[http.StatusOK] != 1 || counts[http.StatusUnauthorized] != times-1 {
-			return fmt.Errorf("a token sent %d times through nginx: %v", times, counts)
+			return fmt.Errorf("a token in %d spellings through nginx: %v, want one 200", times, counts)
 		}
 	}
 	var heard []int
@@ -301,8 +314,27 @@ func split(c *cluster) error {
 	if len(seen) != len(sent) || heard[0]+heard[1] != len(sent) || heard[0] < len(sent)/4 || heard[1] < len(sent)/4 {
 		return fmt.Errorf("of %d tokens one group has %d and the other %d, together %d", len(sent), heard[0], heard[1], len(seen))
 	}
-	c.say("%d tokens, each sent 4 times at once through nginx: one 200 each; one group heard of %d of them, and the other of %d", len(sent), heard[0], heard[1])
+	c.say("%d tokens, each sent in %d spellings at once through nginx: one 200 each; one group heard of %d of all, and the other of %d",
+		len(sent)-times, times, heard[0], heard[1])
 	return nil
+}
+
+// eachSpelling sends a new token in each spelling, and returns these tokens: each spelling is accepted.
+func (c *cluster) eachSpelling(address string) ([]token, error) {
+	var sent []token
+	for i, n := 0, 1; i < n; i++ {
+		t := c.mint(1)[0]
+		spellings, err := t.spellings()
+		if err != nil {
+			return nil, err
+		}
+		n = len(spellings)
+		if status, body, err := getThrough(address, spellings[i]); err != nil || status != http.StatusOK || strings.TrimSpace(body) != t.hello() {
+			return nil, fmt.Errorf("a new token as %q: %d %q %v", spellings[i], status, body, err)
+		}
+		sent = append(sent, t)
+	}
+	return sent, nil
 }
 
 // batchOf is a batch of this moment without a use.

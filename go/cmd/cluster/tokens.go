@@ -1,10 +1,14 @@
 package main
 
 import (
+	"crypto/elliptic"
 	"crypto/sha256"
+	"encoding/base64"
 	"encoding/json"
 	"fmt"
+	"math/big"
 	"net/http"
+	"strings"
 	"sync"
 	"time"
 
@@ -15,6 +19,7 @@ import (
 type token struct {
 	text string
 	key  svid.TokenKey
+	exp  int64
 }
 
 // mint makes new tokens, each with a jti of its own. They live for half an hour.
@@ -24,7 +29,7 @@ func (c *cluster) mint(n int) []token {
 	for i := range all {
 		c.serial++
 		jti := fmt.Sprint(c.name, "-", c.serial)
-		all[i].key = keyOf(jti)
+		all[i].key, all[i].exp = keyOf(jti), exp
 		all[i].text = c.issuer.Token("ES256", map[string]any{"sub": c.issuer.Subject("/billing"), "aud": audience, "exp": exp, "jti": jti})
 	}
 	return all
@@ -33,6 +38,34 @@ func (c *cluster) mint(n int) []token {
 // keyOf is the key of a token with this jti, as docs/FORMATS.md has it.
 func keyOf(jti string) svid.TokenKey {
 	return sha256.Sum256([]byte("\x01\x00\x00\x00" + string(rune(len(domain))) + domain + jti))
+}
+
+// spellings are the values of a header Authorization that a sidecar accepts with this token: the scheme in any case, blanks
+// around it and around the token, and the other good signature.
+func (t token) spellings() ([]string, error) {
+	other, err := otherSignature(t.text)
+	return []string{
+		"Bearer " + t.text,
+		"bearer " + t.text,
+		"BEARER " + t.text,
+		"Bearer  " + t.text,
+		"\tBearer " + t.text,
+		"Bearer " + t.text + " \t",
+		"Bearer " + other,
+		"\t bEARER   " + other + "\t",
+	}, err
+}
+
+// otherSignature is a token of ES256 with the signature (r, n-s), which is as good as its own (r, s).
+func otherSignature(token string) (string, error) {
+	signed := token[:strings.LastIndexByte(token, '.')+1]
+	signature, err := base64.RawURLEncoding.DecodeString(token[len(signed):])
+	if err != nil {
+		return "", err
+	}
+	s := signature[len(signature)/2:]
+	new(big.Int).Sub(elliptic.P256().Params().N, new(big.Int).SetBytes(s)).FillBytes(s)
+	return signed + base64.RawURLEncoding.EncodeToString(signature), nil
 }
 
 // A verdict is a sidecar's answer to a token.

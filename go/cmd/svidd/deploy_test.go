@@ -303,7 +303,7 @@ func TestEnvoyListener(t *testing.T) {
 	service := http.HandlerFunc(func(w http.ResponseWriter, r *http.Request) {
 		body, _ := io.ReadAll(r.Body)
 		fmt.Fprintf(w, "%s of %v for %v until %v with %q token %v", r.RequestURI, r.Header["X-Spiffe-Id"], r.Header["X-Svid-Audience"],
-			len(r.Header["X-Svid-Expires"]), body, r.Header["Authorization"])
+			r.Header["X-Svid-Expires"], body, r.Header["Authorization"])
 	})
 	e := newEnvoy(t, p.address, service)
 	front := httptest.NewServer(e)
@@ -316,7 +316,8 @@ func TestEnvoyListener(t *testing.T) {
 		}
 		// which a client may not say of itself
 		r.Header["X-Spiffe-Id"] = []string{"spiffe://example.org/admin", "spiffe://example.org/root"}
-		r.Header.Set("X-Svid-Audience", "all")
+		r.Header["X-Svid-Audience"] = []string{"all", "every"}
+		r.Header["X-Svid-Expires"] = []string{"1", "2"}
 		if token != "" {
 			r.Header.Set("Authorization", "Bearer "+token)
 		}
@@ -333,8 +334,9 @@ func TestEnvoyListener(t *testing.T) {
 	}
 	for i, method := range []string{"GET", "POST", "DELETE", "PATCH", "OPTIONS"} {
 		path := []string{"/", "/a/b?c=d&e=%2f", "//a/../../b", "/check", "/metrics"}[i]
-		one := token(t, "envoy"+method, time.Minute)
-		want := path + ` of [spiffe://example.org/web] for [ledger] until 1 with "a body" token []`
+		exp := time.Now().Add(time.Minute).Unix()
+		one := example.Token("ES256", map[string]any{"sub": "spiffe://example.org/web", "aud": "ledger", "exp": exp, "jti": "envoy" + method})
+		want := fmt.Sprintf(`%s of [spiffe://example.org/web] for [ledger] until [%d] with "a body" token []`, path, exp)
 		if answer, body := send(method, path, one); answer.StatusCode != 200 || body != want {
 			t.Errorf("%s %s: %d %q, and %q is due", method, path, answer.StatusCode, body, want)
 		}

@@ -72,7 +72,10 @@ func TestNginxSite(t *testing.T) {
 		if err != nil {
 			t.Fatal(err)
 		}
-		request.Header.Set("X-Spiffe-Id", "spiffe://example.org/admin") // which a client may not say of itself
+		// which a client may not say of itself
+		request.Header["X-Spiffe-Id"] = []string{"spiffe://example.org/admin", "spiffe://example.org/root"}
+		request.Header["X-Svid-Audience"] = []string{"all", "every"}
+		request.Header["X-Svid-Expires"] = []string{"1", "2"}
 		if authorization != "" {
 			request.Header.Set("Authorization", authorization)
 		}
@@ -87,9 +90,11 @@ func TestNginxSite(t *testing.T) {
 		}
 		return answer, body.String()
 	}
-	once := token(t, "nginx", time.Minute)
-	if answer, body := get("Bearer " + once); answer.StatusCode != 200 || body != "caller spiffe://example.org/web token \n" {
-		t.Errorf("accepted: %d %q", answer.StatusCode, body)
+	exp := time.Now().Add(time.Minute).Unix()
+	once := example.Token("ES256", map[string]any{"sub": "spiffe://example.org/web", "aud": "ledger", "exp": exp, "jti": "nginx"})
+	want := fmt.Sprintf("caller spiffe://example.org/web for ledger until %d token \n", exp)
+	if answer, body := get("Bearer " + once); answer.StatusCode != 200 || body != want {
+		t.Errorf("accepted: %d %q, and %q is due", answer.StatusCode, body, want)
 	}
 	if answer, _ := get("Bearer " + once); answer.StatusCode != 401 || !strings.Contains(answer.Header.Get("WWW-Authenticate"), "Replayed") {
 		t.Errorf("replayed: %d %v", answer.StatusCode, answer.Header)
@@ -122,7 +127,7 @@ func startNginx(t *testing.T, sidecar string) (log, front, service string) {
 http {
   access_log off;
   client_body_temp_path %[1]s/1; proxy_temp_path %[1]s/2; fastcgi_temp_path %[1]s/3; uwsgi_temp_path %[1]s/4; scgi_temp_path %[1]s/5;
-  server { listen %[2]s; location / { return 200 "caller $http_x_spiffe_id token $http_authorization\n"; } }
+  server { listen %[2]s; location / { return 200 "caller $http_x_spiffe_id for $http_x_svid_audience until $http_x_svid_expires token $http_authorization\n"; } }
 %[3]s
 }
 `, folder, service, text)
