@@ -34,7 +34,16 @@ func withdraw(args []string, std stdio) int {
 	}
 	asked := server.Withdrawal{Token: f.Arg(0), Key: *key, Exp: exp.value}
 	if *socket == "" || f.NArg() > 1 || (asked.Token == "") == (*key == "") || (*key != "") != exp.given {
-		return fail(std, errors.New("withdraw wants --admin, and either a TOKEN or --key and --exp"))
+		return fail(std, errors.New("withdraw wants --admin, and one of - (it reads the token from standard input), a TOKEN, or --key and --exp"))
+	}
+	if asked.Token == "-" {
+		var err error
+		if asked.Token, err = readToken(std); err != nil {
+			return fail(std, err)
+		}
+		if asked.Token == "" {
+			return fail(std, errors.New("standard input has no token"))
+		}
 	}
 	body, err := json.Marshal(asked)
 	if err != nil {
@@ -45,11 +54,15 @@ func withdraw(args []string, std stdio) int {
 		return fail(std, err)
 	}
 	var gone struct {
-		Key string
-		Exp uint64
+		Key     string
+		Exp     uint64
+		Warning string
 	}
 	if err := json.Unmarshal(answer, &gone); err != nil {
 		return fail(std, err)
+	}
+	if gone.Warning != "" {
+		fmt.Fprintf(std.err, "svidd: warning: %s\n", gone.Warning)
 	}
 	fmt.Fprintf(std.out, "withdrawn %s %d\n", gone.Key, gone.Exp)
 	return exitYes

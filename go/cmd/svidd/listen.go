@@ -20,15 +20,20 @@ type served struct {
 	listener net.Listener
 }
 
+// The umasks of the sockets. Connecting to one needs the right to write to it.
+const (
+	public  = 0o111 // all may connect, as to a port of loopback: the folder says who may reach it
+	private = 0o177 // nothing for group and others
+)
+
 // listen binds the addresses, and begins to answer.
 func (s *sidecar) listen() ([]served, error) {
-	main, err := bind(s.options.listen, 0)
+	main, err := bind(s.options.listen, public)
 	if err != nil {
 		return nil, err
 	}
 	servers := []served{{s.server(s.engine.Handler()), main}}
 	if s.admin != "" {
-		const private = 0o177 // nothing for group and others
 		admin, err := bind("unix:"+s.admin, private)
 		if err != nil {
 			main.Close()
@@ -65,7 +70,7 @@ func (s *sidecar) shutdown(servers []served) {
 	}
 }
 
-// bind listens on HOST:PORT, or on unix:PATH with this umask where it is not 0. A
+// bind listens on HOST:PORT, or on unix:PATH with this umask, whatever the process has. A
 // socket that a killed process left is replaced.
 func bind(address string, umask int) (net.Listener, error) {
 	if !strings.HasPrefix(address, "unix:") {
@@ -81,9 +86,7 @@ func bind(address string, umask int) (net.Listener, error) {
 			return nil, err
 		}
 	}
-	if umask != 0 {
-		defer syscall.Umask(syscall.Umask(umask))
-	}
+	defer syscall.Umask(syscall.Umask(umask))
 	return net.Listen("unix", path)
 }
 

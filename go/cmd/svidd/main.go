@@ -31,7 +31,7 @@ const (
 const usage = `usage:
   svidd serve    --audience NAME.. BUNDLES --longest SECONDS [option..]
   svidd verify   --audience NAME.. BUNDLES [--longest SECONDS] < token
-  svidd withdraw --admin SOCKET (TOKEN | --key HEX --exp SECONDS)
+  svidd withdraw --admin SOCKET (- < token | --key HEX --exp SECONDS | TOKEN)
   svidd report   --admin SOCKET [--json]
   svidd ready    [--listen ADDRESS]
   svidd version

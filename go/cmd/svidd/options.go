@@ -7,8 +7,10 @@ import (
 	"flag"
 	"fmt"
 	"io"
+	"net"
 	"net/url"
 	"os"
+	"regexp"
 	"sort"
 	"strconv"
 	"strings"
@@ -166,6 +168,9 @@ func parseFile(f *flag.FlagSet, name string, given map[string]bool) error {
 	sort.Strings(names) // so of several faults it is always the same one
 	for _, option := range names {
 		known := f.Lookup(option)
+		if known == nil && isOfServe(option) {
+			continue // verify has the same file as serve
+		}
 		if option == "config" || known == nil {
 			return fmt.Errorf("%s: no option is named %q", name, option)
 		}
@@ -186,6 +191,13 @@ func parseFile(f *flag.FlagSet, name string, given map[string]bool) error {
 		}
 	}
 	return nil
+}
+
+// isOfServe says whether serve alone has an option of this name.
+func isOfServe(name string) bool {
+	f := flag.NewFlagSet("", flag.ContinueOnError)
+	new(options).addServe(f)
+	return f.Lookup(name) != nil
 }
 
 // readFile reads a file of options: JSON if it begins with a brace, and TOML if not.
@@ -222,24 +234,47 @@ func plain(value any) (string, error) {
 	return "", errors.New("is neither text, nor a whole number, nor true or false")
 }
 
-// problems is everything that is wrong with the options of serve.
-func (o *options) problems() []string {
-	var all []string
-	wrong := func(is bool, text string, values ...any) {
-		if is {
-			all = append(all, fmt.Sprintf(text, values...))
-		}
+// problems are sentences that say what is wrong with options.
+type problems []string
+
+// wrong adds a sentence if something is so.
+func (p *problems) wrong(is bool, text string, values ...any) {
+	if is {
+		*p = append(*p, fmt.Sprintf(text, values...))
 	}
-	wrong(len(o.audiences) == 0, "--audience is missing: the name by which tokens call this service")
+}
+
+// tell prints them, each on a line.
+func (p problems) tell(std stdio) int {
+	for _, sentence := range p {
+		fmt.Fprintf(std.err, "svidd: %s\n", sentence)
+	}
+	return exitFailed
+}
+
+// commonProblems is everything that is wrong with the options that serve and verify share.
+func (o *options) commonProblems() (all problems) {
+	all.wrong(len(o.audiences) == 0, "--audience is missing: the name by which tokens call this service")
 	for _, a := range o.audiences {
-		wrong(strings.ContainsAny(a, "\r\n"), "--audience %q holds a line break", a)
+		all.wrong(strings.ContainsAny(a, "\r\n"), "--audience %q holds a line break", a)
 	}
-	wrong(!o.hasBundles(), "--workload-api, --bundle or --bundles is missing: without trust bundles no token can be accepted")
+	all.wrong(!o.hasBundles(), "--workload-api, --bundle or --bundles is missing: without trust bundles no token can be accepted")
 	if _, err := o.specs(); err != nil {
-		wrong(true, "--bundle: %v", err)
+		all.wrong(true, "--workload-api, --bundle, --bundles: %v", err)
 	}
+	if o.bundleFolder != "" {
+		_, err := os.ReadDir(o.bundleFolder)
+		all.wrong(err != nil, "--bundles: %v. Give a folder that has the trust bundles, each DOMAIN.json", err)
+	}
+	all.wrong(o.longest.given && (o.longest.value == 0 || o.longest.value > mostLongest), "--longest must be from 1 to %d seconds", uint64(mostLongest))
+	return all
+}
+
+// problems is everything that is wrong with the options of serve.
+func (o *options) problems() problems {
+	all := o.commonProblems()
+	wrong := all.wrong
 	wrong(!o.longest.given, "--longest is missing: the record keeps each used token until it expires, so a token that lives for years fills the memory. Give the longest life in seconds that your issuer grants, such as 3600")
-	wrong(o.longest.given && (o.longest.value == 0 || o.longest.value > mostLongest), "--longest must be from 1 to %d seconds", uint64(mostLongest))
 	wrong(o.ahead.value > mostAhead, "--ahead must be at most %d seconds: so far a clock that is wrong can expire tokens", uint64(mostAhead))
 	switch server.Mode(o.replay) {
 	case server.Once:
@@ -250,11 +285,20 @@ func (o *options) problems() []string {
 	default:
 		wrong(true, "--replay %q is none of once, strict and reuse", o.replay)
 	}
+	wrong(!isAddress(o.listen), "--listen %q is no address: write HOST:PORT, such as %s, or unix:PATH", o.listen, listenDefault)
+	wrong(strings.HasPrefix(o.admin, "@"), "--admin %q is an abstract name, which every local process can reach: write a path", o.admin)
 	for i, server := range o.servers() {
 		// (its text may hold a password)
+		if !strings.Contains(server, "://") {
+			server = "nats://" + server
+		}
 		u, err := url.Parse(server)
-		wrong(strings.Contains(server, "://") && (err != nil || u.Host == ""), "--nats: address %d is not like nats://HOST:PORT", i+1)
+		good := err == nil && u.Host != ""
+		wrong(!good, "--nats: address %d is not like nats://HOST:PORT", i+1)
+		wrong(good && !natsSchemes[u.Scheme], "--nats: address %d must begin with nats://, tls://, ws:// or wss://", i+1)
 	}
+	wrong(!bucketName.MatchString(o.group), "--group %q can't name a NATS bucket: use letters, digits, - and _", o.group)
+	wrong(o.replicas < 1 || o.replicas > mostReplicas, "--replicas must be from 1 to %d: so many NATS servers keep the bucket", mostReplicas)
 	if _, err := o.files.Connect(); err != nil {
 		wrong(true, "--nats-ca, --nats-cert, --nats-key, --nats-creds: %v", err)
 	}
@@ -268,7 +312,27 @@ func (o *options) problems() []string {
 const (
 	mostLongest = 100 * 365 * 24 * 3600 // 100 years; keeps sums of times far from any limit
 	mostAhead   = 24 * 3600
+
+	mostReplicas = 5 // of a bucket, as JetStream has it
 )
+
+var (
+	natsSchemes = map[string]bool{"nats": true, "tls": true, "ws": true, "wss": true}
+	bucketName  = regexp.MustCompile(`^[A-Za-z0-9_-]+$`)
+)
+
+// isAddress says whether bind can listen on an address, as far as its text says. An abstract name (@NAME, or nothing behind
+// unix:) is none: no folder says who may reach it.
+func isAddress(text string) bool {
+	if path := strings.TrimPrefix(text, "unix:"); path != text {
+		return path != "" && path[0] != '@'
+	}
+	_, port, err := net.SplitHostPort(text)
+	if err == nil {
+		_, err = net.LookupPort("tcp", port)
+	}
+	return err == nil && port != ""
+}
 
 var logLevels = map[string]server.Level{"errors": server.Errors, "decisions": server.Decisions, "all": server.All}
 

@@ -51,10 +51,7 @@ func serve(args []string, std stdio) int {
 		return fail(std, fmt.Errorf("serve takes no argument, and got %q", f.Arg(0)))
 	}
 	if problems := o.problems(); len(problems) > 0 {
-		for _, p := range problems {
-			fmt.Fprintf(std.err, "svidd: %s\n", p)
-		}
-		return exitFailed
+		return problems.tell(std)
 	}
 	if o.check {
 		fmt.Fprintln(std.out, "svidd: the options are good")

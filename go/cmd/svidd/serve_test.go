@@ -111,9 +111,25 @@ func TestReuseAcceptsUntilWithdrawn(t *testing.T) {
 	reused := token(t, "a", time.Minute)
 	p.want(reused, 200, "")
 	p.want(reused, 200, "")
-	if status, _, err := svidd(t, "", "withdraw", "--admin", admin, reused); status != 0 {
-		t.Errorf("withdraw: %d %q", status, err)
+	// Nothing keeps the withdrawal, and the command says so.
+	status, out, err := svidd(t, "", "withdraw", "--admin", admin, reused)
+	if status != 0 || !strings.HasPrefix(out, "withdrawn ") || !strings.HasPrefix(err, "svidd: warning: the sidecar forgets this withdrawal") {
+		t.Errorf("withdraw: %d %q %q", status, out, err)
 	}
+	p.want(reused, 401, "Withdrawn")
+	p.end()
+	p.start()
+	p.want(reused, 200, "")
+	p.end()
+
+	// A folder keeps it.
+	p.args = append(p.args, "--state", filepath.Join(t.TempDir(), "state"))
+	p.start()
+	if status, out, err := svidd(t, "", "withdraw", "--admin", admin, reused); status != 0 || !strings.HasPrefix(out, "withdrawn ") || err != "" {
+		t.Errorf("withdraw: %d %q %q", status, out, err)
+	}
+	p.end()
+	p.start()
 	p.want(reused, 401, "Withdrawn")
 	p.end()
 }

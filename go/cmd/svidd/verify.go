@@ -28,14 +28,17 @@ func verify(args []string, std stdio) int {
 	if err := parse(f, &o, args); err != nil {
 		return fail(std, err)
 	}
-	if len(o.audiences) == 0 || !o.hasBundles() || f.NArg() > 0 {
-		return fail(std, errors.New("verify wants --audience, and --workload-api, --bundle or --bundles, and reads the token from standard input"))
+	if f.NArg() > 0 {
+		// (of a token this is no more than its header)
+		return fail(std, fmt.Errorf("verify takes no argument, and got %.20q: it reads the token from standard input", f.Arg(0)))
 	}
-	text, err := io.ReadAll(io.LimitReader(std.in, svid.MaxToken+2))
+	if problems := o.commonProblems(); len(problems) > 0 {
+		return problems.tell(std)
+	}
+	token, err := readToken(std)
 	if err != nil {
 		return fail(std, err)
 	}
-	token := strings.TrimSpace(string(text))
 	err = o.judge(token, std)
 	var refusal svid.Refusal
 	switch {
@@ -53,6 +56,12 @@ func verify(args []string, std stdio) int {
 		return fail(std, err)
 	}
 	return exitYes
+}
+
+// readToken reads a token from standard input. White space around it is none of it.
+func readToken(std stdio) (string, error) {
+	text, err := io.ReadAll(io.LimitReader(std.in, svid.MaxToken+2))
+	return strings.TrimSpace(string(text)), err
 }
 
 // judge is nil for a token that a validator with an empty record accepts.
@@ -107,7 +116,7 @@ func (o *options) readBundles(std stdio) ([]byte, error) {
 	}, bundles.Options{Check: checkBundle, Log: func(event string, fields ...any) {
 		if strings.HasPrefix(event, "bundle not read") {
 			select {
-			case faults <- fmt.Errorf("%s: %v", event, fields):
+			case faults <- unread(fields):
 			default:
 			}
 		}
@@ -127,6 +136,15 @@ func (o *options) readBundles(std stdio) ([]byte, error) {
 			return nil, errors.New("the bundles did not come in time")
 		}
 	}
+}
+
+// unread is what a Watcher says of a source that it could not read: the source, and why.
+func unread(fields []any) error {
+	said := make(map[any]any)
+	for i := 0; i+1 < len(fields); i += 2 {
+		said[fields[i]] = fields[i+1]
+	}
+	return fmt.Errorf("%v: %v", said["source"], said["why"])
 }
 
 func hasAll(domains map[string]json.RawMessage, wanted map[string]bool) bool {

@@ -12,6 +12,9 @@ import (
 // mostAdminBody is how many bytes of a request to the admin socket are read.
 const mostAdminBody = 2 * svid.MaxToken
 
+// forgets is the warning of a withdrawal that is in memory alone.
+const forgets = "the sidecar forgets this withdrawal when it ends, since it has neither --state nor --nats"
+
 // A Withdrawal is the body of POST /withdraw: a token, or its key and expiry.
 type Withdrawal struct {
 	Token string `json:"token,omitempty"`
@@ -69,8 +72,12 @@ func (e *Engine) serveWithdraw(w http.ResponseWriter, r *http.Request) {
 	case err != nil:
 		http.Error(w, err.Error(), http.StatusServiceUnavailable)
 	default:
+		answer := map[string]any{"key": use.Key.String(), "exp": use.Expires}
+		if e.Journal == nil && !e.Grouped {
+			answer["warning"] = forgets
+		}
 		w.Header().Set("Content-Type", "application/json")
-		_ = json.NewEncoder(w).Encode(map[string]any{"key": use.Key.String(), "exp": use.Expires})
+		_ = json.NewEncoder(w).Encode(answer)
 	}
 }
 

@@ -290,21 +290,21 @@ func (e *Engine) checkOnce(token string, yes []svid.Question) (svid.Accepted, er
 	if err != nil {
 		return svid.Accepted{}, err
 	}
-	if err := e.keep(accepted.Use.Batch()); err != nil {
+	if err := e.keep("acceptance", accepted.Use.Batch()); err != nil {
 		return svid.Accepted{}, err
 	}
 	e.tell(accepted.Use)
 	return accepted, nil
 }
 
-// keep returns once the batch is on the disk, where there is a state folder.
-func (e *Engine) keep(batch []byte) error {
+// keep returns once the batch is on the disk, where there is a state folder. An error says what could not be kept.
+func (e *Engine) keep(what string, batch []byte) error {
 	if e.Journal == nil {
 		return nil
 	}
 	if err := e.Journal.Append(batch); err != nil {
 		e.Metrics.JournalFailures.Add(1)
-		return fmt.Errorf("the acceptance could not be kept: %w", err)
+		return fmt.Errorf("the %s could not be kept: %w", what, err)
 	}
 	return nil
 }
@@ -333,8 +333,8 @@ func (e *Engine) Withdraw(ctx context.Context, key svid.TokenKey, exp uint64) (s
 		return svid.Use{}, err
 	}
 	batch := use.Batch()
-	if err := e.keep(batch); err != nil {
-		return svid.Use{}, err
+	if err := e.keep("withdrawal", batch); err != nil {
+		return svid.Use{}, fmt.Errorf("revoked here, but %w", err)
 	}
 	if g := e.group.Load(); g != nil {
 		ctx, cancel := context.WithTimeout(ctx, e.Wait)

@@ -91,7 +91,7 @@ func (e *Engine) keepWaiting() {
 		if len(batches) == 0 {
 			return
 		}
-		if err := e.keep(batches); err != nil {
+		if err := e.keep("acceptance", batches); err != nil {
 			e.Log.Error("journal", err)
 		}
 		time.Sleep(keepPause)

@@ -1,0 +1,244 @@
+package main
+
+import (
+	"bytes"
+	"net"
+	"net/http"
+	"os"
+	"path/filepath"
+	"strings"
+	"syscall"
+	"testing"
+	"time"
+
+	"svid.example/go/internal/workload"
+)
+
+// here runs a command in this process, which takes less time than another one.
+func here(stdin string, args ...string) (status int, out, err string) {
+	var o, e bytes.Buffer
+	status = run(args, stdio{strings.NewReader(stdin), &o, &e})
+	return status, o.String(), e.String()
+}
+
+// What would end serve, or leave it without work, is said before it starts.
+func TestOptionsThatServeCantRunWith(t *testing.T) {
+	folder, file := t.TempDir(), bundleFile(t, example)
+	good := []string{"serve", "--check-config", "--audience", "a", "--longest", "60", "--replay", "reuse", bundleOption(file)}
+	for _, row := range []struct {
+		option, value string
+		want          string // "" where the options are good
+	}{
+		{"group", "a b", "letters, digits, - and _"},
+		{"group", "a.b", "letters, digits, - and _"},
+		{"group", "", "letters, digits, - and _"},
+		{"group", "Ledger_1-a", ""},
+		{"replicas", "0", "from 1 to 5"},
+		{"replicas", "6", "from 1 to 5"},
+		{"replicas", "-1", "from 1 to 5"},
+		{"replicas", "5", ""},
+		{"listen", "9901", "write HOST:PORT"},
+		{"listen", "127.0.0.1", "write HOST:PORT"},
+		{"listen", "127.0.0.1:", "write HOST:PORT"},
+		{"listen", "127.0.0.1:99999", "write HOST:PORT"},
+		{"listen", "", "write HOST:PORT"},
+		{"listen", "unix:", "or unix:PATH"},
+		{"listen", "unix:@svidd", "or unix:PATH"},
+		{"listen", "unix:" + folder + "/socket", ""},
+		{"listen", "unix:socket", ""},
+		{"listen", ":9901", ""},
+		{"listen", "[::1]:0", ""},
+		{"listen", "localhost:http", ""},
+		{"admin", "", ""},
+		{"admin", "@svidd", "abstract name"},
+		{"bundles", folder + "/none", "none: no such file or directory. Give a folder"},
+		{"bundles", file, "Give a folder"},
+		{"bundles", folder, ""},
+		{"nats", "http://svidd:secret@h", "nats://, tls://, ws:// or wss://"},
+		{"nats", "nats://h:1,mqtt://svidd:secret@h", "address 2 must begin"},
+		{"nats", "svidd:secret@[::1", "address 1 is not like"},
+		{"nats", "nats://", "address 1 is not like"},
+		{"nats", "h:4222", ""},
+		{"nats", "h", ""},
+		{"nats", "tls://svidd:secret@h:4222", ""},
+		{"nats", "ws://h,wss://h", ""},
+	} {
+		status, out, err := here("", append(good[:len(good):len(good)], "--"+row.option, row.value)...)
+		said := out + err
+		if row.want == "" && (status != 0 || said != "svidd: the options are good\n") {
+			t.Errorf("--%s %q: %d %q", row.option, row.value, status, said)
+		}
+		if row.want != "" && (status != 2 || !strings.Contains(err, "--"+row.option) || !strings.Contains(err, row.want) || strings.Count(said, "\n") != 1) {
+			t.Errorf("--%s %q: %d %q, and %q is due", row.option, row.value, status, said, row.want)
+		}
+		if strings.Contains(said, "secret") {
+			t.Errorf("--%s %q: a password is printed: %q", row.option, row.value, said)
+		}
+	}
+}
+
+// verify takes the file and the environment of serve, and says what is wrong with what it is given.
+func TestVerifyWithTheOptionsOfServe(t *testing.T) {
+	folder := t.TempDir()
+	writeBundle(t, filepath.Join(folder, "example.org.json"), example)
+	text, err := os.ReadFile("../../deploy/svidd.toml")
+	if err != nil {
+		t.Fatal(err)
+	}
+	config := filepath.Join(t.TempDir(), "svidd.toml")
+	write := func(more string) {
+		t.Helper()
+		all := more + strings.Replace(string(text), "/etc/svidd/bundles", folder, 1)
+		if err := os.WriteFile(config, []byte(all), 0o600); err != nil {
+			t.Fatal(err)
+		}
+	}
+	write("ahead = 30\ncheck-config = true\n")
+	t.Setenv("SVIDD_ADMIN", "/run/svidd/admin.sock")
+	t.Setenv("SVIDD_REPLICAS", "no number")
+	if status, out, err := here(token(t, "a", time.Minute), "verify", "--config", config); status != 0 || !strings.Contains(out, `"jti":"a"`) {
+		t.Errorf("the file of serve: %d %q %q", status, out, err)
+	}
+	write("admins = \"a\"\n")
+	if status, _, err := here("", "verify", "--config", config); status != 2 || !strings.Contains(err, `no option is named "admins"`) {
+		t.Errorf("an option that nobody has: %d %q", status, err)
+	}
+
+	good := []string{"verify", "--audience", "ledger"}
+	bundle, gone := bundleOption(bundleFile(t, example)), filepath.Join(t.TempDir(), "nope.json")
+	secret := token(t, "b", time.Minute)
+	for _, row := range []struct {
+		args []string
+		want string
+	}{
+		{append(good, bundleOption(gone)), "svidd: " + gone + ": open " + gone + ": no such file or directory\n"},
+		{append(good, bundle, "what"), "svidd: verify takes no argument, and got \"what\": it reads the token from standard input\n"},
+		{append(good, bundle, secret), "svidd: verify takes no argument, and got \"" + secret[:20] + "\": it reads the token from standard input\n"},
+		{append(good, bundle, "--longest", "0"), "svidd: --longest must be from 1 to 3153600000 seconds\n"},
+		{[]string{"verify", bundle}, "svidd: --audience is missing: the name by which tokens call this service\n"},
+		{good, "svidd: --workload-api, --bundle or --bundles is missing: without trust bundles no token can be accepted\n"},
+	} {
+		args := append([]string(nil), row.args...)
+		if status, out, err := here(secret, args...); status != 2 || out != "" || err != row.want {
+			t.Errorf("%q: %d %q %q, and %q is due", args, status, out, err, row.want)
+		}
+	}
+}
+
+// The token of withdraw may come from standard input, where no other process sees it.
+func TestWithdrawOfStandardInput(t *testing.T) {
+	admin := filepath.Join(t.TempDir(), "admin.sock")
+	p := start(t, bundleOption(bundleFile(t, example)), "--state", filepath.Join(t.TempDir(), "state"), "--admin", admin)
+	one := token(t, "one", time.Minute)
+	status, out, err := svidd(t, " \t"+one+"\r\n", "withdraw", "--admin", admin, "-")
+	if status != 0 || !strings.HasPrefix(out, "withdrawn ") || err != "" {
+		t.Errorf("%d %q %q", status, out, err)
+	}
+	p.want(one, 401, "Withdrawn")
+	for _, row := range []struct {
+		stdin string
+		args  []string
+		want  string
+	}{
+		{"\n", []string{"-"}, "standard input has no token"},
+		{"a.b.c", []string{"-"}, "HeaderSpelling"},
+		{strings.Repeat("a", 70000), []string{"-"}, "TooLong"},
+		{one, []string{"--key", strings.Repeat("0", 64), "--exp", "4000000000", "-"}, "withdraw wants"},
+		{one, nil, "withdraw wants"},
+	} {
+		args := append([]string{"withdraw", "--admin", admin}, row.args...)
+		if status, _, err := here(row.stdin, args...); status != 2 || !strings.Contains(err, row.want) {
+			t.Errorf("%.40q %q: %d %q", row.stdin, row.args, status, err)
+		}
+	}
+	p.end()
+}
+
+// Any process may connect to the socket of --listen, and only this user to that of --admin, whatever the umask is.
+func TestModesOfTheSockets(t *testing.T) {
+	bundle := bundleOption(bundleFile(t, example))
+	for _, umask := range []int{0, 0o077} {
+		folder := t.TempDir()
+		listen, admin := filepath.Join(folder, "svidd.sock"), filepath.Join(folder, "admin.sock")
+		p := &process{t: t, log: &lines{}, client: &http.Client{}}
+		p.args = []string{"serve", "--audience", "a", "--longest", "60", "--replay", "reuse", bundle, "--listen", "unix:" + listen, "--admin", admin}
+		t.Cleanup(p.kill)
+		func() {
+			defer syscall.Umask(syscall.Umask(umask))
+			p.launch()
+		}()
+		p.await("an answer", func() bool {
+			_, err := ask(admin, http.MethodGet, "/healthz", nil)
+			return err == nil
+		})
+		for name, want := range map[string]os.FileMode{listen: 0o666, admin: 0o600} {
+			if info, err := os.Stat(name); err != nil || info.Mode().Perm() != want {
+				t.Errorf("umask %03o: %s has mode %v, %v, and %v is due", umask, name, info.Mode(), err, want)
+			}
+		}
+		p.end()
+	}
+}
+
+// systemd hears that svidd is ready once it answers, though it may answer 503.
+func TestReadyForSystemdBeforeTheBundlesAreRead(t *testing.T) {
+	folder := t.TempDir()
+	notified, err := net.ListenUnixgram("unixgram", &net.UnixAddr{Name: filepath.Join(folder, "notify"), Net: "unixgram"})
+	if err != nil {
+		t.Fatal(err)
+	}
+	defer notified.Close()
+	t.Setenv("NOTIFY_SOCKET", filepath.Join(folder, "notify"))
+	t.Setenv(workload.EndpointSocket, "unix://"+filepath.Join(folder, "agent.sock"))
+	p := &process{t: t, address: freeAddress(t), log: &lines{}, client: &http.Client{Timeout: patience}}
+	p.args = []string{"serve", "--audience", "a", "--longest", "60", "--replay", "reuse", "--listen", p.address}
+	t.Cleanup(p.kill)
+	p.launch()
+	said := make([]byte, 100)
+	_ = notified.SetReadDeadline(time.Now().Add(patience))
+	if n, err := notified.Read(said); err != nil || string(said[:n]) != "READY=1" {
+		t.Errorf("systemd hears %q, %v", said[:n], err)
+	}
+	if status, why := p.get("/readyz"); status != http.StatusServiceUnavailable || !strings.Contains(why, "no trust bundle") {
+		t.Errorf("/readyz: %d %q", status, why)
+	}
+	p.end()
+}
+
+// SIGTERM closes the address at once. While a request is under way, the admin socket says that svidd drains.
+func TestDrainingIsSaidOnTheAdminSocket(t *testing.T) {
+	admin := filepath.Join(t.TempDir(), "admin.sock")
+	p := start(t, bundleOption(bundleFile(t, example)), "--replay", "reuse", "--admin", admin)
+	slow, err := net.Dial("tcp", p.address)
+	if err != nil {
+		t.Fatal(err)
+	}
+	defer slow.Close()
+	if _, err := slow.Write([]byte("GET /healthz HTTP/1.1\r\nHost: a\r\n")); err != nil {
+		t.Fatal(err)
+	}
+	if err := p.signal(syscall.SIGTERM); err != nil {
+		t.Fatal(err)
+	}
+	p.await("draining", func() bool {
+		_, err := ask(admin, http.MethodGet, "/readyz", nil)
+		return err != nil && strings.HasSuffix(err.Error(), "503: draining")
+	})
+	p.await("the listener's end", func() bool {
+		c, err := net.Dial("tcp", p.address)
+		if err == nil {
+			c.Close()
+		}
+		return err != nil
+	})
+	if _, err := slow.Write([]byte("\r\n")); err != nil {
+		t.Error(err)
+	}
+	answer := make([]byte, 100)
+	if n, err := slow.Read(answer); err != nil || !strings.HasPrefix(string(answer[:n]), "HTTP/1.1 200 ") {
+		t.Errorf("the request that was under way: %q, %v", answer[:n], err)
+	}
+	if err := p.run.Wait(); err != nil {
+		t.Errorf("svidd: %v\n%s", err, p.log)
+	}
+}
