@@ -73,7 +73,7 @@ func (c *Client) WatchBundles(ctx context.Context, give func(bundles map[string]
 		"Content-Type":       {"application/grpc"},
 		"Te":                 {"trailers"},
 		"User-Agent":         {"svidd"},
-		"Workload.spiffe.io": {"true"}, // SPIFFE Workload Endpoint, section 5
+		"Workload.spiffe.io": {"true"}, // SPIFFE Workload Endpoint, section 3
 	}
 	answer, err := c.http.Do(request)
 	if err != nil {
