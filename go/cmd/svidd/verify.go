@@ -100,9 +100,10 @@ func (o *options) readBundles(std stdio) ([]byte, error) {
 	if err != nil {
 		return nil, err
 	}
-	wanted := make(map[string]bool)
+	wanted, remote := make(map[string]bool), false
 	for _, s := range specs {
 		wanted[s.Domain] = s.Domain != ""
+		remote = remote || s.IsRemote()
 	}
 	ctx, cancel := context.WithTimeout(context.Background(), fetchWait)
 	defer cancel()
@@ -123,6 +124,9 @@ func (o *options) readBundles(std stdio) ([]byte, error) {
 	}})
 	if err != nil {
 		return nil, err
+	}
+	if !remote && len(changes) == 0 && len(faults) == 0 {
+		return nil, fmt.Errorf("%s has no file DOMAIN.json", o.bundleFolder)
 	}
 	for {
 		select {

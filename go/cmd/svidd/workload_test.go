@@ -118,3 +118,11 @@ func TestABundleThatIsNotThereYet(t *testing.T) {
 	p.await("the bundle", func() bool { return len(p.events("bundles")) == 2 })
 	p.want(one, 200, "")
 }
+
+func TestVerifyDoesNotWaitForAnEmptyFolder(t *testing.T) {
+	folder := t.TempDir()
+	status, _, err := svidd(t, token(t, "a", time.Hour), "verify", "--audience", "ledger", "--bundles", folder)
+	if status != 2 || err != "svidd: "+folder+" has no file DOMAIN.json\n" {
+		t.Errorf("%d %q", status, err)
+	}
+}

@@ -81,6 +81,9 @@ func (s Spec) check() error {
 	return nil
 }
 
+// IsRemote says whether the source answers over a socket, so that its bundles come later than Watch returns.
+func (s Spec) IsRemote() bool { return s.api || s.isAddress() }
+
 func (s Spec) isFolder() bool  { return s.Domain == "" && !s.api }
 func (s Spec) isAddress() bool { return !s.isFolder() && strings.HasPrefix(s.Source, "https://") }
 
