@@ -286,6 +286,8 @@ func (o *options) problems() problems {
 		wrong(true, "--replay %q is none of once, strict and reuse", o.replay)
 	}
 	wrong(!isAddress(o.listen), "--listen %q is no address: write HOST:PORT, such as %s, or unix:PATH", o.listen, listenDefault)
+	wrong(strings.HasPrefix(o.listen, "unix:") && len(o.listen) > len("unix:")+mostSocket, "--listen: the path of a unix socket has at most %d bytes", mostSocket)
+	wrong(len(o.admin) > mostSocket, "--admin: the path of a unix socket has at most %d bytes", mostSocket)
 	wrong(strings.HasPrefix(o.admin, "@"), "--admin %q is an abstract name, which every local process can reach: write a path", o.admin)
 	for i, server := range o.servers() {
 		// (its text may hold a password)
@@ -313,7 +315,8 @@ const (
 	mostLongest = 100 * 365 * 24 * 3600 // 100 years; keeps sums of times far from any limit
 	mostAhead   = 24 * 3600
 
-	mostReplicas = 5 // of a bucket, as JetStream has it
+	mostReplicas = 5   // of a bucket, as JetStream has it
+	mostSocket   = 107 // bytes of the path of a unix socket, as Linux has it
 )
 
 var (
