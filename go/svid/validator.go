@@ -48,8 +48,8 @@ type Options struct {
 	Ahead uint64
 	// Step is how many seconds the clock may go ahead between two calls; past
 	// that they answer ErrJump, so that a wrong clock doesn't expire the whole
-	// record. The first time that a new record is told is never a jump. 0 sets no
-	// limit, as NoLimit does.
+	// record. The first call on a new record is never a jump. 0 sets no limit, as
+	// NoLimit does.
 	Step uint64
 	// Place names this validator among all that share its record. Two
 	// validators of one place accept a token twice.

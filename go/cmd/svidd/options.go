@@ -10,7 +10,6 @@ import (
 	"net"
 	"net/url"
 	"os"
-	"regexp"
 	"sort"
 	"strconv"
 	"strings"
@@ -299,8 +298,8 @@ func (o *options) problems() problems {
 		wrong(!good, "--nats: address %d is not like nats://HOST:PORT", i+1)
 		wrong(good && !natsSchemes[u.Scheme], "--nats: address %d must begin with nats://, tls://, ws:// or wss://", i+1)
 	}
-	wrong(!bucketName.MatchString(o.group), "--group %q can't name a NATS bucket: use letters, digits, - and _", o.group)
-	wrong(o.replicas < 1 || o.replicas > mostReplicas, "--replicas must be from 1 to %d: so many NATS servers keep the bucket", mostReplicas)
+	wrong(!group.ValidName(o.group), "--group %q can't name a NATS bucket: use letters, digits, - and _", o.group)
+	wrong(o.replicas < 1 || o.replicas > group.MostReplicas, "--replicas must be from 1 to %d: so many NATS servers keep the bucket", group.MostReplicas)
 	if _, err := o.files.Connect(); err != nil {
 		wrong(true, "--nats-ca, --nats-cert, --nats-key, --nats-creds: %v", err)
 	}
@@ -315,14 +314,10 @@ const (
 	mostLongest = 100 * 365 * 24 * 3600 // 100 years; keeps sums of times far from any limit
 	mostAhead   = 24 * 3600
 
-	mostReplicas = 5   // of a bucket, as JetStream has it
-	mostSocket   = 107 // bytes of the path of a unix socket, as Linux has it
+	mostSocket = 107 // bytes of the path of a unix socket, as Linux has it
 )
 
-var (
-	natsSchemes = map[string]bool{"nats": true, "tls": true, "ws": true, "wss": true}
-	bucketName  = regexp.MustCompile(`^[A-Za-z0-9_-]+$`)
-)
+var natsSchemes = map[string]bool{"nats": true, "tls": true, "ws": true, "wss": true}
 
 // isAddress says whether bind can listen on an address, as far as its text says. An abstract name (@NAME, or nothing behind
 // unix:) is none: no folder says who may reach it.
@@ -352,8 +347,8 @@ func (o *options) servers() []string {
 	return all
 }
 
-// specs are the sources of the trust bundles. A workload is told the address of its Workload API by the environment, which
-// counts where nothing else is said.
+// specs are the sources of the trust bundles. Where no option names one, the environment may: it gives a workload the
+// address of its Workload API.
 func (o *options) specs() ([]bundles.Spec, error) {
 	api := o.workload
 	if api == "" && len(o.bundles) == 0 && o.bundleFolder == "" {

@@ -1,4 +1,4 @@
-"""A Workload API that gives the bundles it is told to, by gRPC's own server and protobuf's own writer.
+"""A Workload API for tests, by gRPC's own server and protobuf's own writer. Standard input says which bundles it gives.
 
     agent.py ADDRESS    as unix:/path or 127.0.0.1:0
 

@@ -235,12 +235,20 @@ func (w *Watcher) isNamed(source string) bool {
 
 // ofFolder is an error where the bundle of a trust domain is not to be read from a folder.
 func (w *Watcher) ofFolder(domain string) error {
-	for _, s := range w.specs {
-		if s.Domain == domain && s.Domain != "" {
-			return fmt.Errorf("the bundle of %s comes from %s", domain, s.Source)
-		}
+	if s, named := w.specOf(domain); named {
+		return fmt.Errorf("the bundle of %s comes from %s", domain, s.Source)
 	}
 	return checkDomain(domain)
+}
+
+// specOf is the spec that names this trust domain, if one does.
+func (w *Watcher) specOf(domain string) (s Spec, named bool) {
+	for _, s := range w.specs {
+		if s.Domain == domain && s.Domain != "" {
+			return s, true
+		}
+	}
+	return Spec{}, false
 }
 
 // dropGone drops the bundles that came from files of a folder that are there no more.

@@ -71,7 +71,7 @@ func (w *Watcher) adopt(s Spec, bundles map[string][]byte) {
 	changed, there := false, map[string]bool{}
 	for _, name := range names {
 		domain := strings.TrimPrefix(name, "spiffe://")
-		if w.isOfOne(domain) {
+		if _, named := w.specOf(domain); named {
 			continue
 		}
 		there[s.of(domain)] = true
@@ -85,16 +85,6 @@ func (w *Watcher) adopt(s Spec, bundles map[string][]byte) {
 	if w.dropOthers(s, there) || changed {
 		w.tell()
 	}
-}
-
-// isOfOne says whether a spec names this trust domain: then its bundle is not that of the Workload API.
-func (w *Watcher) isOfOne(domain string) bool {
-	for _, s := range w.specs {
-		if s.Domain == domain && s.Domain != "" {
-			return true
-		}
-	}
-	return false
 }
 
 // Answered says whether a Workload API has given its bundles, where one is asked.

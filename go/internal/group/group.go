@@ -40,9 +40,11 @@ const (
 	readWait      = 2 * time.Second        // the same where reading it begins, at first; longer after each failure
 	mostReadWait  = 30 * time.Second       // and at the most, for a broker that is busy
 	attemptPause  = 50 * time.Millisecond  // behind a failed attempt
-	mostReplicas  = 5                      // of a bucket, as JetStream has it
 	operationName = "KV-Operation"         // the header by which a key-value bucket marks a key as deleted
 )
+
+// MostReplicas is how many servers keep a bucket at the most, as JetStream has it.
+const MostReplicas = 5
 
 // Options say which bucket a group has, and who joins it.
 type Options struct {
@@ -151,17 +153,18 @@ func (o Options) check() error {
 	switch {
 	case len(o.Servers) == 0:
 		return errors.New("group: no server is named")
-	case !validName(o.Name):
+	case !ValidName(o.Name):
 		return fmt.Errorf("group: the name %q is not letters, digits, - and _ alone", o.Name)
 	case o.TTL <= 0:
 		return errors.New("group: a TTL is needed: the longest life of a token, and twice the bound for clocks")
-	case o.Replicas < 0 || o.Replicas > mostReplicas:
-		return fmt.Errorf("group: %d replicas: a bucket has 1 to %d", o.Replicas, mostReplicas)
+	case o.Replicas < 0 || o.Replicas > MostReplicas:
+		return fmt.Errorf("group: %d replicas: a bucket has 1 to %d", o.Replicas, MostReplicas)
 	}
 	return nil
 }
 
-func validName(name string) bool {
+// ValidName says whether a bucket can have this name: letters, digits, - and _ alone.
+func ValidName(name string) bool {
 	for _, c := range []byte(name) {
 		if !(c >= 'a' && c <= 'z' || c >= 'A' && c <= 'Z' || c >= '0' && c <= '9' || c == '-' || c == '_') {
 			return false

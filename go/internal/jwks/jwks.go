@@ -9,8 +9,8 @@ import (
 // ErrSet: a text is no JWK set.
 var ErrSet = errors.New(`no JSON object with a list "keys"`)
 
-// ForTokens gives each key of a set that names no use the use "jwt-svid". A Workload API and go-spiffe leave the member out;
-// without it a key may be one for X.509-SVIDs. All else stays. The error is ErrSet.
+// ForTokens gives each key of a set that names no use the use "jwt-svid", without which the validator passes over it. All
+// else stays. The error is ErrSet.
 func ForTokens(set []byte) (json.RawMessage, error) {
 	var members map[string]json.RawMessage
 	if err := json.Unmarshal(set, &members); err != nil || members["keys"] == nil {

@@ -156,20 +156,25 @@ func (e *Engine) SetBundles(domains map[string]json.RawMessage) error {
 	}
 	e.renewing.Lock()
 	defer e.renewing.Unlock()
+	old := e.bundles.Load()
+	if len(domains) == 0 {
+		e.bundles.Store(nil) // No token can be accepted from here on, and it is not the tokens' fault.
+	}
 	// The validator first: a key that only the keyring has would be asked for,
 	// and its answer not be believed.
 	if err := e.validator.SetBundles(bundles); err != nil {
+		e.bundles.Store(old)
 		return err
 	}
 	if err := e.keyring.SetBundles(bundles); err != nil {
-		if old := e.bundles.Load(); old != nil {
+		if old != nil {
 			_ = e.validator.SetBundles(*old) // if that fails too, keys that both have still work
 		}
+		e.bundles.Store(old)
 		return err
 	}
-	e.bundles.Store(&bundles)
-	if len(domains) == 0 {
-		e.bundles.Store(nil) // No token can be accepted, and it is not the tokens' fault.
+	if len(domains) > 0 {
+		e.bundles.Store(&bundles)
 	}
 	e.verified.clear()
 	return nil
@@ -225,7 +230,7 @@ func (e *Engine) Check(ctx context.Context, token string) (svid.Accepted, error)
 		return svid.Accepted{}, fmt.Errorf("%w: %v", ErrNotReady, err)
 	}
 	accepted, err := e.check(ctx, token)
-	if err == svid.UnknownDomain && e.isToHaveBundle(domainOf(token)) {
+	if err == svid.UnknownDomain && (e.bundles.Load() == nil || e.isToHaveBundle(domainOf(token))) {
 		err = ErrNoBundle
 	}
 	return accepted, err

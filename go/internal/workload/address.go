@@ -9,8 +9,8 @@ import (
 	"strings"
 )
 
-// EndpointSocket is the variable of the environment by which a workload is told the address of its Workload API (SPIFFE
-// Workload Endpoint, section 4).
+// EndpointSocket is the variable of the environment that gives a workload the address of its Workload API (SPIFFE Workload
+// Endpoint, section 4).
 const EndpointSocket = "SPIFFE_ENDPOINT_SOCKET"
 
 // An Address is where a Workload API is served.
