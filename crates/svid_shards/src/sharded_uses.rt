@@ -1,5 +1,7 @@
-ghost use Rattle.std.specs.Prelude.{◌≡◌, replicate, IfOk};
+ghost use Rattle.std.specs.Prelude.{◌≡◌, replicate, true, IfOk};
+ghost use Rattle.svid_replay.specs.Batches.{last_of};
 ghost use Rattle.svid_replay.specs.Uses.{no_uses};
+ghost use Rattle.svid_replay.specs.Walks.{IsAhead, next_few};
 
 use crate::shards::{
     ROUND, SHARDS, TENDED, compact_some, drop_all_expired, insert_into, next_after, next_ahead,
@@ -132,7 +134,15 @@ impl<S: UseStore> UseStore for ShardedUses<S> {
         self.next_ahead(&mut Ahead::of(after), room);
     }
 
-    fn next_ahead(&self, ahead: &mut Ahead, room: &mut Room) {
+    /// The next uses of the set, as the trait has them. Then the heads are known, so that the next room needs a look into
+    /// a store for each use alone.
+    fn next_ahead(&self, ahead: &mut Ahead, room: &mut Room)
+        requires { IsAhead self.now ahead.old }
+        ensures next { room.new ≡ next_few self.now ahead.old.after }
+        ensures after { ahead.new.after ≡ last_of ahead.old.after room.new }
+        ensures known { ahead.new.known ≡ true }
+        ensures ahead { IsAhead self.now ahead.new }
+    {
         room.clear();
         next_ahead(&self.shards, ahead, room);
     }

@@ -210,6 +210,7 @@ fn next_in<S: UseStore>(shards: &[S], ahead: &mut Ahead) -> Option<Use>
     requires heads { ahead.old.heads ≡ map exp_if_any (heads_of (map S.content shards.now) ahead.old.after) }
     ensures next { result ≡ next_above (all_in (map S.content shards.now)) ahead.old.after }
     ensures after { ahead.new.after ≡ ahead.old.after }
+    ensures known { ahead.new.known ≡ ahead.old.known }
     ensures heads { ahead.new.heads ≡ ahead.old.heads }
 {
     let at = least_behind(&ahead.heads, ahead.after);
@@ -224,6 +225,7 @@ pub(crate) fn next_ahead<S: UseStore>(shards: &[S], ahead: &mut Ahead, room: &mu
     requires empty { room.old ≡ [] }
     ensures next { room.new ≡ next_few (all_in (map S.content shards.now)) ahead.old.after }
     ensures after { ahead.new.after ≡ last_of ahead.old.after room.new }
+    ensures known { ahead.new.known ≡ true }
     ensures ahead { IsAhead (all_in (map S.content shards.now)) ahead.new }
 {
     look_ahead(shards, ahead);

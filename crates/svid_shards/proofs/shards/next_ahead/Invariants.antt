@@ -1,4 +1,4 @@
-use Rattle.std.proofs.Common.{◌≡◌, ◌≤◌, ◌-◌, ◌++◌, length, map}
+use Rattle.std.proofs.Common.{◌≡◌, ◌≤◌, ◌-◌, ◌++◌, length, map, true}
 use Rattle.std.specs.List.{filter}
 use Rattle.svid_replay.specs.Batches.{is_after, last_of}
 use Rattle.svid_replay.specs.Sets.{rising}
@@ -9,6 +9,7 @@ use Rattle.svid_shards.proofs.shards.next_ahead.Given as goal
 -- the room has what is in front of what is left, and it is known when the first of each shard expires
 abbrev pub invariant-loop-used : goal.invariant-loop-used
 invariant-loop-used g l = let ss = map g.S.UseStore.content l.shards in record {
+  known : l.ahead.known ≡ true;
   heads : l.ahead.heads ≡ map exp_if_any (heads_of ss l.ahead.after);
   few : length l.room ≤ 64;
   parts : l.room ++ filter (is_after l.ahead.after) (rising (all_in ss)) ≡ filter (is_after l.fn.ahead.after) (rising (all_in ss));
