@@ -16,10 +16,11 @@ use Rattle.svid_check.specs.declared.event.Event.{Event}
 use Rattle.svid_check.specs.declared.event.Event.TheVariants.{Check, Tick, Take, Withdraw}
 use Rattle.svid_check.specs.declared.take_fault.TakeFault.{TakeFault}
 use Rattle.svid_check.specs.declared.take_fault.TakeFault.TheVariants.{TooFarAhead, OutOfMemory}
-use Rattle.svid_check.specs.Bounds.{AnswersAreBounded, ChecksAreBounded, RecordsAreBounded, RunsAreBounded, TakesAreBounded, TicksAreBounded, WithdrawalsAreBounded, latest, now_of, reach}
-use Rattle.svid_check.specs.Changes.{accepted_in, gains, horizon, withdrawn_in}
+use Rattle.svid_check.specs.Bounds.{AnswersAreBounded, ChecksAreBounded, RecordTakesAreBounded, RecordsAreBounded, RunsAreBounded, TakesAreBounded, TicksAreBounded, WithdrawalsAreBounded, latest, now_of, reach}
+use Rattle.svid_check.specs.Changes.{accepted_in, batch_of, gains, horizon, withdrawn_in}
 use Rattle.svid_check.specs.Runs.{Step, Terms}
 use Rattle.svid_check.specs.Told.{BeginsAsGiven, TellsBatch, Told, begun, tell_now, tell_one}
+use Rattle.svid_check.proofs.WholeLemmas.{as_batch}
 
 held_live : (lives held : Bool) → (held ≡ true → lives ≡ true) → (lives && held) ≡ held
 held_live true held so = refl
@@ -71,6 +72,9 @@ pub takes_are_bounded : TakesAreBounded
 takes_are_bounded x y now ahead b (Ok taken) small h = within x y (batch_state b) now ahead small h.0 h.1
 takes_are_bounded x y now ahead b (Err TooFarAhead) small h = subst (λ (r : State). r.moment ≤ reach x.moment now ahead) (sym h.1) (ticks_are_bounded x now ahead small)
 takes_are_bounded x y now ahead b (Err OutOfMemory) small h = within x y (state_of b.moment h.1.front) now ahead small h.0 h.1.joined
+
+pub record_takes_are_bounded : RecordTakesAreBounded
+record_takes_are_bounded x y now ahead r answer small h = takes_are_bounded x y now ahead (batch_of r) answer small (as_batch (raised_to x now) (horizon now ahead) r answer y h)
 
 pub answers_are_bounded : AnswersAreBounded
 answers_are_bounded x y now ahead s (Ok batches) small h = within x y (state_of s.moment []) now ahead small h.0 h.2

@@ -12,6 +12,7 @@ use Rattle.svid_token.specs.declared.refusal.Refusal.TheVariants as refusal
 use Rattle.svid_replay.specs.declared.token_use.Use.{Use}
 use Rattle.svid_replay.specs.Batches.{BatchData}
 use Rattle.svid_replay.specs.Buckets.{answer_to, raised_to}
+use Rattle.svid_replay.specs.Parts.{join_all}
 use Rattle.svid_replay.specs.Records.{State, join, state_of}
 use Rattle.svid_replay.specs.Summary.{SummaryData}
 use Rattle.svid_replay.specs.Uses.{Uses}
@@ -20,15 +21,18 @@ use Rattle.svid_check.specs.declared.take_fault.TakeFault.{TakeFault}
 use Rattle.svid_check.specs.declared.take_fault.TakeFault.TheVariants.{OutOfMemory, TooFarAhead}
 use Rattle.svid_check.specs.declared.withdraw_fault.WithdrawFault.{WithdrawFault}
 use Rattle.svid_check.specs.declared.withdraw_fault.WithdrawFault.TheVariants as withdraw
-use Rattle.svid_check.specs.Changes.{IsWithdrawal, Replies, Takes, gains, horizon, settled, withdrawal, withdrawn_in}
-use Rattle.svid_check.specs.Events.{AnswersAreEvents, ChecksAreEvents, SendsAreEvents, SumsAreEvents, TakesAreEvents, TicksAreEvents, WithdrawalsAreEvents, entries, posted, RenewalsAreEvents, SavesAreEvents, OldSendsAreEvents}
+use Rattle.svid_check.specs.Changes.{IsWithdrawal, Replies, Takes, batch_of, gains, horizon, settled, withdrawal, withdrawn_in}
+use Rattle.svid_check.specs.Events.{AnswersAreEvents, ChecksAreEvents, SendsAreEvents, SumsAreEvents, TakesAreEvents, TicksAreEvents, WithdrawalsAreEvents, entries, posted, JudgmentsAgainAreTicks, JudgmentsAreTicks, RenewalsAreEvents, SavesAreEvents}
 use Rattle.svid_check.specs.Said.{RefusesForm}
-use Rattle.svid_check.specs.Alone.{AnswersAreCalls, ChecksAreCalls, TakesAreCalls, TicksAreCalls, WithdrawalsAreCalls, setting_alone}
-use Rattle.svid_check.specs.Setting.{Setting, renewed}
-use Rattle.svid_check.specs.Verdict.{verdict}
-use Rattle.svid_check.specs.World.{Answer, Answered, Content, Entry, Made, Member, Posting, Sent, Summed, Take, Took, World, answer_at, answer_by, answer_content, answer_posting, answer_summary, check_answer, checked, far, form_or_memory, front, happens, joined, logged, post, put, take_part, take_posting, ticked, took, withdraw_answer, withdrawal_at, withdrew, OldSend, old_parts_of, setting_at, with_renewal}
+use Rattle.svid_check.specs.Alone.{AnswersAreCalls, ChecksAreCalls, RecordTakesAreCalls, TakesAreCalls, TicksAreCalls, WithdrawalsAreCalls, setting_alone}
+use Rattle.svid_check.specs.Setting.{Renewal, Setting, renewed}
+use Rattle.svid_check.specs.Verdict.{again_rows, verdict}
+use Rattle.svid_check.specs.World.{Answer, Answered, Content, Entry, Made, Member, Posting, Sent, Summed, Take, Took, World, answer_at, answer_by, answer_content, answer_posting, answer_summary, check_answer, checked, far, form_or_memory, front, happens, joined, logged, post, put, take_part, take_posting, ticked, took, withdraw_answer, withdrawal_at, withdrew, happen, setting_at, start, with_renewal}
 use Rattle.svid_check.proofs.PlacesLemmas.{put_own}
+use Rattle.svid_check.proofs.RestartsLemmas.{restart_absorbs}
 use Rattle.svid_check.proofs.RowsLemmas.{told}
+use Rattle.svid_check.proofs.SoundLemmas.{is_sound}
+use Rattle.svid_check.proofs.WholeLemmas.{as_batch}
 
 -- Checks.
 
@@ -73,6 +77,18 @@ withdrawals_are_events group w v now key exp answer h =
 
 pub ticks_are_events : TicksAreEvents
 ticks_are_events group w v now = ap (λ (m : Member). m.held) (put_own w v (ticked (w.members v) now))
+
+-- Judgments.
+
+pub judgments_are_ticks : JudgmentsAreTicks
+judgments_are_ticks group w v now token answer y due form left =
+    let g = check_gives (setting_at group w v) (raised_to (w.members v).held now) token answer due form in
+    (g.0, g.1, ticks_are_events group w v now ∙ sym left)
+
+pub judgments_again_are_ticks : JudgmentsAgainAreTicks
+judgments_again_are_ticks group w v now key exp answer y is left =
+    let ticks = ticks_are_events group w v now in
+    (is ∙ sym (ap (λ (x : State). first_row (again_rows x.moment x.uses key exp)) ticks), ticks ∙ sym left)
 
 -- Takes.
 
@@ -158,19 +174,25 @@ sums_are_events group w v summary same =
       ap (λ (s : SummaryData). w.pool ++ record { maker = v; was = w.members v; content = Summed s } ∷ []) (sym same),
     )
 
+-- a renewal of a renewed setting is one of the first
+renewed_twice : (s : Setting) (before : Option Renewal) (r : Renewal) → renewed (renewed s before) (Some r) ≡ renewed s (Some r)
+renewed_twice s None r = refl
+renewed_twice s (Some before) r = refl
+
 pub renewals_are_events : RenewalsAreEvents
-renewals_are_events group w v renewal =
-    let is = put_own w v (with_renewal (w.members v) (Some renewal)) in
-    (ap (λ (m : Member). renewed (group v).setting m.renewal) is, ap (λ (m : Member). m.held) is, ap (λ (m : Member). m.told) is, ap (λ (m : Member). m.log) is)
+renewals_are_events group w v old new bundles same gives =
+    let r : Renewal = record { bundles = bundles; says = old.says } in
+    let is = put_own w v (with_renewal (w.members v) (Some r)) in (
+      gives ∙ ap (λ (s : Setting). renewed s (Some r)) same ∙ renewed_twice (group v).setting (w.members v).renewal r ∙ sym (ap (λ (m : Member). renewed (group v).setting m.renewal) is),
+      ap (λ (m : Member). m.held) is,
+      ap (λ (m : Member). m.told) is,
+      ap (λ (m : Member). m.log) is,
+    )
 
 pub saves_are_events : SavesAreEvents
-saves_are_events group w v = (refl, refl)
-
-pub old_sends_are_events : OldSendsAreEvents
-old_sends_are_events group w v none =
-    let x = w.members v in
-    let is : happens group w (OldSend v) ≡ post w v x (Sent (old_parts_of x.held)) = ap (λ (test : Bool). if test then w else post w v x (Sent (old_parts_of x.held))) none in
-    (ap (λ (after : World). after.members v) is, ap (λ (after : World). after.pool) is)
+saves_are_events group before v parts same =
+    let x = (happen group start before).members v in
+    (refl, refl, ap (join_all (state_of 0 [])) same ∙ restart_absorbs x ((is_sound group before).members v).is_told)
 
 -- One validator by itself.
 
@@ -208,6 +230,9 @@ takes_are_calls t w now b (Err OutOfMemory) y h =
       ap (either_way x (join x (state_of b.moment (take n b.uses)))) (le-ltb (horizon now t.ahead) b.moment h.0)
           ∙ (ap (λ (us : List Use). join x (state_of b.moment us)) first ∙ sym part.joined),
     )
+
+pub record_takes_are_calls : RecordTakesAreCalls
+record_takes_are_calls t w now r answer y h = takes_are_calls t w now (batch_of r) answer y (as_batch (raised_to w.held now) (horizon now t.ahead) r answer y h)
 
 pub answers_are_calls : AnswersAreCalls
 answers_are_calls t w now s (Ok batches) y h = let x = raised_to w.held now in ap (either_way x (raised_to x s.moment)) (le-ltb (horizon now t.ahead) s.moment h.0) ∙ sym h.2

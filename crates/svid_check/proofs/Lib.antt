@@ -24,3 +24,5 @@ pub mod SendsLemmas
 pub mod SoundLemmas
 pub mod VerdictLemmas
 pub mod VerifiersLemmas
+pub mod WholeEventsLemmas
+pub mod WholeLemmas

@@ -89,7 +89,7 @@ module _ (group : ℕ → Terms) (v : ℕ) where
       ap (λ (o : Option Posting). take_posting w v last z k p g.0 o) posted.2.1 ∙ ap (λ (o : Option BatchData). take_part w v last z (Took k p) g.0 q o) posted.2.2 in
       record {
         event = Take v now k p g.0;
-        is_call = (k, p, g.0, posted.2, refl);
+        is_call = (k, p, g.0, posted.2, refl, subst (λ (r : State). Takes (raised_to (w.members v).held now) last b answer r) (sym g.1.0) takes, g.1.1);
         pool = ap (λ (after : World). after.pool) same;
         renewal = ap (λ (after : World). (after.members v).renewal) same ∙ ap (λ (m : Member). m.renewal) (put_own w v (took last z (Took k p) q.was.told.uses b g.0)) ∙ took_renewal last z (Took k p) q.was.told.uses b g.0;
         held = g.1.0;

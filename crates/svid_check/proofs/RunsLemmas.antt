@@ -24,12 +24,13 @@ use Rattle.svid_check.specs.declared.event.Event.TheVariants.{Check, Tick, Take,
 use Rattle.svid_check.specs.declared.take_fault.TakeFault.{TakeFault}
 use Rattle.svid_check.specs.declared.take_fault.TakeFault.TheVariants.{TooFarAhead, OutOfMemory}
 use Rattle.svid_check.specs.declared.withdraw_fault.WithdrawFault.{WithdrawFault}
-use Rattle.svid_check.specs.Calls.{AnswersTellMoments, ChecksAreSteps, RecordsGoOn, RunsGoOn, TakesAreSteps, TicksAreSteps, WithdrawalsAreSteps}
-use Rattle.svid_check.specs.Changes.{IsWithdrawal, Takes, accepted_in, gains, horizon, settled, withdrawn_in}
+use Rattle.svid_check.specs.Calls.{AnswersTellMoments, ChecksAreSteps, RecordTakesAreSteps, RecordsGoOn, RunsGoOn, TakesAreSteps, TicksAreSteps, WithdrawalsAreSteps}
+use Rattle.svid_check.specs.Changes.{IsWithdrawal, Takes, accepted_in, batch_of, gains, horizon, settled, withdrawn_in}
 use Rattle.svid_check.specs.Runs.{IsAnswered, Runs, RunsFrom, Step, Terms}
 use Rattle.svid_check.specs.Said.{RefusesForm}
 use Rattle.svid_check.specs.Told.{TellsBatch, Told, record_of, tell, tell_now, tell_one, tell_use}
 use Rattle.svid_check.specs.Verdict.{verdict}
+use Rattle.svid_check.proofs.WholeLemmas.{as_batch}
 
 -- what is live at the greater moment is live at the lesser
 pruned_first : (late soon new held : Bool) → (late ≡ true → soon ≡ true) → (late && (new || held)) ≡ (late && (new || (soon && held)))
@@ -159,6 +160,12 @@ ticks_are_steps t a now = ticks t a (raised_to a now) now (Tick now) refl (λ x.
 
 pub takes_are_steps : TakesAreSteps
 takes_are_steps t a b now batch answer h = takes t a b now (Take now batch) batch.now answer h (λ x y told. told)
+
+pub record_takes_are_steps : RecordTakesAreSteps
+record_takes_are_steps t a b r now batch answer h is =
+    let x = raised_to a now in
+    let far = horizon now t.ahead in
+    takes_are_steps t a b now batch answer (subst (λ (d : BatchData). Takes x far d answer b) (sym is) (as_batch x far r answer b h))
 
 pub withdrawals_are_steps : WithdrawalsAreSteps
 withdrawals_are_steps t a now key exp answer h = withdraws t a (gains (raised_to a now) (withdrawn_in answer)) now (Withdraw now key exp) key exp answer h refl (λ x due. (due, refl))

@@ -11,7 +11,7 @@ use Rattle.svid_replay.specs.Summary.{SummaryData}
 use Rattle.svid_check.specs.declared.accepted.Accepted.{Accepted}
 use Rattle.svid_check.specs.declared.take_fault.TakeFault.{TakeFault}
 use Rattle.svid_check.specs.declared.withdraw_fault.WithdrawFault.{WithdrawFault}
-use Rattle.svid_check.specs.Changes.{IsWithdrawal, Replies, Takes, gains, horizon, settled, withdrawn_in}
+use Rattle.svid_check.specs.Changes.{IsWithdrawal, Replies, Takes, TakesRecord, batch_of, gains, horizon, settled, withdrawn_in}
 use Rattle.svid_check.specs.Lawful.{input_of}
 use Rattle.svid_check.specs.Runs.{Terms}
 use Rattle.svid_check.specs.Said.{RefusesForm}
@@ -102,6 +102,11 @@ TicksAreCalls = (t : Terms) (w : Alone) (now : ℕ) → (called t w (Tick now)).
 abbrev pub TakesAreCalls : Type 0
 TakesAreCalls = (t : Terms) (w : Alone) (now : ℕ) (b : BatchData) (answer : Result (Unit {0}) TakeFault) (y : State)
     → Takes (raised_to w.held now) (horizon now t.ahead) b answer y → (refused : Option ℕ) × ((called t w (Take now b refused)).held ≡ y)
+
+-- with a take of a whole record, as one batch
+abbrev pub RecordTakesAreCalls : Type 0
+RecordTakesAreCalls = (t : Terms) (w : Alone) (now : ℕ) (r : State) (answer : Result (Unit {0}) TakeFault) (y : State)
+    → TakesRecord (raised_to w.held now) (horizon now t.ahead) r answer y → (refused : Option ℕ) × ((called t w (Take now (batch_of r) refused)).held ≡ y)
 
 -- and with an answer to a summary
 abbrev pub AnswersAreCalls : Type 0

@@ -14,7 +14,7 @@ use Rattle.svid_check.specs.declared.event.Event.{Event}
 use Rattle.svid_check.specs.declared.event.Event.TheVariants.{Check, Tick, Take, Withdraw}
 use Rattle.svid_check.specs.declared.take_fault.TakeFault.{TakeFault}
 use Rattle.svid_check.specs.declared.withdraw_fault.WithdrawFault.{WithdrawFault}
-use Rattle.svid_check.specs.Changes.{Replies, Takes, gains, horizon, settled, withdrawn_in}
+use Rattle.svid_check.specs.Changes.{Replies, Takes, TakesRecord, gains, horizon, settled, withdrawn_in}
 use Rattle.svid_check.specs.Runs.{Runs, RunsFrom, Terms}
 use Rattle.svid_check.specs.Told.{Told}
 
@@ -54,6 +54,11 @@ WithdrawalsAreBounded = (x : State) (now ahead : ℕ) (answer : Result Use Withd
 abbrev pub TakesAreBounded : Type 0
 TakesAreBounded = (x y : State) (now ahead : ℕ) (b : BatchData) (answer : Result (Unit {0}) TakeFault) → now < 2 ^ 64
     → Takes (raised_to x now) (horizon now ahead) b answer y → y.moment ≤ reach x.moment now ahead
+
+-- of a whole record too
+abbrev pub RecordTakesAreBounded : Type 0
+RecordTakesAreBounded = (x y : State) (now ahead : ℕ) (r : State) (answer : Result (Unit {0}) TakeFault) → now < 2 ^ 64
+    → TakesRecord (raised_to x now) (horizon now ahead) r answer y → y.moment ≤ reach x.moment now ahead
 
 -- and an answer to a summary
 abbrev pub AnswersAreBounded : Type 0

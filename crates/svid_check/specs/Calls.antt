@@ -16,7 +16,7 @@ use Rattle.svid_check.specs.declared.event.Event.{Event}
 use Rattle.svid_check.specs.declared.event.Event.TheVariants.{Check, Tick, Take, Withdraw}
 use Rattle.svid_check.specs.declared.take_fault.TakeFault.{TakeFault}
 use Rattle.svid_check.specs.declared.withdraw_fault.WithdrawFault.{WithdrawFault}
-use Rattle.svid_check.specs.Changes.{IsWithdrawal, Replies, Takes, gains, horizon, settled, withdrawn_in}
+use Rattle.svid_check.specs.Changes.{IsWithdrawal, Replies, Takes, TakesRecord, batch_of, gains, horizon, settled, withdrawn_in}
 use Rattle.svid_check.specs.Runs.{Runs, RunsFrom, Terms}
 use Rattle.svid_check.specs.Said.{RefusesForm}
 use Rattle.svid_check.specs.Told.{Told, record_of, tell_now, tell_summary}
@@ -36,6 +36,11 @@ TicksAreSteps = (t : Terms) (a : State) (now : ℕ) → RunsFrom t a (Tick now �
 abbrev pub TakesAreSteps : Type 0
 TakesAreSteps = (t : Terms) (a b : State) (now : ℕ) (batch : Bor BatchData) (answer : Result (Unit {0}) TakeFault)
     → Takes (raised_to a now) (horizon now t.ahead) batch.now answer b → RunsFrom t a (Take now batch ∷ []) (Taken answer ∷ []) b
+
+-- and a take of a whole record, with the record as one batch
+abbrev pub RecordTakesAreSteps : Type 0
+RecordTakesAreSteps = (t : Terms) (a b r : State) (now : ℕ) (batch : Bor BatchData) (answer : Result (Unit {0}) TakeFault)
+    → TakesRecord (raised_to a now) (horizon now t.ahead) r answer b → batch.now ≡ batch_of r → RunsFrom t a (Take now batch ∷ []) (Taken answer ∷ []) b
 
 -- and a withdrawal
 abbrev pub WithdrawalsAreSteps : Type 0

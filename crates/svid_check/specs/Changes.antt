@@ -1,5 +1,5 @@
 -- What the calls of a validator leave of its record.
-use Rattle.std.specs.Prelude.{◌≡◌, ℕ, ◌+◌, ◌-◌, ◌^◌, ◌<◌, ◌≤◌, min, true, List, [], ◌∷◌, Option, None, Some, Result, Ok, Err, Vec}
+use Rattle.std.specs.Prelude.{◌≡◌, ◌↔◌, ℕ, ◌+◌, ◌-◌, ◌^◌, ◌<◌, ◌≤◌, min, true, List, [], ◌∷◌, Option, None, Some, Result, Ok, Err, Vec}
 use Rattle.std.specs.declared.alloc.Global.{Global}
 use Rattle.svid_token.specs.declared.refusal.Refusal.{Refusal}
 use Rattle.svid_replay.specs.declared.token_use.Use.{Use}
@@ -58,6 +58,14 @@ abbrev pub TakesRecord : State → ℕ → State → Result (Unit {0}) TakeFault
 TakesRecord x far r (Ok taken) y = (r.moment ≤ far) × (y ≡ join x r)
 TakesRecord x far r (Err TooFarAhead) y = (far < r.moment) × (y ≡ x)
 TakesRecord x far r (Err OutOfMemory) y = (r.moment ≤ far) × IsPartlyJoined x y r.moment (rising r.uses)
+
+-- a record as one batch: its moment, and all of its uses in their order
+abbrev pub batch_of : State → BatchData
+batch_of r = record { moment = r.moment; uses = rising r.uses }
+
+-- taking a record is taking that batch
+abbrev pub RecordTakesAreTakes : Type 0
+RecordTakesAreTakes = (x : State) (far : ℕ) (r : State) (answer : Result (Unit {0}) TakeFault) (y : State) → TakesRecord x far r answer y ↔ Takes x far (batch_of r) answer y
 
 -- what an answer to a summary is, and what it leaves of a raised record: of a summary within the horizon the answer that is due, or want of memory, and the record raised to its moment; else nothing more
 abbrev pub Replies : State → ℕ → SummaryData → Result (Vec BatchData Global) TakeFault → State → Type 0

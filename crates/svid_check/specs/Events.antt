@@ -1,13 +1,14 @@
 -- The calls of a validator, as events of a group: what the contract of a call allows is what its event does, for some memory that was refused.
-use Rattle.std.specs.Prelude.{◌≡◌, ℕ, Bool, List, [], ◌∷◌, ◌++◌, length, slice_get, Option, Some, Result, Ok, Err, Vec, false}
+use Rattle.std.specs.Prelude.{◌≡◌, ℕ, Bool, List, [], ◌∷◌, ◌++◌, length, slice_get, Option, Some, Result, Ok, Err, Vec}
 use Rattle.std.specs.declared.alloc.Global.{Global}
-use Rattle.svid_token.specs.Rows.{Answers}
+use Rattle.svid_keys.specs.Bundles.{Bundle}
+use Rattle.svid_token.specs.Rows.{Answers, first_row}
 use Rattle.svid_token.specs.declared.refusal.Refusal.{Refusal}
 use Rattle.svid_replay.specs.declared.token_use.Use.{Use}
 use Rattle.svid_replay.specs.Batches.{BatchData}
 use Rattle.svid_replay.specs.Buckets.{raised_to, summary_of}
-use Rattle.svid_replay.specs.Parts.{cut}
-use Rattle.svid_replay.specs.Records.{State}
+use Rattle.svid_replay.specs.Parts.{cut, join_all}
+use Rattle.svid_replay.specs.Records.{State, state_of}
 use Rattle.svid_replay.specs.Sets.{rising}
 use Rattle.svid_replay.specs.Summary.{SummaryData}
 use Rattle.svid_check.specs.declared.accepted.Accepted.{Accepted}
@@ -16,9 +17,9 @@ use Rattle.svid_check.specs.declared.withdraw_fault.WithdrawFault.{WithdrawFault
 use Rattle.svid_check.specs.Changes.{IsWithdrawal, Replies, Takes, gains, settled, withdrawn_in}
 use Rattle.svid_check.specs.Runs.{Terms}
 use Rattle.svid_check.specs.Said.{RefusesForm}
-use Rattle.svid_check.specs.Verdict.{verdict}
-use Rattle.svid_check.specs.World.{Answer, Answered, Check, Entry, Made, Member, Posting, Send, Sent, Sum, Summed, Take, Tick, Took, Withdraw, World, answer_at, far, happens, parts_in, withdrawal_at, OldSend, Renew, Save, has_withdrawal, old_parts_of, setting_at}
-use Rattle.svid_check.specs.Setting.{Renewal, renewed}
+use Rattle.svid_check.specs.Verdict.{again_rows, verdict}
+use Rattle.svid_check.specs.World.{Answer, Answered, Check, Entry, Made, Member, Posting, Send, Sent, Sum, Summed, Take, Tick, Took, Withdraw, World, answer_at, far, happens, parts_in, withdrawal_at, Event, Renew, Save, happen, setting_at, start}
+use Rattle.svid_check.specs.Setting.{Renewal, Setting, renewed}
 
 -- a check that is answered as its contract says is an event with this answer, which leaves the record that the contract says
 abbrev pub ChecksAreEvents : Type 0
@@ -37,6 +38,21 @@ WithdrawalsAreEvents = (group : ℕ → Terms) (w : World) (v now : ℕ) (key : 
 -- so is a tick
 abbrev pub TicksAreEvents : Type 0
 TicksAreEvents = (group : ℕ → Terms) (w : World) (v now : ℕ) → ((happens group w (Tick v now)).members v).held ≡ raised_to (w.members v).held now
+
+-- a judgment is a tick, and is answered as a check would be
+abbrev pub JudgmentsAreTicks : Type 0
+JudgmentsAreTicks = (group : ℕ → Terms) (w : World) (v now : ℕ) (token : List ℕ) (answer : Result Accepted Refusal) (y : State)
+    → let x = raised_to (w.members v).held now in
+    Answers Some answer (verdict (setting_at group w v) x.moment x.uses token) → RefusesForm token answer → y ≡ x
+    → (refused : Bool) × (answer_at group w v now token refused ≡ answer) × (((happens group w (Tick v now)).members v).held ≡ y)
+
+-- so is a judgment again, answered by the record that the tick leaves
+abbrev pub JudgmentsAgainAreTicks : Type 0
+JudgmentsAgainAreTicks = (group : ℕ → Terms) (w : World) (v now : ℕ) (key : List ℕ) (exp : ℕ) (answer : Option Refusal) (y : State)
+    → let x = raised_to (w.members v).held now in
+    let after = ((happens group w (Tick v now)).members v).held in
+    answer ≡ first_row (again_rows x.moment x.uses key exp) → y ≡ x
+    → (answer ≡ first_row (again_rows after.moment after.uses key exp)) × (after ≡ y)
 
 -- what a take adds to a log: an entry, where the part was taken
 abbrev pub entries : Entry → Result (Unit {0}) TakeFault → List Entry
@@ -75,23 +91,21 @@ SumsAreEvents = (group : ℕ → Terms) (w : World) (v : ℕ) (summary : Summary
     summary ≡ summary_of x.held
     → ((after.members v).held ≡ x.held) × ((after.members v).log ≡ x.log ++ Made (length w.pool) ∷ []) × (after.pool ≡ w.pool ++ record { maker = v; was = x; content = Summed summary } ∷ [])
 
--- a renewal gives a validator another setting, and leaves its record, what it was told and its log
+-- where a validator has the setting of the group, it has that of the group too when its bundles were replaced; a renewal leaves its record, what it was told and its log
 abbrev pub RenewalsAreEvents : Type 0
-RenewalsAreEvents = (group : ℕ → Terms) (w : World) (v : ℕ) (renewal : Renewal)
-    → let x = w.members v in
+RenewalsAreEvents = (group : ℕ → Terms) (w : World) (v : ℕ) (old new : Setting) (bundles : List Bundle)
+    → let renewal : Renewal = record { bundles = bundles; says = old.says } in
+    let x = w.members v in
     let after = happens group w (Renew v renewal) in
-    (setting_at group after v ≡ renewed (group v).setting (Some renewal))
-    × ((after.members v).held ≡ x.held) × ((after.members v).told ≡ x.told) × ((after.members v).log ≡ x.log)
+    let y = after.members v in
+    old ≡ setting_at group w v → new ≡ renewed old (Some renewal)
+    → (new ≡ setting_at group after v) × (y.held ≡ x.held) × (y.told ≡ x.told) × (y.log ≡ x.log)
 
--- a save keeps a validator as it is
+-- a save is the parts of a record: a new record that joins them is what the group keeps
 abbrev pub SavesAreEvents : Type 0
-SavesAreEvents = (group : ℕ → Terms) (w : World) (v : ℕ)
-    → let after = happens group w (Save v) in
-    (after.members v ≡ w.members v) × (after.saves ≡ w.saves ++ record { owner = v; was = w.members v } ∷ [])
-
--- a send in version 1 posts the parts of a record without a withdrawal, 4,096 uses in each but the last
-abbrev pub OldSendsAreEvents : Type 0
-OldSendsAreEvents = (group : ℕ → Terms) (w : World) (v : ℕ)
-    → let x = w.members v in
-    let after = happens group w (OldSend v) in
-    has_withdrawal x.held ≡ false → (after.members v ≡ x) × (after.pool ≡ w.pool ++ record { maker = v; was = x; content = Sent (old_parts_of x.held) } ∷ [])
+SavesAreEvents = (group : ℕ → Terms) (before : List Event) (v : ℕ) (parts : List BatchData)
+    → let w = happen group start before in
+    let x = w.members v in
+    let after = happens group w (Save v) in
+    parts ≡ cut x.held.moment (rising x.held.uses)
+    → (after.members v ≡ x) × (after.saves ≡ w.saves ++ record { owner = v; was = x } ∷ []) × (join_all (state_of 0 []) parts ≡ x.held)

@@ -1,17 +1,29 @@
--- A run of one validator, as events of a group.
-use Rattle.std.specs.Prelude.{◌≡◌, ℕ, Bool, List, [], ◌∷◌, Option, Some, slice_get}
-use Rattle.svid_replay.specs.Batches.{BatchData}
-use Rattle.svid_replay.specs.Records.{State}
+-- A run of one validator, and a take of a whole record, as events of a group.
+use Rattle.std.specs.Prelude.{◌≡◌, ◌⊎◌, ℕ, ◌<◌, Bool, List, [], ◌∷◌, ◌++◌, Option, Some, Result, Ok, Err, slice_get}
+use Rattle.std.specs.List.{AllByRecursion}
+use Rattle.svid_replay.specs.Batches.{BatchData, IsBatch}
+use Rattle.svid_replay.specs.Buckets.{raised_to}
+use Rattle.svid_replay.specs.Parts.{join_all}
+use Rattle.svid_replay.specs.Records.{State, state_of}
 use Rattle.svid_check.specs.declared.answer.Answer.{Answer}
 use Rattle.svid_check.specs.declared.answer.Answer.TheVariants.{Checked, Ticked, Taken, Withdrawn}
 use Rattle.svid_check.specs.declared.event.Event.{Event as Call}
 use Rattle.svid_check.specs.declared.event.Event.TheVariants as call
+use Rattle.svid_check.specs.declared.take_fault.TakeFault.{TakeFault}
+use Rattle.svid_check.specs.Changes.{Takes, TakesRecord}
+use Rattle.svid_check.specs.Events.{entries}
 use Rattle.svid_check.specs.Runs.{RunsFrom, Terms}
-use Rattle.svid_check.specs.World.{Check, Event, Posting, Take, Tick, Withdraw, World, answer_at, happen, happens, parts_in, setting_at, start, withdrawal_at}
+use Rattle.svid_check.specs.World.{Check, Entry, Event, Posting, Take, Tick, Took, Withdraw, World, answer_at, far, happen, happens, parts_in, setting_at, start, withdrawal_at}
 
 -- a batch is part p of posting k
 abbrev pub IsPart : List Posting → ℕ → ℕ → BatchData → Type 0
 IsPart pool k p b = (q : Posting) × (slice_get pool k ≡ Some q) × (slice_get (parts_in q.content) p ≡ Some b)
+
+-- the batches are these parts, each with the number of its posting and its own, one for each in their order
+abbrev pub ArePlaced : List Posting → List (ℕ × ℕ) → List BatchData → Type 0
+ArePlaced pool [] [] = Unit {0}
+ArePlaced pool (place ∷ places) (b ∷ batches) = IsPart pool place.0 place.1 b × ArePlaced pool places batches
+ArePlaced pool _ _ = ⊥
 
 -- if the call takes a batch, that was posted
 abbrev pub IsPosted : List Posting → Call → Type 0
@@ -33,6 +45,8 @@ module _ (group : ℕ → Terms) (v : ℕ) where
   IsCall w (call.Check now token) (Checked answer) e = (refused : Bool) × (e ≡ Check v now token.now refused) × (answer_at group w v now token.now refused ≡ answer)
   IsCall w (call.Tick now) Ticked e = e ≡ Tick v now
   IsCall w (call.Take now batch) (Taken answer) e = (k : ℕ) × (p : ℕ) × (refused : Option ℕ) × IsPart w.pool k p batch.now × (e ≡ Take v now k p refused)
+      × Takes (raised_to (w.members v).held now) (far group v now) batch.now answer ((happens group w e).members v).held
+      × (((happens group w e).members v).log ≡ (w.members v).log ++ entries (Took k p) answer)
   IsCall w (call.Withdraw now key exp) (Withdrawn answer) e = (refused : Bool) × (e ≡ Withdraw v now key exp refused) × (withdrawal_at group w v now key exp refused ≡ answer)
   IsCall w _ _ e = ⊥
 
@@ -48,3 +62,29 @@ RunsAreEvents = (group : ℕ → Terms) (before : List Event) (v : ℕ) (calls :
     → let w = happen group start before in
     ArePosted w.pool calls → RunsFrom (terms_at group v w) (w.members v).held calls answers b
     → (events : List Event) × AreCalls group v w calls answers events × (((happen group w events).members v).held ≡ b)
+
+-- Whole records.
+
+-- the entries of these parts
+abbrev pub took_all : List (ℕ × ℕ) → List Entry
+took_all [] = []
+took_all (place ∷ places) = Took place.0 place.1 ∷ took_all places
+
+-- what taking a record adds to a log: an entry for each of its parts, where it was taken
+abbrev pub whole_entries : List (ℕ × ℕ) → Result (Unit {0}) TakeFault → List Entry
+whole_entries places (Ok taken) = took_all places
+whole_entries places (Err fault) = []
+
+-- the events are takes of these parts by validator v at this moment, one for each in their order
+abbrev pub AreTakes : ℕ → ℕ → List (ℕ × ℕ) → List Event → Type 0
+AreTakes v now [] [] = Unit {0}
+AreTakes v now (place ∷ places) (e ∷ events) = ((refused : Option ℕ) × (e ≡ Take v now place.0 place.1 refused)) × AreTakes v now places events
+AreTakes v now _ _ = ⊥
+
+-- a validator that takes a record, which batches that were posted come to, ticks and takes each of them, for some memory that was refused; or it ticks, where the record is past the horizon
+abbrev pub RecordTakesAreEvents : Type 0
+RecordTakesAreEvents = (group : ℕ → Terms) (w : World) (v now : ℕ) (places : List (ℕ × ℕ)) (batches : List BatchData) (answer : Result (Unit {0}) TakeFault) (y : State)
+    → let r = join_all (state_of 0 []) batches in
+    ArePlaced w.pool places batches → AllByRecursion IsBatch batches → TakesRecord (raised_to (w.members v).held now) (far group v now) r answer y
+    → (takes : List Event) × (AreTakes v now places takes ⊎ ((far group v now < r.moment) × (takes ≡ [])))
+    × (let x = (happen group w (Tick v now ∷ takes)).members v in (x.held ≡ y) × (x.log ≡ (w.members v).log ++ whole_entries places answer))

@@ -1,14 +1,15 @@
 //! Laws of the verdicts, of runs, and of a group of validators, carried by functions that compute
 //! nothing.
 
-ghost use Rattle.svid_check.specs.Bounds.{AnswersAreBounded, ChecksAreBounded, RecordsAreBounded, RunsAreBounded, TakesAreBounded, TicksAreBounded, WithdrawalsAreBounded};
-ghost use Rattle.svid_check.specs.Calls.{AnswersTellMoments, ChecksAreSteps, RecordsGoOn, RunsGoOn, TakesAreSteps, TicksAreSteps, WithdrawalsAreSteps};
-ghost use Rattle.svid_check.specs.Alone.{AcceptsOnce, AnswersAreCalls, ChecksAreCalls, TakesAreCalls, TicksAreCalls, WithdrawalsAreCalls};
-ghost use Rattle.svid_check.specs.Events.{AnswersAreEvents, ChecksAreEvents, OldSendsAreEvents, RenewalsAreEvents, SavesAreEvents, SendsAreEvents, SumsAreEvents, TakesAreEvents, TicksAreEvents, WithdrawalsAreEvents};
+ghost use Rattle.svid_check.specs.Bounds.{AnswersAreBounded, ChecksAreBounded, RecordTakesAreBounded, RecordsAreBounded, RunsAreBounded, TakesAreBounded, TicksAreBounded, WithdrawalsAreBounded};
+ghost use Rattle.svid_check.specs.Calls.{AnswersTellMoments, ChecksAreSteps, RecordTakesAreSteps, RecordsGoOn, RunsGoOn, TakesAreSteps, TicksAreSteps, WithdrawalsAreSteps};
+ghost use Rattle.svid_check.specs.Alone.{AcceptsOnce, AnswersAreCalls, ChecksAreCalls, RecordTakesAreCalls, TakesAreCalls, TicksAreCalls, WithdrawalsAreCalls};
+ghost use Rattle.svid_check.specs.Changes.{RecordTakesAreTakes};
+ghost use Rattle.svid_check.specs.Events.{AnswersAreEvents, ChecksAreEvents, JudgmentsAgainAreTicks, JudgmentsAreTicks, RenewalsAreEvents, SavesAreEvents, SendsAreEvents, SumsAreEvents, TakesAreEvents, TicksAreEvents, WithdrawalsAreEvents};
 ghost use Rattle.svid_check.specs.Forgetful.{AnswersAreForgotten, SendsAreForgotten};
 ghost use Rattle.svid_check.specs.Headline.{AcceptanceGoesAlong, AcceptanceTells, AcceptedIsRefused, AnswersTellAll, ChainsTell, ChecksAreVerdicts, EqualTellings, RecordsAreTold, ReportedWereAcceptedTwice, ReportsAreExact, ReportsAreWhole, RestartsAbsorb, RestartsPutBack, SendsMakeEqual, SendsTellAll, ToldIsRefused, ToldWereAccepted, ToldWereWithdrawn, TwoPlacesAreReported, WithMemoryVerdicts, WithdrawnAreRefused};
 ghost use Rattle.svid_check.specs.Lawful.{IsAlive, IsFresh, IsInRange, IsMadeNow, IsOfItsInput, IsUsed};
-ghost use Rattle.svid_check.specs.RunEvents.{RunsAreEvents};
+ghost use Rattle.svid_check.specs.RunEvents.{RecordTakesAreEvents, RunsAreEvents};
 ghost use Rattle.svid_check.specs.Said.{UnrefusedIsSaid};
 ghost use Rattle.svid_check.specs.Saves.{CallsLeaveLater, LaterGoesOn, SavesLoseNothing};
 ghost use Rattle.svid_check.specs.Table.{TableIsOneList};
@@ -57,6 +58,7 @@ pub fn calls_are_steps()
     ensures checks { ChecksAreSteps }
     ensures ticks { TicksAreSteps }
     ensures takes { TakesAreSteps }
+    ensures records { RecordTakesAreSteps }
     ensures withdrawals { WithdrawalsAreSteps }
 {}
 
@@ -64,6 +66,18 @@ pub fn calls_are_steps()
 /// moment alone, and the record is that of what was told then.
 pub fn answers_tell_moments()
     ensures { AnswersTellMoments }
+{}
+
+/// Taking a whole record is taking one batch of its moment with all of its uses in their order, whatever the answer.
+pub fn records_are_batches()
+    ensures { RecordTakesAreTakes }
+{}
+
+/// A judgment is a tick, for the record and so for the group. One of a token is answered as a check would be, and one of
+/// the use of an accepted token by what the record then has.
+pub fn judgments_are_ticks()
+    ensures judged { JudgmentsAreTicks }
+    ensures judged_again { JudgmentsAgainAreTicks }
 {}
 
 /// Two runs, one after the other, are one run of both lists of events: over what was told, and from one
@@ -79,6 +93,7 @@ pub fn calls_are_bounded()
     ensures checks { ChecksAreBounded }
     ensures ticks { TicksAreBounded }
     ensures takes { TakesAreBounded }
+    ensures records { RecordTakesAreBounded }
     ensures answers { AnswersAreBounded }
     ensures withdrawals { WithdrawalsAreBounded }
 {}
@@ -173,13 +188,13 @@ pub fn calls_are_events()
     ensures checks { ChecksAreEvents }
     ensures ticks { TicksAreEvents }
     ensures takes { TakesAreEvents }
+    ensures records { RecordTakesAreEvents }
     ensures answers { AnswersAreEvents }
     ensures sends { SendsAreEvents }
     ensures sums { SumsAreEvents }
     ensures withdrawals { WithdrawalsAreEvents }
     ensures renewals { RenewalsAreEvents }
     ensures saves { SavesAreEvents }
-    ensures old_sends { OldSendsAreEvents }
 {}
 
 /// So it is with the calls of one validator by itself, with any batch and any summary.
@@ -187,6 +202,7 @@ pub fn calls_stand_alone()
     ensures checks { ChecksAreCalls }
     ensures ticks { TicksAreCalls }
     ensures takes { TakesAreCalls }
+    ensures records { RecordTakesAreCalls }
     ensures answers { AnswersAreCalls }
     ensures withdrawals { WithdrawalsAreCalls }
 {}
