@@ -1,20 +1,22 @@
 -- What the batches hold that uses are cut into, and what of a sender's uses a batch carries.
-use Rattle.std.proofs.Common.{◌≡◌, ℕ, zero, suc, ◌-◌, ◌/◌, true, List, [], ◌∷◌, length, take, drop, refl, sym, ◌∙◌, ap, subst, inl, inr, Some, IsTrue}
+use Rattle.std.proofs.Common.{◌≡◌, ℕ, zero, suc, ◌-◌, ◌/◌, min, true, List, [], ◌∷◌, length, take, drop, refl, sym, ◌∙◌, ap, subst, inl, inr, Option, Some, IsTrue}
 use Rattle.std.specs.Prelude.{slice_get}
-use Rattle.std.specs.List.{list_any}
+use Rattle.std.specs.List.{filter, list_any}
 use Rattle.std.specs.Ordering.{eq_by_cmp}
-use Rattle.std.proofs.lemmas.Bool.{or_cases, or_left, or_right}
+use Rattle.std.proofs.lemmas.Bool.{and_parts, or_cases, or_left, or_right}
 use Rattle.std.proofs.lemmas.List.{take-append-drop}
 use Rattle.std.proofs.lemmas.List.Folds.{list_any-append}
 use Rattle.std.proofs.lemmas.Option.{none-some, same_Some}
 use Rattle.svid_replay.specs.declared.token_use.Use.{Use}
-use Rattle.svid_replay.specs.Batches.{BatchData}
+use Rattle.svid_replay.specs.Batches.{BatchData, is_after}
 use Rattle.svid_replay.specs.Parts.{cut, full_batches}
 use Rattle.svid_replay.specs.Records.{State}
 use Rattle.svid_replay.specs.Sets.{holds, rising}
 use Rattle.svid_replay.specs.Use.{use_cmp}
 use Rattle.svid_replay.specs.Uses.{uses_in}
-use Rattle.svid_replay.proofs.UsesLemmas.{holds-uses_in}
+use Rattle.svid_replay.proofs.SetsLemmas.{holds-rising}
+use Rattle.svid_replay.proofs.UsesLemmas.{any-filter, holds-uses_in}
+use Rattle.svid_check.specs.Saves.{piece_of}
 use Rattle.svid_check.specs.World.{front, old_parts_of}
 
 abbrev Listed : List Use → Use → Type 0
@@ -98,6 +100,14 @@ pub first_part : (m : ℕ) (us : List Use) (batches : List BatchData) → AreCut
 first_part m us batches are =
     let f = first_one are.size are.full m us in
     (f.0, ap (λ (bs : List BatchData). slice_get bs 0) are.is ∙ f.1, f.2)
+
+-- what a piece holds is of the record
+pub piece_within : (r : State) (after : Option Use) (most : ℕ) (u : Use) → IsTrue (holds (uses_in (piece_of r after most).uses) u) → IsTrue (holds r.uses u)
+piece_within r after most u h =
+    let kept = filter (is_after after) (rising r.uses) in
+    let n = min most 65536 in
+    let listed : Listed kept u = taken n kept u (sym (holds-uses_in (take n kept) u) ∙ h) in
+    holds-rising use_cmp r.uses u ∙ (and_parts (is_after after u) (list_any (eq_by_cmp use_cmp u) (rising r.uses)) (sym (any-filter (is_after after) u (rising r.uses)) ∙ listed)).1
 
 -- the first uses of a batch are of its uses
 pub front_within : (n : ℕ) (b : BatchData) (u : Use) → IsTrue (holds (uses_in (front n b).uses) u) → IsTrue (holds (uses_in b.uses) u)

@@ -27,7 +27,8 @@ use Rattle.svid_check.specs.Headline.{ToldWereAccepted, ToldWereWithdrawn}
 use Rattle.svid_check.specs.Runs.{Terms}
 use Rattle.svid_check.specs.Setting.{Setting, Renewal}
 use Rattle.svid_check.specs.Told.{tell_one}
-use Rattle.svid_check.specs.World.{Answer, Answered, Check, Content, Entry, Event, Made, Member, OldSend, Posting, Restart, Save, Saved, Send, Sent, Sum, Summed, Take, Tick, Took, Withdraw, World, accepted, accepted_by, answer_at, answer_content, answer_posting, answer_summary, carried, check_answer, front, gained, happen, happens, has_withdrawal, joined, logged, new_member, old_parts_of, one_or_none, parts_in, post, put, restart, save, start, take_part, take_posting, ticked, took, withdraw_answer, withdrawal_at, withdrawn, withdrawn_by, Renew, setting_at, with_renewal}
+use Rattle.svid_check.specs.Saves.{piece_of}
+use Rattle.svid_check.specs.World.{Answer, Answered, Check, Content, Entry, Event, Made, Member, OldSend, Posting, Restart, Save, Saved, Send, Sent, Sum, Summed, Take, Tick, Took, Withdraw, World, accepted, accepted_by, answer_at, answer_content, answer_posting, answer_summary, carried, check_answer, front, gained, happen, happens, has_withdrawal, joined, logged, new_member, old_parts_of, one_or_none, parts_in, post, put, restart, save, start, take_part, take_posting, ticked, took, withdraw_answer, withdrawal_at, withdrawn, withdrawn_by, Renew, setting_at, with_renewal, Piece, Pieced}
 use Rattle.svid_check.proofs.AnswersLemmas.{accepted_is}
 use Rattle.svid_check.proofs.LawfulLemmas.{is_used}
 use Rattle.svid_check.proofs.MembersLemmas.{carried_within}
@@ -112,6 +113,7 @@ module _ (N : ℕ → Type 0) (A : Use → Type 0) (I : Member → Type 0) (kept
   answer_content_is w v now ahead x k refused (Sent parts) h is = h
   answer_content_is w v now ahead x k refused (Summed s) h is = answer_summary_is w v now ahead x k refused s h is
   answer_content_is w v now ahead x k refused (Answered summary parts) h is = h
+  answer_content_is w v now ahead x k refused (Pieced piece) h is = h
 
   answer_posting_is : (w : World) (v now ahead : ℕ) (x : Member) (k : ℕ) (refused : Bool) (q : Option Posting) → Everywhere I w → I x → Everywhere I (answer_posting w v (horizon now ahead) x k refused q)
   answer_posting_is w v now ahead x k refused None h is = h
@@ -146,6 +148,7 @@ module _ (N : ℕ → Type 0) (A : Use → Type 0) (I : Member → Type 0) (kept
     happens_everywhere w (Take v now k p refused) at uses gone h =
         take_posting_is w v now (group v).ahead (ticked (w.members v) now) k p refused (slice_get w.pool k) h (kept.ticks (w.members v) now at (h.members v)) refl
     happens_everywhere w (Save v) at uses gone h = save_everywhere w v (w.members v) h (h.members v)
+    happens_everywhere w (Piece v after most) at uses gone h = post_everywhere w v (w.members v) (Pieced (piece_of (w.members v).held after most)) h (h.members v)
     happens_everywhere w (Restart v k) at uses gone h = restart_is w v k (slice_get w.saves k) h refl
     happens_everywhere w (Renew v renewal) at uses gone h = put_everywhere w v (with_renewal (w.members v) (Some renewal)) h (kept.renews (w.members v) (Some renewal) (h.members v))
 

@@ -1,10 +1,10 @@
 -- A save that is made piece by piece loses nothing.
-use Rattle.std.proofs.Common.{◌≡◌, ◌⊎◌, inl, inr, ℕ, zero, suc, ◌<◌, ◌≤◌, max, min, Bool, true, false, ◌||◌, nat_lt, List, [], ◌∷◌, length, take, Option, Some, None, IsTrue, Contains, refl, sym, ap, ◌∙◌, subst, arith, if◌then◌else◌}
+use Rattle.std.proofs.Common.{◌≡◌, ◌⊎◌, inl, inr, ℕ, zero, suc, ◌<◌, ◌≤◌, max, min, Bool, true, false, ◌&&◌, ◌||◌, nat_lt, List, [], ◌∷◌, length, take, Option, Some, None, IsTrue, Contains, refl, sym, ap, ◌∙◌, subst, arith, if◌then◌else◌}
 use Rattle.std.specs.List.{AllByRecursion, filter}
 use Rattle.std.specs.List.Sorted.{IsStrictlySortedBy}
 use Rattle.std.specs.Ordering.{eq_by_cmp, is_eq, is_lt}
 use Rattle.std.specs.declared.cmp.Ordering.TheVariants.{Less}
-use Rattle.std.proofs.lemmas.Bool.{and_from, lt-ltb, or_left, or_right}
+use Rattle.std.proofs.lemmas.Bool.{and_from, and_parts, false≢true, lt-ltb, ltb-true, or_cases, or_left, or_right}
 use Rattle.std.proofs.lemmas.Cmp.{tied_itself}
 use Rattle.std.proofs.lemmas.List.Kept.{IsStrictlySortedBy-filter}
 use Rattle.svid_replay.specs.Buckets.{raised_to}
@@ -16,17 +16,21 @@ use Rattle.svid_replay.specs.Sets.{holds, rising}
 use Rattle.svid_replay.specs.Use.{IsRising, use_cmp}
 use Rattle.svid_replay.specs.Uses.{uses_in}
 use Rattle.svid_replay.proofs.ListLemmas.{any_in, has_cases, has_first, has_later, has_none, in_kept}
-use Rattle.svid_replay.proofs.RecordsLemmas.{holds-join, moment-join}
+use Rattle.svid_replay.proofs.RecordsLemmas.{holds-join, is_join, moment-join}
 use Rattle.svid_replay.proofs.SetsLemmas.{rising_rises}
+use Rattle.svid_replay.proofs.TestsLemmas.{one_test}
 use Rattle.svid_replay.proofs.UseLemmas.{use_total}
 use Rattle.svid_replay.proofs.UsesLemmas.{holds-uses_in, rising_has_held}
 use Rattle.svid_check.specs.Alone.{Answer, Check, Renew, Restart, Save, Take, Tick, Withdraw, answer_alone, joined_of, withdrawal_alone}
 use Rattle.svid_check.specs.Changes.{accepted_in, gains, horizon, withdrawn_in}
-use Rattle.svid_check.specs.Saves.{CallsLeaveLater, IsLater, IsSaved, LaterGoesOn, SavesLoseNothing, piece_of}
+use Rattle.svid_check.specs.SaveEvents.{CallsLeaveLater}
+use Rattle.svid_check.specs.Saves.{IsLater, IsSaved, LaterGoesOn, SavesAddNothing, SavesLoseNothing, piece_of}
+use Rattle.svid_check.proofs.CutsLemmas.{piece_within}
+use Rattle.svid_check.proofs.WholeEventsLemmas.{join_all_over}
 
 -- Later records.
 
-same_later : (a : State) → IsLater a a
+pub same_later : (a : State) → IsLater a a
 same_later a = record { moment = omega arith; uses = λ u h live. h }
 
 pub later_goes_on : LaterGoesOn
@@ -39,16 +43,16 @@ later_goes_on a b c one two =
 join_has : (a b : State) (u : Use) → max a.moment b.moment < u.exp → IsTrue (holds b.uses u || holds a.uses u) → IsTrue (holds (join a b).uses u)
 join_has a b u live h = holds-join a b u ∙ and_from (nat_lt (max a.moment b.moment) u.exp) (holds b.uses u || holds a.uses u) (lt-ltb (max a.moment b.moment) u.exp live) h
 
-join_later : (a b : State) → IsLater a (join a b)
+pub join_later : (a b : State) → IsLater a (join a b)
 join_later a b = record {
   moment = let greater : a.moment ≤ max a.moment b.moment = omega arith in subst (λ n. a.moment ≤ n) (sym (moment-join a b)) greater;
   uses = λ u h live. join_has a b u (subst (λ n. n < u.exp) (moment-join a b) live) (or_right (holds b.uses u) (holds a.uses u) h);
 }
 
-raised_later : (a : State) (now : ℕ) → IsLater a (raised_to a now)
+pub raised_later : (a : State) (now : ℕ) → IsLater a (raised_to a now)
 raised_later a now = join_later a (state_of now [])
 
-gains_later : (a b : State) (added : Option Use) → IsLater a b → IsLater a (gains b added)
+pub gains_later : (a b : State) (added : Option Use) → IsLater a b → IsLater a (gains b added)
 gains_later a b (Some u) h = later_goes_on a b (gains b (Some u)) h (join_later b (state_of b.moment (u ∷ [])))
 gains_later a b None h = h
 
@@ -105,14 +109,14 @@ in_piece a after most b u is held behind =
       | inr past ↦ inr past
     ])
 
--- no piece is past the last record
+-- the last record is a later one
+pub saved_later : (a : State) (after : Option Use) (bs : List BatchData) (z : State) → IsSaved a after bs z → IsLater a z
+saved_later a after [] z saved = absurd saved
+saved_later a after (b ∷ []) z saved = subst (IsLater a) (sym saved.3) (same_later a)
+saved_later a after (b ∷ c ∷ more) z saved = later_goes_on a saved.1 z saved.3 (saved_later saved.1 (last_of after b.uses) (c ∷ more) z saved.4)
+
 moments_rise : (a : State) (after : Option Use) (bs : List BatchData) (z : State) → IsSaved a after bs z → a.moment ≤ z.moment
-moments_rise a after [] z saved = absurd saved
-moments_rise a after (b ∷ []) z saved = let same = ap (λ (r : State). r.moment) saved.3 in omega (arith, same)
-moments_rise a after (b ∷ c ∷ more) z saved =
-    let first : a.moment ≤ saved.1.moment = saved.3.moment in
-    let rest : saved.1.moment ≤ z.moment = moments_rise saved.1 (last_of after b.uses) (c ∷ more) z saved.4 in
-    omega arith
+moments_rise a after bs z saved = (saved_later a after bs z saved).moment
 
 not_both : (n m : ℕ) → n < m → m ≤ n → ⊥
 not_both n m lt le = omega arith
@@ -153,3 +157,100 @@ saved_holds u a after (b ∷ c ∷ more) z r saved early live h =
 
 pub saves_lose_nothing : SavesLoseNothing
 saves_lose_nothing a z batches u saved held live = saved_holds u a None batches z (state_of 0 []) saved (omega arith) live (inr (held, refl))
+
+-- What is more than the pieces.
+
+-- no piece is past the last record
+pub saved_moments : (a : State) (after : Option Use) (bs : List BatchData) (z : State) → IsSaved a after bs z → AllByRecursion (λ b. b.moment ≤ z.moment) bs
+saved_moments a after [] z saved = tt
+saved_moments a after (b ∷ []) z saved =
+    let at : b.moment ≡ a.moment = ap (λ (d : BatchData). d.moment) saved.1 in
+    let rise : a.moment ≤ z.moment = moments_rise a after (b ∷ []) z saved in
+    (omega (arith, at, rise), tt)
+saved_moments a after (b ∷ c ∷ more) z saved =
+    let at : b.moment ≡ a.moment = ap (λ (d : BatchData). d.moment) saved.2 in
+    let rise : a.moment ≤ z.moment = moments_rise a after (b ∷ c ∷ more) z saved in
+    (omega (arith, at, rise), saved_moments saved.1 (last_of after b.uses) (c ∷ more) z saved.4)
+
+-- all pieces have the moment of the last record
+all_at : (a : State) (after : Option Use) (bs : List BatchData) (z r : State) → IsSaved a after bs z → r.moment ≤ z.moment → (join_all r bs).moment ≡ z.moment
+all_at a after [] z r saved early = absurd saved
+all_at a after (b ∷ []) z r saved early =
+    let at : b.moment ≡ a.moment = ap (λ (d : BatchData). d.moment) saved.1 in
+    let same : z.moment ≡ a.moment = ap (λ (x : State). x.moment) saved.3 in
+    moment-join r (batch_state b) ∙ omega (arith, at, same, early)
+all_at a after (b ∷ c ∷ more) z r saved early =
+    let at : b.moment ≤ z.moment = (saved_moments a after (b ∷ c ∷ more) z saved).0 in
+    let still : max r.moment b.moment ≤ z.moment = omega (arith, at, early) in
+    all_at saved.1 (last_of after b.uses) (c ∷ more) z (join r (batch_state b)) saved.4 (subst (λ n. n ≤ z.moment) (sym (moment-join r (batch_state b))) still)
+
+-- what they hold is live
+all_live : (u : Use) (r : State) (b : BatchData) (bs : List BatchData) → IsTrue (holds (join_all r (b ∷ bs)).uses u) → (join_all r (b ∷ bs)).moment < u.exp
+all_live u r b [] h =
+    let s = batch_state b in
+    subst (λ n. n < u.exp) (sym (moment-join r s)) (ltb-true (max r.moment s.moment) u.exp (and_parts (nat_lt (max r.moment s.moment) u.exp) (holds s.uses u || holds r.uses u) (sym (holds-join r s u) ∙ h)).0)
+all_live u r b (c ∷ bs) h = all_live u (join r (batch_state b)) c bs h
+
+-- a use of a piece that is live when the last record is, is in that
+piece_in : (u : Use) (a : State) (after : Option Use) (most : ℕ) (b : BatchData) (z r : State) → b ≡ piece_of a after most → IsLater a z → z.moment < u.exp
+    → (IsTrue (holds r.uses u) → IsTrue (holds z.uses u)) → IsTrue (holds (join r (batch_state b)).uses u) → IsTrue (holds z.uses u)
+piece_in u a after most b z r is later live before h =
+    let s = batch_state b in
+    elim (or_cases (holds s.uses u) (holds r.uses u) (and_parts (nat_lt (max r.moment s.moment) u.exp) (holds s.uses u || holds r.uses u) (sym (holds-join r s u) ∙ h)).1) [
+      | inl here ↦ later.uses u (piece_within a after most u (subst (λ (d : BatchData). IsTrue (holds (uses_in d.uses) u)) is here)) live
+      | inr joined ↦ before joined
+    ]
+
+adds_none : (u : Use) (a : State) (after : Option Use) (bs : List BatchData) (z r : State) → IsSaved a after bs z → z.moment < u.exp
+    → (IsTrue (holds r.uses u) → IsTrue (holds z.uses u)) → IsTrue (holds (join_all r bs).uses u) → IsTrue (holds z.uses u)
+adds_none u a after [] z r saved live before h = absurd saved
+adds_none u a after (b ∷ []) z r saved live before h = piece_in u a after saved.0 b z r saved.1 (saved_later a after (b ∷ []) z saved) live before h
+adds_none u a after (b ∷ c ∷ more) z r saved live before h =
+    adds_none u saved.1 (last_of after b.uses) (c ∷ more) z (join r (batch_state b)) saved.4 live
+    (piece_in u a after saved.0 b z r saved.2 (saved_later a after (b ∷ c ∷ more) z saved) live before) h
+
+nothing_in : (u : Use) (G : Type 0) → IsTrue (holds (state_of 0 []).uses u) → G
+nothing_in u G h = absurd (false≢true (sym (holds-uses_in [] u) ∙ h))
+
+pub saves_add_nothing : SavesAddNothing
+saves_add_nothing a z [] saved = absurd saved
+saves_add_nothing a z (b ∷ more) saved =
+    let r = state_of 0 [] in
+    let at = all_at a None (b ∷ more) z r saved (omega arith) in
+    (at, λ u h. adds_none u a None (b ∷ more) z r saved (subst (λ n. n < u.exp) at (all_live u r b more h)) (nothing_in u (IsTrue (holds z.uses u))) h)
+
+-- The record of the pieces, joined to what was there when they began.
+
+-- raised by no more than it is joined with, a record joins as it is
+pub raised_first : (s : State) (m : ℕ) (b : BatchData) → m ≤ b.moment → join (raised_to s m) (batch_state b) ≡ join s (batch_state b)
+raised_first s m b le =
+    let d = batch_state b in
+    let x = raised_to s m in
+    let top : max x.moment b.moment ≡ max s.moment b.moment = ap (λ n. max n b.moment) (moment-join s (state_of m [])) ∙ omega (arith, le) in
+    is_join s d (join x d) (moment-join x d ∙ top) (λ u.
+    holds-join x d u ∙ ap (λ n. nat_lt n u.exp && (holds d.uses u || holds x.uses u)) top
+    ∙ ap (λ h. nat_lt (max s.moment b.moment) u.exp && (holds d.uses u || h)) (holds-join s (state_of m []) u ∙ ap (λ h. nat_lt (max s.moment m) u.exp && (h || holds s.uses u)) (holds-uses_in [] u))
+    ∙ live_before (nat_lt (max s.moment b.moment) u.exp) (nat_lt (max s.moment m) u.exp) (holds d.uses u) (holds s.uses u) (λ later. soon s.moment m b.moment u.exp le later))
+  where
+    live_before : (late l b h : Bool) → (late ≡ true → l ≡ true) → (late && (b || (l && (false || h)))) ≡ (late && (b || h))
+    live_before true l b h so = ap (λ t. b || (t && h)) (so refl)
+    live_before false l b h so = refl
+    soon : (s m b e : ℕ) → m ≤ b → nat_lt (max s b) e ≡ true → nat_lt (max s m) e ≡ true
+    soon s m b e le is = lt-ltb (max s m) e (let late : max s b < e = ltb-true (max s b) e is in omega (arith, le, late))
+
+pub saved_whole : (a z : State) (bs : List BatchData) → IsSaved a None bs z → join_all a bs ≡ join_all (state_of 0 []) bs
+saved_whole a z [] saved = absurd saved
+saved_whole a z (b ∷ more) saved =
+    let r = state_of 0 [] in
+    let s = join_all r (b ∷ more) in
+    let at : s.moment ≡ z.moment = all_at a None (b ∷ more) z r saved (omega arith) in
+    let rise : a.moment ≤ z.moment = moments_rise a None (b ∷ more) z saved in
+    let top : s.moment ≡ max a.moment s.moment = omega (arith, at, rise) in
+    let over : join_all a (b ∷ more) ≡ join a s = ap (λ (t : State). join_all t more) (sym (raised_first a 0 b (omega arith))) ∙ join_all_over a r (b ∷ more) in
+    over ∙ sym (is_join a s s top (λ u.
+    one_test (holds s.uses u) (nat_lt (max a.moment s.moment) u.exp && (holds s.uses u || holds a.uses u))
+    (λ h. and_from (nat_lt (max a.moment s.moment) u.exp) (holds s.uses u || holds a.uses u) (lt-ltb (max a.moment s.moment) u.exp (subst (λ n. n < u.exp) top (all_live u r b more h))) (or_left (holds s.uses u) (holds a.uses u) h))
+    (λ h.
+    let parts = and_parts (nat_lt (max a.moment s.moment) u.exp) (holds s.uses u || holds a.uses u) h in
+    let live : z.moment < u.exp = subst (λ n. n < u.exp) (sym top ∙ at) (ltb-true (max a.moment s.moment) u.exp parts.0) in
+    elim (or_cases (holds s.uses u) (holds a.uses u) parts.1) [ inl here ↦ here | inr had ↦ saves_lose_nothing a z (b ∷ more) u saved had live ])))

@@ -19,6 +19,7 @@ pub mod RowsLemmas
 pub mod RunEventsLemmas
 pub mod RunsLemmas
 pub mod SaidLemmas
+pub mod SaveEventsLemmas
 pub mod SavesLemmas
 pub mod SendsLemmas
 pub mod SoundLemmas

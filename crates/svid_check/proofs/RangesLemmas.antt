@@ -13,7 +13,7 @@ use Rattle.svid_check.specs.declared.accepted.Accepted.{Accepted}
 use Rattle.svid_check.specs.Changes.{accepted_in, gains}
 use Rattle.svid_check.specs.Headline.{HasPlaces, IsEventInRange}
 use Rattle.svid_check.specs.Runs.{Terms}
-use Rattle.svid_check.specs.World.{Answer, Check, Event, Member, OldSend, Restart, Save, Send, Sum, Take, Tick, Withdraw, World, accepted, accepted_by, answer_at, happen, happens, one_or_none, start, withdrawn, withdrawn_by, Renew, setting_at}
+use Rattle.svid_check.specs.World.{Answer, Check, Event, Member, OldSend, Restart, Save, Send, Sum, Take, Tick, Withdraw, World, accepted, accepted_by, answer_at, happen, happens, one_or_none, start, withdrawn, withdrawn_by, Renew, setting_at, Piece}
 use Rattle.svid_check.proofs.AnswersLemmas.{accepted_is}
 use Rattle.svid_check.proofs.EachToldLemmas.{AllTold, Everywhere, IsAt, IsKept, each_told, happens_everywhere, start_everywhere, withdrawal_is}
 use Rattle.svid_check.proofs.LawfulLemmas.{in_range}
@@ -62,6 +62,7 @@ in_moment (Sum v) h = tt
 in_moment (Answer v now posting refused) h = h
 in_moment (Take v now posting part refused) h = h
 in_moment (Save v) h = tt
+in_moment (Piece v after most) h = tt
 in_moment (Restart v s) h = tt
 in_moment (Renew v renewal) h = tt
 

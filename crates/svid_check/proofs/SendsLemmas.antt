@@ -26,7 +26,8 @@ use Rattle.svid_check.specs.Lawful.{Accepts, input_of}
 use Rattle.svid_check.specs.Runs.{Terms}
 use Rattle.svid_check.specs.Setting.{Setting}
 use Rattle.svid_check.specs.Told.{record_of}
-use Rattle.svid_check.specs.World.{Answer, Answered, Check, Content, Entry, Event, Made, Member, OldSend, Posting, Restart, Save, Saved, Send, Sent, Sum, Summed, Take, Tick, Took, Withdraw, World, answer_at, answer_content, answer_posting, answer_summary, carried, checked, far, front, happen, happens, has_withdrawal, joined, logged, old_parts_of, parts_in, post, put, restart, start, take_part, take_posting, ticked, took, withdrawal_at, withdrew, Renew, setting_at, with_renewal}
+use Rattle.svid_check.specs.Saves.{piece_of}
+use Rattle.svid_check.specs.World.{Answer, Answered, Check, Content, Entry, Event, Made, Member, OldSend, Posting, Restart, Save, Saved, Send, Sent, Sum, Summed, Take, Tick, Took, Withdraw, World, answer_at, answer_content, answer_posting, answer_summary, carried, checked, far, front, happen, happens, has_withdrawal, joined, logged, old_parts_of, parts_in, post, put, restart, start, take_part, take_posting, ticked, took, withdrawal_at, withdrew, Renew, setting_at, with_renewal, Piece, Pieced}
 use Rattle.svid_check.proofs.AnswersLemmas.{accepted_is}
 use Rattle.svid_check.proofs.CutsLemmas.{AreCut, first_part, in_part}
 use Rattle.svid_check.proofs.LawfulLemmas.{alive, fresh, is_accepted, said_is_of_its_input}
@@ -217,6 +218,7 @@ module _ (group : ℕ → Terms) (v k : ℕ) (q : Posting) where
   other_content w n limit x j refused (Sent parts) d h = h
   other_content w n limit x j refused (Summed s) d h = other_summary w n limit x j refused s d h
   other_content w n limit x j refused (Answered to parts) d h = h
+  other_content w n limit x j refused (Pieced piece) d h = h
 
   other_answer : (w : World) (n limit : ℕ) (x : Member) (j : ℕ) (refused : Bool) (r : Option Posting) → n ≢ v → Under w → Under (answer_posting w n limit x j refused r)
   other_answer w n limit x j refused None d h = h
@@ -240,6 +242,7 @@ module _ (group : ℕ → Terms) (v k : ℕ) (q : Posting) where
   one_under w (Answer n now j refused) d h = other_answer w n (far group n now) (ticked (w.members n) now) j refused (slice_get w.pool j) d h
   one_under w (Take n now j p refused) own h = own_take w n now j p refused own h
   one_under w (Save n) d h = record { place = h.place; told = h.told }
+  one_under w (Piece n after most) d h = posted w n (w.members n) (Pieced (piece_of (w.members n).held after most)) h
   one_under w (Restart n j) d h = other_restart w n (slice_get w.saves j) d h
   one_under w (Renew n renewal) d h = other_put w n (with_renewal (w.members n) (Some renewal)) d h
 

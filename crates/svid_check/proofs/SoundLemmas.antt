@@ -1,10 +1,10 @@
 -- What holds of a group whatever happened in it.
-use Rattle.std.proofs.Common.{◌≡◌, ℕ, Bool, cond, ◌&&◌, nat_lt, List, [], ◌∷◌, ◌++◌, length, refl, sym, ap, ◌∙◌, subst, inl, inr}
+use Rattle.std.proofs.Common.{◌≡◌, ℕ, zero, suc, Bool, cond, ◌&&◌, nat_lt, List, [], ◌∷◌, ◌++◌, length, refl, sym, ap, ◌∙◌, subst, inl, inr}
 use Rattle.std.specs.Prelude.{IsTrue, Option, Some, None, slice_get, ◌==◌}
 use Rattle.std.specs.List.{Contains}
 use Rattle.std.proofs.lemmas.Bool.{and_parts, cond_both}
 use Rattle.std.proofs.lemmas.List.Elements.{Contains-push_cases}
-use Rattle.std.proofs.lemmas.Option.{none-some}
+use Rattle.std.proofs.lemmas.Option.{none-some, same_Some}
 use Rattle.svid_replay.specs.declared.token_use.Use.{Use}
 use Rattle.svid_replay.specs.Batches.{BatchData}
 use Rattle.svid_replay.specs.Buckets.{answer_to, differs, stale, summary_of}
@@ -20,8 +20,9 @@ use Rattle.svid_replay.proofs.TestsLemmas.{and-false}
 use Rattle.svid_check.specs.Changes.{accepted_in, withdrawn_in}
 use Rattle.svid_check.specs.Headline.{IsWithin}
 use Rattle.svid_check.specs.Runs.{Terms}
-use Rattle.svid_check.specs.World.{Answer, Answered, Check, Content, Entry, Event, Made, Member, OldSend, Posting, Restart, Save, Saved, Send, Sent, Sum, Summed, Take, Tick, Took, Withdraw, World, answer_at, answer_content, answer_posting, answer_summary, carried, far, front, gained, happen, happens, has_withdrawal, joined, logged, new_member, old_parts_of, parts_in, post, put, restart, save, start, take_part, take_posting, ticked, took, withdrawal_at, Renew, with_renewal}
-use Rattle.svid_check.proofs.CutsLemmas.{AreCut, cut_are_cut, front_within, old_are_cut, part_within}
+use Rattle.svid_check.specs.Saves.{piece_of}
+use Rattle.svid_check.specs.World.{Answer, Answered, Check, Content, Entry, Event, Made, Member, OldSend, Posting, Restart, Save, Saved, Send, Sent, Sum, Summed, Take, Tick, Took, Withdraw, World, answer_at, answer_content, answer_posting, answer_summary, carried, far, front, gained, happen, happens, has_withdrawal, joined, logged, new_member, old_parts_of, parts_in, post, put, restart, save, start, take_part, take_posting, ticked, took, withdrawal_at, Renew, with_renewal, Piece, Pieced}
+use Rattle.svid_check.proofs.CutsLemmas.{AreCut, cut_are_cut, front_within, old_are_cut, part_within, piece_within}
 use Rattle.svid_check.proofs.MembersLemmas.{IsTold, gained_told, joined_told, live_within, ticked_told, told_before, union_tells, within_union}
 use Rattle.svid_check.proofs.PlacesLemmas.{last_place, later_place, place_cases}
 use Rattle.svid_check.specs.Setting.{Renewal}
@@ -87,11 +88,13 @@ stands_joined pool x sender b s w = stands_more pool x (joined x sender b) refl 
 abbrev pub Given : List Posting → State → Content → Type 0
 Given pool held (Sent parts) = AreCut held.moment (rising held.uses) parts
 Given pool held (Summed s) = s ≡ summary_of held
+Given pool held (Pieced piece) = (after : Option Use) × (most : ℕ) × (piece ≡ piece_of held after most)
 Given pool held (Answered k parts) = (s : SummaryData) × (q : Posting) × (slice_get pool k ≡ Some q) × (q.content ≡ Summed s) × (parts ≡ cut held.moment (rising (stale s held.uses)))
 
 given_later : (pool : List Posting) (q : Posting) (held : State) (c : Content) → Given pool held c → Given (pool ++ q ∷ []) held c
 given_later pool q held (Sent parts) g = g
 given_later pool q held (Summed s) g = g
+given_later pool q held (Pieced piece) g = g
 given_later pool q held (Answered k parts) g = (g.0, g.1, later_place pool q k g.1 g.2, g.3, g.4)
 
 -- a record that is what was told holds nothing else
@@ -105,6 +108,9 @@ parts_within pool x (Sent parts) is g p b e u h =
     (sym (ap (λ (s : Uses). holds s u) (uses_in-rising x.held.uses))
     ∙ part_within x.held.moment (rising x.held.uses) parts p b g e u h)
 parts_within pool x (Summed s) is g p b e u h = absurd (none-some b e)
+parts_within pool x (Pieced piece) is g zero b e u h =
+    held_within x is u (piece_within x.held g.0 g.1 u (subst (λ (c : BatchData). IsTrue (holds (uses_in c.uses) u)) (sym (same_Some piece b e) ∙ g.2) h))
+parts_within pool x (Pieced piece) is g (suc p) b e u h = absurd (none-some b e)
 parts_within pool x (Answered k parts) is g p b e u h =
     let us = rising (stale g.0 x.held.uses) in
     let w : IsTrue (holds (stale g.0 x.held.uses) u) =
@@ -205,6 +211,7 @@ content_sound : (w : World) (v limit : ℕ) (x : Member) (k : ℕ) (refused : Bo
 content_sound w v limit x k refused q (Sent parts) s h e f = s
 content_sound w v limit x k refused q (Summed m) s h e f = summary_sound w v limit x k refused q m s h e f
 content_sound w v limit x k refused q (Answered to parts) s h e f = s
+content_sound w v limit x k refused q (Pieced piece) s h e f = s
 
 answer_sound : (w : World) (v limit : ℕ) (x : Member) (k : ℕ) (refused : Bool) (q : Option Posting) → Sound w → Stands w.pool x → slice_get w.pool k ≡ q → Sound (answer_posting w v limit x k refused q)
 answer_sound w v limit x k refused None s h e = s
@@ -247,6 +254,7 @@ module _ (group : ℕ → Terms) where
   happens_sound w (Take v now k p refused) s =
       take_sound w v (far group v now) (ticked (w.members v) now) k p refused (slice_get w.pool k) s (stands_ticked w.pool (w.members v) now (s.members v)) refl
   happens_sound w (Save v) s = save_sound w v (w.members v) s (s.members v)
+  happens_sound w (Piece v after most) s = post_sound w v (w.members v) (Pieced (piece_of (w.members v).held after most)) s (s.members v) (after, most, refl)
   happens_sound w (Restart v k) s = restart_sound w v k (slice_get w.saves k) s refl
   happens_sound w (Renew v renewal) s = put_sound w v (with_renewal (w.members v) (Some renewal)) s (stands_renewed w.pool (w.members v) (Some renewal) (s.members v))
 

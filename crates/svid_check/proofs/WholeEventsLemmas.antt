@@ -120,7 +120,7 @@ front_of r s front refused rest parts h =
 
 -- Joins.
 
-join_all_over : (x s : State) (bs : List BatchData) → join_all (join x s) bs ≡ join x (join_all s bs)
+pub join_all_over : (x s : State) (bs : List BatchData) → join_all (join x s) bs ≡ join x (join_all s bs)
 join_all_over x s [] = refl
 join_all_over x s (b ∷ bs) = ap (λ (r : State). join_all r bs) (join_assoc x s (batch_state b)) ∙ join_all_over x (join s (batch_state b)) bs
 
@@ -161,7 +161,7 @@ all_within s (b ∷ bs) far h =
 
 module _ (group : ℕ → Terms) (v now : ℕ) where
   -- a take of a batch that was posted, within the horizon
-  take_is : (w : World) (k p : ℕ) (q : Posting) (b : BatchData) (refused : Option ℕ) → slice_get w.pool k ≡ Some q → slice_get (parts_in q.content) p ≡ Some b
+  pub take_is : (w : World) (k p : ℕ) (q : Posting) (b : BatchData) (refused : Option ℕ) → slice_get w.pool k ≡ Some q → slice_get (parts_in q.content) p ≡ Some b
       → happens group w (Take v now k p refused) ≡ put w v (took (far group v now) (ticked (w.members v) now) (Took k p) q.was.told.uses b refused)
   take_is w k p q b refused at_k at_p =
       let x = ticked (w.members v) now in

@@ -20,7 +20,7 @@ use Rattle.svid_check.specs.Runs.{IsAnswered, Terms}
 use Rattle.svid_check.specs.Setting.{Setting}
 use Rattle.svid_check.specs.Told.{Told, record_of, tell_now}
 use Rattle.svid_check.specs.Verdict.{verdict, key_of}
-use Rattle.svid_check.specs.World.{Answered, Check, Entry, Event, Made, Member, OldSend, Posting, Restart, Save, Saved, Send, Sent, Sum, Summed, Take, Tick, Withdraw, Answer, Took, World, accepted, answer_at, check_answer, happen, happens, parts_in, start, withdrawn, Renew, setting_at}
+use Rattle.svid_check.specs.World.{Answered, Check, Entry, Event, Made, Member, OldSend, Piece, Posting, Restart, Save, Saved, Send, Sent, Sum, Summed, Take, Tick, Withdraw, Answer, Took, World, accepted, answer_at, check_answer, happen, happens, parts_in, start, withdrawn, Renew, setting_at}
 use Rattle.svid_check.specs.Said.{Said, said_of}
 
 -- each use of the one set is in the other
@@ -78,6 +78,7 @@ TakesOnly v k (OldSend n) = n ≢ v
 TakesOnly v k (Sum n) = n ≢ v
 TakesOnly v k (Answer n now posting refused) = n ≢ v
 TakesOnly v k (Save n) = n ≢ v
+TakesOnly v k (Piece n after most) = n ≢ v
 TakesOnly v k (Restart n save) = n ≢ v
 TakesOnly v k (Renew n renewal) = n ≢ v
 

@@ -9,6 +9,7 @@ pub mod Lawful
 pub mod RunEvents
 pub mod Runs
 pub mod Said
+pub mod SaveEvents
 pub mod Saves
 pub mod Setting
 pub mod Table

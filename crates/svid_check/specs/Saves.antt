@@ -7,8 +7,6 @@ use Rattle.svid_replay.specs.Records.{State, state_of}
 use Rattle.svid_replay.specs.Sets.{holds}
 use Rattle.svid_replay.specs.Uses.{Uses}
 use Rattle.svid_replay.specs.Walks.{uses_behind}
-use Rattle.svid_check.specs.Alone.{Alone, Call, Restart, called}
-use Rattle.svid_check.specs.Runs.{Terms}
 
 -- of the uses of a set that are greater than the one given, or of all, the first so many
 abbrev pub uses_after : Uses → Option Use → ℕ → List Use
@@ -33,15 +31,12 @@ IsSaved a after (b ∷ c ∷ more) z = (most : ℕ) × (next : State) × (b ≡ 
 abbrev pub SavesLoseNothing : Type 0
 SavesLoseNothing = (a z : State) (batches : List BatchData) (u : Use) → IsSaved a None batches z → IsTrue (holds a.uses u) → z.moment < u.exp → IsTrue (holds (join_all (state_of 0 []) batches).uses u)
 
--- the call puts no save back
-abbrev pub IsNoRestart : Call → Type 0
-IsNoRestart (Restart k) = ⊥
-IsNoRestart _ = Unit {0}
+-- and they have its moment then, and no use that it does not have
+abbrev pub SavesAddNothing : Type 0
+SavesAddNothing = (a z : State) (batches : List BatchData) → IsSaved a None batches z
+    → let s = join_all (state_of 0 []) batches in
+    (s.moment ≡ z.moment) × ((u : Use) → IsTrue (holds s.uses u) → IsTrue (holds z.uses u))
 
--- what any other call leaves is the record at a later time
-abbrev pub CallsLeaveLater : Type 0
-CallsLeaveLater = (t : Terms) (w : Alone) (call : Call) → IsNoRestart call → IsLater w.held (called t w call).held
-
--- and later than later is later
+-- later than later is later
 abbrev pub LaterGoesOn : Type 0
 LaterGoesOn = (a b c : State) → IsLater a b → IsLater b c → IsLater a c

@@ -18,6 +18,7 @@ use Rattle.svid_check.specs.declared.withdraw_fault.WithdrawFault.{WithdrawFault
 use Rattle.svid_check.specs.declared.withdraw_fault.WithdrawFault.TheVariants as withdraw
 use Rattle.svid_check.specs.Changes.{accepted_in, gains, horizon, withdrawal, withdrawn_in}
 use Rattle.svid_check.specs.Runs.{Terms}
+use Rattle.svid_check.specs.Saves.{piece_of}
 use Rattle.svid_check.specs.Setting.{Setting, Renewal, renewed}
 use Rattle.svid_check.specs.Told.{Told, begun, tell, tell_now, tell_one}
 use Rattle.svid_check.specs.Verdict.{verdict}
@@ -34,11 +35,12 @@ pub record Member : Type 0 where
   pub log : List Entry
   pub renewal : Option Renewal
 
--- what is posted: the parts of a record, a summary, or the parts of an answer to the summary that this posting is
+-- what is posted: the parts of a record, a summary, the parts of an answer to the summary that this posting is, or a piece of a record, which its maker puts by
 pub data Content : Type 0 where
   Sent : (parts : List BatchData) → Content
   Summed : (summary : SummaryData) → Content
   Answered : (summary : ℕ) (parts : List BatchData) → Content
+  Pieced : (piece : BatchData) → Content
 
 -- a posting: who made it, what that validator was then, and what is posted
 pub record Posting : Type 0 where
@@ -68,6 +70,7 @@ pub data Event : Type 0 where
   Answer : (v now posting : ℕ) (refused : Bool) → Event
   Take : (v now posting part : ℕ) (refused : Option ℕ) → Event
   Save : (v : ℕ) → Event
+  Piece : (v : ℕ) (after : Option Use) (most : ℕ) → Event
   Restart : (v save : ℕ) → Event
   Renew : (v : ℕ) (renewal : Renewal) → Event
 
@@ -84,6 +87,7 @@ abbrev pub parts_in : Content → List BatchData
 parts_in (Sent parts) = parts
 parts_in (Summed summary) = []
 parts_in (Answered summary parts) = parts
+parts_in (Pieced piece) = piece ∷ []
 
 -- a moment is told
 abbrev pub ticked : Member → ℕ → Member
@@ -192,6 +196,7 @@ abbrev pub answer_content : World → ℕ → ℕ → Member → ℕ → Bool �
 answer_content w v far x k refused (Sent parts) = w
 answer_content w v far x k refused (Summed s) = answer_summary w v far x k refused s
 answer_content w v far x k refused (Answered summary parts) = w
+answer_content w v far x k refused (Pieced piece) = w
 
 -- it answers posting k, if there is one
 abbrev pub answer_posting : World → ℕ → ℕ → Member → ℕ → Bool → Option Posting → World
@@ -236,6 +241,7 @@ module _ (group : ℕ → Terms) where
   happens w (Answer v now k refused) = answer_posting w v (far v now) (ticked (w.members v) now) k refused (slice_get w.pool k)
   happens w (Take v now k p refused) = take_posting w v (far v now) (ticked (w.members v) now) k p refused (slice_get w.pool k)
   happens w (Save v) = save w v (w.members v)
+  happens w (Piece v after most) = post w v (w.members v) (Pieced (piece_of (w.members v).held after most))
   happens w (Restart v k) = restart w v (slice_get w.saves k)
   happens w (Renew v renewal) = put w v (with_renewal (w.members v) (Some renewal))
 

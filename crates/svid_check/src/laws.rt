@@ -11,7 +11,8 @@ ghost use Rattle.svid_check.specs.Headline.{AcceptanceGoesAlong, AcceptanceTells
 ghost use Rattle.svid_check.specs.Lawful.{IsAlive, IsFresh, IsInRange, IsMadeNow, IsOfItsInput, IsUsed};
 ghost use Rattle.svid_check.specs.RunEvents.{RecordTakesAreEvents, RunsAreEvents};
 ghost use Rattle.svid_check.specs.Said.{UnrefusedIsSaid};
-ghost use Rattle.svid_check.specs.Saves.{CallsLeaveLater, LaterGoesOn, SavesLoseNothing};
+ghost use Rattle.svid_check.specs.SaveEvents.{CallsLeaveLater, EventsLeaveLater, PiecesAreSaved, RestartsFromPieces};
+ghost use Rattle.svid_check.specs.Saves.{LaterGoesOn, SavesAddNothing, SavesLoseNothing};
 ghost use Rattle.svid_check.specs.Table.{TableIsOneList};
 ghost use Rattle.svid_check.specs.Told.{BeginsAsGiven};
 ghost use Rattle.svid_check.specs.Verdict.{AcceptedAreJudgedAgain, AcceptsNoSilence};
@@ -213,13 +214,24 @@ pub fn tables_stand_for_verifiers()
     ensures { TablesStand }
 {}
 
-/// A record that is saved piece by piece, with other calls in between, loses nothing: the batches together have
-/// each use that the record had at the first piece and that is still live at the last. Each call but a restart
-/// leaves a later record, so any number of them may come in between.
+/// A record that is saved piece by piece, with other calls in between, loses nothing of what it had at the first
+/// piece: the batches together have each use of it that is still live at the last. They have no use that the record
+/// does not have then. What came in between they may have or lack. Each call and each event but a restart leaves a
+/// later record, so any number of them may come in between.
 pub fn saves_lose_nothing()
     ensures pieces { SavesLoseNothing }
+    ensures no_more { SavesAddNothing }
     ensures calls { CallsLeaveLater }
+    ensures events { EventsLeaveLater }
     ensures on { LaterGoesOn }
+{}
+
+/// In a group, the pieces of a record are such a save, whatever happens in between but a restart. To restart from
+/// them is to restart from a save that was made when they began, and to take each of them: so all laws of the group
+/// hold of it, and what was accepted after they began may be lost.
+pub fn pieces_are_saves()
+    ensures saved { PiecesAreSaved }
+    ensures restarts { RestartsFromPieces }
 {}
 
 /// A run of a validator of a group is a list of events of the group, with the same answers and the same record at
