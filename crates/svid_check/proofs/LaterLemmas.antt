@@ -235,6 +235,7 @@ raised_first s m b le =
     live_before : (late l b h : Bool) → (late ≡ true → l ≡ true) → (late && (b || (l && (false || h)))) ≡ (late && (b || h))
     live_before true l b h so = ap (λ t. b || (t && h)) (so refl)
     live_before false l b h so = refl
+
     soon : (s m b e : ℕ) → m ≤ b → nat_lt (max s b) e ≡ true → nat_lt (max s m) e ≡ true
     soon s m b e le is = lt-ltb (max s m) e (let late : max s b < e = ltb-true (max s b) e is in omega (arith, le, late))
 

@@ -25,7 +25,7 @@ use Rattle.svid_check.specs.declared.take_fault.TakeFault.{TakeFault}
 use Rattle.svid_check.specs.declared.take_fault.TakeFault.TheVariants.{TooFarAhead, OutOfMemory}
 use Rattle.svid_check.specs.declared.withdraw_fault.WithdrawFault.{WithdrawFault}
 use Rattle.svid_check.specs.Calls.{AnswersTellMoments, ChecksAreSteps, RecordTakesAreSteps, RecordsGoOn, RunsGoOn, TakesAreSteps, TicksAreSteps, WithdrawalsAreSteps}
-use Rattle.svid_check.specs.Changes.{IsWithdrawal, Takes, accepted_in, batch_of, gains, horizon, settled, withdrawn_in}
+use Rattle.svid_check.specs.Changes.{IsWithdrawal, Takes, accepted_in, gains, horizon, settled, withdrawn_in}
 use Rattle.svid_check.specs.Runs.{IsAnswered, Runs, RunsFrom, Step, Terms}
 use Rattle.svid_check.specs.Said.{RefusesForm}
 use Rattle.svid_check.specs.Told.{TellsBatch, Told, record_of, tell, tell_now, tell_one, tell_use}

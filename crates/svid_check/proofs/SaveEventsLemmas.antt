@@ -8,7 +8,7 @@ use Rattle.svid_replay.specs.declared.token_use.Use.{Use}
 use Rattle.svid_replay.specs.Batches.{BatchData, last_of}
 use Rattle.svid_replay.specs.Buckets.{answer_to, raised_to, summary_of}
 use Rattle.svid_replay.specs.Parts.{join_all, parts_of}
-use Rattle.svid_replay.specs.Records.{State, batch_state, join, state_of}
+use Rattle.svid_replay.specs.Records.{State, batch_state, join}
 use Rattle.svid_replay.specs.Summary.{SummaryData}
 use Rattle.svid_replay.specs.Uses.{Uses}
 use Rattle.svid_replay.proofs.ListLemmas.{each_weaker}
@@ -211,8 +211,7 @@ module _ (group : ℕ → Terms) (v : ℕ) where
   are_pieces w z y after (k ∷ j ∷ places) (b ∷ c ∷ pieces) h grows =
       let x = happens group w (Piece v after h.0) in
       let next = happen group x h.1 in
-      let rest = saving_grows next z (last_of after b.uses) (j ∷ places) (c ∷ pieces) h.5 in
-      (
+      let rest = saving_grows next z (last_of after b.uses) (j ∷ places) (c ∷ pieces) h.5 in (
         posted_piece w y after h.0 k b h.2 h.3 (grows_on x z y (grows_on x next z (events_grow group x h.1) rest) grows),
         are_pieces next z y (last_of after b.uses) (j ∷ places) (c ∷ pieces) h.5 grows,
       )

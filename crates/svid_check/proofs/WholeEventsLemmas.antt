@@ -1,6 +1,6 @@
 -- A take of a whole record is the takes of the batches that it came of, or of fronts of them.
 use Rattle.std.proofs.Common.{◌≡◌, ℕ, zero, suc, ◌≤◌, max, Bool, true, false, cond, ◌&&◌, ◌||◌, nat_lt, List, [], ◌∷◌, ◌++◌, map, take, Option, None, Some, refl, sym, ap, ◌∙◌, subst, arith, inl, inr, if◌then◌else◌}
-use Rattle.std.specs.Prelude.{Result, Ok, Err, slice_get}
+use Rattle.std.specs.Prelude.{Ok, Err, slice_get}
 use Rattle.std.specs.List.{AllByRecursion, filter, list_any}
 use Rattle.std.specs.List.Sorted.{IsStrictlySortedBy}
 use Rattle.std.specs.Ordering.{eq_by_cmp, is_lt}
@@ -22,11 +22,10 @@ use Rattle.svid_replay.proofs.SetsLemmas.{holds-rising, rising_rises}
 use Rattle.svid_replay.proofs.TestsLemmas.{and-false, is_less}
 use Rattle.svid_replay.proofs.UseLemmas.{use_total}
 use Rattle.svid_replay.proofs.UsesLemmas.{any-filter, holds-uses_in, same_uses}
-use Rattle.svid_check.specs.declared.take_fault.TakeFault.{TakeFault}
 use Rattle.svid_check.specs.declared.take_fault.TakeFault.TheVariants.{OutOfMemory, TooFarAhead}
-use Rattle.svid_check.specs.RunEvents.{ArePlaced, AreTakes, IsPart, RecordTakesAreEvents, took_all}
+use Rattle.svid_check.specs.RunEvents.{ArePlaced, AreTakes, RecordTakesAreEvents, took_all}
 use Rattle.svid_check.specs.Runs.{Terms}
-use Rattle.svid_check.specs.World.{Entry, Event, Member, Posting, Take, Tick, Took, World, far, front, happen, happens, joined, logged, parts_in, put, take_part, take_posting, ticked, took}
+use Rattle.svid_check.specs.World.{Entry, Event, Member, Posting, Take, Took, World, far, front, happen, happens, joined, logged, parts_in, put, take_part, take_posting, ticked, took}
 use Rattle.svid_check.proofs.PlacesLemmas.{put_own}
 
 -- Fronts of batches.
@@ -92,12 +91,12 @@ joined_front refused s r b h =
     record {
       moment = moment-join s c ∙ same ∙ sym (moment-join r d);
       uses = λ u.
-      let p = before refused u in
-      let cuts : holds c.uses u ≡ (p && holds d.uses u) = holds-uses_in (filter (before refused) b.uses) u ∙ any-filter (before refused) u b.uses ∙ ap (λ t. p && t) (sym (holds-uses_in b.uses u)) in
-      holds-join s c u ∙ ap (λ n. nat_lt n u.exp && (holds c.uses u || holds s.uses u)) same
-      ∙ ap (λ t. nat_lt (max r.moment b.moment) u.exp && (t || holds s.uses u)) cuts
-      ∙ ap (λ t. nat_lt (max r.moment b.moment) u.exp && ((p && holds d.uses u) || t)) (h.uses u)
-      ∙ both_front p (nat_lt (max r.moment b.moment) u.exp) (holds d.uses u) (holds r.uses u) ∙ ap (λ t. p && t) (sym (holds-join r d u));
+          let p = before refused u in
+          let cuts : holds c.uses u ≡ (p && holds d.uses u) = holds-uses_in (filter (before refused) b.uses) u ∙ any-filter (before refused) u b.uses ∙ ap (λ t. p && t) (sym (holds-uses_in b.uses u)) in
+          holds-join s c u ∙ ap (λ n. nat_lt n u.exp && (holds c.uses u || holds s.uses u)) same
+          ∙ ap (λ t. nat_lt (max r.moment b.moment) u.exp && (t || holds s.uses u)) cuts
+          ∙ ap (λ t. nat_lt (max r.moment b.moment) u.exp && ((p && holds d.uses u) || t)) (h.uses u)
+          ∙ both_front p (nat_lt (max r.moment b.moment) u.exp) (holds d.uses u) (holds r.uses u) ∙ ap (λ t. p && t) (sym (holds-join r d u));
     }
 
 all_front : (refused : Use) (bs : List BatchData) (s r : State) → IsFrontOf refused s r → IsFrontOf refused (join_all s (map (cut_at refused) bs)) (join_all r bs)
@@ -114,8 +113,8 @@ front_of r s front refused rest parts h =
     front_is front refused rest (subst IsRising parts (rising_rises use_cmp r.uses)) ∙ ap (filter (before refused)) (sym parts) in
     same_states s (state_of r.moment front) h.moment (same_uses s.uses (uses_in front) (λ u.
     h.uses u ∙ sym (
-      holds-uses_in front u ∙ ap (λ (l : List Use). list_any (eq_by_cmp use_cmp u) l) is ∙ any-filter (before refused) u (rising r.uses)
-      ∙ ap (λ t. before refused u && t) (sym (holds-rising use_cmp r.uses u))
+    holds-uses_in front u ∙ ap (λ (l : List Use). list_any (eq_by_cmp use_cmp u) l) is ∙ any-filter (before refused) u (rising r.uses)
+    ∙ ap (λ t. before refused u && t) (sym (holds-rising use_cmp r.uses u))
     )))
 
 -- Joins.

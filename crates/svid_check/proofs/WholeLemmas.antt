@@ -1,7 +1,6 @@
 -- To take a whole record is to take one batch.
-use Rattle.std.proofs.Common.{◌≡◌, ℕ, sym, ◌∙◌, ap, subst}
+use Rattle.std.proofs.Common.{ℕ, sym, ◌∙◌, ap}
 use Rattle.std.specs.Prelude.{Result, Ok, Err}
-use Rattle.svid_replay.specs.Batches.{BatchData}
 use Rattle.svid_replay.specs.Records.{State, join}
 use Rattle.svid_replay.specs.Uses.{Uses}
 use Rattle.svid_replay.proofs.UsesLemmas.{uses_in-rising}

@@ -1,5 +1,5 @@
 -- A record that is saved piece by piece, as events: of one validator by itself, and of a group.
-use Rattle.std.specs.Prelude.{◌≡◌, ◌≢◌, ℕ, ◌<◌, ◌^◌, List, [], ◌∷◌, ◌++◌, Option, Some, None, length, min}
+use Rattle.std.specs.Prelude.{◌≡◌, ◌≢◌, ℕ, ◌<◌, ◌^◌, List, [], ◌∷◌, ◌++◌, Option, None, length, min}
 use Rattle.std.specs.List.{AllByRecursion}
 use Rattle.svid_replay.specs.declared.token_use.Use.{Use}
 use Rattle.svid_replay.specs.Batches.{BatchData, last_of}
@@ -9,7 +9,7 @@ use Rattle.svid_check.specs.Alone.{Alone, Call, called}
 use Rattle.svid_check.specs.Alone.{Restart as Back}
 use Rattle.svid_check.specs.Runs.{Terms}
 use Rattle.svid_check.specs.Saves.{IsLater, IsSaved, piece_of}
-use Rattle.svid_check.specs.World.{Entry, Event, Piece, Restart, Save, Take, Took, World, happen, happens, start}
+use Rattle.svid_check.specs.World.{Entry, Event, Piece, Restart, Save, Take, Took, World, happen, happens}
 
 -- the call puts no save back
 abbrev pub IsNoRestart : Call → Type 0
