@@ -1,4 +1,4 @@
-use Rattle.std.proofs.Common.{◌≡◌, ◌≢◌, ℕ, ◌+◌, ◌-◌, ◌^◌, ◌<◌, ◌≤◌, List, [], Option, None, Some, length, inl, inr, refl, sym, ap, subst, arith, ◌∙◌}
+use Rattle.std.proofs.Common.{◌≡◌, ◌≢◌, ℕ, ◌+◌, ◌-◌, ◌^◌, ◌<◌, ◌≤◌, List, [], Option, None, length, inl, inr, refl, sym, ap, subst, arith, ◌∙◌}
 use Rattle.svid_keys.specs.Bundles.{Bundle}
 use Rattle.svid_keys.specs.Lines.{lines_of}
 use Rattle.svid_keys.specs.Question.{question_of}
@@ -57,10 +57,10 @@ pub not_before : {R : Type 0} (s : Sources R) (number : ℕ) (fault : ToolFault)
 not_before s number fault few earlier is = of_input s number earlier.own few earlier.why (subst (IsOfInput number) earlier.is is)
 
 -- a sink that took the whole text, and then keeps it
-pub is_kept : (before mid after kept : Option (List ℕ)) (s0 s1 s2 : ℕ) (text : List ℕ)
+pub is_kept : (before mid after old kept : Option (List ℕ)) (s0 s1 s2 : ℕ) (text : List ℕ)
     → TookAll (record { told_before = before; told_after = mid; stops_before = s0; stops_after = s1 }) text → after ≡ mid → s2 ≡ s1 → kept ≡ after
-    → IsKept (record { sink = record { told_before = before; told_after = after; stops_before = s0; stops_after = s2 }; kept = kept }) text
-is_kept before mid after kept s0 s1 s2 text all same counts keeps = record {
+    → IsKept (record { sink = record { told_before = before; told_after = after; stops_before = s0; stops_after = s2 }; kept_before = old; kept = kept }) text
+is_kept before mid after old kept s0 s1 s2 text all same counts keeps = record {
   all = record { gained = subst (λ (t : Option (List ℕ)). Appends before t text) (sym same) all.gained; unstopped = counts ∙ all.unstopped };
   keeps = keeps;
 }

@@ -28,9 +28,10 @@ pub record CheckInputs (R : Type 0) : Type 0 where
   pub tokens : Drawn
   pub earlier : Sources R
 
--- what was done to a sink whose text is kept, and what it keeps then
+-- what was done to a sink whose text is kept, what it kept before, and what it keeps then
 pub record Keeping : Type 0 where
   pub sink : Taken
+  pub kept_before : Option (List ℕ)
   pub kept : Option (List ℕ)
 
 -- what was done to its outputs; the record after the last check may be kept, or not
@@ -40,7 +41,7 @@ pub record CheckOutputs : Type 0 where
 
 -- that of such a sink, by its own words `told`, `stops` and `kept`
 abbrev pub keeping : {K : Type 0} → (K → Option (List ℕ)) → (K → ℕ) → (K → Option (List ℕ)) → K → K → Keeping
-keeping told stops kept old new = record { sink = taken told stops old new; kept = kept new }
+keeping told stops kept old new = record { sink = taken told stops old new; kept_before = kept old; kept = kept new }
 
 -- that of one that may not be there
 abbrev pub keeping_if : {K : Type 0} → (K → Option (List ℕ)) → (K → ℕ) → (K → Option (List ℕ)) → Option K → Option K → Option Keeping
@@ -132,16 +133,16 @@ pub record IsUnkept (sink : Taken) (text : List ℕ) : Type 0 where
   pub gained : Appends sink.told_before sink.told_after text
   pub stopped : sink.stops_after ≡ raised sink.stops_before
 
--- the sink stopped: when it had taken a part of the text, or when it was to keep the whole
+-- the sink stopped, when it had taken a part of the text or when it was to keep the whole: it keeps what it kept before
 abbrev pub IsLost : Keeping → List ℕ → Type 0
-IsLost keeping text = TookPart keeping.sink text ⊎ IsUnkept keeping.sink text
+IsLost keeping text = (TookPart keeping.sink text ⊎ IsUnkept keeping.sink text) × (keeping.kept ≡ keeping.kept_before)
 
 -- a sink that may not be there keeps the whole text
 abbrev pub IsKeptIf : Option Keeping → List ℕ → Type 0
 IsKeptIf None text = Unit {0}
 IsKeptIf (Some keeping) text = IsKept keeping text
 
--- a sink that may not be there stopped before it kept the whole text
+-- a sink that may not be there stopped before it kept the whole text, and keeps what it kept before
 abbrev pub IsLostIf : Option Keeping → List ℕ → Type 0
 IsLostIf None text = ⊥
 IsLostIf (Some keeping) text = IsLost keeping text
@@ -151,7 +152,7 @@ pub record IsWritten (outputs : CheckOutputs) (outcome : Outcome) : Type 0 where
   pub kept : IsKeptIf outputs.kept outcome.kept
   pub out : TookAll outputs.out outcome.lines
 
--- a part went out: the record is not kept, and no line went out; or it is kept whole, and a part of the lines went out
+-- a part went out: the record is not kept, what was kept before stays, and no line went out; or it is kept whole, and a part of the lines went out
 abbrev pub IsWrittenInPart : CheckOutputs → Outcome → Type 0
 IsWrittenInPart outputs outcome =
     (IsLostIf outputs.kept outcome.kept × TookAll outputs.out [])

@@ -14,7 +14,7 @@ use std::alloc::{AllocError, Global};
 use svid_check::Validator;
 use svid_keys::{Bundles, TableVerifier};
 use svid_replay::{Record, RunUses, UseStore};
-use svid_share::{ToolFault, join_inputs, put_record, put_text, read_input};
+use svid_share::{ToolFault, join_inputs, put_text, read_input};
 use svid_wire::{Sink, Source};
 
 /// What a run of checks is told.
@@ -161,7 +161,7 @@ fn keep_record<T: UseStore, P: Keep>(sink: &mut P, state: &Record<T>) -> Result<
     ensures fault { IfErr result (λ e. e ≡ ToolFault.Write) }
     ensures part { OnErr result (IsLost (keeping P.told P.stops P.kept sink.old sink.new) (record_text state.now)) }
 {
-    put_record(state, sink)?;
+    sink.take_record(state)?;
     match sink.keep() {
         Ok(()) => Ok(()),
         Err(_) => Err(ToolFault::Write),
@@ -194,7 +194,7 @@ fn put_kept<T: UseStore, P: Keep>(kept: &mut Option<P>, state: &Record<T>) -> Re
 /// tokens, the earlier records, which have the numbers from 4 on (held at 2^64-1). Refused for the first that could not be read (`Read`), has more than
 /// 67,108,864 bytes (`TooMuch`) or is not what it is to be (`Bundles`, `Table`, `Wire`), for want of
 /// memory, a check's among them, and where a sink stopped (`Write`): then a part went out, and else
-/// nothing did. A bad field of an earlier record in what came before a failed read or the limit is
+/// nothing did. `kept` keeps what it kept before, or the whole new record, where only lines were lost. A bad field of an earlier record in what came before a failed read or the limit is
 /// answered before these. The inputs behind a refused one, or one that memory was refused for, are as they
 /// were.
 #[tactic(auto, using(crate::proofs::CheckLemmas::inputs_refused))]

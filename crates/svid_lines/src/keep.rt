@@ -1,12 +1,26 @@
-ghost use Rattle.std.specs.Prelude.{◌≡◌, ℕ, List, Option, OnOk, OnErr, Some};
+ghost use Rattle.std.specs.Prelude.{◌≡◌, ℕ, List, Option, OnOk, OnErr, IfErr};
 ghost use Rattle.svid_wire.specs.Faults.{CountsFault};
+ghost use Rattle.svid_wire.specs.RecordText.{record_text};
+ghost use Rattle.svid_wire.specs.Streams.{TookAll, TookPart, taken};
+ghost use Rattle.svid_share.specs.declared.tool_fault.ToolFault.TheVariants.{Write};
 
-use svid_wire::{MemSink, Sink, Stopped};
+use svid_replay::{Record, UseStore};
+use svid_share::ToolFault;
+use svid_wire::{Sink, Stopped};
 
 /// A sink whose text takes the place of an older one, which stays until [`keep`](Keep::keep).
 pub trait Keep: Sink {
     // The text that is kept, where it tells it.
     ghost kept: { Self → Option (List ℕ) };
+
+    /// Takes the text of a record, as [`put_record`](svid_share::put_record) writes it. What is kept stays.
+    ///
+    /// `Write` where the sink stopped, and then it took a part.
+    fn take_record<T: UseStore>(&mut self, state: &Record<T>) -> Result<(), ToolFault>
+        ensures ok { OnOk result (TookAll (taken Self.told Self.stops self.old self.new) (record_text state.now)) }
+        ensures fault { IfErr result (λ e. e ≡ Write) }
+        ensures part { OnErr result (TookPart (taken Self.told Self.stops self.old self.new) (record_text state.now)) }
+        ensures stays { kept self.new ≡ kept self.old };
 
     /// Keeps all that it took, in the place of what was kept before.
     ///
@@ -16,12 +30,4 @@ pub trait Keep: Sink {
         ensures stays { OnErr result (kept self.new ≡ kept self.old) }
         ensures same { Self.told self.new ≡ Self.told self.old }
         ensures faults { CountsFault (Self.stops self.old) (Self.stops self.new) result };
-}
-
-impl Keep for MemSink {
-    ghost kept = { λ s. Some s.bytes };
-
-    fn keep(&mut self) -> Result<(), Stopped> {
-        Ok(())
-    }
 }

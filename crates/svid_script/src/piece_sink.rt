@@ -1,5 +1,7 @@
 use std::alloc::Global;
 use svid_lines::Keep;
+use svid_replay::{Record, UseStore};
+use svid_share::{ToolFault, put_record};
 use svid_wire::{Sink, Stopped};
 
 /// So many pieces of this length that were handed in a row.
@@ -120,6 +122,10 @@ impl Keep for PieceSink {
     ghost use Rattle.std.specs.Prelude.{None};
 
     ghost kept = { λ _. None };
+
+    fn take_record<T: UseStore>(&mut self, state: &Record<T>) -> Result<(), ToolFault> {
+        put_record(state, self)
+    }
 
     fn keep(&mut self) -> Result<(), Stopped> {
         Ok(())

@@ -7,6 +7,8 @@ use std::io::{ErrorKind, Write};
 use std::path::PathBuf;
 use std::{fs, io};
 use svid_lines::Keep;
+use svid_replay::{Record, UseStore};
+use svid_share::{ToolFault, put_record};
 use svid_wire::{Sink, Stopped};
 
 // How many names beside a file are tried: each stands for a run that was killed while it wrote.
@@ -190,6 +192,10 @@ impl<'a> Sink for Kept<'a> {
 
 impl<'a> Keep for Kept<'a> {
     ghost kept = { λ _. None };
+
+    fn take_record<T: UseStore>(&mut self, state: &Record<T>) -> Result<(), ToolFault> {
+        put_record(state, self)
+    }
 
     fn keep(&mut self) -> Result<(), Stopped> {
         match self.put_in_place() {
