@@ -280,7 +280,7 @@ typedef struct {
 /* Writes the record piece by piece, so that a large one does not keep the lock for long. Each call writes one batch, with as many uses as have
  * room in `out`, and at most 65,536. A batch has 17 bytes, and 65 for each use. Call it until `part->done` is 1, and append what each call
  * writes. You may make other calls in between. The pieces together hold each use that the record had at the first of these calls and that
- * is still live at the last.
+ * is still live at the last. A use that is accepted in between may be missing.
  * SVID_TOO_SHORT if `out_len` is less than SVID_BATCH_OF_LEN. Unless the status is SVID_OK, `part` stays as it was. */
 uint32_t svid_validator_parts(svid_validator *v, svid_part *part, uint8_t *out, size_t out_len, svid_told *told);
 
