@@ -22,12 +22,12 @@ use Rattle.svid_check.specs.declared.take_fault.TakeFault.TheVariants.{OutOfMemo
 use Rattle.svid_check.specs.declared.withdraw_fault.WithdrawFault.{WithdrawFault}
 use Rattle.svid_check.specs.declared.withdraw_fault.WithdrawFault.TheVariants as withdraw
 use Rattle.svid_check.specs.Changes.{IsWithdrawal, Replies, Takes, batch_of, gains, horizon, settled, withdrawal, withdrawn_in}
-use Rattle.svid_check.specs.Events.{AnswersAreEvents, ChecksAreEvents, SendsAreEvents, SumsAreEvents, TakesAreEvents, TicksAreEvents, WithdrawalsAreEvents, entries, posted, JudgmentsAgainAreTicks, JudgmentsAreTicks, RenewalsAreEvents, SavesAreEvents}
+use Rattle.svid_check.specs.Events.{AnswersAreEvents, ChecksAreEvents, SendsAreEvents, SumsAreEvents, TakesAreEvents, TicksAreEvents, WithdrawalsAreEvents, entries, posted, JudgmentsAgainAreTicks, JudgmentsAreTicks, PiecesAreEvents, RenewalsAreEvents, SavesAreEvents}
 use Rattle.svid_check.specs.Said.{RefusesForm}
 use Rattle.svid_check.specs.Alone.{AnswersAreCalls, ChecksAreCalls, RecordTakesAreCalls, TakesAreCalls, TicksAreCalls, WithdrawalsAreCalls, setting_alone}
 use Rattle.svid_check.specs.Setting.{Renewal, Setting, renewed}
 use Rattle.svid_check.specs.Verdict.{again_rows, verdict}
-use Rattle.svid_check.specs.World.{Answer, Answered, Content, Entry, Made, Member, Posting, Sent, Summed, Take, Took, World, answer_at, answer_by, answer_content, answer_posting, answer_summary, check_answer, checked, far, form_or_memory, front, happens, joined, logged, post, put, take_part, take_posting, ticked, took, withdraw_answer, withdrawal_at, withdrew, happen, setting_at, start, with_renewal}
+use Rattle.svid_check.specs.World.{Answer, Answered, Content, Entry, Made, Member, Pieced, Posting, Sent, Summed, Take, Took, World, answer_at, answer_by, answer_content, answer_posting, answer_summary, check_answer, checked, far, form_or_memory, front, happens, joined, logged, post, put, take_part, take_posting, ticked, took, withdraw_answer, withdrawal_at, withdrew, happen, setting_at, start, with_renewal}
 use Rattle.svid_check.proofs.PlacesLemmas.{put_own}
 use Rattle.svid_check.proofs.RestartsLemmas.{restart_absorbs}
 use Rattle.svid_check.proofs.RowsLemmas.{told}
@@ -165,6 +165,9 @@ answers_are_events group w v now k q s answer y at_k is_summary h =
 
 pub sends_are_events : SendsAreEvents
 sends_are_events group w v parts is = (refl, ap (λ (ps : List BatchData). w.pool ++ record { maker = v; was = w.members v; content = Sent ps } ∷ []) (sym is))
+
+pub pieces_are_events : PiecesAreEvents
+pieces_are_events group w v most before piece is = (refl, ap (λ (b : BatchData). w.pool ++ record { maker = v; was = w.members v; content = Pieced b } ∷ []) (sym is))
 
 pub sums_are_events : SumsAreEvents
 sums_are_events group w v summary same =

@@ -17,8 +17,9 @@ use Rattle.svid_check.specs.declared.withdraw_fault.WithdrawFault.{WithdrawFault
 use Rattle.svid_check.specs.Changes.{IsWithdrawal, Replies, Takes, gains, settled, withdrawn_in}
 use Rattle.svid_check.specs.Runs.{Terms}
 use Rattle.svid_check.specs.Said.{RefusesForm}
+use Rattle.svid_check.specs.Saves.{piece_of}
 use Rattle.svid_check.specs.Verdict.{again_rows, verdict}
-use Rattle.svid_check.specs.World.{Answer, Answered, Check, Entry, Made, Member, Posting, Send, Sent, Sum, Summed, Take, Tick, Took, Withdraw, World, answer_at, far, happens, parts_in, withdrawal_at, Event, Renew, Save, happen, setting_at, start}
+use Rattle.svid_check.specs.World.{Answer, Answered, Check, Entry, Event, Made, Member, Piece, Pieced, Posting, Renew, Save, Send, Sent, Sum, Summed, Take, Tick, Took, Withdraw, World, answer_at, far, happen, happens, parts_in, setting_at, start, withdrawal_at}
 use Rattle.svid_check.specs.Setting.{Renewal, Setting, renewed}
 
 -- a check that is answered as its contract says is an event with this answer, which leaves the record that the contract says
@@ -82,6 +83,13 @@ SendsAreEvents = (group : ℕ → Terms) (w : World) (v : ℕ) (parts : List Bat
     → let x = w.members v in
     let after = happens group w (Send v) in
     parts ≡ cut x.held.moment (rising x.held.uses) → (after.members v ≡ x) × (after.pool ≡ w.pool ++ record { maker = v; was = x; content = Sent parts } ∷ [])
+
+-- a piece of a record is posted too, and leaves a validator as it is
+abbrev pub PiecesAreEvents : Type 0
+PiecesAreEvents = (group : ℕ → Terms) (w : World) (v most : ℕ) (before : Option Use) (piece : BatchData)
+    → let x = w.members v in
+    let after = happens group w (Piece v before most) in
+    piece ≡ piece_of x.held before most → (after.members v ≡ x) × (after.pool ≡ w.pool ++ record { maker = v; was = x; content = Pieced piece } ∷ [])
 
 -- a summary leaves a validator's record as it is, is posted, and stands in the log by its place
 abbrev pub SumsAreEvents : Type 0

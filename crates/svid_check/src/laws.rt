@@ -5,7 +5,7 @@ ghost use Rattle.svid_check.specs.Bounds.{AnswersAreBounded, ChecksAreBounded, R
 ghost use Rattle.svid_check.specs.Calls.{AnswersTellMoments, ChecksAreSteps, RecordTakesAreSteps, RecordsGoOn, RunsGoOn, TakesAreSteps, TicksAreSteps, WithdrawalsAreSteps};
 ghost use Rattle.svid_check.specs.Alone.{AcceptsOnce, AnswersAreCalls, ChecksAreCalls, RecordTakesAreCalls, TakesAreCalls, TicksAreCalls, WithdrawalsAreCalls};
 ghost use Rattle.svid_check.specs.Changes.{RecordTakesAreTakes};
-ghost use Rattle.svid_check.specs.Events.{AnswersAreEvents, ChecksAreEvents, JudgmentsAgainAreTicks, JudgmentsAreTicks, RenewalsAreEvents, SavesAreEvents, SendsAreEvents, SumsAreEvents, TakesAreEvents, TicksAreEvents, WithdrawalsAreEvents};
+ghost use Rattle.svid_check.specs.Events.{AnswersAreEvents, ChecksAreEvents, JudgmentsAgainAreTicks, JudgmentsAreTicks, PiecesAreEvents, RenewalsAreEvents, SavesAreEvents, SendsAreEvents, SumsAreEvents, TakesAreEvents, TicksAreEvents, WithdrawalsAreEvents};
 ghost use Rattle.svid_check.specs.Forgetful.{AnswersAreForgotten, SendsAreForgotten};
 ghost use Rattle.svid_check.specs.Headline.{AcceptanceGoesAlong, AcceptanceTells, AcceptedIsRefused, AnswersTellAll, ChainsTell, ChecksAreVerdicts, EqualTellings, RecordsAreTold, ReportedWereAcceptedTwice, ReportsAreExact, ReportsAreWhole, RestartsAbsorb, RestartsPutBack, SendsMakeEqual, SendsTellAll, ToldIsRefused, ToldWereAccepted, ToldWereWithdrawn, TwoPlacesAreReported, WithMemoryVerdicts, WithdrawnAreRefused};
 ghost use Rattle.svid_check.specs.Lawful.{IsAlive, IsFresh, IsInRange, IsMadeNow, IsOfItsInput, IsUsed};
@@ -196,6 +196,7 @@ pub fn calls_are_events()
     ensures withdrawals { WithdrawalsAreEvents }
     ensures renewals { RenewalsAreEvents }
     ensures saves { SavesAreEvents }
+    ensures pieces { PiecesAreEvents }
 {}
 
 /// So it is with the calls of one validator by itself, with any batch and any summary.
