@@ -1,0 +1,18 @@
+//! What the test driver's calls share: the words of a line, the values that a script has named, streams that fail when they
+//! are told to, and how an answer is printed.
+#![tactic(auto)]
+
+pub mod byte_words;
+pub mod env;
+pub mod fault;
+pub mod kinds;
+pub mod named;
+pub mod out;
+pub mod piece_sink;
+pub mod piece_source;
+pub mod refusing;
+pub mod say;
+pub mod stop;
+pub mod streams;
+pub mod use_words;
+pub mod words;

@@ -1,0 +1,13 @@
+//! The test driver's calls on validators, and on what a token says.
+#![tactic(auto)]
+
+mod any_validator;
+mod calls;
+mod checking;
+mod lending;
+mod readings;
+mod validators;
+mod verifier;
+
+pub use any_validator::{AnyValidator, Validators};
+pub use calls::call;

@@ -1,0 +1,14 @@
+//! The test driver's calls on uses, batches, stores, records, summaries and messages.
+#![tactic(auto)]
+
+mod batches;
+mod calls;
+mod feeds;
+mod messages;
+pub mod records;
+mod stores;
+mod summaries;
+mod tried_streams;
+mod uses;
+
+pub use calls::call;

@@ -1,0 +1,29 @@
+// Prints the fault that a call answered, or stops where that says that it was out of memory.
+
+use svid_id::IdFault;
+use svid_keys::{BundleFault, TableFault};
+use svid_script_base::out::Out;
+use svid_script_base::say::say_fault;
+use svid_script_base::stop::Stop;
+use svid_token::{PartFault, Refusal};
+
+pub(crate) fn id_refused(out: &mut Out<'_>, fault: IdFault) -> Result<(), Stop> {
+    say_fault(out, fault, matches!(fault, IdFault::OutOfMemory))
+}
+
+pub(crate) fn part_refused(out: &mut Out<'_>, fault: PartFault) -> Result<(), Stop> {
+    say_fault(out, fault, matches!(fault, PartFault::OutOfMemory))
+}
+
+/// Prints why a token is refused, or stops where memory was.
+pub fn token_refused(out: &mut Out<'_>, refusal: Refusal) -> Result<(), Stop> {
+    say_fault(out, refusal, matches!(refusal, Refusal::OutOfMemory))
+}
+
+pub(crate) fn bundles_refused(out: &mut Out<'_>, fault: BundleFault) -> Result<(), Stop> {
+    say_fault(out, fault, matches!(fault, BundleFault::OutOfMemory))
+}
+
+pub(crate) fn table_refused(out: &mut Out<'_>, fault: TableFault) -> Result<(), Stop> {
+    say_fault(out, fault, matches!(fault, TableFault::OutOfMemory))
+}
