@@ -1,13 +1,17 @@
-use Rattle.std.proofs.Common.{◌≡◌, ℕ, true, false, List, [], Option, Some, None, Err, refl, sym, ap, subst}
+use Rattle.std.proofs.Common.{◌≡◌, ℕ, true, false, List, [], Option, Some, None, Err, refl, sym, ap, subst, ◌∙◌}
 use Rattle.std.specs.Prelude.{is_some}
 use Rattle.std.proofs.lemmas.Bool.{false≢true}
 use Rattle.svid_keys.specs.Bundles.{Bundle}
 use Rattle.svid_replay.specs.Records.{State, state_of}
 use Rattle.svid_replay.specs.Summary.{SummaryData}
-use Rattle.svid_check.specs.Changes.{Replies, TakesRecord}
+use Rattle.svid_check.specs.Changes.{IsWithdrawal, Replies, TakesRecord}
 use Rattle.svid_check.specs.declared.take_fault.TakeFault.{TakeFault}
+use Rattle.svid_check.specs.declared.withdraw_fault.WithdrawFault.{WithdrawFault}
 use Rattle.svid_c.specs.Inputs.{AreBundles}
-use Rattle.svid_c.specs.Live.{IsBegun}
+use Rattle.svid_c.specs.Live.{CallsAt, IsBegun, IsNotTaken, IsTaken, Kept, closed_at, does_at, is_jump, jumped, none_held, too_far_on}
+use Rattle.svid_c.specs.Status.{told_length}
+use Rattle.svid_c.specs.declared.live.Live.{Live}
+use Rattle.svid_c.specs.declared.told.SvidTold.{SvidTold}
 use Rattle.svid_c.specs.declared.live.Nobody.{Nobody}
 use Rattle.svid_c.specs.declared.open.SvidTerms.{SvidTerms}
 
@@ -22,6 +26,22 @@ begun own text terms kept nobody r are new = record {
   held = ap (λ s. record { own = own; place = terms.place; ahead = terms.ahead; bundles = kept; verifier = nobody; longest = Some terms.longest; state = s }) new;
   step = refl;
 }
+
+-- a call at a moment did this to the validator that it took
+pub called : (now : ℕ) (B : Type 0) (D : Kept → Kept → Type 0) (status : ℕ) (told : SvidTold) (old mid new : Option Live) (live a b : Live)
+    → IsTaken now old mid live → a ≡ live → new ≡ Some b → b.step ≡ a.step → D a.validator b.validator → CallsAt now B D status told old new
+called now B D status told old mid new live a b t is put step does =
+    does_at a b (t.held ∙ ap Some (sym is)) (ap (λ l. is_jump l now) is ∙ t.near) put step does
+
+-- a call at a moment took none, and told so
+pub not_called : (now : ℕ) (B : Type 0) (D : Kept → Kept → Type 0) (status given : ℕ) (told : SvidTold) (old new : Option Live)
+    → IsNotTaken now old new given → status ≡ given → told ≡ told_length 0 → B → CallsAt now B D status told old new
+not_called now B D status given told old new (none_held held left number) is length before = closed_at held left (is ∙ number) length before
+not_called now B D status given told old new (too_far_on live held far left number) is length before = jumped live held far left (is ∙ number) length before
+
+-- what a withdrawal answers, where the fault is known
+pub withdrawing_fault : (place : List ℕ) (moment : ℕ) (key : List ℕ) (exp : ℕ) (f g : WithdrawFault) → f ≡ g → IsWithdrawal place moment key exp (Err f) → IsWithdrawal place moment key exp (Err g)
+withdrawing_fault place moment key exp f g is t = subst (λ h. IsWithdrawal place moment key exp (Err h)) is t
 
 -- what is some holds one
 pub holds_one : {A : Type 0} (held : Option A) → true ≡ is_some held → (x : A) × (held ≡ Some x)

@@ -1,5 +1,5 @@
 -- What a check for C answers.
-use Rattle.std.specs.Prelude.{◌≡◌, ◌≢◌, ℕ, List, length, Some, Ok}
+use Rattle.std.specs.Prelude.{◌≡◌, ◌≢◌, ℕ, List, length, Some, Ok, Err}
 use Rattle.svid_id.specs.Id.{id_text}
 use Rattle.svid_token.specs.Rows.{Refuses}
 use Rattle.svid_token.specs.declared.refusal.Refusal.{Refusal}
@@ -9,6 +9,7 @@ use Rattle.svid_keys.specs.Table.{questions_in, table_says}
 use Rattle.svid_replay.specs.Buckets.{raised_to}
 use Rattle.svid_replay.specs.Records.{State}
 use Rattle.svid_replay.specs.declared.token_use.Use.{Use}
+use Rattle.svid_check.specs.Said.{RefusesForm}
 use Rattle.svid_check.specs.Setting.{Setting}
 use Rattle.svid_check.specs.Verdict.{verdict}
 use Rattle.svid_check.specs.declared.accepted.Accepted.{Accepted}
@@ -50,6 +51,10 @@ refusal_number refusal.BadSignature = 123
 refusal_number refusal.Withdrawn = 124
 refusal_number refusal.Replayed = 125
 
+-- a token that is too long, or has not three parts, is refused as just that: want of memory does not stand for it
+abbrev pub RefusesAs : List ℕ → Refusal → Type 0
+RefusesAs token why = RefusesForm {Accepted} token (Err why)
+
 -- the use of an acceptance, as C sees it
 abbrev pub use_seen : Use → SvidUse
 use_seen used = record { exp = used.exp; at = used.at; key = used.key; place = used.place }
@@ -73,5 +78,5 @@ pub data IsNotReady (bundles questions messages : List ℕ) (why : ToolFault) : 
 -- says, and then the text of its ID is put, and where that has room, its use is told. All else is as it was.
 pub data Checks (Ready : Setting → State → Type 0) (NotReady : ToolFault → Type 0) (now : ℕ) (token : List ℕ) (status : ℕ) (told : SvidTold) (old new : List ℕ) (old_use new_use : SvidUse) : Type 0 where
   not_made : (why : ToolFault) → NotReady why → status ≡ fault_number why → told ≡ told_fault why → new ≡ old → new_use ≡ old_use → Checks Ready NotReady now token status told old new old_use new_use
-  refused : (setting : Setting) (r : State) (why : Refusal) → Ready setting r → Refuses why (verdict setting (raised_to r now).moment (raised_to r now).uses token) → status ≡ refusal_number why → told ≡ told_length 0 → new ≡ old → new_use ≡ old_use → Checks Ready NotReady now token status told old new old_use new_use
+  refused : (setting : Setting) (r : State) (why : Refusal) → Ready setting r → Refuses why (verdict setting (raised_to r now).moment (raised_to r now).uses token) → RefusesAs token why → status ≡ refusal_number why → told ≡ told_length 0 → new ≡ old → new_use ≡ old_use → Checks Ready NotReady now token status told old new old_use new_use
   accepted : (setting : Setting) (r : State) (a : Accepted) → Ready setting r → verdict setting (raised_to r now).moment (raised_to r now).uses token ≡ Ok (Some a) → IsPut (id_text a.id) status old new → told ≡ told_length (length (id_text a.id)) → (status ≡ 0 → new_use ≡ use_seen a.used) → (status ≢ 0 → new_use ≡ old_use) → Checks Ready NotReady now token status told old new old_use new_use

@@ -1,5 +1,5 @@
 -- What the calls on a validator that C keeps do.
-use Rattle.std.specs.Prelude.{◌≡◌, ◌&&◌, ◌-◌, ℕ, Bool, true, false, ◌<◌, ◌≤◌, nat_lt, List, [], ◌∷◌, length, Option, None, Some, Result, Ok}
+use Rattle.std.specs.Prelude.{◌≡◌, ◌&&◌, IsTrue, ◌-◌, ℕ, Bool, true, false, ◌<◌, ◌≤◌, nat_lt, List, [], ◌∷◌, length, Option, None, Some, Result, Ok}
 use Rattle.std.specs.List.{flat_map}
 use Rattle.svid_id.specs.Id.{id_text}
 use Rattle.svid_token.specs.Rows.{Refuses, first_row}
@@ -8,7 +8,7 @@ use Rattle.svid_keys.specs.Bundles.{Bundle}
 use Rattle.svid_replay.specs.Buckets.{answer_to, raised_to}
 use Rattle.svid_replay.specs.Records.{State, IsPartlyJoined, join, state_of}
 use Rattle.svid_replay.specs.declared.token_use.Use.{Use}
-use Rattle.svid_replay.specs.Sets.{rising}
+use Rattle.svid_replay.specs.Sets.{holds, rising}
 use Rattle.svid_replay.specs.Summary.{SummaryData}
 use Rattle.svid_wire.specs.BatchText.{batch_text}
 use Rattle.svid_wire.specs.declared.message.Message.TheVariants.{Summary}
@@ -18,7 +18,7 @@ use Rattle.svid_check.specs.Verdict.{again_rows, verdict}
 use Rattle.svid_check.specs.declared.accepted.Accepted.{Accepted}
 use Rattle.svid_share.specs.declared.tool_fault.ToolFault.{ToolFault}
 use Rattle.svid_c.specs.Answered.{says_yes}
-use Rattle.svid_c.specs.Checked.{refusal_number, use_seen}
+use Rattle.svid_c.specs.Checked.{RefusesAs, refusal_number, use_seen}
 use Rattle.svid_c.specs.Inputs.{AreBundles, AreMessages, AreNoBundles, IsRefused, Tells}
 use Rattle.svid_c.specs.Joined.{IsSummaryRefused}
 use Rattle.svid_c.specs.Own.{Named}
@@ -27,6 +27,8 @@ use Rattle.svid_c.specs.Written.{HasFirst, IsPut}
 use Rattle.svid_c.specs.declared.check.SvidUse.{SvidUse}
 use Rattle.svid_c.specs.declared.live.Live.{Live}
 use Rattle.svid_c.specs.declared.live.Nobody.{Nobody}
+use Rattle.svid_c.specs.declared.live_check.Gain.{Gain}
+use Rattle.svid_c.specs.declared.live_check.Gain.TheVariants as gain
 use Rattle.svid_c.specs.declared.open.SvidTerms.{SvidTerms}
 use Rattle.svid_c.specs.declared.own_fault.OwnFault.{OwnFault}
 use Rattle.svid_c.specs.declared.told.SvidTold.{SvidTold}
@@ -49,6 +51,17 @@ pub data CallsAt (now : ℕ) (IsAsBefore : Type 0) (Does : Kept → Kept → Typ
   closed_at : old ≡ None → new ≡ None → status ≡ 5 → told ≡ told_length 0 → IsAsBefore → CallsAt now IsAsBefore Does status told old new
   jumped : (a : Live) → old ≡ Some a → is_jump a now ≡ true → new ≡ Some a → status ≡ 9 → told ≡ told_length 0 → IsAsBefore → CallsAt now IsAsBefore Does status told old new
   does_at : (a b : Live) → old ≡ Some a → is_jump a now ≡ false → new ≡ Some b → b.step ≡ a.step → Does a.validator b.validator → CallsAt now IsAsBefore Does status told old new
+
+-- what a call at a moment takes out of a handle: the validator that it holds, where the moment lies not too far past the record's
+pub record IsTaken (now : ℕ) (old new : Option Live) (live : Live) : Type 0 where
+  pub held : old ≡ Some live
+  pub near : is_jump live now ≡ false
+  pub out : new ≡ None
+
+-- why it takes none: the handle is closed (5), or the moment lies too far past the record's (9). The handle stays as it was.
+pub data IsNotTaken (now : ℕ) (old new : Option Live) (status : ℕ) : Type 0 where
+  none_held : old ≡ None → new ≡ None → status ≡ 5 → IsNotTaken now old new status
+  too_far_on : (live : Live) → old ≡ Some live → is_jump live now ≡ true → new ≡ Some live → status ≡ 9 → IsNotTaken now old new status
 
 -- a validator begins with these audiences, trust bundles and terms, and a new record
 pub record IsBegun (own : List (List ℕ)) (bundles : List ℕ) (terms : SvidTerms) (live : Live) : Type 0 where
@@ -77,7 +90,7 @@ verdict_at held given now token = verdict (setting_by (says_yes given) held) (ra
 -- this of it.
 pub data Checks (gained : State → Use → State) (now : ℕ) (given : List (List ℕ)) (token : List ℕ) (status : ℕ) (told : SvidTold) (old_out new_out : List ℕ) (old_use new_use : SvidUse) (old new : Kept) : Type 0 where
   no_room : length old_out < 2048 → status ≡ 1 → told ≡ told_length 2048 → new_out ≡ old_out → new_use ≡ old_use → new ≡ old → Checks gained now given token status told old_out new_out old_use new_use old new
-  refused : (why : Refusal) → 2048 ≤ length old_out → Refuses why (verdict_at old given now token)
+  refused : (why : Refusal) → 2048 ≤ length old_out → Refuses why (verdict_at old given now token) → RefusesAs token why
       → status ≡ refusal_number why → told ≡ told_length 0 → new_out ≡ old_out → new_use ≡ old_use → new ≡ with_state old (raised_to old.state now) → Checks gained now given token status told old_out new_out old_use new_use old new
   accepted : (a : Accepted) → 2048 ≤ length old_out → verdict_at old given now token ≡ Ok (Some a)
       → status ≡ 0 → told ≡ told_length (length (id_text a.id)) → HasFirst (id_text a.id) old_out new_out
@@ -90,6 +103,11 @@ adds r used = gains r (Some used)
 -- a judgment adds nothing
 abbrev pub adds_nothing : State → Use → State
 adds_nothing r used = r
+
+-- what the record gains of a token that is accepted
+abbrev pub gained_by : Gain → State → Use → State
+gained_by gain.ItsUse = adds
+gained_by gain.Nothing = adds_nothing
 
 -- the number of what refuses a token, or 0
 abbrev pub number_if_refused : Option Refusal → ℕ
@@ -113,12 +131,14 @@ pub record Ticks (now status : ℕ) (told : SvidTold) (old new : Kept) : Type 0 
   pub length : told ≡ told_length 0
   pub raised : new ≡ with_state old (raised_to old.state now)
 
--- what withdrawing does: the record is raised, and gains the withdrawal, which is told; or the tokens have expired (7), or memory was refused (2)
+-- what withdrawing does: the record is raised, and gains the withdrawal, which is told; or the tokens have expired (7), or memory was refused (2),
+-- which it never is for a withdrawal that the record has already
 pub data Withdraws (now : ℕ) (key : List ℕ) (exp : ℕ) (status : ℕ) (told : SvidTold) (old_use new_use : SvidUse) (old new : Kept) : Type 0 where
   withdrawn : (u : Use) → u ≡ withdrawal old.place (raised_to old.state now).moment key exp → (raised_to old.state now).moment < exp
       → status ≡ 0 → told ≡ told_length 0 → new_use ≡ use_seen u → new ≡ with_state old (gains (raised_to old.state now) (Some u)) → Withdraws now key exp status told old_use new_use old new
   expired : exp ≤ (raised_to old.state now).moment → status ≡ 7 → told ≡ told_length 0 → new_use ≡ old_use → new ≡ with_state old (raised_to old.state now) → Withdraws now key exp status told old_use new_use old new
-  no_memory : status ≡ 2 → told ≡ told_length 0 → new_use ≡ old_use → new ≡ with_state old (raised_to old.state now) → Withdraws now key exp status told old_use new_use old new
+  no_memory : (raised_to old.state now).moment < exp → ¬ IsTrue (holds (raised_to old.state now).uses (withdrawal old.place (raised_to old.state now).moment key exp))
+      → status ≡ 2 → told ≡ told_length 0 → new_use ≡ old_use → new ≡ with_state old (raised_to old.state now) → Withdraws now key exp status told old_use new_use old new
 
 -- what taking messages does: the record is raised, and joined with that of the messages, if that lies within the horizon (8); or the
 -- messages are refused, and nothing happens; or memory was refused, and a part of them may be joined

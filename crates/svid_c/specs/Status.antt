@@ -1,5 +1,5 @@
 -- The numbers by which C is told how a call ended: 0 where it did what it is for.
-use Rattle.std.specs.Prelude.{ℕ}
+use Rattle.std.specs.Prelude.{ℕ, Bool, if◌then◌else◌}
 use Rattle.svid_id.specs.declared.id_fault.IdFault.{IdFault}
 use Rattle.svid_id.specs.declared.id_fault.IdFault.TheVariants as id
 use Rattle.svid_keys.specs.declared.bundle_fault.BundleFault.{BundleFault}
@@ -63,7 +63,15 @@ fault_number tool.OutOfMemory = 2
 
 -- what is told of a text that a call wrote, or has no room for: its length
 abbrev pub told_length : ℕ → SvidTold
-told_length len = record { len = len; input = 0; message = 0; place = 0 }
+told_length len = record { len = len; input = 0; message = 0; place = 0; more = 0 }
+
+-- a truth as C has it
+abbrev pub flag : Bool → ℕ
+flag b = if b then 1 else 0
+
+-- what is told of rows that were put, or have no room: the length of their text, and whether there are more
+abbrev pub told_rows : ℕ → Bool → SvidTold
+told_rows len more = record { len = len; input = 0; message = 0; place = 0; more = flag more }
 
 -- the place of a fault of bundles: that of the name among all names in rising order of their bytes, from 0
 abbrev pub bundles_place : BundleFault → ℕ
@@ -73,8 +81,8 @@ bundles_place _ = 0
 
 -- what is told of a fault: of messages, the number of the input and of the message in it, and the place in that; else a place
 abbrev pub told_fault : ToolFault → SvidTold
-told_fault (tool.Wire input message place reason) = record { len = 0; input = input; message = message; place = place }
-told_fault (tool.Bundles fault) = record { len = 0; input = 0; message = 0; place = bundles_place fault }
-told_fault (tool.Table line) = record { len = 0; input = 0; message = 0; place = line }
-told_fault (tool.TooMuch input) = record { len = 0; input = input; message = 0; place = 0 }
-told_fault _ = record { len = 0; input = 0; message = 0; place = 0 }
+told_fault (tool.Wire input message place reason) = record { len = 0; input = input; message = message; place = place; more = 0 }
+told_fault (tool.Bundles fault) = record { len = 0; input = 0; message = 0; place = bundles_place fault; more = 0 }
+told_fault (tool.Table line) = record { len = 0; input = 0; message = 0; place = line; more = 0 }
+told_fault (tool.TooMuch input) = record { len = 0; input = input; message = 0; place = 0; more = 0 }
+told_fault _ = record { len = 0; input = 0; message = 0; place = 0; more = 0 }

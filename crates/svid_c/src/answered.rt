@@ -25,6 +25,10 @@ impl<'a> Verifier for Answered<'a> {
     ghost says = { λ given. says_yes given.yes.now };
 
     fn verify(&self, key: &JwtKey, alg: Alg, input: &[u8], signature: &[u8]) -> bool {
+        // (Where no question is answered yes, nothing is hashed.)
+        if self.yes.is_empty() {
+            return false;
+        }
         is_among(&question(key, alg, input, signature), self.yes)
     }
 }

@@ -17,7 +17,6 @@ mod lent;
 mod live;
 mod live_again;
 mod live_check;
-mod live_judge;
 mod names;
 mod offer;
 mod open;

@@ -24,7 +24,7 @@ fn judge_again(live: &mut Live, now: u64, key: &[u8; 32], exp: u64, told: &mut S
 /// and takes no memory.
 ///
 /// The call first advances the record to `now`, and judges at the record's moment, which may be later. While the bundles stay, it answers
-/// what [`svid_validator_judge`](crate::live_judge::svid_validator_judge) would answer for that token and the same `yes`: 0 where it would
+/// what [`svid_validator_judge`](crate::live_check::svid_validator_judge) would answer for that token and the same `yes`: 0 where it would
 /// accept the token, 118 where that has expired, 124 where it was withdrawn, and 125 where it was used. 5 where the validator is closed, and
 /// 9 where `now` is more than `step` past the record's moment: then nothing happened.
 #[unsafe(no_mangle)]
@@ -38,13 +38,10 @@ pub extern "C" fn svid_validator_judge_again(
 ) -> u32
     ensures { CallsAt now (Unit {0}) (JudgesAgain now key.now.bytes exp result told.new) result told.new v.old.handle.live v.new.handle.live }
 {
-    let Some(mut live) = v.take(alloc) else {
-        return only(5, told);
+    let mut live = match v.take_at(alloc, now) {
+        Ok(live) => live,
+        Err(status) => return only(status, told),
     };
-    if live.jumps(now) {
-        v.put(live);
-        return only(9, told);
-    }
     let bytes = key.bytes;
     let status = judge_again(&mut live, now, &bytes, exp, told);
     v.put(live);

@@ -1,4 +1,4 @@
-ghost use Rattle.std.specs.Prelude.{◌≡◌, ◌<◌, ◌≤◌, ◌^◌, ◌++◌, IfOk, OnOk, length};
+ghost use Rattle.std.specs.Prelude.{◌≡◌, ◌<◌, ◌≤◌, ◌^◌, ◌++◌, IfOk, OnOk, length, nat_lt, take};
 ghost use Rattle.std.specs.List.{flat_map};
 ghost use Rattle.svid_keys.specs.Candidates.{candidates_left};
 ghost use Rattle.svid_keys.specs.Question.{field};
@@ -6,11 +6,12 @@ ghost use Rattle.svid_check.specs.Said.{said_in};
 ghost use Rattle.svid_c.specs.Checked.{refusal_number};
 ghost use Rattle.svid_c.specs.Live.{Calls};
 ghost use Rattle.svid_c.specs.Offers.{Offers, row_of};
-ghost use Rattle.svid_c.specs.Status.{told_length};
+ghost use Rattle.svid_c.specs.Status.{told_length, told_rows};
+ghost use Rattle.svid_c.specs.Written.{IsPut};
 
 use crate::live::Live;
 use crate::refusal::refusal_number;
-use crate::told::{SvidTold, told_length};
+use crate::told::{SvidTold, told_length, told_rows};
 use crate::validator::{SvidValidator, only};
 use crate::writing::put;
 use std::alloc::{AllocError, Global};
@@ -41,21 +42,38 @@ fn push_row(rows: &mut Vec<u8>, key: &JwtKey, reading: &Reading<'_>) -> Result<(
     Ok(())
 }
 
-// The rows of all candidates.
+// The rows of the first candidates, so many at the most, and whether there are more.
 fn rows_of(
     alloc: Global,
     candidates: Candidates<'_>,
+    most: usize,
     reading: &Reading<'_>,
-) -> Result<Vec<u8>, AllocError>
+) -> Result<(Vec<u8>, bool), AllocError>
     requires input_len { length reading.now.input.now ≤ 65536 }
     requires signature_len { length reading.now.signature.items ≤ 65536 }
-    ensures { IfOk result (λ rows. rows.items ≡ flat_map (row_of (said_in reading.now)) (candidates_left candidates.entry)) }
+    ensures rows { IfOk result (λ given. given.0.items ≡ flat_map (row_of (said_in reading.now)) (take most (candidates_left candidates.entry))) }
+    ensures more { IfOk result (λ given. given.1 ≡ nat_lt most (length (candidates_left candidates.entry))) }
 {
     let mut rows = Vec::new(alloc);
+    let mut left = most;
     for key in candidates {
+        if left == 0 {
+            return Ok((rows, true));
+        }
         push_row(&mut rows, key, reading)?;
+        left -= 1;
     }
-    Ok(rows)
+    Ok((rows, false))
+}
+
+// Puts rows, and tells whether there are more.
+fn put_rows(rows: &[u8], more: bool, out: &mut [u8], told: &mut SvidTold) -> u32
+    ensures put { IsPut rows.now result out.old out.new }
+    ensures told { told.new ≡ told_rows (length rows.now) more }
+{
+    let status = put(rows, out, told);
+    *told = told_rows(rows.len(), more);
+    status
 }
 
 // Tells why a token is refused.
@@ -67,9 +85,16 @@ fn refuse_token(refusal: Refusal, told: &mut SvidTold) -> u32
     refusal_number(refusal)
 }
 
-// Puts a row for each candidate.
-fn offer(alloc: Global, live: &Live, token: &[u8], out: &mut [u8], told: &mut SvidTold) -> u32
-    ensures { Offers token.now result told.new out.old out.new live.now.validator live.now.validator }
+// Puts a row for each of the first candidates.
+fn offer(
+    alloc: Global,
+    live: &Live,
+    token: &[u8],
+    most: usize,
+    out: &mut [u8],
+    told: &mut SvidTold,
+) -> u32
+    ensures { Offers token.now most result told.new out.old out.new live.now.validator live.now.validator }
 {
     let reading = match Reading::of(alloc, token) {
         Ok(reading) => reading,
@@ -79,31 +104,34 @@ fn offer(alloc: Global, live: &Live, token: &[u8], out: &mut [u8], told: &mut Sv
         Ok(candidates) => candidates,
         Err(refusal) => return refuse_token(refusal, told),
     };
-    match rows_of(alloc, candidates, &reading) {
-        Ok(rows) => put(&rows, out, told),
+    match rows_of(alloc, candidates, most, &reading) {
+        Ok((rows, more)) => put_rows(&rows, more, out, told),
         Err(_) => refuse_token(Refusal::OutOfMemory, told),
     }
 }
 
-/// Puts a row for each key that may have signed the token first into `out`: the question, 32 bytes; the algorithm's name and the
-/// key as JSON, each after its length in four bytes, the greatest first.
+/// Puts a row for each key that may have signed the token first into `out`, for the first `most` of these keys in the order of their
+/// bundle: the question, 32 bytes; the algorithm's name and the key as JSON, each after its length in four bytes, the greatest first. It
+/// hashes no more questions than it lists.
 ///
-/// 0, and `told.len` is the length of the rows; 1 where they are longer than `out`. 101 to 116, 121 and 122 where the token is
-/// refused already; 2 for want of memory; 5 where the validator is closed. Then `out` stays as it was.
+/// 0, and `told.len` is the length of the rows; 1 where they are longer than `out`. Of both, `told.more` is 1 where more than `most` keys
+/// may have signed the token. 101 to 116, 121 and 122 where the token is refused already; 2 for want of memory; 5 where the validator is
+/// closed. Then `out` stays as it was.
 #[unsafe(no_mangle)]
 pub extern "C" fn svid_validator_ask(
     alloc: Global,
     v: &mut SvidValidator,
     token: &[u8],
+    most: usize,
     out: &mut [u8],
     told: &mut SvidTold,
 ) -> u32
-    ensures { Calls (out.new ≡ out.old) (Offers token.now result told.new out.old out.new) result told.new v.old.handle.live v.new.handle.live }
+    ensures { Calls (out.new ≡ out.old) (Offers token.now most result told.new out.old out.new) result told.new v.old.handle.live v.new.handle.live }
 {
     let Some(live) = v.take(alloc) else {
         return only(5, told);
     };
-    let status = offer(alloc, &live, token, out, told);
+    let status = offer(alloc, &live, token, most, out, told);
     v.put(live);
     status
 }

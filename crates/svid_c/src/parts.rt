@@ -1,10 +1,12 @@
-ghost use Rattle.std.specs.Prelude.{◌≡◌, ◌≢◌, IfOk};
+ghost use Rattle.std.specs.Prelude.{◌≡◌, ◌≢◌, ◌==◌, IfOk, length};
+ghost use Rattle.svid_replay.specs.Walks.{uses_behind};
 ghost use Rattle.svid_wire.specs.BatchText.{batch_text};
 ghost use Rattle.svid_c.specs.Live.{Calls};
-ghost use Rattle.svid_c.specs.Parts.{Saves, after_of, behind, flag, moved, uses_in_room};
+ghost use Rattle.svid_c.specs.Parts.{Saves, after_of, behind, moved, or_done, uses_in_room};
+ghost use Rattle.svid_c.specs.Status.{flag};
 
 use crate::live::Live;
-use crate::told::{SvidTold, told_length};
+use crate::told::{SvidTold, flag, told_length};
 use crate::validator::{SvidValidator, only};
 use crate::writing::put;
 use std::alloc::{AllocError, Global};
@@ -17,7 +19,7 @@ use svid_wire::{MemSink, write_batch};
 pub struct SvidPart {
     /// 0 before the first call, and 1 where a use was written, the last of which is this one.
     pub begun: u64,
-    /// 1 where the whole record was written, and else 0.
+    /// 1 where the record had no use behind the last one that was written, and else 0.
     pub done: u64,
     /// 1 where the last use is a withdrawal, and else 0.
     pub withdrawn: u64,
@@ -58,21 +60,14 @@ fn text_of(alloc: Global, batch: &Batch) -> Result<MemSink, AllocError>
     }
 }
 
-// A truth as C has it.
-fn flag(truth: bool) -> u64
-    ensures { result ≡ flag truth }
-{
-    if truth { 1 } else { 0 }
-}
-
-// How far a record is written behind this last use, where there is one.
-fn behind(part: &SvidPart, last: Option<Use>, done: u64) -> SvidPart
-    ensures { result ≡ behind part.now last done }
+// How far a record is written behind this use, where there is one.
+fn behind(part: &SvidPart, last: Option<Use>) -> SvidPart
+    ensures { result ≡ behind part.now last }
 {
     match last {
         None => SvidPart {
             begun: part.begun,
-            done,
+            done: 0,
             withdrawn: part.withdrawn,
             exp: part.exp,
             at: part.at,
@@ -89,8 +84,8 @@ fn behind(part: &SvidPart, last: Option<Use>, done: u64) -> SvidPart
             } = used;
             SvidPart {
                 begun: 1,
-                done,
-                withdrawn: flag(withdrawn),
+                done: 0,
+                withdrawn: flag(withdrawn) as u64,
                 exp,
                 at,
                 key,
@@ -100,20 +95,52 @@ fn behind(part: &SvidPart, last: Option<Use>, done: u64) -> SvidPart
     }
 }
 
-// How far it is written behind these uses.
-fn moved(part: &SvidPart, uses: &[Use], most: usize) -> SvidPart
-    ensures { result ≡ moved part.now uses.now most }
+// Whether a record has no use that is greater than this one, or none at all.
+fn ends_at(live: &Live, after: Option<Use>) -> bool
+    ensures { result ≡ (length (uses_behind live.now.validator.state.uses after) == 0) }
 {
-    behind(part, uses.last().copied(), flag(uses.len() < most))
+    live.validator.replay().walk_after(after).next().is_none()
+}
+
+// The same part, and whether that is the whole record.
+fn or_done(live: &Live, part: SvidPart) -> SvidPart
+    ensures { result ≡ or_done live.now.validator part }
+{
+    let done = ends_at(live, after_of(&part));
+    let SvidPart {
+        begun,
+        done: _,
+        withdrawn,
+        exp,
+        at,
+        key,
+        place,
+    } = part;
+    SvidPart {
+        begun,
+        done: flag(done) as u64,
+        withdrawn,
+        exp,
+        at,
+        key,
+        place,
+    }
+}
+
+// How far it is written behind these uses.
+fn moved(live: &Live, part: &SvidPart, uses: &[Use]) -> SvidPart
+    ensures { result ≡ moved live.now.validator part.now uses.now }
+{
+    or_done(live, behind(part, uses.last().copied()))
 }
 
 // Goes on behind the uses where they were put.
-fn settle(status: u32, part: &mut SvidPart, uses: &[Use], most: usize)
-    ensures moved { status ≡ 0 → part.new ≡ moved part.old uses.now most }
+fn settle(status: u32, live: &Live, part: &mut SvidPart, uses: &[Use])
+    ensures moved { status ≡ 0 → part.new ≡ moved live.now.validator part.old uses.now }
     ensures kept { status ≢ 0 → part.new ≡ part.old }
 {
     if status == 0 {
-        *part = moved(part, uses, most);
+        *part = moved(live, part, uses);
     }
 }
 
@@ -145,12 +172,13 @@ fn put_part(
         return only(2, told);
     };
     let status = put(sink.bytes(), out, told);
-    settle(status, part, batch.uses(), most);
+    settle(status, live, part, batch.uses());
     status
 }
 
 /// Writes the next piece of the record into `out`, as one batch: as many uses as have room, and at most 65,536, from the first one or behind
-/// those that the calls before with `part` wrote. `part` then says how far it is written, and whether that was all.
+/// those that the calls before with `part` wrote. `part` then says how far it is written, and whether that was all: `done` is 1 exactly if
+/// the record has no use behind the last one that was written.
 ///
 /// Other calls may come in between: the pieces together have each use that the record had at the first of these calls and that is still live
 /// at the last.

@@ -75,13 +75,10 @@ pub extern "C" fn svid_validator_answer(
 ) -> u32
     ensures { CallsAt now (out.new ≡ out.old) (Replies now summary.now result told.new out.old out.new) result told.new v.old.handle.live v.new.handle.live }
 {
-    let Some(mut live) = v.take(alloc) else {
-        return only(5, told);
+    let mut live = match v.take_at(alloc, now) {
+        Ok(live) => live,
+        Err(status) => return only(status, told),
     };
-    if live.jumps(now) {
-        v.put(live);
-        return only(9, told);
-    }
     let status = reply(alloc, &mut live, now, summary, out, told);
     v.put(live);
     status

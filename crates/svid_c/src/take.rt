@@ -41,13 +41,10 @@ pub extern "C" fn svid_validator_take(
 ) -> u32
     ensures { CallsAt now (Unit {0}) (Takes now messages.now result told.new) result told.new v.old.handle.live v.new.handle.live }
 {
-    let Some(mut live) = v.take(alloc) else {
-        return only(5, told);
+    let mut live = match v.take_at(alloc, now) {
+        Ok(live) => live,
+        Err(status) => return only(status, told),
     };
-    if live.jumps(now) {
-        v.put(live);
-        return only(9, told);
-    }
     let status = take(alloc, &mut live, now, messages, told);
     v.put(live);
     status

@@ -1,5 +1,5 @@
 ghost use Rattle.std.specs.Prelude.{◌≡◌};
-ghost use Rattle.svid_c.specs.Status.{bundles_number, bundles_place, fault_number, reason_number, told_fault, told_length};
+ghost use Rattle.svid_c.specs.Status.{bundles_number, bundles_place, fault_number, flag, reason_number, told_fault, told_length, told_rows};
 
 use svid_keys::BundleFault;
 use svid_share::ToolFault;
@@ -19,6 +19,15 @@ pub struct SvidTold {
     /// The place in that message, in bytes from its first; of bundles, the place of the refused name among all
     /// names in rising order of their bytes, from 0; of a table, the number of the line, counted from 1.
     pub place: usize,
+    /// Of [`svid_validator_ask`](crate::offer::svid_validator_ask), 1 where more keys may have signed the token than it lists, and else 0.
+    pub more: usize,
+}
+
+// A truth as C has it.
+pub(crate) fn flag(truth: bool) -> usize
+    ensures { result ≡ flag truth }
+{
+    if truth { 1 } else { 0 }
 }
 
 pub(crate) fn told_length(len: usize) -> SvidTold
@@ -29,6 +38,19 @@ pub(crate) fn told_length(len: usize) -> SvidTold
         input: 0,
         message: 0,
         place: 0,
+        more: 0,
+    }
+}
+
+pub(crate) fn told_rows(len: usize, more: bool) -> SvidTold
+    ensures { result ≡ told_rows len more }
+{
+    SvidTold {
+        len,
+        input: 0,
+        message: 0,
+        place: 0,
+        more: flag(more),
     }
 }
 
@@ -55,6 +77,7 @@ pub(crate) fn told_fault(fault: ToolFault) -> SvidTold
         input,
         message,
         place,
+        more: 0,
     }
 }
 

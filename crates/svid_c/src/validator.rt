@@ -1,5 +1,6 @@
-ghost use Rattle.std.specs.Prelude.{◌≡◌, None, Some, is_some, option_map};
+ghost use Rattle.std.specs.Prelude.{◌≡◌, IfOk, IfErr, None, Some, is_some, option_map};
 ghost use Rattle.svid_c.specs.Handle.{open_word};
+ghost use Rattle.svid_c.specs.Live.{IsNotTaken, IsTaken};
 ghost use Rattle.svid_c.specs.Status.{told_length};
 
 use crate::handle::Handle;
@@ -53,6 +54,22 @@ impl SvidValidator {
         }
         let SvidValidator { word: _, handle } = mem::replace(self, SvidValidator::closed(alloc));
         Some(handle.into_box())
+    }
+
+    // The same for a call at a moment. 5 where the handle is closed, and 9 where the moment lies too far past the record's: then it
+    // stays as it was.
+    pub(crate) fn take_at(&mut self, alloc: Global, now: u64) -> Result<Box<Live>, u32>
+        ensures taken { IfOk result (λ live. IsTaken now self.old.handle.live self.new.handle.live live.value) }
+        ensures not_taken { IfErr result (IsNotTaken now self.old.handle.live self.new.handle.live) }
+    {
+        let Some(live) = self.take(alloc) else {
+            return Err(5);
+        };
+        if live.jumps(now) {
+            self.put(live);
+            return Err(9);
+        }
+        Ok(live)
     }
 
     // Puts a validator into a closed handle.

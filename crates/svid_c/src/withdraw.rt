@@ -41,7 +41,8 @@ fn withdraw(
 
 /// Withdraws the tokens with a key until `exp`, when they expire, at a moment, both in seconds: 0, and `used` is the withdrawal
 /// that was added to the record. 7 where the tokens have expired at the record's moment, which is raised first; 2 for want of
-/// memory; 5 where the validator is closed.
+/// memory, but never for a withdrawal that the record has already; 5 where the validator is closed, and 9 where `now` is more than `step`
+/// past the record's moment.
 #[unsafe(no_mangle)]
 pub extern "C" fn svid_validator_withdraw(
     alloc: Global,
@@ -54,13 +55,10 @@ pub extern "C" fn svid_validator_withdraw(
 ) -> u32
     ensures { CallsAt now (used.new ≡ used.old) (Withdraws now key.now.bytes exp result told.new used.old used.new) result told.new v.old.handle.live v.new.handle.live }
 {
-    let Some(mut live) = v.take(alloc) else {
-        return only(5, told);
+    let mut live = match v.take_at(alloc, now) {
+        Ok(live) => live,
+        Err(status) => return only(status, told),
     };
-    if live.jumps(now) {
-        v.put(live);
-        return only(9, told);
-    }
     let status = withdraw(&mut live, now, key.bytes, exp, used, told);
     v.put(live);
     status

@@ -7,7 +7,7 @@ use Rattle.svid_c.specs.Offers.{offered, unknown, unread}
 use Rattle.svid_c.proofs.offer.offer.Goals as goal
 
 pub returns-in-Err : goal.returns-in-Err
-returns-in-Err c = unread c.in-Err.refusal c.in-Err.ensures.value c.refuse_token.ensures.number c.refuse_token.ensures.told refl refl
+returns-in-Err c = unread c.in-Err.refusal c.in-Err.ensures.value c.in-Err.ensures.early c.refuse_token.ensures.number c.refuse_token.ensures.told refl refl
 
 pub returns-in-Err-candidates : goal.returns-in-Err-candidates
 returns-in-Err-candidates c =

@@ -1,4 +1,4 @@
-use Rattle.std.proofs.Common.{◌≡◌, length, refl, ap, ◌∙◌}
+use Rattle.std.proofs.Common.{◌≡◌, length, refl, ap, rules, ◌∙◌}
 use Rattle.svid_replay.specs.Batches.{BatchData}
 use Rattle.svid_wire.specs.BatchText.{batch_text}
 use Rattle.svid_check.specs.Saves.{piece_of}
@@ -10,6 +10,6 @@ returns c =
     let held = c.args.live.now.validator in
     let is : c.in-Ok.batch ≡ next_piece held c.args.part.now (length c.args.out.now) =
     c.in-Ok.ensures ∙ ap (λ after. piece_of held.state after c.uses_in_room-most.result) c.after_of.ensures ∙ ap (piece_of held.state (after_of c.args.part.now)) c.uses_in_room-most.ensures in
-    saved c.bytes.result.now (c.bytes.ensures ∙ c.in-Ok-text_of.ensures ∙ ap batch_text is) c.put-status.ensures.put c.put-status.ensures.told
-    (λ put. c.settle.ensures.moved put ∙ ap (λ uses. moved c.args.part.now uses c.uses_in_room-most.result) (c.uses.ensures.value ∙ ap (λ (b : BatchData). b.uses) is) ∙ ap (moved c.args.part.now (next_piece held c.args.part.now (length c.args.out.now)).uses) c.uses_in_room-most.ensures)
+    saved c.bytes.result.now (search rules) (c.bytes.ensures ∙ c.in-Ok-text_of.ensures ∙ ap batch_text is) c.put-status.ensures.put c.put-status.ensures.told
+    (λ put. c.settle.ensures.moved put ∙ ap (moved held c.args.part.now) (c.uses.ensures.value ∙ ap (λ (b : BatchData). b.uses) is))
     c.settle.ensures.kept refl
