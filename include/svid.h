@@ -36,15 +36,17 @@ extern "C" {
 #endif
 
 /* The version of this header; svid_version() is that of the library: 10,000 times the major, 100 times the minor number, and the patch. */
-#define SVID_VERSION_MAJOR 1
-#define SVID_VERSION_MINOR 1
+#define SVID_VERSION_MAJOR 2
+#define SVID_VERSION_MINOR 0
 #define SVID_VERSION_PATCH 0
-#define SVID_VERSION 10100
+#define SVID_VERSION 20000
 
 #define SVID_ID_ROOM 2048            /* enough room for any SPIFFE ID */
 #define SVID_SUMMARY_LEN 8205        /* the length of each summary */
 #define SVID_BATCH_OF_LEN 82         /* the length of a batch of one use */
 #define SVID_INPUT_MOST 67108864     /* the most bytes that an input of messages may have */
+#define SVID_MOST_CANDIDATES 4       /* how many keys svidd, the Go library and the Python package try for a token: give svid_validator_ask
+                                        the same, so that all answer the same (docs/FORMATS.md, "Candidates") */
 
 enum svid_status {
     SVID_OK = 0,
@@ -136,6 +138,7 @@ typedef struct {
                         4 of svid_check, and 1 of any other call. SVID_TOO_MUCH also: 1 for bundles, 2 for a table of questions */
     size_t message;  /* which of its messages, counted from 1 */
     size_t place;
+    size_t more;     /* of svid_validator_ask: 1 if more keys may have signed the token than it lists */
 } svid_told;
 
 /* What a check is told, beside its inputs. */
@@ -164,7 +167,7 @@ typedef struct {
  * All calls answer SVID_CLOSED on a closed validator, and then do nothing.
  *
  * To check a token:
- *   1. svid_validator_ask lists the keys that may have signed it, each with a question.
+ *   1. svid_validator_ask lists the first keys that may have signed it, each with a question.
  *   2. Your crypto library verifies the signature with each of these keys.
  *   3. svid_validator_check gets the questions of the keys for which the signature was good, and accepts or refuses the token.
  * The question is a SHA-256 digest over the key, the algorithm, the signed bytes and the signature. So an answer can't be taken for that of
@@ -212,13 +215,17 @@ void svid_validator_close(svid_validator *v);
  * refused (SVID_TOO_MUCH, SVID_BUNDLES_NOT_OBJECT to SVID_BUNDLES_KEYS), the old ones stay. */
 uint32_t svid_validator_bundles(svid_validator *v, const uint8_t *bundles, size_t bundles_len, svid_told *told);
 
-/* Writes a row for each key that may have signed the token:
+/* Lists the keys that may have signed the token, the first `most` of them in the order of their bundle, and writes a row for each:
  *     the question          32 bytes
  *     the algorithm's name  its length in 4 bytes, the greatest first, and then the name, as "ES256"
  *     the key               its length in 4 bytes, the greatest first, and then the key as JSON (RFC 7517)
  * Keep parsed keys by that JSON text, not by `kid`, which is not unique. SVID_TOO_LONG to SVID_JTI, SVID_UNKNOWN_DOMAIN and SVID_NO_KEY if the
- * token is refused already. Changes nothing, but wants the lock too; a second validator with the same bundles can answer it without. */
-uint32_t svid_validator_ask(svid_validator *v, const uint8_t *token, size_t token_len,
+ * token is refused already. Changes nothing, but wants the lock too; a second validator with the same bundles can answer it without.
+ *
+ * `told->more` is 1 if more than `most` keys may have signed the token, and else 0. `most` bounds what a stranger's token costs: a token
+ * without a `kid` may be signed by any key of its trust domain, and each listed key costs a hash of the token here and a verification later.
+ * Pass SVID_MOST_CANDIDATES, or SIZE_MAX for all keys. A call that answers SVID_TOO_SHORT has hashed as many. */
+uint32_t svid_validator_ask(svid_validator *v, const uint8_t *token, size_t token_len, size_t most,
                             uint8_t *out, size_t out_len, svid_told *told);
 
 /* Checks a token at the time `now`. `yes` are `yes_len` questions of this token whose answer is yes, in any order.
@@ -227,8 +234,11 @@ uint32_t svid_validator_ask(svid_validator *v, const uint8_t *token, size_t toke
  * status is SVID_OK: the record has gained the use, `used` is that use, and `out` has the SPIFFE ID of the subject. If it refuses the token,
  * the status is the first of SVID_TOO_LONG to SVID_REPLAYED that holds.
  *
- * If `out_len` is less than SVID_ID_ROOM, the status is SVID_TOO_SHORT, and nothing happened. SVID_NO_MEMORY: the token was not accepted, and
- * you can check it again. SVID_JUMP. Unless the status is SVID_OK, `used` stays as it was. */
+ * SVID_JUMP. Else, if `out_len` is less than SVID_ID_ROOM, the status is SVID_TOO_SHORT, and nothing happened. SVID_NO_MEMORY: the token was
+ * not accepted, and you can check it again; it is never answered for a token that is SVID_TOO_LONG or SVID_NOT_THREE_PARTS. Unless the status
+ * is SVID_OK, `used` stays as it was.
+ *
+ * A check hashes the token once for each of its candidate keys until one of them has a question in `yes`, and not at all if `yes_len` is 0. */
 uint32_t svid_validator_check(svid_validator *v, uint64_t now, const svid_question *yes, size_t yes_len,
                               const uint8_t *token, size_t token_len, uint8_t *out, size_t out_len,
                               svid_use *used, svid_told *told);
@@ -246,7 +256,8 @@ uint32_t svid_validator_judge(svid_validator *v, uint64_t now, const svid_questi
 uint32_t svid_validator_judge_again(svid_validator *v, uint64_t now, const svid_key *key, uint64_t exp, svid_told *told);
 
 /* Withdraws the token with this key, which expires at `exp`: it is refused as SVID_WITHDRAWN from now on, also by the validators that are told of
- * it. `used` is what the record gained. SVID_GONE if the token has expired; SVID_JUMP; SVID_NO_MEMORY. */
+ * it. `used` is what the record gained. SVID_GONE if the token has expired; SVID_JUMP; SVID_NO_MEMORY, but never for a withdrawal that the
+ * record has already. */
 uint32_t svid_validator_withdraw(svid_validator *v, uint64_t now, const svid_key *key, uint64_t exp,
                                  svid_use *used, svid_told *told);
 
@@ -268,7 +279,7 @@ uint32_t svid_validator_tell(svid_validator *v, uint8_t *out, size_t out_len, sv
 /* How far svid_validator_parts has written a record. Begin with SVID_PART_FIRST; only svid_validator_parts writes it. */
 typedef struct {
     uint64_t begun;
-    uint64_t done;      /* 1 once the whole record is written */
+    uint64_t done;      /* 1 if the record has no use behind the last one that was written, and else 0 */
     uint64_t withdrawn;
     uint64_t exp;
     uint64_t at;
@@ -279,8 +290,8 @@ typedef struct {
 
 /* Writes the record piece by piece, so that a large one does not keep the lock for long. Each call writes one batch, with as many uses as have
  * room in `out`, and at most 65,536. A batch has 17 bytes, and 65 for each use. Call it until `part->done` is 1, and append what each call
- * writes. You may make other calls in between. The pieces together hold each use that the record had at the first of these calls and that
- * is still live at the last. A use that is accepted in between may be missing.
+ * writes: the call that writes the last use sets it. You may make other calls in between. The pieces together hold each use that the
+ * record had at the first of these calls and that is still live at the last. A use that is accepted in between may be missing.
  * SVID_TOO_SHORT if `out_len` is less than SVID_BATCH_OF_LEN. Unless the status is SVID_OK, `part` stays as it was. */
 uint32_t svid_validator_parts(svid_validator *v, svid_part *part, uint8_t *out, size_t out_len, svid_told *told);
 
@@ -412,15 +423,15 @@ static inline const char *svid_strstatus(uint32_t status) {
 typedef int (*svid_verify)(void *context, const uint8_t *alg, size_t alg_len, const uint8_t *jwk, size_t jwk_len,
                            const uint8_t *token, size_t token_len);
 
-/* svid_validator_ask and svid_validator_check in one call, with `verify` for each key that may have signed the token; `context` is handed to
- * it. `rows` is room for what svid_validator_ask writes, and is overwritten: 65,536 bytes do for most bundles. SVID_TOO_SHORT, and `told->len`
- * is how long it must be, if it is too short; SVID_TOO_SHORT with SVID_ID_ROOM, if `out` is. Then nothing happened. Else as
- * svid_validator_check. Hold the lock for the whole call. */
+/* svid_validator_ask and svid_validator_check in one call, with `verify` for each of the first SVID_MOST_CANDIDATES keys that may have signed
+ * the token, until one of them did; `context` is handed to it. `rows` is room for what svid_validator_ask writes, and is overwritten: 65,536
+ * bytes do for most bundles. SVID_TOO_SHORT, and `told->len` is how long it must be, if it is too short; SVID_TOO_SHORT with SVID_ID_ROOM, if
+ * `out` is. Then nothing happened. Else as svid_validator_check. Hold the lock for the whole call. */
 static inline uint32_t svid_validator_verify(svid_validator *v, uint64_t now, const uint8_t *token, size_t token_len,
                                              svid_verify verify, void *context, uint8_t *rows, size_t rows_len,
                                              uint8_t *out, size_t out_len, svid_use *used, svid_told *told) {
     size_t at = 0, end, count = 0, i;
-    uint32_t status = svid_validator_ask(v, token, token_len, rows, rows_len, told);
+    uint32_t status = svid_validator_ask(v, token, token_len, SVID_MOST_CANDIDATES, rows, rows_len, told);
     if (status != SVID_OK && status < SVID_TOO_LONG) return status;
     /* Where no key may have signed the token, the check answers the first refusal that holds, which may be another. */
     end = status == SVID_OK ? told->len : 0;
@@ -434,9 +445,9 @@ static inline uint32_t svid_validator_verify(svid_validator *v, uint64_t now, co
             at += 4 + len[i];
         }
         if (!verify(context, field[0], len[0], field[1], len[1], token, token_len)) continue;
-        /* A row is longer than its question, so the answers have room in front. */
-        for (i = 0; i < 32; i++) rows[32 * count + i] = question[i];
-        count++;
+        for (i = 0; i < 32; i++) rows[i] = question[i];
+        count = 1;
+        break;
     }
     return svid_validator_check(v, now, (const svid_question *)rows, count, token, token_len, out, out_len, used, told);
 }

@@ -4,3 +4,4 @@ pub mod InputsLemmas
 pub mod JoinedLemmas
 pub mod LiveLemmas
 pub mod NamesLemmas
+pub mod OfferLemmas

@@ -1,12 +1,15 @@
 use Rattle.std.proofs.Common.{◌≡◌, ℕ, true, false, List, [], Option, Some, None, Err, refl, sym, ap, subst, ◌∙◌}
 use Rattle.std.specs.Prelude.{is_some}
 use Rattle.std.proofs.lemmas.Bool.{false≢true}
+use Rattle.svid_token.specs.declared.refusal.Refusal.{Refusal}
 use Rattle.svid_keys.specs.Bundles.{Bundle}
 use Rattle.svid_replay.specs.Records.{State, state_of}
 use Rattle.svid_replay.specs.Summary.{SummaryData}
 use Rattle.svid_check.specs.Changes.{IsWithdrawal, Replies, TakesRecord}
+use Rattle.svid_check.specs.Said.{RefusesForm}
 use Rattle.svid_check.specs.declared.take_fault.TakeFault.{TakeFault}
 use Rattle.svid_check.specs.declared.withdraw_fault.WithdrawFault.{WithdrawFault}
+use Rattle.svid_c.specs.Checked.{RefusesAs}
 use Rattle.svid_c.specs.Inputs.{AreBundles}
 use Rattle.svid_c.specs.Live.{CallsAt, IsBegun, IsNotTaken, IsTaken, Kept, closed_at, does_at, is_jump, jumped, none_held, too_far_on}
 use Rattle.svid_c.specs.Status.{told_length}
@@ -42,6 +45,10 @@ not_called now B D status given told old new (too_far_on live held far left numb
 -- what a withdrawal answers, where the fault is known
 pub withdrawing_fault : (place : List ℕ) (moment : ℕ) (key : List ℕ) (exp : ℕ) (f g : WithdrawFault) → f ≡ g → IsWithdrawal place moment key exp (Err f) → IsWithdrawal place moment key exp (Err g)
 withdrawing_fault place moment key exp f g is t = subst (λ h. IsWithdrawal place moment key exp (Err h)) is t
+
+-- what refuses a token for its form refuses it as just that
+pub as_form : {A : Type 0} (token : List ℕ) (why : Refusal) → RefusesForm {A = A} token (Err why) → RefusesAs token why
+as_form token why form = λ refusal first. cc (form refusal first)
 
 -- what is some holds one
 pub holds_one : {A : Type 0} (held : Option A) → true ≡ is_some held → (x : A) × (held ≡ Some x)

@@ -1,7 +1,8 @@
 -- What a check for C answers.
-use Rattle.std.specs.Prelude.{◌≡◌, ◌≢◌, ℕ, List, length, Some, Ok, Err}
+use Rattle.std.specs.Prelude.{◌≡◌, ◌≢◌, ℕ, List, length, Some, Ok}
 use Rattle.svid_id.specs.Id.{id_text}
-use Rattle.svid_token.specs.Rows.{Refuses}
+use Rattle.svid_token.specs.Compact.{compact_rows}
+use Rattle.svid_token.specs.Rows.{Refuses, first_row}
 use Rattle.svid_token.specs.declared.refusal.Refusal.{Refusal}
 use Rattle.svid_token.specs.declared.refusal.Refusal.TheVariants as refusal
 use Rattle.svid_keys.specs.Bundles.{Bundle}
@@ -9,7 +10,6 @@ use Rattle.svid_keys.specs.Table.{questions_in, table_says}
 use Rattle.svid_replay.specs.Buckets.{raised_to}
 use Rattle.svid_replay.specs.Records.{State}
 use Rattle.svid_replay.specs.declared.token_use.Use.{Use}
-use Rattle.svid_check.specs.Said.{RefusesForm}
 use Rattle.svid_check.specs.Setting.{Setting}
 use Rattle.svid_check.specs.Verdict.{verdict}
 use Rattle.svid_check.specs.declared.accepted.Accepted.{Accepted}
@@ -53,7 +53,7 @@ refusal_number refusal.Replayed = 125
 
 -- a token that is too long, or has not three parts, is refused as just that: want of memory does not stand for it
 abbrev pub RefusesAs : List ℕ → Refusal → Type 0
-RefusesAs token why = RefusesForm {Accepted} token (Err why)
+RefusesAs token why = (refusal : Refusal) → first_row (compact_rows token) ≡ Some refusal → why ≡ refusal
 
 -- the use of an acceptance, as C sees it
 abbrev pub use_seen : Use → SvidUse

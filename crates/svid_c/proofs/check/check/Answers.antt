@@ -1,5 +1,6 @@
 use Rattle.std.proofs.Common.{refl}
 use Rattle.svid_c.specs.Checked.{accepted, not_made, refused}
+use Rattle.svid_c.proofs.LiveLemmas.{as_form}
 use Rattle.svid_c.proofs.check.check.Goals as goal
 
 pub returns-in-Err : goal.returns-in-Err
@@ -9,4 +10,4 @@ pub returns-in-Ok-check : goal.returns-in-Ok-check
 returns-in-Ok-check c = accepted _ _ c.in-Ok-check.accepted c.in-Ok.ensures.ok c.in-Ok-check.ensures.answer c.accept.ensures.put c.accept.ensures.told c.accept.ensures.used c.accept.ensures.kept
 
 pub returns : goal.returns
-returns c = refused _ _ c.in-Err-check.refusal c.in-Ok.ensures.ok c.in-Err-check.ensures.answer c.in-Err-check.ensures.early c.refusal_number.ensures c.told_length.ensures refl refl
+returns c = refused _ _ c.in-Err-check.refusal c.in-Ok.ensures.ok c.in-Err-check.ensures.answer (as_form c.args.token.now c.in-Err-check.refusal c.in-Err-check.ensures.early) c.refusal_number.ensures c.told_length.ensures refl refl

@@ -5,6 +5,6 @@ use Rattle.svid_c.proofs.live_check.check_kept.Goals as goal
 pub returns-in-Err : goal.returns-in-Err
 returns-in-Err c = not_called _ _ _ _ _ _ _ _ c.in-Err.ensures.not_taken c.only.ensures.status c.only.ensures.told (refl, refl)
 
-pub returns-in-Ok : goal.returns-in-Ok
-returns-in-Ok c =
+pub returns : goal.returns
+returns c =
     called _ _ _ _ _ _ _ _ _ _ _ c.in-Ok.ensures.taken c.deref_mut.ensures.value c.put.ensures c.check-status.ensures.step c.check-status.ensures.does
