@@ -8,6 +8,7 @@ pub mod CutsLemmas
 pub mod EachToldLemmas
 pub mod EventsLemmas
 pub mod ForgetfulLemmas
+pub mod HistoryLemmas
 pub mod LaterLemmas
 pub mod LawfulLemmas
 pub mod MembersLemmas

@@ -5,6 +5,7 @@ pub mod Changes
 pub mod Events
 pub mod Forgetful
 pub mod Headline
+pub mod History
 pub mod Lawful
 pub mod RunEvents
 pub mod Runs

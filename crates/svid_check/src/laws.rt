@@ -8,6 +8,7 @@ ghost use Rattle.svid_check.specs.Changes.{RecordTakesAreTakes};
 ghost use Rattle.svid_check.specs.Events.{AnswersAreEvents, ChecksAreEvents, JudgmentsAgainAreTicks, JudgmentsAreTicks, PiecesAreEvents, RenewalsAreEvents, SavesAreEvents, SendsAreEvents, SumsAreEvents, TakesAreEvents, TicksAreEvents, WithdrawalsAreEvents};
 ghost use Rattle.svid_check.specs.Forgetful.{AnswersAreForgotten, SendsAreForgotten};
 ghost use Rattle.svid_check.specs.Headline.{AcceptanceGoesAlong, AcceptanceTells, AcceptedIsRefused, AnswersTellAll, ChainsTell, ChecksAreVerdicts, EqualTellings, RecordsAreTold, ReportedWereAcceptedTwice, ReportsAreExact, ReportsAreWhole, RestartsAbsorb, RestartsPutBack, SendsMakeEqual, SendsTellAll, ToldIsRefused, ToldWereAccepted, ToldWereWithdrawn, TwoPlacesAreReported, WithMemoryVerdicts, WithdrawnAreRefused};
+ghost use Rattle.svid_check.specs.History.{EveryKindHappens};
 ghost use Rattle.svid_check.specs.Lawful.{IsAlive, IsFresh, IsInRange, IsMadeNow, IsOfItsInput, IsUsed};
 ghost use Rattle.svid_check.specs.RunEvents.{RecordTakesAreEvents, RunsAreEvents};
 ghost use Rattle.svid_check.specs.Said.{UnrefusedIsSaid};
@@ -240,4 +241,10 @@ pub fn pieces_are_saves()
 /// [`Validator::run`](crate::Validator::run) does.
 pub fn runs_are_events()
     ensures { RunsAreEvents }
+{}
+
+/// In one history each kind of event happens, and is to be seen: wherever a new validator accepts a token, the laws of a
+/// group speak of something.
+pub fn every_kind_happens()
+    ensures { EveryKindHappens }
 {}
