@@ -46,7 +46,8 @@ impl<V: Verifier, S: UseStore> Validator<V, S> {
     ///
     /// To tell or save a whole record, ask with none, and then each time with the last use of the batch before, until
     /// a batch has fewer uses than were asked for. Other calls may come in between: the batches together have each
-    /// use that the record had at the first of these calls and that is still live at the last.
+    /// use that the record had at the first of these calls and that is still live at the last. A use that is added in
+    /// between may be missing.
     pub fn parts_after(&self, after: Option<Use>, most: usize) -> Result<Batch, AllocError>
         ensures { IfOk result (λ batch. batch ≡ piece_of self.now.state after most) }
     {
