@@ -1,0 +1,121 @@
+-- What is read of the bytes of a file, and where reading stops.
+use Rattle.std.specs.Prelude.{◌≡◌, ◌==◌, ℕ, ◌+◌, ◌*◌, ◌^◌, ◌<◌, ◌≤◌, Bool, true, false, List, [], ◌∷◌, ◌++◌, length, drop}
+use Rattle.std.specs.List.{AllByRecursion, list_all}
+use Rattle.svid_journal.specs.declared.title.File.{File}
+use Rattle.svid_journal.specs.declared.title.File.TheVariants.{Journal, Snapshot}
+use Rattle.svid_journal.specs.declared.title.Title.{Title}
+use Rattle.svid_journal.specs.declared.reader.Reader.{Reader}
+use Rattle.svid_journal.specs.declared.reader.Next.{Next}
+use Rattle.svid_journal.specs.declared.reader.Next.TheVariants.{Payload, End, Tear, Damage, Newer, Unfit}
+use Rattle.svid_journal.specs.Titles.{bytes_of}
+use Rattle.svid_journal.specs.Frames.{frame_in, frame_of, frames_of, frame_len, IsFormat, IsPayload, BeginsWithNone, IsReading}
+
+-- bytes that begin with a frame, of any format, that may stand so many cells of 32 bytes behind the place of the frame of this number
+pub record BeginsLater (title : List ℕ) (number cell : ℕ) (bytes : List ℕ) : Type 0 where
+  pub format : ℕ
+  pub later : ℕ
+  pub payload : List ℕ
+  pub rest : List ℕ
+  pub is_format : IsFormat format
+  pub is_later : number < later
+  pub is_near : later ≤ number + cell
+  pub fits : later < 2 ^ 64
+  pub bears : IsPayload payload
+  pub stands : bytes ≡ frame_in format title later payload ++ rest
+
+-- such a frame stands at a multiple of 32
+abbrev pub HasLater : List ℕ → ℕ → List ℕ → Type 0
+HasLater title number bytes = (cell : ℕ) × BeginsLater title number cell (drop (32 * cell) bytes)
+
+-- bytes that begin with a frame of this number, of a newer format
+pub record IsNewer (title : List ℕ) (number : ℕ) (bytes : List ℕ) (format : ℕ) : Type 0 where
+  pub payload : List ℕ
+  pub rest : List ℕ
+  pub is_newer : 1 < format
+  pub is_format : format < 255
+  pub bears : IsPayload payload
+  pub stands : bytes ≡ frame_in format title number payload ++ rest
+
+abbrev pub HasNewer : List ℕ → ℕ → List ℕ → Type 0
+HasNewer title number bytes = (format : ℕ) × IsNewer title number bytes format
+
+-- bytes that were never written
+abbrev pub is_blank : List ℕ → Bool
+is_blank bytes = list_all (λ b. b == 0) bytes
+
+-- Where no frame of the next number stands, and none of a newer format: a journal ends where nothing was written; a snapshot was written
+-- whole, so it ends with its bytes, behind a mark.
+abbrev pub IsEnd : File → Bool → List ℕ → ℕ → List ℕ → Type 0
+IsEnd (Journal k) marked title number rest = (HasLater title number rest → ⊥) × (is_blank rest ≡ true)
+IsEnd Snapshot marked title number rest = (rest ≡ []) × (marked ≡ true)
+
+-- a write was cut off: only the journal that grew has that, at its end
+abbrev pub IsTear : File → Bool → List ℕ → ℕ → List ℕ → Type 0
+IsTear (Journal k) marked title number rest = (HasLater title number rest → ⊥) × (is_blank rest ≡ false)
+IsTear Snapshot marked title number rest = ⊥
+
+-- what was synced has changed: a frame is written only after the one before it was synced, and a snapshot is synced whole
+abbrev pub IsDamage : File → Bool → List ℕ → ℕ → List ℕ → Type 0
+IsDamage (Journal k) marked title number rest = HasLater title number rest
+IsDamage Snapshot marked title number rest = rest ≡ [] → marked ≡ true → ⊥
+
+-- a reader whose numbers fit these bytes
+abbrev pub IsFit : Reader → List ℕ → Type 0
+IsFit r bytes = (r.count < 2 ^ 62) × (r.at ≤ length bytes)
+
+-- the same reader behind one payload more
+abbrev pub read_on : Reader → List ℕ → Reader
+read_on r payload = record { count = 1 + r.count; at = r.at + frame_len (length payload); marked = length payload == 0 }
+
+-- a frame stands there
+pub record GoesOn (t : Title) (old new : Reader) (bytes payload : List ℕ) : Type 0 where
+  pub fit : IsFit old bytes
+  pub behind : List ℕ
+  pub bears : IsPayload payload
+  pub stands : drop old.at bytes ≡ frame_of (bytes_of t) (1 + old.count) payload ++ behind
+  pub moved : new ≡ read_on old payload
+
+-- none stands there
+pub record Stops (t : Title) (old new : Reader) (bytes : List ℕ) : Type 0 where
+  pub fit : IsFit old bytes
+  pub none : BeginsWithNone 1 (bytes_of t) (1 + old.count) (drop old.at bytes)
+  pub same : new ≡ old
+
+-- at the place of a reader: the fact of `is` about the file, the last payload, the title, the next number and what stands there
+abbrev pub There : (File → Bool → List ℕ → ℕ → List ℕ → Type 0) → Title → Reader → List ℕ → Type 0
+There is t r bytes = is t.file r.marked (bytes_of t) (1 + r.count) (drop r.at bytes)
+
+abbrev pub NoNewer : Title → Reader → List ℕ → Type 0
+NoNewer t r bytes = HasNewer (bytes_of t) (1 + r.count) (drop r.at bytes) → ⊥
+
+-- what a reader answers
+abbrev pub IsNext : Next → Title → Reader → Reader → List ℕ → Type 0
+IsNext (Payload p) t old new bytes = GoesOn t old new bytes p.now
+IsNext End t old new bytes = Stops t old new bytes × NoNewer t old bytes × There IsEnd t old bytes
+IsNext Tear t old new bytes = Stops t old new bytes × NoNewer t old bytes × There IsTear t old bytes
+IsNext Damage t old new bytes = Stops t old new bytes × NoNewer t old bytes × There IsDamage t old bytes
+IsNext (Newer format) t old new bytes = Stops t old new bytes × IsNewer (bytes_of t) (1 + old.count) (drop old.at bytes) format
+IsNext Unfit t old new bytes = (IsFit old bytes → ⊥) × (new ≡ old)
+
+-- the last payload is a mark
+abbrev pub ends_marked : List (List ℕ) → Bool
+ends_marked [] = false
+ends_marked (p ∷ []) = length p == 0
+ends_marked (p ∷ q ∷ ps) = ends_marked (q ∷ ps)
+
+-- a reader has read these payloads of a file, and this stands behind them
+pub record HasRead (r : Reader) (t : Title) (bytes : List ℕ) (payloads : List (List ℕ)) (rest : List ℕ) : Type 0 where
+  pub whole : bytes ≡ frames_of (bytes_of t) 1 payloads ++ rest
+  pub each : AllByRecursion IsPayload payloads
+  pub count : r.count ≡ length payloads
+  pub at : r.at ≡ length (frames_of (bytes_of t) 1 payloads)
+  pub marked : r.marked ≡ ends_marked payloads
+
+-- Where a reader is behind these payloads, it goes on behind one more, or these are all.
+abbrev pub ReadsOn : Next → Title → Reader → List ℕ → List (List ℕ) → List ℕ → Type 0
+ReadsOn (Payload p) t new bytes payloads rest = (behind : List ℕ) × HasRead new t bytes (payloads ++ p.now ∷ []) behind
+ReadsOn End t new bytes payloads rest = IsReading (bytes_of t) bytes payloads rest
+ReadsOn Tear t new bytes payloads rest = IsReading (bytes_of t) bytes payloads rest
+ReadsOn Damage t new bytes payloads rest = IsReading (bytes_of t) bytes payloads rest
+ReadsOn (Newer format) t new bytes payloads rest = IsReading (bytes_of t) bytes payloads rest
+ReadsOn Unfit t new bytes payloads rest = 2 ^ 62 ≤ length payloads

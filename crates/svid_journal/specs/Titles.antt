@@ -1,0 +1,20 @@
+-- What a file of a state folder is: its title, which no file holds.
+use Rattle.std.specs.Prelude.{ℕ, List, ◌++◌, codes}
+use Rattle.std.specs.Int.{to_be_bytes, w64}
+use Rattle.svid_journal.specs.declared.title.File.{File}
+use Rattle.svid_journal.specs.declared.title.File.TheVariants.{Journal, Snapshot}
+use Rattle.svid_journal.specs.declared.title.Title.{Title}
+
+-- the kind of a file, in seven letters
+abbrev pub kind_of : File → List ℕ
+kind_of (Journal number) = codes "svidjnl"
+kind_of Snapshot = codes "svidsnp"
+
+-- the number of a journal, or 0
+abbrev pub number_of : File → ℕ
+number_of (Journal number) = number
+number_of Snapshot = 0
+
+-- 31 bytes: the kind, the number with its greatest byte first, and the folder
+unfoldable pub bytes_of : Title → List ℕ
+bytes_of title = kind_of title.file ++ (to_be_bytes w64 (number_of title.file) ++ title.folder)

@@ -1,0 +1,185 @@
+ghost use Rattle.std.specs.Prelude.{◌≡◌, ◌≢◌, ◌+◌, ◌*◌, ◌/◌, ◌%◌, ◌<◌, ◌≤◌, ◌^◌, ◌++◌, [], ◌∷◌, List, ℕ, length, take, drop, MatchOption, IfSome, IfNone, OnOk};
+ghost use Rattle.std.specs.Int.{to_be_bytes, w32, w64};
+ghost use Rattle.sha2.specs.Sha256.{sha256};
+ghost use Rattle.svid_journal.specs.Titles.{bytes_of};
+ghost use Rattle.svid_journal.specs.Frames.{numbers_of, sealed, head_of, gap, filler, frame_len, frame_in, frame_of, IsFormat, IsPayload, BeginsWithNone};
+
+use crate::title::Title;
+use sha2::{Digest, Sha256};
+use std::alloc::AllocError;
+
+/// The format of the frames that this crate writes.
+pub const FORMAT: u8 = 1;
+
+/// How many bytes a payload has at most.
+pub const MOST_PAYLOAD: usize = 16_777_215;
+
+const FILLER: [u8; 32] = [255; 32];
+
+// The number of a frame, its format and the length of its payload.
+#[tactic(auto, unfolding(crate::specs::Frames::numbers_of))]
+fn numbers(format: u8, number: u64, payload: &[u8]) -> [u8; 12]
+    requires bears { IsPayload payload.now }
+    ensures { result ≡ numbers_of format number payload.now }
+{
+    let stated = format as u32 * 16_777_216 + payload.len() as u32;
+    let mut numbers = [0; 12];
+    numbers[..8].copy_from_slice(&number.to_be_bytes());
+    numbers[8..].copy_from_slice(&stated.to_be_bytes());
+    numbers
+}
+
+fn digest(format: u8, title: &Title, numbers: &[u8; 12], payload: &[u8]) -> [u8; 32]
+    ensures { result ≡ sha256 (format ∷ (bytes_of title.now ++ (numbers.now ++ payload.now))) }
+{
+    let mut hasher = Sha256::new();
+    hasher.update(&[format]);
+    hasher.update(title.kind());
+    hasher.update(&title.number().to_be_bytes());
+    hasher.update(&title.folder);
+    hasher.update(numbers);
+    hasher.update(payload);
+    hasher.finalize()
+}
+
+fn put_piece(head: &mut [u8; 32], at: usize, piece: &[u8])
+    requires { at + length piece.now ≤ 32 }
+    ensures { take (at + length piece.now) head.new ≡ take at head.old ++ piece.now }
+{
+    head[at..at + piece.len()].copy_from_slice(piece);
+}
+
+fn head(format: u8, title: &Title, number: u64, payload: &[u8]) -> [u8; 32]
+    requires { IsPayload payload.now }
+    ensures { result ≡ head_of format (bytes_of title.now) number payload.now }
+{
+    let numbers = numbers(format, number, payload);
+    let digest = digest(format, title, &numbers, payload);
+    let tag = digest.split_at(20).0;
+    let mut head = [0; 32];
+    put_piece(&mut head, 0, tag);
+    put_piece(&mut head, 20, &numbers);
+    head
+}
+
+#[tactic(auto, unfolding(crate::specs::Frames::gap))]
+fn gap(count: usize) -> usize
+    ensures value { result ≡ gap count }
+    ensures small { result < 32 }
+{
+    (32 - count % 32) % 32
+}
+
+/// How many bytes the frame of a payload of `count` bytes takes.
+pub fn frame_len(count: usize) -> usize
+    requires { count < 2 ^ 24 }
+    ensures value { result ≡ frame_len count }
+    ensures small { result < 2 ^ 25 }
+{
+    32 + count + gap(count)
+}
+
+fn filler(count: usize) -> &'static [u8]
+    requires { count ≤ 32 }
+    ensures { result.now ≡ filler count }
+{
+    FILLER.split_at(count).0
+}
+
+// Appends the frame of a payload. Out of memory, it may have appended a front of it.
+pub(crate) fn push_frame(
+    out: &mut Vec<u8>,
+    title: &Title,
+    number: u64,
+    payload: &[u8],
+) -> Result<(), AllocError>
+    requires { IsPayload payload.now }
+    ensures { OnOk result (out.new.items ≡ out.old.items ++ frame_of (bytes_of title.now) number payload.now) }
+{
+    out.extend_from_slice(&head(FORMAT, title, number, payload))?;
+    out.extend_from_slice(payload)?;
+    out.extend_from_slice(filler(gap(payload.len())))?;
+    Ok(())
+}
+
+fn split_head(bytes: &[u8]) -> Option<(&[u8], &[u8])>
+    ensures { MatchOption result (length bytes.now < 32) (λ x. (bytes.now ≡ x.0.now ++ x.1.now) × (length x.0.now ≡ 32)) }
+{
+    if bytes.len() < 32 {
+        return None;
+    }
+    Some(bytes.split_at(32))
+}
+
+fn u32_of(bytes: &[u8]) -> u32
+    requires { length bytes.now ≡ 4 }
+    ensures { to_be_bytes w32 result ≡ bytes.now }
+{
+    u32::from_be_bytes([bytes[0], bytes[1], bytes[2], bytes[3]])
+}
+
+fn stated_len(head: &[u8]) -> u32
+    requires { length head.now ≡ 32 }
+    ensures { to_be_bytes w32 result ≡ drop 28 head.now }
+{
+    u32_of(head.split_at(28).1)
+}
+
+// The format that a head states.
+pub(crate) fn stated_format(head: &[u8]) -> u8
+    requires { length head.now ≡ 32 }
+    ensures { (code : ℕ) → code < 2 ^ 32 → to_be_bytes w32 code ≡ drop 28 head.now → result ≡ code / 16777216 }
+{
+    (stated_len(head) / 16_777_216) as u8
+}
+
+// The number that a head states.
+pub(crate) fn stated_number(head: &[u8]) -> u64
+    requires { length head.now ≡ 32 }
+    ensures { to_be_bytes w64 result ≡ take 8 (drop 20 head.now) }
+{
+    u64::from_be_bytes([
+        head[20], head[21], head[22], head[23], head[24], head[25], head[26], head[27],
+    ])
+}
+
+fn split_body(len: usize, body: &[u8]) -> Option<(&[u8], &[u8])>
+    requires { len < 2 ^ 24 }
+    ensures some { IfSome result (λ x. (body.now ≡ x.0.now ++ (filler (gap len) ++ x.1.now)) × (length x.0.now ≡ len)) }
+    ensures none { IfNone result ((payload rest : List ℕ) → length payload ≡ len → body.now ≢ payload ++ (filler (gap len) ++ rest)) }
+{
+    let gap = gap(len);
+    if body.len() < len + gap {
+        return None;
+    }
+    let (payload, behind) = body.split_at(len);
+    let (missing, rest) = behind.split_at(gap);
+    if missing == filler(gap) {
+        Some((payload, rest))
+    } else {
+        None
+    }
+}
+
+// The payload of the frame of this format and number that the bytes begin with, and what stands behind it.
+pub(crate) fn first_frame<'a>(
+    format: u8,
+    title: &Title,
+    number: u64,
+    bytes: &'a [u8],
+) -> Option<(&'a [u8], &'a [u8])>
+    ensures found { IfSome result (λ x. (bytes.now ≡ frame_in format (bytes_of title.now) number x.0.now ++ x.1.now) × IsPayload x.0.now) }
+    ensures none { IfNone result (BeginsWithNone format (bytes_of title.now) number bytes.now) }
+{
+    let (stated, body) = split_head(bytes)?;
+    let code = stated_len(stated);
+    if code / 16_777_216 != format as u32 {
+        return None;
+    }
+    let (payload, rest) = split_body(code as usize % 16_777_216, body)?;
+    if stated == head(format, title, number, payload).as_slice() {
+        Some((payload, rest))
+    } else {
+        None
+    }
+}

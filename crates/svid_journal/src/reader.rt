@@ -1,0 +1,144 @@
+ghost use Rattle.std.specs.Prelude.{◌≡◌, ◌+◌, ◌≤◌, ◌<◌, ◌^◌, ◌↔◌, List, ℕ, IsTrue, MatchOption, length, take};
+ghost use Rattle.svid_journal.specs.Titles.{bytes_of};
+ghost use Rattle.svid_journal.specs.Frames.{BeginsWithNone};
+ghost use Rattle.svid_journal.specs.Reading.{BeginsLater, HasLater, HasNewer, IsNewer, is_blank};
+
+use crate::frame::{FORMAT, first_frame, frame_len, split_head, stated_format, stated_number};
+use crate::title::{File, Title};
+
+/// What stands at the place of a reader.
+#[derive(Clone, Copy, Debug, PartialEq, Eq)]
+pub enum Next<'a> {
+    /// A frame with this payload. An empty one is a mark.
+    Payload(&'a [u8]),
+    /// The end: nothing was written here.
+    End,
+    /// A write that was cut off. Nobody was told that it is on the disk.
+    Tear,
+    /// Damage: what was synced here has changed.
+    Damage,
+    /// A frame of a newer format, of this number.
+    Newer(u8),
+    /// The numbers of the reader do not fit the bytes.
+    Unfit,
+}
+
+/// How far a file is read.
+#[derive(Clone, Copy, Debug, PartialEq, Eq)]
+pub struct Reader {
+    /// How many frames were read.
+    pub count: u64,
+    /// How many bytes they take: the place of the next one.
+    pub at: u64,
+    /// Whether the last of them is a mark.
+    pub marked: bool,
+}
+
+fn begins_later(title: &Title, number: u64, cell: u64, head: &[u8], bytes: &[u8]) -> bool
+    requires { (length head.now ≡ 32) × (head.now ≡ take 32 bytes.now) }
+    ensures { IsTrue result ↔ BeginsLater (bytes_of title.now) number cell bytes.now }
+{
+    let stated = stated_number(head);
+    if stated <= number || stated - number > cell {
+        return false;
+    }
+    let format = stated_format(head);
+    if format == 0 || format == 255 {
+        return false;
+    }
+    match first_frame(format, title, stated, bytes) {
+        Some(_) => true,
+        None => false,
+    }
+}
+
+fn has_later(title: &Title, number: u64, bytes: &[u8]) -> bool
+    ensures { IsTrue result ↔ HasLater (bytes_of title.now) number bytes.now }
+{
+    let mut rest = bytes;
+    let mut cell = 0;
+    while rest.len() >= 32 {
+        let (head, behind) = rest.split_at(32);
+        if begins_later(title, number, cell, head, rest) {
+            return true;
+        }
+        rest = behind;
+        cell += 1;
+    }
+    false
+}
+
+fn newer(title: &Title, number: u64, bytes: &[u8]) -> Option<u8>
+    ensures { MatchOption result (HasNewer (bytes_of title.now) number bytes.now → ⊥) (λ format. IsNewer (bytes_of title.now) number bytes.now format) }
+{
+    let (head, _) = split_head(bytes)?;
+    let format = stated_format(head);
+    if format <= FORMAT || format == 255 {
+        return None;
+    }
+    match first_frame(format, title, number, bytes) {
+        Some(_) => Some(format),
+        None => None,
+    }
+}
+
+fn is_blank(bytes: &[u8]) -> bool
+    ensures { result ≡ is_blank bytes.now }
+{
+    bytes.iter().all(|byte| *byte == 0)
+}
+
+impl Reader {
+    ghost use Rattle.svid_journal.specs.Reading.{HasRead, IsNext, ReadsOn};
+
+    /// A reader that has read nothing.
+    pub fn new() -> Reader
+        ensures { result ≡ record { count = 0; at = 0; marked = false } }
+    {
+        Reader {
+            count: 0,
+            at: 0,
+            marked: false,
+        }
+    }
+
+    // What stands where no frame of the next number does.
+    fn ending<'a>(&self, title: &Title, rest: &[u8]) -> Next<'a>
+        requires { self.now.count < 2 ^ 62 }
+        ensures { IsEnding result title.now self.now rest.now }
+    {
+        let number = 1 + self.count;
+        if let Some(format) = newer(title, number, rest) {
+            return Next::Newer(format);
+        }
+        match title.file {
+            File::Journal(_) if has_later(title, number, rest) => Next::Damage,
+            File::Journal(_) if is_blank(rest) => Next::End,
+            File::Journal(_) => Next::Tear,
+            File::Snapshot if rest.is_empty() && self.marked => Next::End,
+            File::Snapshot => Next::Damage,
+        }
+    }
+
+    /// Reads the next frame of a file, or tells why none stands there.
+    ///
+    /// `bytes` are those of the whole file. The reader goes on only behind a payload. It takes no memory.
+    pub fn next<'a>(&mut self, title: &Title, bytes: &'a [u8]) -> Next<'a>
+        ensures next { IsNext result title.now self.old self.new bytes.now }
+        ensures reads { (payloads : List (List ℕ)) (rest : List ℕ) → HasRead self.old title.now bytes.now payloads rest → ReadsOn result title.now self.new bytes.now payloads rest }
+    {
+        if self.count >= MOST || self.at > bytes.len() as u64 {
+            return Next::Unfit;
+        }
+        let rest = bytes.split_at(self.at as usize).1;
+        match first_frame(FORMAT, title, 1 + self.count, rest) {
+            Some((payload, _)) => {
+                self.count += 1;
+                self.at += frame_len(payload.len()) as u64;
+                self.marked = payload.is_empty();
+                Next::Payload(payload)
+            }
+            None => self.ending(title, rest),
+        }
+    }
+}
