@@ -81,20 +81,22 @@ pub record Stops (t : Title) (old new : Reader) (bytes : List ℕ) : Type 0 wher
   pub none : BeginsWithNone 1 (bytes_of t) (1 + old.count) (drop old.at bytes)
   pub same : new ≡ old
 
--- at the place of a reader: the fact of `is` about the file, the last payload, the title, the next number and what stands there
-abbrev pub There : (File → Bool → List ℕ → ℕ → List ℕ → Type 0) → Title → Reader → List ℕ → Type 0
-There is t r bytes = is t.file r.marked (bytes_of t) (1 + r.count) (drop r.at bytes)
-
-abbrev pub NoNewer : Title → Reader → List ℕ → Type 0
-NoNewer t r bytes = HasNewer (bytes_of t) (1 + r.count) (drop r.at bytes) → ⊥
+-- what a reader finds where no frame of the next number stands
+abbrev pub IsEnding : Next → Title → Reader → List ℕ → Type 0
+IsEnding (Payload p) t r rest = ⊥
+IsEnding End t r rest = (HasNewer (bytes_of t) (1 + r.count) rest → ⊥) × IsEnd t.file r.marked (bytes_of t) (1 + r.count) rest
+IsEnding Tear t r rest = (HasNewer (bytes_of t) (1 + r.count) rest → ⊥) × IsTear t.file r.marked (bytes_of t) (1 + r.count) rest
+IsEnding Damage t r rest = (HasNewer (bytes_of t) (1 + r.count) rest → ⊥) × IsDamage t.file r.marked (bytes_of t) (1 + r.count) rest
+IsEnding (Newer format) t r rest = IsNewer (bytes_of t) (1 + r.count) rest format
+IsEnding Unfit t r rest = ⊥
 
 -- what a reader answers
 abbrev pub IsNext : Next → Title → Reader → Reader → List ℕ → Type 0
 IsNext (Payload p) t old new bytes = GoesOn t old new bytes p.now
-IsNext End t old new bytes = Stops t old new bytes × NoNewer t old bytes × There IsEnd t old bytes
-IsNext Tear t old new bytes = Stops t old new bytes × NoNewer t old bytes × There IsTear t old bytes
-IsNext Damage t old new bytes = Stops t old new bytes × NoNewer t old bytes × There IsDamage t old bytes
-IsNext (Newer format) t old new bytes = Stops t old new bytes × IsNewer (bytes_of t) (1 + old.count) (drop old.at bytes) format
+IsNext End t old new bytes = Stops t old new bytes × IsEnding End t old (drop old.at bytes)
+IsNext Tear t old new bytes = Stops t old new bytes × IsEnding Tear t old (drop old.at bytes)
+IsNext Damage t old new bytes = Stops t old new bytes × IsEnding Damage t old (drop old.at bytes)
+IsNext (Newer format) t old new bytes = Stops t old new bytes × IsEnding (Newer format) t old (drop old.at bytes)
 IsNext Unfit t old new bytes = (IsFit old bytes → ⊥) × (new ≡ old)
 
 -- the last payload is a mark

@@ -14,6 +14,9 @@ pub const FORMAT: u8 = 1;
 /// How many bytes a payload has at most.
 pub const MOST_PAYLOAD: usize = 16_777_215;
 
+// No number of a folder gets so far.
+pub(crate) const MOST: u64 = 4_611_686_018_427_387_904;
+
 const FILLER: [u8; 32] = [255; 32];
 
 // The number of a frame, its format and the length of its payload.
@@ -102,7 +105,7 @@ pub(crate) fn push_frame(
     Ok(())
 }
 
-fn split_head(bytes: &[u8]) -> Option<(&[u8], &[u8])>
+pub(crate) fn split_head(bytes: &[u8]) -> Option<(&[u8], &[u8])>
     ensures { MatchOption result (length bytes.now < 32) (λ x. (bytes.now ≡ x.0.now ++ x.1.now) × (length x.0.now ≡ 32)) }
 {
     if bytes.len() < 32 {

@@ -2,7 +2,9 @@
 #![tactic(auto)]
 
 mod frame;
+mod reader;
 mod title;
 
 pub use frame::{FORMAT, MOST_PAYLOAD, frame_len};
+pub use reader::{Next, Reader};
 pub use title::{File, Title};

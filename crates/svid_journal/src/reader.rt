@@ -1,9 +1,10 @@
-ghost use Rattle.std.specs.Prelude.{◌≡◌, ◌+◌, ◌≤◌, ◌<◌, ◌^◌, ◌↔◌, List, ℕ, IsTrue, MatchOption, length, take};
+ghost use Rattle.std.specs.Prelude.{◌≡◌, ◌+◌, ◌≤◌, ◌<◌, ◌^◌, ◌↔◌, List, ℕ, IsTrue, MatchOption, false, length, take};
 ghost use Rattle.svid_journal.specs.Titles.{bytes_of};
-ghost use Rattle.svid_journal.specs.Frames.{BeginsWithNone};
-ghost use Rattle.svid_journal.specs.Reading.{BeginsLater, HasLater, HasNewer, IsNewer, is_blank};
+ghost use Rattle.svid_journal.specs.Reading.{BeginsLater, HasLater, HasNewer, IsEnding, IsNewer, is_blank};
 
-use crate::frame::{FORMAT, first_frame, frame_len, split_head, stated_format, stated_number};
+use crate::frame::{
+    FORMAT, MOST, first_frame, frame_len, split_head, stated_format, stated_number,
+};
 use crate::title::{File, Title};
 
 /// What stands at the place of a reader.
