@@ -1,3 +1,5 @@
 pub mod Lists
 pub mod FramesLemmas
 pub mod ReadingLemmas
+pub mod CrashLemmas
+pub mod HistoryLemmas

@@ -1,0 +1,160 @@
+-- A disk with one folder of journals and a snapshot, as POSIX promises it: what each call does, and what a crash may leave. Names, lengths
+-- and blocks come to the disk by themselves, each on its own, in any order; only a sync says what is there.
+use Rattle.std.specs.Prelude.{◌≡◌, ◌⊎◌, ◌==◌, ◌||◌, ℕ, ◌+◌, Bool, true, false, not, if◌then◌else◌, List, [], ◌∷◌, ◌++◌, length, take, drop, Option, Some, None, MatchBool}
+
+-- a file
+pub record File : Type 0 where
+  -- what a read returns
+  pub seen : List ℕ
+  -- what a crash leaves begins with this
+  pub kept : List ℕ
+  -- and there is nothing behind it
+  pub whole : Bool
+  -- a sync failed: no later one tells what is on the disk
+  pub spoiled : Bool
+
+-- a file that was just made
+abbrev pub empty_file : File
+empty_file = record { seen = []; kept = []; whole = false; spoiled = false }
+
+-- A write: from this place on there is what landed, the bytes themselves where it succeeded. Until a sync, a crash may leave anything from
+-- there on
+abbrev pub written : ℕ → List ℕ → File → File
+written at landed f = record { seen = take at f.seen ++ (landed ++ drop (at + length landed) f.seen); kept = take at f.kept; whole = false; spoiled = f.spoiled }
+
+-- a sync, and whether it succeeded
+abbrev pub forced : Bool → File → File
+forced true f = if f.spoiled then f else record { seen = f.seen; kept = f.seen; whole = true; spoiled = false }
+forced false f = record { seen = f.seen; kept = f.kept; whole = f.whole; spoiled = true }
+
+-- a crash may leave these bytes of a file
+abbrev pub MayLeave : File → List ℕ → Type 0
+MayLeave f bytes = MatchBool f.whole (bytes ≡ f.kept) ((rest : List ℕ) × (bytes ≡ f.kept ++ rest))
+
+-- a name: what it stands for, and what it may stand for after a crash
+pub record Name (A : Type 0) : Type 0 where
+  pub now : A
+  pub may : List A
+  -- a sync of the folder failed: of what was done to this name before, no later one tells
+  pub stuck : Bool
+
+-- a name that stands for one thing
+abbrev pub settled : {A : Type 0} → A → Name A
+settled a = record { now = a; may = a ∷ []; stuck = false }
+
+-- a name is made, replaced or removed
+abbrev pub leads : {A : Type 0} → A → Name A → Name A
+leads a name = record { now = a; may = name.may ++ a ∷ []; stuck = false }
+
+-- it may stand for one thing
+abbrev pub is_sure : {A : Type 0} → List A → Bool
+is_sure [] = false
+is_sure (a ∷ []) = true
+is_sure (a ∷ b ∷ more) = false
+
+-- a sync of the folder
+abbrev pub named : {A : Type 0} → Bool → Name A → Name A
+named true name = if name.stuck then name else settled name.now
+named false name = record { now = name.now; may = name.may; stuck = name.stuck || not (is_sure name.may) }
+
+-- a journal: its file, and whether its name is there
+pub record Journal : Type 0 where
+  pub file : File
+  pub here : Name Bool
+
+-- the folder: its journals by their numbers, the snapshot, and the file that is written beside it
+pub record Disk : Type 0 where
+  pub journals : ℕ → Journal
+  pub snapshot : Name (Option File)
+  pub beside : File
+
+-- at this number there is another
+abbrev pub put : {A : Type 0} → (ℕ → A) → ℕ → A → ℕ → A
+put f k a n = if n == k then a else f n
+
+-- The calls. One that fails but a write or a sync does nothing.
+
+-- make an empty journal
+abbrev pub create_journal : ℕ → Disk → Disk
+create_journal k d = record { journals = put d.journals k (record { file = empty_file; here = leads true (d.journals k).here }); snapshot = d.snapshot; beside = d.beside }
+
+abbrev pub on_file : ℕ → (File → File) → Disk → Disk
+on_file k f d = record { journals = put d.journals k (record { file = f (d.journals k).file; here = (d.journals k).here }); snapshot = d.snapshot; beside = d.beside }
+
+-- write to a journal
+abbrev pub write_journal : ℕ → ℕ → List ℕ → Disk → Disk
+write_journal k at landed d = on_file k (written at landed) d
+
+-- sync a journal
+abbrev pub sync_journal : ℕ → Bool → Disk → Disk
+sync_journal k ok d = on_file k (forced ok) d
+
+-- remove a journal
+abbrev pub remove_journal : ℕ → Disk → Disk
+remove_journal k d = record { journals = put d.journals k (record { file = (d.journals k).file; here = leads false (d.journals k).here }); snapshot = d.snapshot; beside = d.beside }
+
+-- Write a piece of the file beside, which has so many pieces. The first piece makes the file anew.
+abbrev pub write_piece : ℕ → ℕ → List ℕ → Disk → Disk
+write_piece pieces at landed d = record { journals = d.journals; snapshot = d.snapshot; beside = written at landed (if pieces == 0 then empty_file else d.beside) }
+
+-- sync it
+abbrev pub sync_beside : Bool → Disk → Disk
+sync_beside ok d = record { journals = d.journals; snapshot = d.snapshot; beside = forced ok d.beside }
+
+-- rename it over the snapshot
+abbrev pub rename_beside : Disk → Disk
+rename_beside d = record { journals = d.journals; snapshot = leads (Some d.beside) d.snapshot; beside = d.beside }
+
+-- sync the folder
+abbrev pub sync_folder : Bool → Disk → Disk
+sync_folder ok d = record { journals = λ k. record { file = (d.journals k).file; here = named ok (d.journals k).here }; snapshot = named ok d.snapshot; beside = d.beside }
+
+-- what is there after a crash
+pub record Outcome : Type 0 where
+  pub here : ℕ → Bool
+  pub bytes : ℕ → List ℕ
+  pub snapshot : Option (List ℕ)
+  pub beside : List ℕ
+
+-- one of them is this
+abbrev pub IsOneOf : {A : Type 0} → List A → A → Type 0
+IsOneOf [] a = ⊥
+IsOneOf (b ∷ bs) a = (b ≡ a) ⊎ IsOneOf bs a
+
+-- a crash may leave this of a snapshot
+abbrev pub MayLeaveFile : Option File → Option (List ℕ) → Type 0
+MayLeaveFile None None = Unit {0}
+MayLeaveFile None (Some bytes) = ⊥
+MayLeaveFile (Some f) None = ⊥
+MayLeaveFile (Some f) (Some bytes) = MayLeave f bytes
+
+-- a crash may leave this: each name as it may be, and each file as it may be
+pub record IsOutcome (d : Disk) (o : Outcome) : Type 0 where
+  pub names : (k : ℕ) → IsOneOf (d.journals k).here.may (o.here k)
+  pub journals : (k : ℕ) → MayLeave (d.journals k).file (o.bytes k)
+  pub snapshot : (there : Option File) × IsOneOf d.snapshot.may there × MayLeaveFile there o.snapshot
+  pub beside : MayLeave d.beside o.beside
+
+-- a file of which all is on the disk
+abbrev pub at_rest : List ℕ → File
+at_rest bytes = record { seen = bytes; kept = bytes; whole = true; spoiled = false }
+
+abbrev pub option_at_rest : Option (List ℕ) → Option File
+option_at_rest None = None
+option_at_rest (Some bytes) = Some (at_rest bytes)
+
+-- the disk after a crash that left this
+abbrev pub after_crash : Outcome → Disk
+after_crash o = record { journals = λ k. record { file = at_rest (o.bytes k); here = settled (o.here k) }; snapshot = settled (option_at_rest o.snapshot); beside = at_rest o.beside }
+
+abbrev pub option_seen : Option File → Option (List ℕ)
+option_seen None = None
+option_seen (Some f) = Some f.seen
+
+-- what is there for who reads it now
+abbrev pub as_seen : Disk → Outcome
+as_seen d = record { here = λ k. (d.journals k).here.now; bytes = λ k. (d.journals k).file.seen; snapshot = option_seen d.snapshot.now; beside = d.beside.seen }
+
+-- what a start may find: after a crash, or without one
+abbrev pub IsLeft : Disk → Outcome → Type 0
+IsLeft d o = IsOutcome d o ⊎ (o ≡ as_seen d)

@@ -1,0 +1,223 @@
+-- What happens to a folder: appends, switches, failures, crashes and starts. The program's part is that of `Folder`, the disk's that of `Disk`.
+use Rattle.std.specs.Prelude.{◌≡◌, ◌⊎◌, ℕ, ◌+◌, ◌<◌, ◌≤◌, Bool, true, false, if◌then◌else◌, List, [], ◌∷◌, ◌++◌, length, Option, Some, None}
+use Rattle.std.specs.List.{AllByRecursion, list_any}
+use Rattle.svid_journal.specs.declared.step.Step.{Step}
+use Rattle.svid_journal.specs.declared.step.Step.TheVariants.{Idle, Starting, Entering, Creating, Naming, Writing, Ending, Syncing, Renaming, Publishing, Removing}
+use Rattle.svid_journal.specs.declared.call.Call.{Call}
+use Rattle.svid_journal.specs.declared.call.Call.TheVariants.{Nothing, CreateJournal, SyncFolder, WriteSnapshot, SyncSnapshot, RenameSnapshot, RemoveJournal}
+use Rattle.svid_journal.specs.declared.fault.Fault.{Fault}
+use Rattle.svid_journal.specs.declared.fault.Fault.TheVariants.{NotGrowing}
+use Rattle.svid_journal.specs.declared.folder.Folder.{Folder}
+use Rattle.svid_journal.specs.Frames.{sealed, frame_of, frames_of, IsPayload, IsReading}
+use Rattle.svid_journal.specs.Folder.{ready_rows, first_row, is_starting, begin_fault, answer_fault, put_fault, landed_fault, piece_fault, open_fault, opened, begun, answered, given_up, due_at, flown, landed, lost, ended, pieced}
+use Rattle.svid_journal.specs.Disk.{Disk, Outcome, IsOutcome, as_seen, IsLeft, empty_file, settled, create_journal, write_journal, sync_journal, remove_journal, write_piece, sync_beside, rename_beside, sync_folder, after_crash}
+
+-- the titles of a folder's files
+pub record Titles : Type 0 where
+  pub journal : ℕ → List ℕ
+  pub snapshot : List ℕ
+
+pub record World : Type 0 where
+  pub folder : Folder
+  pub disk : Disk
+  -- the journal that grows, or the last one that did
+  pub home : ℕ
+  -- the payloads of that journal that were acknowledged
+  pub log : List (List ℕ)
+  -- one that was written behind them, and not synced
+  pub flying : List (List ℕ)
+  -- the payloads of a snapshot that were written so far
+  pub parts : List (List ℕ)
+  -- all that were ever acknowledged
+  pub acknowledged : List (List ℕ)
+  -- what the record in memory has, as payloads
+  pub memory : List (List ℕ)
+  -- what it had when the journal that grows began
+  pub noted : List (List ℕ)
+  -- all texts that were ever sealed in frames
+  pub texts : List (List ℕ)
+
+-- what may happen next
+pub data Event : Type 0 where
+  -- a new journal and a new snapshot begin
+  Begin : Event
+  -- the call that is due answers
+  Answer : (ok : Bool) → Event
+  -- a piece of a snapshot is written; where that fails, this landed, and the call that is due fails
+  Piece : (payload : List ℕ) (ok : Bool) (landed : List ℕ) → Event
+  -- the record takes a payload, and it is written behind the journal that grows; where that fails, this landed
+  Put : (payload : List ℕ) (ok : Bool) (landed : List ℕ) → Event
+  -- the journal that grows is made longer, from this place on; this landed
+  Grow : (place : ℕ) (landed : List ℕ) → Event
+  -- the journal that grows is synced behind a frame
+  Sync : (ok : Bool) → Event
+  -- a crash, which leaves this
+  Crash : (left : Outcome) → Event
+  -- a start: a new record takes what is read of the folder, whose journals have these numbers
+  Start : (oldest newest : ℕ) (read : List (List ℕ)) → Event
+
+-- what a call does to the disk
+abbrev pub called : Call → Bool → Disk → Disk
+called Nothing ok d = d
+called (CreateJournal k) ok d = if ok then create_journal k d else d
+called SyncFolder ok d = sync_folder ok d
+called WriteSnapshot ok d = d
+called SyncSnapshot ok d = sync_beside ok d
+called RenameSnapshot ok d = if ok then rename_beside d else d
+called (RemoveJournal k) ok d = if ok then remove_journal k d else d
+
+-- the next journal grows behind a step that succeeds
+abbrev pub grows_next : Step → Bool → Bool
+grows_next Entering ok = ok
+grows_next Naming ok = ok
+grows_next Idle ok = false
+grows_next Starting ok = false
+grows_next Creating ok = false
+grows_next Writing ok = false
+grows_next Ending ok = false
+grows_next Syncing ok = false
+grows_next Renaming ok = false
+grows_next Publishing ok = false
+grows_next Removing ok = false
+
+-- the call that is due answered
+abbrev pub after_answer : World → Bool → World
+after_answer w ok =
+    let next = grows_next w.folder.step ok in
+    record {
+      folder = answered w.folder ok;
+      disk = called (due_at w.folder.step w.folder) ok w.disk;
+      home = if next then w.folder.newest + 1 else w.home;
+      log = if next then [] else w.log;
+      flying = if next then [] else w.flying;
+      parts = if next then [] else w.parts;
+      acknowledged = w.acknowledged;
+      memory = w.memory;
+      noted = if next then w.memory else w.noted;
+      texts = w.texts;
+    }
+
+-- a piece of a snapshot was handed out, and its write answered
+abbrev pub after_piece : Titles → World → List ℕ → Bool → List ℕ → World
+after_piece t w payload ok landed =
+    record {
+      folder = if ok then pieced w.folder (length payload) else given_up w.folder.step w.folder;
+      disk = write_piece w.folder.pieces (length (frames_of t.snapshot 1 w.parts)) (if ok then frame_of t.snapshot (1 + w.folder.pieces) payload else landed) w.disk;
+      home = w.home;
+      log = w.log;
+      flying = w.flying;
+      parts = w.parts ++ payload ∷ [];
+      acknowledged = w.acknowledged;
+      memory = w.memory;
+      noted = w.noted;
+      texts = sealed 1 t.snapshot (1 + w.folder.pieces) payload ∷ w.texts;
+    }
+
+abbrev pub after_put : Titles → World → List ℕ → Bool → List ℕ → World
+after_put t w payload ok landed =
+    let f = w.folder in
+    record {
+      folder = if ok then flown f (length payload) else lost (flown f (length payload));
+      disk = write_journal f.newest f.end (if ok then frame_of (t.journal f.newest) (1 + f.count) payload else landed) w.disk;
+      home = w.home;
+      log = w.log;
+      flying = if ok then payload ∷ [] else [];
+      parts = w.parts;
+      acknowledged = w.acknowledged;
+      memory = w.memory ++ payload ∷ [];
+      noted = w.noted;
+      texts = sealed 1 (t.journal f.newest) (1 + f.count) payload ∷ w.texts;
+    }
+
+abbrev pub after_grow : World → ℕ → List ℕ → World
+after_grow w at landed =
+    record { folder = w.folder; disk = write_journal w.folder.newest at landed w.disk; home = w.home; log = w.log; flying = w.flying; parts = w.parts; acknowledged = w.acknowledged; memory = w.memory; noted = w.noted; texts = w.texts }
+
+-- what is synced is acknowledged
+abbrev pub after_sync : World → Bool → World
+after_sync w ok =
+    record {
+      folder = if ok then landed w.folder else ended w.folder;
+      disk = sync_journal w.folder.newest ok w.disk;
+      home = w.home;
+      log = if ok then w.log ++ w.flying else w.log;
+      flying = [];
+      parts = w.parts;
+      acknowledged = if ok then w.acknowledged ++ w.flying else w.acknowledged;
+      memory = w.memory;
+      noted = w.noted;
+      texts = w.texts;
+    }
+
+-- the program is gone, and with it the record
+abbrev pub after_end : World → Folder → Disk → List (List ℕ) → World
+after_end w folder disk memory =
+    record { folder = folder; disk = disk; home = w.home; log = w.log; flying = []; parts = []; acknowledged = w.acknowledged; memory = memory; noted = []; texts = w.texts }
+
+-- nothing happens where the folder refuses the call
+abbrev pub unless : Option Fault → World → World → World
+unless None after w = after
+unless (Some fault) after w = w
+
+-- a journal is made longer only where one grows
+abbrev pub grow_fault : Folder → Option Fault
+grow_fault f = first_row (ready_rows f ((NotGrowing, is_starting f.step) ∷ []))
+
+-- what happens next
+abbrev pub happens : Titles → World → Event → World
+happens t w Begin = unless (begin_fault w.folder) (record { folder = begun w.folder; disk = w.disk; home = w.home; log = w.log; flying = w.flying; parts = w.parts; acknowledged = w.acknowledged; memory = w.memory; noted = w.noted; texts = w.texts }) w
+happens t w (Answer ok) = unless (answer_fault w.folder ok) (after_answer w ok) w
+happens t w (Piece payload ok landed) = unless (piece_fault w.folder (length payload)) (after_piece t w payload ok landed) w
+happens t w (Put payload ok landed) = unless (put_fault w.folder (length payload)) (after_put t w payload ok landed) w
+happens t w (Grow at landed) = unless (grow_fault w.folder) (after_grow w at landed) w
+happens t w (Sync ok) = unless (landed_fault w.folder) (after_sync w ok) w
+happens t w (Crash left) = after_end w (ended w.folder) (after_crash left) []
+happens t w (Start oldest newest read) = after_end w (opened oldest newest) w.disk read
+
+-- a whole history
+abbrev pub history : Titles → List Event → World → World
+history t [] w = w
+history t (e ∷ events) w = history t events (happens t w e)
+
+-- a new folder: no snapshot, and an empty journal of number 1 that grows
+abbrev pub fresh : World
+fresh =
+    record {
+      folder = record { step = Idle; oldest = 1; newest = 1; ended = false; count = 0; end = 0; flying = 0; pieces = 0 };
+      disk = sync_folder true (create_journal 1 (record { journals = λ k. record { file = empty_file; here = settled false }; snapshot = settled None; beside = empty_file }));
+      home = 1;
+      log = [];
+      flying = [];
+      parts = [];
+      acknowledged = [];
+      memory = [];
+      noted = [];
+      texts = [];
+    }
+
+-- Of one use: `has` tells whether a payload holds it. It is one that has not expired, so a record that has it keeps it.
+
+-- whatever is read of these bytes, the use is in it
+abbrev pub IsReadIn : (List ℕ → Bool) → List ℕ → List ℕ → Type 0
+IsReadIn has title bytes = (payloads : List (List ℕ)) (rest : List ℕ) → IsReading title bytes payloads rest → list_any has payloads ≡ true
+
+-- of what is left the use is read: in the snapshot, or in a journal that is there
+abbrev pub IsRead : (List ℕ → Bool) → Titles → Outcome → Type 0
+IsRead has t o = ((bytes : List ℕ) × (o.snapshot ≡ Some bytes) × IsReadIn has t.snapshot bytes) ⊎ ((k : ℕ) × (o.here k ≡ true) × IsReadIn has (t.journal k) (o.bytes k))
+
+-- What the program's callers and the system see to. A mark ends a snapshot only if its pieces have the use where the record had it as the
+-- journal that grows began. A journal is made longer behind what was written. A crash leaves what it may. At a start the numbers are those
+-- of the journals that are there, and the record takes the use if it is read of the folder.
+abbrev pub IsAllowed : (List ℕ → Bool) → Titles → World → Event → Type 0
+IsAllowed has t w Begin = Unit {0}
+IsAllowed has t w (Answer ok) = Unit {0}
+IsAllowed has t w (Piece payload ok landed) = length payload ≡ 0 → list_any has w.noted ≡ true → list_any has w.parts ≡ true
+IsAllowed has t w (Put payload ok landed) = Unit {0}
+IsAllowed has t w (Grow at landed) = length (frames_of (t.journal w.folder.newest) 1 (w.log ++ w.flying)) ≤ at
+IsAllowed has t w (Sync ok) = Unit {0}
+IsAllowed has t w (Crash left) = IsOutcome w.disk left
+IsAllowed has t w (Start oldest newest read) = (open_fault oldest newest ≡ None) × ((k : ℕ) → (w.disk.journals k).here.now ≡ true → k ≤ newest) × (IsRead has t (as_seen w.disk) → list_any has read ≡ true)
+
+abbrev pub AreAllowed : (List ℕ → Bool) → Titles → List Event → World → Type 0
+AreAllowed has t [] w = Unit {0}
+AreAllowed has t (e ∷ events) w = IsAllowed has t w e × AreAllowed has t events (happens t w e)

@@ -1,0 +1,54 @@
+ghost use Rattle.std.specs.Prelude.{◌≡◌};
+ghost use Rattle.svid_journal.specs.declared.fault.Fault.TheVariants.{NoMemory};
+
+use std::alloc::AllocError;
+use thiserror::Error;
+
+/// Why a folder takes no call. Its numbers are as they were.
+#[derive(Clone, Copy, Debug, PartialEq, Eq, Error)]
+pub enum Fault {
+    /// The numbers are not those of a folder.
+    #[error("these are not the numbers of a folder")]
+    Unfit,
+    /// A sync failed: nobody knows what the disk holds until the next start.
+    #[error("a sync failed: start anew")]
+    Ended,
+    /// No journal grows yet.
+    #[error("no journal grows yet")]
+    NotGrowing,
+    /// Another call is due.
+    #[error("another call is due")]
+    Busy,
+    /// No call is due.
+    #[error("no call is due")]
+    NothingDue,
+    /// A frame was handed out, and is not synced.
+    #[error("a frame is not synced yet")]
+    Flying,
+    /// No frame was handed out.
+    #[error("there is no frame to sync")]
+    NotFlying,
+    /// No snapshot is being written.
+    #[error("no snapshot is being written")]
+    NotWriting,
+    /// The snapshot has no mark at its end.
+    #[error("the snapshot has no mark at its end")]
+    NoMark,
+    /// The payload is longer than a frame can bear.
+    #[error("a payload has more than 16777215 bytes")]
+    TooLong,
+    /// A number has come to its end.
+    #[error("a number of the folder has come to its end")]
+    Full,
+    /// Out of memory.
+    #[error("out of memory")]
+    NoMemory,
+}
+
+impl From<AllocError> for Fault {
+    ghost from_gives = { λ _ e. e ≡ NoMemory };
+
+    fn from(_error: AllocError) -> Fault {
+        Fault::NoMemory
+    }
+}
