@@ -3,7 +3,7 @@ use Rattle.std.proofs.Common.{◌≡◌, ◌⊎◌, inl, inr, ⊎_elim, ℕ, ◌
 use Rattle.std.specs.Prelude.{◌==◌, ◌&&◌, ◌||◌, MatchBool, not, nat_lt, nat_le}
 use Rattle.std.specs.List.{AllByRecursion, list_any}
 use Rattle.std.proofs.Math.Seq.{take-add}
-use Rattle.std.proofs.lemmas.Bool.{cond_both, cond-false, leb-true, leb-false, ltb-true, ltb-false, false≢true, true≢false, eq-eqb, ne_eqb, or_left, or_right, or_cases}
+use Rattle.std.proofs.lemmas.Bool.{cond_both, cond-false, leb-true, leb-false, ltb-true, ltb-false, false≢true, true≢false, eq-eqb, eqb-true, ne_eqb, or_left, or_right, or_cases}
 use Rattle.std.proofs.lemmas.List.{take_at, drop_at, drop_all, append-nil}
 use Rattle.std.proofs.lemmas.List.Folds.{list_any-append}
 use Rattle.svid_journal.specs.declared.step.Step.{Step}
@@ -16,6 +16,7 @@ use Rattle.svid_journal.specs.Folder.{Row, first_row, ready_rows, is_fit, is_sta
 use Rattle.svid_journal.specs.Disk.{File, empty_file, written, forced, MayLeave, Name, settled, leads, is_sure, named, Journal, Disk, put, create_journal, on_file, write_journal, sync_journal, remove_journal, write_piece, sync_beside, rename_beside, sync_folder, Outcome, IsOneOf, MayLeaveFile, IsOutcome, at_rest, option_at_rest, after_crash, option_seen, as_seen, IsLeft}
 use Rattle.svid_journal.specs.History.{Titles, World, Event, called, after_answer, after_piece, after_put, after_grow, after_sync, after_end, unless, grow_fault, happens, history, fresh, IsAllowed, AreAllowed, IsReadIn, IsRead}
 use Rattle.svid_journal.specs.History.Event.{Begin, Answer, Piece, Put, Grow, Sync, Crash, Start}
+use Rattle.svid_journal.specs.Promises.{AcknowledgedIsRead}
 use Rattle.svid_journal.proofs.FramesLemmas.{frames_of-push, frames_of-append, frame_len-is, longer}
 use Rattle.svid_journal.proofs.CrashLemmas.{on_behind}
 
@@ -136,6 +137,11 @@ in_order f fit =
     let to_d = and_left (a && b && c && d) e to_e in
     let to_c = and_left (a && b && c) d to_d in
     leb-true (f.oldest + gap_of f.step) (f.newest + 1) (and_right (a && b) c to_c)
+
+-- a frame flies only where a journal grows
+last_fits : (f : Folder) → is_fit f ≡ true → (f.flying == 0 || not (is_starting f.step)) ≡ true
+last_fits f fit =
+    and_right (nat_lt f.newest (2 ^ 62) && nat_le f.oldest (2 ^ 62) && nat_le (f.oldest + gap_of f.step) (f.newest + 1) && nat_lt f.count (2 ^ 62) && nat_lt f.end (2 ^ 62) && nat_le f.flying (2 ^ 25) && nat_lt f.pieces (2 ^ 62)) (f.flying == 0 || not (is_starting f.step)) fit
 
 unless_both : (fault : Option Fault) (v w : World) (P : World → Type 0) → (fault ≡ None → P v) → P w → P (unless fault v w)
 unless_both None v w P taken refused = taken refl
@@ -414,3 +420,607 @@ module _ (has : List ℕ → Bool) (t : Titles) where
           remembers = u.remembers;
         };
       }
+
+  -- the call that is due answers
+  answers : (step : Step) (ok : Bool) (w : World) → IsSound (staged step w) → w.folder.ended ≡ false → w.folder.oldest + gap_of step ≤ w.folder.newest + 1 → (ok && is_writing step) ≡ false → IsSound (after_answer (staged step w) ok)
+  answers Idle true w h going order mark = h
+  answers Idle false w h going order mark = h
+  answers Starting true w h going order mark =
+      let d = w.disk in
+      let next = w.folder.newest + 1 in
+      let above : (k : ℕ) → (d.journals k).here.now ≡ true → k ≤ w.folder.newest = (h.up going).stage in
+      let low : w.home ≤ w.folder.newest = above w.home h.stands.now in
+      let made : Journal = record { file = empty_file; here = leads true (d.journals next).here } in
+      moved (staged Starting w) (at_step w.folder Entering) (create_journal next d) w.parts w.texts h going (λ k below. put_other d.journals next made k (λ is. omega (arith, below, low, is))) refl
+      (λ u. (low, subst IsMade (sym (put_same d.journals next made)) (record { file = refl; now = refl; free = refl })))
+  answers Starting false w h going order mark = record { stands = h.stands; named = h.named; held = h.held; up = λ is. absurd (true≢false is) }
+  answers Entering true w h going order mark =
+      let fact = (h.up going).stage in
+      grows_next_is (staged Entering w) Idle h going fact.0 fact.1 (λ empty. Growing-next (staged Entering w) Idle empty)
+  answers Entering false w h going order mark = ends (staged Entering w) w.parts h
+  answers Creating true w h going order mark =
+      let d = w.disk in
+      let next = w.folder.newest + 1 in
+      let low = (h.up going).stage.is in
+      let made : Journal = record { file = empty_file; here = leads true (d.journals next).here } in
+      let same : (k : ℕ) → k ≤ w.home → (create_journal next d).journals k ≡ d.journals k = λ k below. put_other d.journals next made k (λ is. omega (arith, below, low, is)) in
+      moved (staged Creating w) (at_step w.folder Naming) (create_journal next d) w.parts w.texts h going same refl
+      (λ u. (
+        regrown w.folder.newest w.folder.count w.folder.end w.folder.flying w.home (d.journals w.home) ((create_journal next d).journals w.home) w.log w.flying (same w.home (omega arith)) u.stage,
+        subst IsMade (sym (put_same d.journals next made)) (record { file = refl; now = refl; free = refl }),
+      ))
+  answers Creating false w h going order mark =
+      moved (staged Creating w) (at_step w.folder Idle) w.disk w.parts w.texts h going (λ k below. refl) refl (λ u. u.stage)
+  answers Naming true w h going order mark =
+      let u = h.up going in
+      grows_next_is (staged Naming w) Writing h going (omega (arith, u.stage.0.is)) u.stage.1
+      (λ empty. (Growing-next (staged Naming w) Writing empty, λ a. inl (remembered (staged Naming w) u a), record { many = refl; each = tt; unspoiled = refl; seen = refl }))
+  answers Naming false w h going order mark = ends (staged Naming w) w.parts h
+  answers Writing true w h going order mark = absurd (true≢false mark)
+  answers Writing false w h going order mark =
+      moved (staged Writing w) (at_step w.folder Idle) w.disk w.parts w.texts h going (λ k below. refl) refl (λ u. u.stage.0)
+  answers Ending true w h going order mark =
+      moved (staged Ending w) (at_step w.folder Syncing) w.disk w.parts w.texts h going (λ k below. refl) refl (λ u. u.stage)
+  answers Ending false w h going order mark =
+      moved (staged Ending w) (at_step w.folder Idle) w.disk w.parts w.texts h going (λ k below. refl) refl (λ u. u.stage.0)
+  answers Syncing true w h going order mark =
+      let f = w.disk.beside in
+      let whole : File = record { seen = f.seen; kept = f.seen; whole = true; spoiled = false } in
+      moved (staged Syncing w) (at_step w.folder Renaming) (sync_beside true w.disk) w.parts w.texts h going (λ k below. refl) refl
+      (λ u. (u.stage.0, subst (λ (g : File). IsSynced g w.log w.acknowledged) (sym (cond-false f.spoiled f whole u.stage.1.unspoiled)) (record { payloads = u.stage.1.payloads; each = u.stage.1.each; whole = refl; kept = u.stage.1.seen; seen = u.stage.1.seen; due = u.stage.1.due })))
+  answers Syncing false w h going order mark =
+      moved (staged Syncing w) (at_step w.folder Idle) (sync_beside false w.disk) w.parts w.texts h going (λ k below. refl) refl (λ u. u.stage.0)
+  answers Renaming true w h going order mark =
+      let d = w.disk in
+      let fact = (h.up going).stage in
+      record {
+        stands = h.stands;
+        named = IsOneOf-push d.snapshot.may (Some d.beside);
+        held = λ been. renamed_held d w.home w.log w.acknowledged fact.1 (fact.1.due been) (h.held been);
+        up = λ is. let u = h.up going in record { flies = u.flies; seen = u.seen; stage = (fact.0, record { file = d.beside; now = refl; free = refl; synced = fact.1 }); remembers = u.remembers };
+      }
+  answers Renaming false w h going order mark =
+      moved (staged Renaming w) (at_step w.folder Idle) w.disk w.parts w.texts h going (λ k below. refl) refl (λ u. u.stage.0)
+  answers Publishing true w h going order mark =
+      let d = w.disk in
+      let u = h.up going in
+      let g = u.stage.0 in
+      let n = u.stage.1 in
+      record {
+        stands = Stands-named true (t.journal w.home) w.log (d.journals w.home) h.stands;
+        named = now-named true d.snapshot h.named;
+        held = λ been. IsHeld-named true d w.home w.log h.named (h.held been);
+        up = λ is. record {
+          flies = u.flies;
+          seen = u.seen;
+          stage = (
+            record { is = g.is; unspoiled = g.unspoiled; many = g.many; far = g.far; long = g.long; one = g.one },
+            record { file = n.file; only = ap (λ (name : Name (Option File)). name.may) (free_named d.snapshot n.free) ∙ ap (λ (there : Option File). there ∷ []) n.now; synced = n.synced },
+          );
+          remembers = u.remembers;
+        };
+      }
+  answers Publishing false w h going order mark = ends (staged Publishing w) w.parts h
+  answers Removing true w h going order mark =
+      removes w h going (omega (arith, order))
+  answers Removing false w h going order mark =
+      moved (staged Removing w) (at_step w.folder Idle) w.disk w.parts w.texts h going (λ k below. refl) refl (λ u. u.stage.0)
+
+  -- a new journal and a new snapshot begin
+  begins : (step : Step) (w : World) → IsSound (staged step w) → w.folder.ended ≡ false → is_idle step ≡ true → IsSound (moved_to (staged step w) (begun (staged step w).folder) w.disk w.parts w.texts)
+  begins Idle w h going idle = moved (staged Idle w) (at_step w.folder Creating) w.disk w.parts w.texts h going (λ k below. refl) refl (λ u. u.stage)
+  begins Starting w h going idle = absurd (false≢true idle)
+  begins Entering w h going idle = absurd (false≢true idle)
+  begins Creating w h going idle = absurd (false≢true idle)
+  begins Naming w h going idle = absurd (false≢true idle)
+  begins Writing w h going idle = absurd (false≢true idle)
+  begins Ending w h going idle = absurd (false≢true idle)
+  begins Syncing w h going idle = absurd (false≢true idle)
+  begins Renaming w h going idle = absurd (false≢true idle)
+  begins Publishing w h going idle = absurd (false≢true idle)
+  begins Removing w h going idle = absurd (false≢true idle)
+
+  any_left : (xs ys : Payloads) → list_any has xs ≡ true → list_any has (xs ++ ys) ≡ true
+  any_left xs ys h = list_any-append has xs ys ∙ or_left (list_any has xs) (list_any has ys) h
+
+  any_right : (xs ys : Payloads) → list_any has ys ≡ true → list_any has (xs ++ ys) ≡ true
+  any_right xs ys h = list_any-append has xs ys ∙ or_right (list_any has xs) (list_any has ys) h
+
+  any_cases : (xs ys : Payloads) → list_any has (xs ++ ys) ≡ true → (list_any has xs ≡ true) ⊎ (list_any has ys ≡ true)
+  any_cases xs ys h = or_cases (list_any has xs) (list_any has ys) (sym (list_any-append has xs ys) ∙ h)
+
+  -- A piece of a snapshot.
+
+  -- the file beside with one piece more
+  more_seen : (f : File) (parts : Payloads) (payload : List ℕ) → f.seen ≡ frames_of t.snapshot 1 parts → (written (length (frames_of t.snapshot 1 parts)) (frame_of t.snapshot (1 + length parts) payload) f).seen ≡ frames_of t.snapshot 1 (parts ++ payload ∷ [])
+  more_seen f parts payload seen =
+      let frames = frames_of t.snapshot 1 parts in
+      let frame = frame_of t.snapshot (1 + length parts) payload in
+      let front : take (length frames) f.seen ≡ frames = ap (take (length frames)) (seen ∙ sym (append-nil frames)) ∙ take_at frames [] (length frames) refl in
+      let back : drop (length frames + length frame) f.seen ≡ [] = drop_all (length frames + length frame) f.seen (omega (arith, ap length seen)) in
+      (λ i. front i ++ (frame ++ back i)) ∙ ap (λ (x : List ℕ). frames ++ x) (append-nil frame) ∙ sym (frames_of-push t.snapshot 1 parts payload)
+
+  not_none : (n : ℕ) → (n + 1 == 0) ≡ false
+  not_none n = ne_eqb (n + 1) 0 (λ e. omega (arith, e))
+
+  pieces_on : (w : World) (payload : List ℕ) → IsSound (staged Writing w) → w.folder.ended ≡ false → IsPayload payload → (length payload ≡ 0 → list_any has w.noted ≡ true → list_any has w.parts ≡ true) → IsSound (after_piece t (staged Writing w) payload true [])
+  pieces_on w payload h going bears knows =
+      let d = w.disk in
+      let pieces = w.folder.pieces in
+      let at = length (frames_of t.snapshot 1 w.parts) in
+      let e = write_piece pieces at (frame_of t.snapshot (1 + pieces) payload) d in
+      let parts = w.parts ++ payload ∷ [] in
+      moved (staged Writing w) (pieced (at_step w.folder Writing) (length payload)) e parts (sealed 1 t.snapshot (1 + pieces) payload ∷ w.texts) h going (λ k below. refl) refl
+      (λ u.
+        let p = u.stage.2 in
+        let each = each_append w.parts (payload ∷ []) p.each (bears, tt) in
+        let seen : e.beside.seen ≡ frames_of t.snapshot 1 parts =
+        ap (λ (n : ℕ). (written at (frame_of t.snapshot (1 + n) payload) (beside_of pieces d.beside)).seen) p.many ∙ more_seen (beside_of pieces d.beside) w.parts payload p.seen in
+        cond_both (length payload == 0) Ending Writing (λ (step : Step). StepFact step (moved_to (staged Writing w) (pieced (at_step w.folder Writing) (length payload)) e parts (sealed 1 t.snapshot (1 + pieces) payload ∷ w.texts)))
+        (λ is. (u.stage.0, record {
+          payloads = parts;
+          each = each;
+          unspoiled = p.unspoiled;
+          seen = seen;
+          due = λ been. ⊎_elim (λ noted_it. inl (any_left w.parts (payload ∷ []) (knows (eqb-true (length payload) 0 is) noted_it))) (λ logged. inr logged) (u.stage.1 been);
+        }))
+        (λ is. (u.stage.0, u.stage.1, record {
+          many = omega (arith, p.many, length-append w.parts (payload ∷ []));
+          each = each;
+          unspoiled = ap (λ (f : File). f.spoiled) (cond-false (pieces + 1 == 0) empty_file e.beside (not_none pieces)) ∙ p.unspoiled;
+          seen = ap (λ (f : File). f.seen) (cond-false (pieces + 1 == 0) empty_file e.beside (not_none pieces)) ∙ seen;
+        })))
+
+  pieces_fail : (w : World) (payload landed : List ℕ) → IsSound (staged Writing w) → w.folder.ended ≡ false → IsSound (after_piece t (staged Writing w) payload false landed)
+  pieces_fail w payload landed h going =
+      moved (staged Writing w) (at_step w.folder Idle) (write_piece w.folder.pieces (length (frames_of t.snapshot 1 w.parts)) landed w.disk) (w.parts ++ payload ∷ []) (sealed 1 t.snapshot (1 + w.folder.pieces) payload ∷ w.texts) h going (λ k below. refl) refl (λ u. u.stage.0)
+
+  is_piece : (f : Folder) (len : ℕ) → piece_fault f len ≡ None → (f.ended ≡ false) × (is_writing f.step ≡ true) × (len < 2 ^ 24)
+  is_piece f len e =
+      let behind = (TooLong, nat_le (2 ^ 24) len) ∷ (Full, nat_le (2 ^ 62) (f.pieces + 1)) ∷ [] in
+      let r = ready f ((NotWriting, not (is_writing f.step)) ∷ behind) e in
+      let one = first_none NotWriting (not (is_writing f.step)) behind r.rest in
+      let two = first_none TooLong (nat_le (2 ^ 24) len) ((Full, nat_le (2 ^ 62) (f.pieces + 1)) ∷ []) one.1 in
+      (r.going, not_false (is_writing f.step) one.0, leb-false (2 ^ 24) len two.0)
+
+  is_answer : (f : Folder) (ok : Bool) → answer_fault f ok ≡ None → (f.ended ≡ false) × (f.oldest + gap_of f.step ≤ f.newest + 1) × ((ok && is_writing f.step) ≡ false)
+  is_answer f ok e =
+      let last = (NoMark, ok && is_writing f.step) ∷ [] in
+      let flies = (Flying, ok && is_naming f.step && nat_lt 0 f.flying) ∷ last in
+      let r = ready f ((NothingDue, is_idle f.step) ∷ flies) e in
+      let one = first_none NothingDue (is_idle f.step) flies r.rest in
+      let two = first_none Flying (ok && is_naming f.step && nat_lt 0 f.flying) last one.1 in
+      (r.going, in_order f r.fit, (first_none NoMark (ok && is_writing f.step) [] two.1).0)
+
+  is_begin : (f : Folder) → begin_fault f ≡ None → (f.ended ≡ false) × (is_idle f.step ≡ true)
+  is_begin f e =
+      let full = (Full, nat_le (2 ^ 62) (f.newest + 1)) ∷ [] in
+      let r = ready f ((Busy, not (is_idle f.step)) ∷ full) e in
+      (r.going, not_false (is_idle f.step) (first_none Busy (not (is_idle f.step)) full r.rest).0)
+
+  pieces : (step : Step) (ok : Bool) (w : World) (payload landed : List ℕ) → IsSound (staged step w) → piece_fault (staged step w).folder (length payload) ≡ None → (length payload ≡ 0 → list_any has w.noted ≡ true → list_any has w.parts ≡ true) → IsSound (after_piece t (staged step w) payload ok landed)
+  pieces Writing true w payload landed h e knows = let r = is_piece (staged Writing w).folder (length payload) e in pieces_on w payload h r.0 r.2 knows
+  pieces Writing false w payload landed h e knows = let r = is_piece (staged Writing w).folder (length payload) e in pieces_fail w payload landed h r.0
+  pieces Idle ok w payload landed h e knows = absurd (false≢true (is_piece (staged Idle w).folder (length payload) e).1)
+  pieces Starting ok w payload landed h e knows = absurd (false≢true (is_piece (staged Starting w).folder (length payload) e).1)
+  pieces Entering ok w payload landed h e knows = absurd (false≢true (is_piece (staged Entering w).folder (length payload) e).1)
+  pieces Creating ok w payload landed h e knows = absurd (false≢true (is_piece (staged Creating w).folder (length payload) e).1)
+  pieces Naming ok w payload landed h e knows = absurd (false≢true (is_piece (staged Naming w).folder (length payload) e).1)
+  pieces Ending ok w payload landed h e knows = absurd (false≢true (is_piece (staged Ending w).folder (length payload) e).1)
+  pieces Syncing ok w payload landed h e knows = absurd (false≢true (is_piece (staged Syncing w).folder (length payload) e).1)
+  pieces Renaming ok w payload landed h e knows = absurd (false≢true (is_piece (staged Renaming w).folder (length payload) e).1)
+  pieces Publishing ok w payload landed h e knows = absurd (false≢true (is_piece (staged Publishing w).folder (length payload) e).1)
+  pieces Removing ok w payload landed h e knows = absurd (false≢true (is_piece (staged Removing w).folder (length payload) e).1)
+
+  -- Writes and syncs of the journal that grows.
+
+  growing : (step : Step) (w : World) → is_starting step ≡ false → StepFact step w → Growing w
+  growing Idle w grows h = h
+  growing Starting w grows h = absurd (true≢false grows)
+  growing Entering w grows h = absurd (true≢false grows)
+  growing Creating w grows h = h
+  growing Naming w grows h = h.0
+  growing Writing w grows h = h.0
+  growing Ending w grows h = h.0
+  growing Syncing w grows h = h.0
+  growing Renaming w grows h = h.0
+  growing Publishing w grows h = h.0
+  growing Removing w grows h = h.0
+
+  -- the journal that grows after a change of its file
+  abbrev changed : (File → File) → Journal → Journal
+  changed f j = record { file = f j.file; here = j.here }
+
+  grown_is : (home newest : ℕ) (f : File → File) (d : Disk) → home ≡ newest → (on_file newest f d).journals home ≡ changed f (d.journals home)
+  grown_is home newest f d is =
+      ap (λ (b : Bool). cond b (changed f (d.journals newest)) (d.journals home)) (eq-eqb home newest is) ∙ ap (λ (n : ℕ). changed f (d.journals n)) (sym is)
+
+  ungrown : (newest : ℕ) (f : File → File) (d : Disk) (k : ℕ) → k < newest → (on_file newest f d).journals k ≡ d.journals k
+  ungrown newest f d k below = put_other d.journals newest (changed f (d.journals newest)) k (λ e. omega (arith, below, e))
+
+  -- another file of the journal that grows, other numbers of it, and another log
+  abbrev rewritten_to : World → ℕ → ℕ → ℕ → (File → File) → Payloads → Payloads → Payloads → Payloads → Payloads → World
+  rewritten_to w count end flies f log flying acknowledged memory texts =
+      record {
+        folder = record { step = w.folder.step; oldest = w.folder.oldest; newest = w.folder.newest; ended = w.folder.ended; count = count; end = end; flying = flies; pieces = w.folder.pieces };
+        disk = on_file w.folder.newest f w.disk;
+        home = w.home;
+        log = log;
+        flying = flying;
+        parts = w.parts;
+        acknowledged = acknowledged;
+        memory = memory;
+        noted = w.noted;
+        texts = texts;
+      }
+
+  -- what was due stays due as the log grows
+  stage_on_file : (step : Step) (w : World) (count end flies : ℕ) (f : File → File) (log flying acknowledged memory texts : Payloads) → is_starting step ≡ false → Growing (rewritten_to w count end flies f log flying acknowledged memory texts)
+      → ((payloads : Payloads) → IsDue payloads w.log w.acknowledged → IsDue payloads log acknowledged) → StepFact step w → StepFact step (rewritten_to w count end flies f log flying acknowledged memory texts)
+  stage_on_file Idle w count end flies f log flying acknowledged memory texts grows g due h = g
+  stage_on_file Starting w count end flies f log flying acknowledged memory texts grows g due h = absurd (true≢false grows)
+  stage_on_file Entering w count end flies f log flying acknowledged memory texts grows g due h = absurd (true≢false grows)
+  stage_on_file Creating w count end flies f log flying acknowledged memory texts grows g due h = g
+  stage_on_file Naming w count end flies f log flying acknowledged memory texts grows g due h = (g, subst IsMade (sym (put_other w.disk.journals w.folder.newest (changed f (w.disk.journals w.folder.newest)) (w.folder.newest + 1) (λ e. omega (arith, e)))) h.1)
+  stage_on_file Writing w count end flies f log flying acknowledged memory texts grows g due h = (g, due w.noted h.1, h.2)
+  stage_on_file Ending w count end flies f log flying acknowledged memory texts grows g due h = (g, record { payloads = h.1.payloads; each = h.1.each; unspoiled = h.1.unspoiled; seen = h.1.seen; due = due h.1.payloads h.1.due })
+  stage_on_file Syncing w count end flies f log flying acknowledged memory texts grows g due h = (g, record { payloads = h.1.payloads; each = h.1.each; unspoiled = h.1.unspoiled; seen = h.1.seen; due = due h.1.payloads h.1.due })
+  stage_on_file Renaming w count end flies f log flying acknowledged memory texts grows g due h = (g, record { payloads = h.1.payloads; each = h.1.each; whole = h.1.whole; kept = h.1.kept; seen = h.1.seen; due = due h.1.payloads h.1.due })
+  stage_on_file Publishing w count end flies f log flying acknowledged memory texts grows g due h = 
+      let s = h.1.synced in (g, record { file = h.1.file; now = h.1.now; free = h.1.free; synced = record { payloads = s.payloads; each = s.each; whole = s.whole; kept = s.kept; seen = s.seen; due = due s.payloads s.due } })
+  stage_on_file Removing w count end flies f log flying acknowledged memory texts grows g due h = 
+      let s = h.1.synced in (g, record { file = h.1.file; only = h.1.only; synced = record { payloads = s.payloads; each = s.each; whole = s.whole; kept = s.kept; seen = s.seen; due = due s.payloads s.due } })
+
+  -- what is asked of the new file and the new numbers
+  record IsRewrite (w : World) (count end flies : ℕ) (f : File → File) (log flying acknowledged memory : Payloads) : Type 0 where
+    each : AllByRecursion IsPayload log
+    kept : Front (t.journal w.home) log (f (w.disk.journals w.home).file).kept
+    unspoiled : (f (w.disk.journals w.home).file).spoiled ≡ false
+    flies_each : AllByRecursion IsPayload flying
+    seen : Front (t.journal w.home) (log ++ flying) (f (w.disk.journals w.home).file).seen
+    many : count ≡ length log
+    far : end ≡ length (frames_of (t.journal w.home) 1 log)
+    long : flies ≡ length (frames_of (t.journal w.home) (1 + length log) flying)
+    one : length flying ≤ 1
+    due : (payloads : Payloads) → IsDue payloads w.log w.acknowledged → IsDue payloads log acknowledged
+    held : list_any has acknowledged ≡ true → IsHeld w.disk w.home log
+    remembers : list_any has (acknowledged ++ flying) ≡ true → list_any has memory ≡ true
+
+  rewritten : (w : World) (count end flies : ℕ) (f : File → File) (log flying acknowledged memory texts : Payloads) → IsSound w → w.folder.ended ≡ false → is_starting w.folder.step ≡ false → IsRewrite w count end flies f log flying acknowledged memory → IsSound (rewritten_to w count end flies f log flying acknowledged memory texts)
+  rewritten w count end flies f log flying acknowledged memory texts h going grows r =
+      let d = w.disk in
+      let newest = w.folder.newest in
+      let u = h.up going in
+      let is = (growing w.folder.step w grows u.stage).is in
+      let there = grown_is w.home newest f d is in
+      let s = h.stands in
+      record {
+        stands = subst (Stands (t.journal w.home) log) (sym there) (record { now = s.now; sure = s.sure; each = r.each; kept = r.kept; seen = Front-first (t.journal w.home) log flying (f (d.journals w.home).file).seen r.seen });
+        named = h.named;
+        held = λ a. IsHeld-put d (on_file newest f d) w.home log refl (λ k below. ungrown newest f d k (omega (arith, below, is))) (r.held a);
+        up = λ _. record {
+          flies = r.flies_each;
+          seen = subst (λ (j : Journal). Front (t.journal w.home) (log ++ flying) j.file.seen) (sym there) r.seen;
+          stage = stage_on_file w.folder.step w count end flies f log flying acknowledged memory texts grows
+            (subst (λ (j : Journal). IsGrowing newest count end flies w.home j log flying) (sym there) (record { is = is; unspoiled = r.unspoiled; many = r.many; far = r.far; long = r.long; one = r.one })) r.due u.stage;
+          remembers = r.remembers;
+        };
+      }
+
+  -- behind the frames of the log, the next frame
+  seen_next : (title : List ℕ) (log flying : Payloads) (payload seen behind : List ℕ) → Front title (log ++ flying) seen → Front title (log ++ payload ∷ []) (take (length (frames_of title 1 log)) seen ++ (frame_of title (1 + length log) payload ++ behind))
+  seen_next title log flying payload seen behind front =
+      let frames = frames_of title 1 log in
+      let frame = frame_of title (1 + length log) payload in
+      record {
+        rest = behind;
+        is = ap (λ (x : List ℕ). x ++ (frame ++ behind)) (Front-exact title log seen (Front-first title log flying seen front)) ∙ sym (append_assoc frames frame behind) ∙ ap (λ (x : List ℕ). x ++ behind) (sym (frames_of-push title 1 log payload));
+      }
+
+  seen_other : (title : List ℕ) (log flying : Payloads) (seen behind : List ℕ) → Front title (log ++ flying) seen → Front title (log ++ []) (take (length (frames_of title 1 log)) seen ++ behind)
+  seen_other title log flying seen behind front =
+      record {
+        rest = behind;
+        is = ap (λ (x : List ℕ). x ++ behind) (Front-exact title log seen (Front-first title log flying seen front) ∙ ap (frames_of title 1) (sym (append-nil log)));
+      }
+
+  remembers_put : (acknowledged flying memory : Payloads) (payload : List ℕ) → (list_any has (acknowledged ++ flying) ≡ true → list_any has memory ≡ true) → list_any has (acknowledged ++ payload ∷ []) ≡ true → list_any has (memory ++ payload ∷ []) ≡ true
+  remembers_put acknowledged flying memory payload remembers a =
+      ⊎_elim (λ before. any_left memory (payload ∷ []) (remembers (any_left acknowledged flying before))) (λ now. any_right memory (payload ∷ []) now) (any_cases acknowledged (payload ∷ []) a)
+
+  remembers_none : (acknowledged flying memory : Payloads) (payload : List ℕ) → (list_any has (acknowledged ++ flying) ≡ true → list_any has memory ≡ true) → list_any has (acknowledged ++ []) ≡ true → list_any has (memory ++ payload ∷ []) ≡ true
+  remembers_none acknowledged flying memory payload remembers a =
+      any_left memory (payload ∷ []) (remembers (any_left acknowledged flying (ap (list_any has) (sym (append-nil acknowledged)) ∙ a)))
+
+  is_put : (f : Folder) (len : ℕ) → put_fault f len ≡ None → (f.ended ≡ false) × (is_starting f.step ≡ false) × (len < 2 ^ 24)
+  is_put f len e =
+      let full = (Full, nat_le (2 ^ 62) (f.count + 1)) ∷ (Full, nat_le (2 ^ 62) (f.end + 2 ^ 25)) ∷ [] in
+      let long = (TooLong, nat_le (2 ^ 24) len) ∷ full in
+      let flies = (Flying, nat_lt 0 f.flying) ∷ long in
+      let r = ready f ((NotGrowing, is_starting f.step) ∷ flies) e in
+      let one = first_none NotGrowing (is_starting f.step) flies r.rest in
+      let two = first_none Flying (nat_lt 0 f.flying) long one.1 in
+      (r.going, one.0, leb-false (2 ^ 24) len (first_none TooLong (nat_le (2 ^ 24) len) full two.1).0)
+
+  puts : (ok : Bool) (w : World) (payload landed : List ℕ) → IsSound w → put_fault w.folder (length payload) ≡ None → IsSound (after_put t w payload ok landed)
+  puts true w payload landed h e =
+      let p = is_put w.folder (length payload) e in
+      let u = h.up p.0 in
+      let g = growing w.folder.step w p.1 u.stage in
+      let title = t.journal w.home in
+      let file = (w.disk.journals w.home).file in
+      let at = length (frames_of title 1 w.log) in
+      let frame = frame_of title (1 + length w.log) payload in
+      let put_frame = frame_of (t.journal w.folder.newest) (1 + w.folder.count) payload in
+      let same : frame ≡ put_frame = λ i. frame_of (t.journal (g.is i)) (1 + sym g.many i) payload in
+      let bytes : take at file.seen ++ (frame ++ drop (at + length frame) file.seen) ≡ take w.folder.end file.seen ++ (put_frame ++ drop (w.folder.end + length put_frame) file.seen) =
+      λ i. take (sym g.far i) file.seen ++ (same i ++ drop (sym g.far i + length (same i)) file.seen) in
+      rewritten w w.folder.count w.folder.end (frame_len (length payload)) (written w.folder.end put_frame) w.log (payload ∷ []) w.acknowledged (w.memory ++ payload ∷ []) (sealed 1 (t.journal w.folder.newest) (1 + w.folder.count) payload ∷ w.texts) h p.0 p.1
+      (record {
+        each = h.stands.each;
+        kept = Front-cut title w.log file.kept w.folder.end (omega (arith, g.far)) h.stands.kept;
+        unspoiled = g.unspoiled;
+        flies_each = (p.2, tt);
+        seen = subst (Front title (w.log ++ payload ∷ [])) bytes (seen_next title w.log w.flying payload file.seen (drop (at + length frame) file.seen) u.seen);
+        many = g.many;
+        far = g.far;
+        long = sym (ap length (append-nil frame) ∙ frame_len-is 1 title (1 + length w.log) payload);
+        one = omega arith;
+        due = λ ps due. due;
+        held = h.held;
+        remembers = remembers_put w.acknowledged w.flying w.memory payload u.remembers;
+      })
+  puts false w payload landed h e =
+      let p = is_put w.folder (length payload) e in
+      let u = h.up p.0 in
+      let g = growing w.folder.step w p.1 u.stage in
+      let title = t.journal w.home in
+      let file = (w.disk.journals w.home).file in
+      let at = length (frames_of title 1 w.log) in
+      let bytes : take at file.seen ++ (landed ++ drop (at + length landed) file.seen) ≡ take w.folder.end file.seen ++ (landed ++ drop (w.folder.end + length landed) file.seen) =
+      λ i. take (sym g.far i) file.seen ++ (landed ++ drop (sym g.far i + length landed) file.seen) in
+      rewritten w w.folder.count w.folder.end 0 (written w.folder.end landed) w.log [] w.acknowledged (w.memory ++ payload ∷ []) (sealed 1 (t.journal w.folder.newest) (1 + w.folder.count) payload ∷ w.texts) h p.0 p.1
+      (record {
+        each = h.stands.each;
+        kept = Front-cut title w.log file.kept w.folder.end (omega (arith, g.far)) h.stands.kept;
+        unspoiled = g.unspoiled;
+        flies_each = tt;
+        seen = subst (Front title (w.log ++ [])) bytes (seen_other title w.log w.flying file.seen (landed ++ drop (at + length landed) file.seen) u.seen);
+        many = g.many;
+        far = g.far;
+        long = refl;
+        one = omega arith;
+        due = λ ps due. due;
+        held = h.held;
+        remembers = remembers_none w.acknowledged w.flying w.memory payload u.remembers;
+      })
+
+  grows : (w : World) (at : ℕ) (landed : List ℕ) → IsSound w → grow_fault w.folder ≡ None → length (frames_of (t.journal w.folder.newest) 1 (w.log ++ w.flying)) ≤ at → IsSound (after_grow w at landed)
+  grows w at landed h e behind =
+      let f = w.folder in
+      let r = ready f ((NotGrowing, is_starting f.step) ∷ []) e in
+      let up = (first_none NotGrowing (is_starting f.step) [] r.rest).0 in
+      let u = h.up r.going in
+      let g = growing f.step w up u.stage in
+      let title = t.journal w.home in
+      let file = (w.disk.journals w.home).file in
+      let back = frames_of title (1 + length w.log) w.flying in
+      let far : length (frames_of title 1 (w.log ++ w.flying)) ≤ at = subst (λ (n : ℕ). length (frames_of (t.journal n) 1 (w.log ++ w.flying)) ≤ at) (sym g.is) behind in
+      let less : length (frames_of title 1 w.log) ≤ at = omega (arith, far, ap length (frames_of-append title 1 w.log w.flying), length-append (frames_of title 1 w.log) back) in
+      rewritten w f.count f.end f.flying (written at landed) w.log w.flying w.acknowledged w.memory w.texts h r.going up
+      (record {
+        each = h.stands.each;
+        kept = Front-cut title w.log file.kept at less h.stands.kept;
+        unspoiled = g.unspoiled;
+        flies_each = u.flies;
+        seen = Front-more title (w.log ++ w.flying) (take at file.seen) (landed ++ drop (at + length landed) file.seen) (Front-cut title (w.log ++ w.flying) file.seen at far u.seen);
+        many = g.many;
+        far = g.far;
+        long = g.long;
+        one = g.one;
+        due = λ ps due. due;
+        held = h.held;
+        remembers = u.remembers;
+      })
+
+  due_more : (log flying acknowledged payloads : Payloads) → IsDue payloads log acknowledged → IsDue payloads (log ++ flying) (acknowledged ++ flying)
+  due_more log flying acknowledged payloads due a =
+      ⊎_elim
+      (λ before. ⊎_elim (λ holds. inl holds) (λ logged. inr (list_any-append has log flying ∙ or_left (list_any has log) (list_any has flying) logged)) (due before))
+      (λ now. inr (list_any-append has log flying ∙ or_right (list_any has log) (list_any has flying) now))
+      (or_cases (list_any has acknowledged) (list_any has flying) (sym (list_any-append has acknowledged flying) ∙ a))
+
+  held_more : (d : Disk) (newest : ℕ) (log flying : Payloads) → IsHeld d newest log → IsHeld d newest (log ++ flying)
+  held_more d newest log flying (inl good) = inl good
+  held_more d newest log flying (inr (inl older)) = inr (inl older)
+  held_more d newest log flying (inr (inr logged)) = inr (inr (list_any-append has log flying ∙ or_left (list_any has log) (list_any has flying) logged))
+
+  held_now : (d : Disk) (newest : ℕ) (log flying acknowledged : Payloads) → (list_any has acknowledged ≡ true → IsHeld d newest log) → list_any has (acknowledged ++ flying) ≡ true → IsHeld d newest (log ++ flying)
+  held_now d newest log flying acknowledged held a =
+      ⊎_elim (λ before. held_more d newest log flying (held before)) (λ now. inr (inr (list_any-append has log flying ∙ or_right (list_any has log) (list_any has flying) now)))
+      (or_cases (list_any has acknowledged) (list_any has flying) (sym (list_any-append has acknowledged flying) ∙ a))
+
+  -- one frame flies where its length is told
+  one_flies : (title : List ℕ) (number flies : ℕ) (flying : Payloads) → flies ≡ length (frames_of title number flying) → length flying ≤ 1 → (flies == 0) ≡ false → length flying ≡ 1
+  one_flies title number flies [] long one some = absurd (true≢false (sym (eq-eqb flies 0 long) ∙ some))
+  one_flies title number flies (p ∷ []) long one some = refl
+  one_flies title number flies (p ∷ q ∷ ps) long one some = absurd (omega (arith, one))
+
+  is_landed : (f : Folder) → landed_fault f ≡ None → (f.ended ≡ false) × (is_starting f.step ≡ false) × ((f.flying == 0) ≡ false)
+  is_landed f e =
+      let r = ready f ((NotFlying, f.flying == 0) ∷ []) e in
+      let some = (first_none NotFlying (f.flying == 0) [] r.rest).0 in
+      (r.going, grows_still (f.flying == 0) (is_starting f.step) some (last_fits f r.fit), some)
+    where
+      grows_still : (none starting : Bool) → none ≡ false → (none || not starting) ≡ true → starting ≡ false
+      grows_still true starting some fit = absurd (true≢false some)
+      grows_still false true some fit = absurd (false≢true fit)
+      grows_still false false some fit = refl
+
+  syncs : (ok : Bool) (w : World) → IsSound w → landed_fault w.folder ≡ None → IsSound (after_sync w ok)
+  syncs true w h e =
+      let p = is_landed w.folder e in
+      let u = h.up p.0 in
+      let g = growing w.folder.step w p.1 u.stage in
+      let title = t.journal w.home in
+      let file = (w.disk.journals w.home).file in
+      let whole : File = record { seen = file.seen; kept = file.seen; whole = true; spoiled = false } in
+      let is : forced true file ≡ whole = cond-false file.spoiled file whole g.unspoiled in
+      let one = one_flies title (1 + length w.log) w.folder.flying w.flying g.long g.one p.2 in
+      let back = frames_of title (1 + length w.log) w.flying in
+      rewritten w (w.folder.count + 1) (w.folder.end + w.folder.flying) 0 (forced true) (w.log ++ w.flying) [] (w.acknowledged ++ w.flying) w.memory w.texts h p.0 p.1
+      (record {
+        each = each_append w.log w.flying h.stands.each u.flies;
+        kept = subst (λ (x : File). Front title (w.log ++ w.flying) x.kept) (sym is) u.seen;
+        unspoiled = ap (λ (x : File). x.spoiled) is;
+        flies_each = tt;
+        seen = subst (λ (x : File). Front title ((w.log ++ w.flying) ++ []) x.seen) (sym is) (subst (λ (ps : Payloads). Front title ps file.seen) (sym (append-nil (w.log ++ w.flying))) u.seen);
+        many = omega (arith, g.many, one, length-append w.log w.flying);
+        far = omega (arith, g.far, g.long, ap length (frames_of-append title 1 w.log w.flying), length-append (frames_of title 1 w.log) back);
+        long = refl;
+        one = omega arith;
+        due = λ ps due. due_more w.log w.flying w.acknowledged ps due;
+        held = held_now w.disk w.home w.log w.flying w.acknowledged h.held;
+        remembers = λ a. u.remembers (ap (list_any has) (sym (append-nil (w.acknowledged ++ w.flying))) ∙ a);
+      })
+  syncs false w h e =
+      let p = is_landed w.folder e in
+      let is = (growing w.folder.step w p.1 (h.up p.0).stage).is in
+      let s = h.stands in
+      let there = grown_is w.home w.folder.newest (forced false) w.disk is in
+      record {
+        stands = subst (Stands (t.journal w.home) w.log) (sym there) (record { now = s.now; sure = s.sure; each = s.each; kept = s.kept; seen = s.seen });
+        named = h.named;
+        held = λ a. IsHeld-put w.disk (on_file w.folder.newest (forced false) w.disk) w.home w.log refl (λ k below. ungrown w.folder.newest (forced false) w.disk k (omega (arith, below, is))) (h.held a);
+        up = λ e. absurd (true≢false e);
+      }
+
+  -- A crash.
+
+  Stands-left : (title : List ℕ) (log : Payloads) (j : Journal) (here : Bool) (bytes : List ℕ) → Stands title log j → IsOneOf j.here.may here → MayLeave j.file bytes → Stands title log (record { file = at_rest bytes; here = settled here })
+  Stands-left title log j here bytes s name left =
+      let there : here ≡ true = sym (IsOneOf-only true here (subst (λ (ms : List Bool). IsOneOf ms here) s.sure name)) in
+      record { now = there; sure = ap (λ (b : Bool). b ∷ []) there; each = s.each; kept = Front-left title log j.file bytes left s.kept; seen = Front-left title log j.file bytes left s.kept }
+
+  good_left : (there : Option File) (left : Option (List ℕ)) → MayLeaveFile there left → IsGood there → IsGood (option_at_rest left)
+  good_left None left may good = absurd cc
+  good_left (Some f) None may good = absurd may
+  good_left (Some f) (Some bytes) may good =
+      let same : f ≡ good.file = cc in
+      record {
+        file = at_rest bytes;
+        is = refl;
+        payloads = good.payloads;
+        each = good.each;
+        whole = refl;
+        kept = whole_left f bytes (ap (λ (g : File). g.whole) same ∙ good.whole) may ∙ ap (λ (g : File). g.kept) same ∙ good.kept;
+        seen = whole_left f bytes (ap (λ (g : File). g.whole) same ∙ good.whole) may ∙ ap (λ (g : File). g.kept) same ∙ good.kept;
+        holds = good.holds;
+      }
+
+  held_left : (d : Disk) (newest : ℕ) (log : Payloads) (o : Outcome) → IsOutcome d o → IsHeld d newest log → IsHeld (after_crash o) newest log
+  held_left d newest log o left (inl good) =
+      let s = left.snapshot in
+      inl (λ there among. subst IsGood (IsOneOf-only (option_at_rest o.snapshot) there among) (good_left s.0 o.snapshot s.2 (good s.0 s.1)))
+  held_left d newest log o left (inr (inl (k, below, has_it))) =
+      inr (inl (k, below, record { payloads = has_it.payloads; stands = Stands-left (t.journal k) has_it.payloads (d.journals k) (o.here k) (o.bytes k) has_it.stands (left.names k) (left.journals k); holds = has_it.holds }))
+  held_left d newest log o left (inr (inr logged)) = inr (inr logged)
+
+  crashes : (w : World) (o : Outcome) → IsSound w → IsOutcome w.disk o → IsSound (after_end w (ended w.folder) (after_crash o) [])
+  crashes w o h left =
+      record {
+        stands = Stands-left (t.journal w.home) w.log (w.disk.journals w.home) (o.here w.home) (o.bytes w.home) h.stands (left.names w.home) (left.journals w.home);
+        named = inl refl;
+        held = λ a. held_left w.disk w.home w.log o left (h.held a);
+        up = λ e. absurd (true≢false e);
+      }
+
+  starts : (w : World) (oldest newest : ℕ) (read : Payloads) → IsSound w → ((k : ℕ) → (w.disk.journals k).here.now ≡ true → k ≤ newest) → (list_any has w.acknowledged ≡ true → list_any has read ≡ true) → IsSound (after_end w (opened oldest newest) w.disk read)
+  starts w oldest newest read h above knows =
+      record {
+        stands = h.stands;
+        named = h.named;
+        held = h.held;
+        up = λ is. record {
+          flies = tt;
+          seen = subst (λ (ps : Payloads). Front (t.journal w.home) ps (w.disk.journals w.home).file.seen) (sym (append-nil w.log)) h.stands.seen;
+          stage = above;
+          remembers = λ a. knows (ap (list_any has) (sym (append-nil w.acknowledged)) ∙ a);
+        };
+      }
+
+  -- what is read of bytes that begin with frames
+  read_front : (title : List ℕ) (payloads : Payloads) (bytes : List ℕ) → AllByRecursion IsPayload payloads → Front title payloads bytes → list_any has payloads ≡ true → IsReadIn has title bytes
+  read_front title payloads bytes each front holds found rest reading =
+      let on = on_behind title bytes front.rest rest payloads found each front.is reading in
+      ap (list_any has) on.first ∙ list_any-append has payloads on.more ∙ or_left (list_any has payloads) (list_any has on.more) holds
+
+  good_read : (there : Option File) (left : Option (List ℕ)) → MayLeaveFile there left → IsGood there → (bytes : List ℕ) × (left ≡ Some bytes) × IsReadIn has t.snapshot bytes
+  good_read None left may good = absurd cc
+  good_read (Some f) None may good = absurd may
+  good_read (Some f) (Some bytes) may good =
+      let same : f ≡ good.file = cc in
+      let is : bytes ≡ frames_of t.snapshot 1 good.payloads = whole_left f bytes (ap (λ (g : File). g.whole) same ∙ good.whole) may ∙ ap (λ (g : File). g.kept) same ∙ good.kept in
+      (bytes, refl, read_front t.snapshot good.payloads bytes good.each (record { rest = []; is = is ∙ sym (append-nil (frames_of t.snapshot 1 good.payloads)) }) good.holds)
+
+  stands_read : (k : ℕ) (payloads : Payloads) (d : Disk) (o : Outcome) → IsOutcome d o → Stands (t.journal k) payloads (d.journals k) → list_any has payloads ≡ true → IsRead has t o
+  stands_read k payloads d o left stands holds =
+      let after = Stands-left (t.journal k) payloads (d.journals k) (o.here k) (o.bytes k) stands (left.names k) (left.journals k) in
+      inr (k, after.now, read_front (t.journal k) payloads (o.bytes k) after.each after.kept holds)
+
+  held_read : (d : Disk) (newest : ℕ) (log : Payloads) (o : Outcome) → IsOutcome d o → Stands (t.journal newest) log (d.journals newest) → IsHeld d newest log → IsRead has t o
+  held_read d newest log o left stands (inl good) = let s = left.snapshot in inl (good_read s.0 o.snapshot s.2 (good s.0 s.1))
+  held_read d newest log o left stands (inr (inl (k, below, has_it))) = stands_read k has_it.payloads d o left has_it.stands has_it.holds
+  held_read d newest log o left stands (inr (inr logged)) = stands_read newest log d o left stands logged
+
+  good_seen : (there : Option File) → IsGood there → (bytes : List ℕ) × (option_seen there ≡ Some bytes) × IsReadIn has t.snapshot bytes
+  good_seen None good = absurd cc
+  good_seen (Some f) good =
+      let same : f ≡ good.file = cc in
+      let is : f.seen ≡ frames_of t.snapshot 1 good.payloads = ap (λ (g : File). g.seen) same ∙ good.seen in
+      (f.seen, refl, read_front t.snapshot good.payloads f.seen good.each (record { rest = []; is = is ∙ sym (append-nil (frames_of t.snapshot 1 good.payloads)) }) good.holds)
+
+  stands_seen : (k : ℕ) (payloads : Payloads) (d : Disk) → Stands (t.journal k) payloads (d.journals k) → list_any has payloads ≡ true → IsRead has t (as_seen d)
+  stands_seen k payloads d stands holds = inr (k, stands.now, read_front (t.journal k) payloads (d.journals k).file.seen stands.each stands.seen holds)
+
+  seen_read : (d : Disk) (newest : ℕ) (log : Payloads) → IsOneOf d.snapshot.may d.snapshot.now → Stands (t.journal newest) log (d.journals newest) → IsHeld d newest log → IsRead has t (as_seen d)
+  seen_read d newest log now stands (inl good) = inl (good_seen d.snapshot.now (good d.snapshot.now now))
+  seen_read d newest log now stands (inr (inl (k, below, has_it))) = stands_seen k has_it.payloads d has_it.stands has_it.holds
+  seen_read d newest log now stands (inr (inr logged)) = stands_seen newest log d stands logged
+
+  -- Histories.
+
+  kept : (w : World) (e : Event) → IsSound w → IsAllowed has t w e → IsSound (happens t w e)
+  kept w Begin h a = unless_both (begin_fault w.folder) (moved_to w (begun w.folder) w.disk w.parts w.texts) w IsSound (λ e. let b = is_begin w.folder e in begins w.folder.step w h b.0 b.1) h
+  kept w (Answer ok) h a = unless_both (answer_fault w.folder ok) (after_answer w ok) w IsSound (λ e. let b = is_answer w.folder ok e in answers w.folder.step ok w h b.0 b.1 b.2) h
+  kept w (Piece payload ok landed) h a = unless_both (piece_fault w.folder (length payload)) (after_piece t w payload ok landed) w IsSound (λ e. pieces w.folder.step ok w payload landed h e a) h
+  kept w (Put payload ok landed) h a = unless_both (put_fault w.folder (length payload)) (after_put t w payload ok landed) w IsSound (λ e. puts ok w payload landed h e) h
+  kept w (Grow at landed) h a = unless_both (grow_fault w.folder) (after_grow w at landed) w IsSound (λ e. grows w at landed h e a) h
+  kept w (Sync ok) h a = unless_both (landed_fault w.folder) (after_sync w ok) w IsSound (λ e. syncs ok w h e) h
+  kept w (Crash o) h a = crashes w o h a
+  kept w (Start oldest newest read) h a = starts w oldest newest read h a.1 (λ been. a.2 (seen_read w.disk w.home w.log h.named h.stands (h.held been)))
+
+  pub always : (events : List Event) (w : World) → IsSound w → AreAllowed has t events w → IsSound (history t events w)
+  always [] w h a = h
+  always (e ∷ events) w h a = always events (happens t w e) (kept w e h a.0) a.1
+
+  pub at_first : IsSound fresh
+  at_first =
+      record {
+        stands = Stands-empty (t.journal 1);
+        named = inl refl;
+        held = λ a. absurd (false≢true a);
+        up = λ _. record {
+          flies = tt;
+          seen = record { rest = []; is = refl };
+          stage = record { is = refl; unspoiled = refl; many = refl; far = refl; long = refl; one = omega arith };
+          remembers = λ a. absurd (false≢true a);
+        };
+      }
+
+  sound_read : (w : World) → IsSound w → list_any has w.acknowledged ≡ true → (o : Outcome) → IsLeft w.disk o → IsRead has t o
+  sound_read w h a o (inl left) = held_read w.disk w.home w.log o left h.stands (h.held a)
+  sound_read w h a o (inr is) = subst (IsRead has t) (sym is) (seen_read w.disk w.home w.log h.named h.stands (h.held a))
+
+pub acknowledged_is_read : AcknowledgedIsRead
+acknowledged_is_read has t events allowed a o left = sound_read has t (history t events fresh) (always has t events fresh (at_first has t) allowed) a o left

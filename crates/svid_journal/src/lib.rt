@@ -5,6 +5,7 @@ mod call;
 mod fault;
 mod folder;
 mod frame;
+pub mod laws;
 mod reader;
 mod step;
 mod title;
