@@ -114,7 +114,7 @@ pub record IsReady (f : Folder) (rows : List Row) : Type 0 where
   pub going : f.ended ≡ false
   pub rest : first_row rows ≡ None
 
-ready : (f : Folder) (rows : List Row) → first_row (ready_rows f rows) ≡ None → IsReady f rows
+pub ready : (f : Folder) (rows : List Row) → first_row (ready_rows f rows) ≡ None → IsReady f rows
 ready f rows e =
     let one = first_none Unfit (not (is_fit f)) ((Ended, f.ended) ∷ rows) e in
     let two = first_none Ended f.ended rows one.1 in
@@ -143,7 +143,56 @@ last_fits : (f : Folder) → is_fit f ≡ true → (f.flying == 0 || not (is_sta
 last_fits f fit =
     and_right (nat_lt f.newest (2 ^ 62) && nat_le f.oldest (2 ^ 62) && nat_le (f.oldest + gap_of f.step) (f.newest + 1) && nat_lt f.count (2 ^ 62) && nat_lt f.end (2 ^ 62) && nat_le f.flying (2 ^ 25) && nat_lt f.pieces (2 ^ 62)) (f.flying == 0 || not (is_starting f.step)) fit
 
-unless_both : (fault : Option Fault) (v w : World) (P : World → Type 0) → (fault ≡ None → P v) → P w → P (unless fault v w)
+pub is_piece : (f : Folder) (len : ℕ) → piece_fault f len ≡ None → (f.ended ≡ false) × (is_writing f.step ≡ true) × (len < 2 ^ 24)
+is_piece f len e =
+    let behind = (TooLong, nat_le (2 ^ 24) len) ∷ (Full, nat_le (2 ^ 62) (f.pieces + 1)) ∷ [] in
+    let r = ready f ((NotWriting, not (is_writing f.step)) ∷ behind) e in
+    let one = first_none NotWriting (not (is_writing f.step)) behind r.rest in
+    let two = first_none TooLong (nat_le (2 ^ 24) len) ((Full, nat_le (2 ^ 62) (f.pieces + 1)) ∷ []) one.1 in
+    (r.going, not_false (is_writing f.step) one.0, leb-false (2 ^ 24) len two.0)
+
+pub is_answer : (f : Folder) (ok : Bool) → answer_fault f ok ≡ None → (f.ended ≡ false) × (f.oldest + gap_of f.step ≤ f.newest + 1) × ((ok && is_writing f.step) ≡ false)
+is_answer f ok e =
+    let last = (NoMark, ok && is_writing f.step) ∷ [] in
+    let flies = (Flying, ok && is_naming f.step && nat_lt 0 f.flying) ∷ last in
+    let r = ready f ((NothingDue, is_idle f.step) ∷ flies) e in
+    let one = first_none NothingDue (is_idle f.step) flies r.rest in
+    let two = first_none Flying (ok && is_naming f.step && nat_lt 0 f.flying) last one.1 in
+    (r.going, in_order f r.fit, (first_none NoMark (ok && is_writing f.step) [] two.1).0)
+
+pub is_begin : (f : Folder) → begin_fault f ≡ None → (f.ended ≡ false) × (is_idle f.step ≡ true)
+is_begin f e =
+    let full = (Full, nat_le (2 ^ 62) (f.newest + 1)) ∷ [] in
+    let r = ready f ((Busy, not (is_idle f.step)) ∷ full) e in
+    (r.going, not_false (is_idle f.step) (first_none Busy (not (is_idle f.step)) full r.rest).0)
+
+pub is_put : (f : Folder) (len : ℕ) → put_fault f len ≡ None → (f.ended ≡ false) × (is_starting f.step ≡ false) × (len < 2 ^ 24)
+is_put f len e =
+    let full = (Full, nat_le (2 ^ 62) (f.count + 1)) ∷ (Full, nat_le (2 ^ 62) (f.end + 2 ^ 25)) ∷ [] in
+    let long = (TooLong, nat_le (2 ^ 24) len) ∷ full in
+    let flies = (Flying, nat_lt 0 f.flying) ∷ long in
+    let r = ready f ((NotGrowing, is_starting f.step) ∷ flies) e in
+    let one = first_none NotGrowing (is_starting f.step) flies r.rest in
+    let two = first_none Flying (nat_lt 0 f.flying) long one.1 in
+    (r.going, one.0, leb-false (2 ^ 24) len (first_none TooLong (nat_le (2 ^ 24) len) full two.1).0)
+
+pub is_landed : (f : Folder) → landed_fault f ≡ None → (f.ended ≡ false) × (is_starting f.step ≡ false) × ((f.flying == 0) ≡ false)
+is_landed f e =
+    let r = ready f ((NotFlying, f.flying == 0) ∷ []) e in
+    let some = (first_none NotFlying (f.flying == 0) [] r.rest).0 in
+    (r.going, grows_still (f.flying == 0) (is_starting f.step) some (last_fits f r.fit), some)
+  where
+    grows_still : (none starting : Bool) → none ≡ false → (none || not starting) ≡ true → starting ≡ false
+    grows_still true starting some fit = absurd (true≢false some)
+    grows_still false true some fit = absurd (false≢true fit)
+    grows_still false false some fit = refl
+
+pub is_grow : (f : Folder) → grow_fault f ≡ None → (f.ended ≡ false) × (is_starting f.step ≡ false)
+is_grow f e =
+    let r = ready f ((NotGrowing, is_starting f.step) ∷ []) e in
+    (r.going, (first_none NotGrowing (is_starting f.step) [] r.rest).0)
+
+pub unless_both : (fault : Option Fault) (v w : World) (P : World → Type 0) → (fault ≡ None → P v) → P w → P (unless fault v w)
 unless_both None v w P taken refused = taken refl
 unless_both (Some e) v w P taken refused = refused
 
@@ -575,29 +624,6 @@ module _ (has : List ℕ → Bool) (t : Titles) where
   pieces_fail w payload landed h going =
       moved (staged Writing w) (at_step w.folder Idle) (write_piece w.folder.pieces (length (frames_of t.snapshot 1 w.parts)) landed w.disk) (w.parts ++ payload ∷ []) (sealed 1 t.snapshot (1 + w.folder.pieces) payload ∷ w.texts) h going (λ k below. refl) refl (λ u. u.stage.0)
 
-  is_piece : (f : Folder) (len : ℕ) → piece_fault f len ≡ None → (f.ended ≡ false) × (is_writing f.step ≡ true) × (len < 2 ^ 24)
-  is_piece f len e =
-      let behind = (TooLong, nat_le (2 ^ 24) len) ∷ (Full, nat_le (2 ^ 62) (f.pieces + 1)) ∷ [] in
-      let r = ready f ((NotWriting, not (is_writing f.step)) ∷ behind) e in
-      let one = first_none NotWriting (not (is_writing f.step)) behind r.rest in
-      let two = first_none TooLong (nat_le (2 ^ 24) len) ((Full, nat_le (2 ^ 62) (f.pieces + 1)) ∷ []) one.1 in
-      (r.going, not_false (is_writing f.step) one.0, leb-false (2 ^ 24) len two.0)
-
-  is_answer : (f : Folder) (ok : Bool) → answer_fault f ok ≡ None → (f.ended ≡ false) × (f.oldest + gap_of f.step ≤ f.newest + 1) × ((ok && is_writing f.step) ≡ false)
-  is_answer f ok e =
-      let last = (NoMark, ok && is_writing f.step) ∷ [] in
-      let flies = (Flying, ok && is_naming f.step && nat_lt 0 f.flying) ∷ last in
-      let r = ready f ((NothingDue, is_idle f.step) ∷ flies) e in
-      let one = first_none NothingDue (is_idle f.step) flies r.rest in
-      let two = first_none Flying (ok && is_naming f.step && nat_lt 0 f.flying) last one.1 in
-      (r.going, in_order f r.fit, (first_none NoMark (ok && is_writing f.step) [] two.1).0)
-
-  is_begin : (f : Folder) → begin_fault f ≡ None → (f.ended ≡ false) × (is_idle f.step ≡ true)
-  is_begin f e =
-      let full = (Full, nat_le (2 ^ 62) (f.newest + 1)) ∷ [] in
-      let r = ready f ((Busy, not (is_idle f.step)) ∷ full) e in
-      (r.going, not_false (is_idle f.step) (first_none Busy (not (is_idle f.step)) full r.rest).0)
-
   pieces : (step : Step) (ok : Bool) (w : World) (payload landed : List ℕ) → IsSound (staged step w) → piece_fault (staged step w).folder (length payload) ≡ None → (length payload ≡ 0 → list_any has w.noted ≡ true → list_any has w.parts ≡ true) → IsSound (after_piece t (staged step w) payload ok landed)
   pieces Writing true w payload landed h e knows = let r = is_piece (staged Writing w).folder (length payload) e in pieces_on w payload h r.0 r.2 knows
   pieces Writing false w payload landed h e knows = let r = is_piece (staged Writing w).folder (length payload) e in pieces_fail w payload landed h r.0
@@ -732,16 +758,6 @@ module _ (has : List ℕ → Bool) (t : Titles) where
   remembers_none acknowledged flying memory payload remembers a =
       any_left memory (payload ∷ []) (remembers (any_left acknowledged flying (ap (list_any has) (sym (append-nil acknowledged)) ∙ a)))
 
-  is_put : (f : Folder) (len : ℕ) → put_fault f len ≡ None → (f.ended ≡ false) × (is_starting f.step ≡ false) × (len < 2 ^ 24)
-  is_put f len e =
-      let full = (Full, nat_le (2 ^ 62) (f.count + 1)) ∷ (Full, nat_le (2 ^ 62) (f.end + 2 ^ 25)) ∷ [] in
-      let long = (TooLong, nat_le (2 ^ 24) len) ∷ full in
-      let flies = (Flying, nat_lt 0 f.flying) ∷ long in
-      let r = ready f ((NotGrowing, is_starting f.step) ∷ flies) e in
-      let one = first_none NotGrowing (is_starting f.step) flies r.rest in
-      let two = first_none Flying (nat_lt 0 f.flying) long one.1 in
-      (r.going, one.0, leb-false (2 ^ 24) len (first_none TooLong (nat_le (2 ^ 24) len) full two.1).0)
-
   puts : (ok : Bool) (w : World) (payload landed : List ℕ) → IsSound w → put_fault w.folder (length payload) ≡ None → IsSound (after_put t w payload ok landed)
   puts true w payload landed h e =
       let p = is_put w.folder (length payload) e in
@@ -798,16 +814,16 @@ module _ (has : List ℕ → Bool) (t : Titles) where
   grows : (w : World) (at : ℕ) (landed : List ℕ) → IsSound w → grow_fault w.folder ≡ None → length (frames_of (t.journal w.folder.newest) 1 (w.log ++ w.flying)) ≤ at → IsSound (after_grow w at landed)
   grows w at landed h e behind =
       let f = w.folder in
-      let r = ready f ((NotGrowing, is_starting f.step) ∷ []) e in
-      let up = (first_none NotGrowing (is_starting f.step) [] r.rest).0 in
-      let u = h.up r.going in
+      let r = is_grow f e in
+      let up = r.1 in
+      let u = h.up r.0 in
       let g = growing f.step w up u.stage in
       let title = t.journal w.home in
       let file = (w.disk.journals w.home).file in
       let back = frames_of title (1 + length w.log) w.flying in
       let far : length (frames_of title 1 (w.log ++ w.flying)) ≤ at = subst (λ (n : ℕ). length (frames_of (t.journal n) 1 (w.log ++ w.flying)) ≤ at) (sym g.is) behind in
       let less : length (frames_of title 1 w.log) ≤ at = omega (arith, far, ap length (frames_of-append title 1 w.log w.flying), length-append (frames_of title 1 w.log) back) in
-      rewritten w f.count f.end f.flying (written at landed) w.log w.flying w.acknowledged w.memory w.texts h r.going up
+      rewritten w f.count f.end f.flying (written at landed) w.log w.flying w.acknowledged w.memory w.texts h r.0 up
       (record {
         each = h.stands.each;
         kept = Front-cut title w.log file.kept at less h.stands.kept;
@@ -845,17 +861,6 @@ module _ (has : List ℕ → Bool) (t : Titles) where
   one_flies title number flies [] long one some = absurd (true≢false (sym (eq-eqb flies 0 long) ∙ some))
   one_flies title number flies (p ∷ []) long one some = refl
   one_flies title number flies (p ∷ q ∷ ps) long one some = absurd (omega (arith, one))
-
-  is_landed : (f : Folder) → landed_fault f ≡ None → (f.ended ≡ false) × (is_starting f.step ≡ false) × ((f.flying == 0) ≡ false)
-  is_landed f e =
-      let r = ready f ((NotFlying, f.flying == 0) ∷ []) e in
-      let some = (first_none NotFlying (f.flying == 0) [] r.rest).0 in
-      (r.going, grows_still (f.flying == 0) (is_starting f.step) some (last_fits f r.fit), some)
-    where
-      grows_still : (none starting : Bool) → none ≡ false → (none || not starting) ≡ true → starting ≡ false
-      grows_still true starting some fit = absurd (true≢false some)
-      grows_still false true some fit = absurd (false≢true fit)
-      grows_still false false some fit = refl
 
   syncs : (ok : Bool) (w : World) → IsSound w → landed_fault w.folder ≡ None → IsSound (after_sync w ok)
   syncs true w h e =
@@ -1017,6 +1022,11 @@ module _ (has : List ℕ → Bool) (t : Titles) where
           remembers = λ a. absurd (false≢true a);
         };
       }
+
+  -- of the journal that grew last, what was acknowledged is left in front
+  pub home_left : (w : World) → IsSound w → (o : Outcome) → IsLeft w.disk o → AllByRecursion IsPayload w.log × Front (t.journal w.home) w.log (o.bytes w.home)
+  home_left w h o (inl left) = (h.stands.each, Front-left (t.journal w.home) w.log (w.disk.journals w.home).file (o.bytes w.home) (left.journals w.home) h.stands.kept)
+  home_left w h o (inr is) = (h.stands.each, subst (λ (x : Outcome). Front (t.journal w.home) w.log (x.bytes w.home)) (sym is) h.stands.seen)
 
   sound_read : (w : World) → IsSound w → list_any has w.acknowledged ≡ true → (o : Outcome) → IsLeft w.disk o → IsRead has t o
   sound_read w h a o (inl left) = held_read w.disk w.home w.log o left h.stands (h.held a)

@@ -3,3 +3,4 @@ pub mod FramesLemmas
 pub mod ReadingLemmas
 pub mod CrashLemmas
 pub mod HistoryLemmas
+pub mod PromisesLemmas

@@ -8,6 +8,9 @@ use Rattle.svid_journal.specs.declared.call.Call.TheVariants.{Nothing, CreateJou
 use Rattle.svid_journal.specs.declared.fault.Fault.{Fault}
 use Rattle.svid_journal.specs.declared.fault.Fault.TheVariants.{NotGrowing}
 use Rattle.svid_journal.specs.declared.folder.Folder.{Folder}
+use Rattle.svid_journal.specs.declared.title.File.TheVariants.{Journal, Snapshot}
+use Rattle.svid_journal.specs.declared.title.Title.{Title}
+use Rattle.svid_journal.specs.Titles.{bytes_of}
 use Rattle.svid_journal.specs.Frames.{sealed, frame_of, frames_of, IsPayload, IsReading}
 use Rattle.svid_journal.specs.Folder.{ready_rows, first_row, is_starting, begin_fault, answer_fault, put_fault, landed_fault, piece_fault, open_fault, opened, begun, answered, given_up, due_at, flown, landed, lost, ended, pieced}
 use Rattle.svid_journal.specs.Disk.{Disk, Outcome, IsOutcome, as_seen, IsLeft, empty_file, settled, create_journal, write_journal, sync_journal, remove_journal, write_piece, sync_beside, rename_beside, sync_folder, after_crash}
@@ -16,6 +19,10 @@ use Rattle.svid_journal.specs.Disk.{Disk, Outcome, IsOutcome, as_seen, IsLeft, e
 pub record Titles : Type 0 where
   pub journal : ℕ → List ℕ
   pub snapshot : List ℕ
+
+-- those that the program gives them
+abbrev pub titles_of : List ℕ → Titles
+titles_of folder = record { journal = λ k. bytes_of (record { file = Journal k; folder = folder }); snapshot = bytes_of (record { file = Snapshot; folder = folder }) }
 
 pub record World : Type 0 where
   pub folder : Folder

@@ -1,9 +1,95 @@
 -- What a state folder promises, over every history.
-use Rattle.std.specs.Prelude.{◌≡◌, ℕ, Bool, true, List}
-use Rattle.std.specs.List.{list_any}
+use Rattle.std.specs.Prelude.{◌≡◌, ◌≢◌, ◌⊎◌, ℕ, ◌+◌, ◌^◌, ◌<◌, ◌≤◌, Bool, true, false, List, [], ◌∷◌, ◌++◌, length, take, drop, replicate}
+use Rattle.std.specs.List.{AllByRecursion, list_any}
+use Rattle.svid_journal.specs.declared.folder.Folder.{Folder}
+use Rattle.svid_journal.specs.declared.step.Step.TheVariants.{Idle}
+use Rattle.svid_journal.specs.Frames.{tag_of, sealed, filler, frame_of, frames_of, IsPayload, IsReading}
+use Rattle.svid_journal.specs.Reading.{HasLater}
 use Rattle.svid_journal.specs.Disk.{Outcome, IsLeft}
-use Rattle.svid_journal.specs.History.{Titles, World, Event, history, fresh, IsRead, AreAllowed}
+use Rattle.svid_journal.specs.History.{Titles, titles_of, World, Event, history, fresh, IsRead, AreAllowed}
+use Rattle.svid_journal.specs.History.Event.{Begin, Answer, Piece, Put, Grow, Sync, Crash, Start}
 
 -- A use that was acknowledged is read at the next start, whenever that is, after a crash or without one.
 abbrev pub AcknowledgedIsRead : Type 0
 AcknowledgedIsRead = (has : List ℕ → Bool) (t : Titles) (events : List Event) → AreAllowed has t events fresh → list_any has (history t events fresh).acknowledged ≡ true → (o : Outcome) → IsLeft (history t events fresh).disk o → IsRead has t o
+
+-- Nothing else is read.
+
+-- one of the texts is this one
+abbrev pub Among : List (List ℕ) → List ℕ → Type 0
+Among [] text = ⊥
+Among (t ∷ texts) text = (t ≡ text) ⊎ Among texts text
+
+-- a text of a file with another title
+abbrev pub IsOfAnother : List ℕ → List ℕ → Type 0
+IsOfAnother title text = take 31 (drop 1 text) ≢ title
+
+-- where a head could stand there is too little for one, or filler, or zeros, as in a page that was never written, or the tag of one of
+-- these texts
+abbrev pub IsAsWritten : List (List ℕ) → List ℕ → Type 0
+IsAsWritten texts bytes = (length bytes < 32) ⊎ ((take 32 bytes ≡ filler 32) ⊎ ((take 32 bytes ≡ replicate 32 0) ⊎ ((text : List ℕ) × Among texts text × (take 20 bytes ≡ tag_of text))))
+
+-- so it is wherever a reader of the file looks for a head
+abbrev pub MakesUpNoTag : List (List ℕ) → List ℕ → List ℕ → Type 0
+MakesUpNoTag texts title bytes = (payloads : List (List ℕ)) (rest : List ℕ) → AllByRecursion IsPayload payloads → bytes ≡ frames_of title 1 payloads ++ rest → IsAsWritten texts rest
+
+-- another one of these texts has the tag of the frame
+pub record IsClash (texts : List (List ℕ)) (title : List ℕ) (number : ℕ) (payload : List ℕ) : Type 0 where
+  pub text : List ℕ
+  pub written : Among texts text
+  pub differs : sealed 1 title number payload ≢ text
+  pub one_tag : tag_of (sealed 1 title number payload) ≡ tag_of text
+
+-- each payload was appended to this file, at its place, or two texts have one tag
+abbrev pub EachAppended : List (List ℕ) → List (List ℕ) → List ℕ → ℕ → List (List ℕ) → Type 0
+EachAppended texts others title number [] = Unit {0}
+EachAppended texts others title number (p ∷ payloads) = (Among texts (sealed 1 title number p) ⊎ IsClash (others ++ texts) title number p) × EachAppended texts others title (number + 1) payloads
+
+-- Of a file in which a disk shows no tag but of texts that this program sealed, and of others with other titles, only what this program
+-- appended to it is read.
+abbrev pub OnlyAppended : World → List ℕ → List ℕ → Type 0
+OnlyAppended w title bytes =
+    (others : List (List ℕ)) → AllByRecursion (IsOfAnother title) others → MakesUpNoTag (others ++ w.texts) title bytes → (payloads : List (List ℕ)) (rest : List ℕ) → IsReading title bytes payloads rest → EachAppended w.texts others title 1 payloads
+
+abbrev pub NothingElseIsRead : Type 0
+NothingElseIsRead =
+    (folder : List ℕ) → length folder ≡ 16 → (events : List Event) (bytes : List ℕ)
+    → ((k : ℕ) → OnlyAppended (history (titles_of folder) events fresh) ((titles_of folder).journal k) bytes) × OnlyAppended (history (titles_of folder) events fresh) (titles_of folder).snapshot bytes
+
+-- Of the journal that grew last, whatever is left: where the bytes of an acknowledged frame that another acknowledged one stands behind were
+-- changed, reading stops there, and finds a later frame; or a frame of its number stands there.
+abbrev pub DamageIsSeen : Type 0
+DamageIsSeen =
+    (has : List ℕ → Bool) (t : Titles) (events : List Event) → AreAllowed has t events fresh → (o : Outcome) → IsLeft (history t events fresh).disk o
+    → (before after : List (List ℕ)) (lost next broken : List ℕ) → (history t events fresh).log ≡ before ++ lost ∷ next ∷ after → 2 + length before < 2 ^ 64
+    → let title = t.journal (history t events fresh).home in
+    length broken ≡ length (frame_of title (1 + length before) lost)
+    → let back = drop (length (frames_of title 1 before) + length broken) (o.bytes (history t events fresh).home) in
+    (payloads : List (List ℕ)) (rest : List ℕ) → IsReading title (frames_of title 1 before ++ (broken ++ back)) payloads rest
+    → ((payloads ≡ before) × HasLater title (1 + length before) rest) ⊎ ((payload behind : List ℕ) × IsPayload payload × (broken ++ back ≡ frame_of title (1 + length before) payload ++ behind))
+
+-- Once a sync failed, nothing is acknowledged until the next start.
+
+abbrev pub IsNoStart : Event → Type 0
+IsNoStart Begin = Unit {0}
+IsNoStart (Answer ok) = Unit {0}
+IsNoStart (Piece payload ok landed) = Unit {0}
+IsNoStart (Put payload ok landed) = Unit {0}
+IsNoStart (Grow place landed) = Unit {0}
+IsNoStart (Sync ok) = Unit {0}
+IsNoStart (Crash left) = Unit {0}
+IsNoStart (Start oldest newest read) = ⊥
+
+abbrev pub EndedAcknowledgesNothing : Type 0
+EndedAcknowledgesNothing = (t : Titles) (events : List Event) (w : World) → w.folder.ended ≡ true → AllByRecursion IsNoStart events → (history t events w).acknowledged ≡ w.acknowledged
+
+-- The premises can be met: a payload is appended and acknowledged, and a new journal and a snapshot that has it take the place of the old
+-- journal.
+abbrev pub example : List Event
+example =
+    Put (7 ∷ []) true [] ∷ Sync true ∷ Begin ∷ Answer true ∷ Answer true ∷ Piece (7 ∷ []) true [] ∷ Piece [] true [] ∷ Answer true ∷ Answer true ∷ Answer true ∷ Answer true ∷ Answer true ∷ []
+
+abbrev pub ExampleIsAllowed : Type 0
+ExampleIsAllowed =
+    (has : List ℕ → Bool) (t : Titles) → AreAllowed has t example fresh × ((history t example fresh).acknowledged ≡ (7 ∷ []) ∷ [])
+    × ((history t example fresh).folder ≡ record { step = Idle; oldest = 2; newest = 2; ended = false; count = 0; end = 0; flying = 0; pieces = 2 })
