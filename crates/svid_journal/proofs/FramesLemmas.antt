@@ -1,5 +1,5 @@
 -- A frame is known by its bytes.
-use Rattle.std.proofs.Common.{◌≡◌, ◌≢◌, ℕ, zero, suc, ◌+◌, ◌-◌, ◌*◌, ◌/◌, ◌%◌, ◌^◌, ◌<◌, ◌≤◌, List, [], ◌∷◌, ◌++◌, length, take, drop, replicate, refl, sym, ◌∙◌, ap, subst, arith, append_assoc, length-append, length-drop}
+use Rattle.std.proofs.Common.{◌≡◌, ◌≢◌, ℕ, ◌+◌, ◌-◌, ◌*◌, ◌/◌, ◌%◌, ◌^◌, ◌<◌, List, [], ◌∷◌, ◌++◌, length, take, drop, replicate, refl, sym, ◌∙◌, ap, arith, append_assoc, length-append}
 use Rattle.std.specs.List.{AllByRecursion}
 use Rattle.std.specs.Int.{to_be_bytes, from_be_bytes, w32, w64}
 use Rattle.std.proofs.lemmas.List.{take_at, take_all, drop_at, length-take, length-replicate, append-nil, take-append-drop}
@@ -7,7 +7,7 @@ use Rattle.std.proofs.lemmas.Nat.{from_be_bytes-to_be_bytes_4, from_be_bytes-to_
 use Rattle.sha2.specs.Sha256.{sha256}
 use Rattle.sha2.proofs.Facts256.{length-sha256}
 use Rattle.svid_journal.specs.Frames.{tag_of, numbers_of, sealed, head_of, gap, filler, frame_len, frame_in, frame_of, frames_of, IsFormat, IsPayload, BeginsWithNone}
-use Rattle.svid_journal.proofs.Lists.{same_parts, same_heads}
+use Rattle.svid_journal.proofs.Lists.{same_parts}
 
 pub length-tag_of : (text : List ℕ) → length (tag_of text) ≡ 20
 unfolding tag_of

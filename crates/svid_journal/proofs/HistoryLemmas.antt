@@ -3,7 +3,7 @@ use Rattle.std.proofs.Common.{◌≡◌, ◌⊎◌, inl, inr, ⊎_elim, ℕ, ◌
 use Rattle.std.specs.Prelude.{◌==◌, ◌&&◌, ◌||◌, MatchBool, not, nat_lt, nat_le}
 use Rattle.std.specs.List.{AllByRecursion, list_any}
 use Rattle.std.proofs.Math.Seq.{take-add}
-use Rattle.std.proofs.lemmas.Bool.{cond_both, cond-false, leb-true, leb-false, ltb-true, ltb-false, false≢true, true≢false, eq-eqb, eqb-true, ne_eqb, or_left, or_right, or_cases}
+use Rattle.std.proofs.lemmas.Bool.{cond_both, cond-false, leb-true, leb-false, false≢true, true≢false, eq-eqb, eqb-true, ne_eqb, or_left, or_right, or_cases}
 use Rattle.std.proofs.lemmas.List.{take_at, drop_at, drop_all, append-nil}
 use Rattle.std.proofs.lemmas.List.Folds.{list_any-append}
 use Rattle.svid_journal.specs.declared.step.Step.{Step}
@@ -12,12 +12,12 @@ use Rattle.svid_journal.specs.declared.fault.Fault.{Fault}
 use Rattle.svid_journal.specs.declared.fault.Fault.TheVariants.{Unfit, Ended, NotGrowing, Busy, NothingDue, Flying, NotFlying, NotWriting, NoMark, TooLong, Full}
 use Rattle.svid_journal.specs.declared.folder.Folder.{Folder}
 use Rattle.svid_journal.specs.Frames.{sealed, frame_of, frames_of, frame_len, IsPayload}
-use Rattle.svid_journal.specs.Folder.{Row, first_row, ready_rows, is_fit, is_starting, is_idle, is_naming, is_writing, gap_of, begin_fault, answer_fault, put_fault, landed_fault, piece_fault, open_fault, opened, begun, at_step, grown, removed, answered, given_up, due_at, flown, landed, lost, ended, pieced}
+use Rattle.svid_journal.specs.Folder.{Row, first_row, ready_rows, is_fit, is_starting, is_idle, is_naming, is_writing, gap_of, begin_fault, answer_fault, put_fault, landed_fault, piece_fault, opened, begun, at_step, grown, landed, ended, pieced}
 use Rattle.svid_journal.specs.Disk.{File, empty_file, written, forced, MayLeave, Name, settled, leads, is_sure, named, Journal, Disk, put, create_journal, on_file, write_journal, sync_journal, remove_journal, write_piece, sync_beside, rename_beside, sync_folder, Outcome, IsOneOf, MayLeaveFile, IsOutcome, at_rest, option_at_rest, after_crash, option_seen, as_seen, IsLeft}
-use Rattle.svid_journal.specs.History.{Titles, World, Event, called, after_answer, after_piece, after_put, after_grow, after_sync, after_end, unless, grow_fault, happens, history, fresh, IsAllowed, AreAllowed, IsReadIn, IsRead}
+use Rattle.svid_journal.specs.History.{Titles, World, Event, after_answer, after_piece, after_put, after_grow, after_sync, after_end, unless, grow_fault, happens, history, fresh, IsAllowed, AreAllowed, IsReadIn, IsRead}
 use Rattle.svid_journal.specs.History.Event.{Begin, Answer, Piece, Put, Grow, Sync, Crash, Start}
 use Rattle.svid_journal.specs.Promises.{AcknowledgedIsRead}
-use Rattle.svid_journal.proofs.FramesLemmas.{frames_of-push, frames_of-append, frame_len-is, longer}
+use Rattle.svid_journal.proofs.FramesLemmas.{frames_of-push, frames_of-append, frame_len-is}
 use Rattle.svid_journal.proofs.CrashLemmas.{on_behind}
 
 -- Lists.
@@ -601,24 +601,31 @@ module _ (has : List ℕ → Bool) (t : Titles) where
       let parts = w.parts ++ payload ∷ [] in
       moved (staged Writing w) (pieced (at_step w.folder Writing) (length payload)) e parts (sealed 1 t.snapshot (1 + pieces) payload ∷ w.texts) h going (λ k below. refl) refl
       (λ u.
-        let p = u.stage.2 in
-        let each = each_append w.parts (payload ∷ []) p.each (bears, tt) in
-        let seen : e.beside.seen ≡ frames_of t.snapshot 1 parts =
-        ap (λ (n : ℕ). (written at (frame_of t.snapshot (1 + n) payload) (beside_of pieces d.beside)).seen) p.many ∙ more_seen (beside_of pieces d.beside) w.parts payload p.seen in
-        cond_both (length payload == 0) Ending Writing (λ (step : Step). StepFact step (moved_to (staged Writing w) (pieced (at_step w.folder Writing) (length payload)) e parts (sealed 1 t.snapshot (1 + pieces) payload ∷ w.texts)))
-        (λ is. (u.stage.0, record {
+      let p = u.stage.2 in
+      let each = each_append w.parts (payload ∷ []) p.each (bears, tt) in
+      let seen : e.beside.seen ≡ frames_of t.snapshot 1 parts =
+      ap (λ (n : ℕ). (written at (frame_of t.snapshot (1 + n) payload) (beside_of pieces d.beside)).seen) p.many ∙ more_seen (beside_of pieces d.beside) w.parts payload p.seen in
+      cond_both (length payload == 0) Ending Writing (λ (step : Step). StepFact step (moved_to (staged Writing w) (pieced (at_step w.folder Writing) (length payload)) e parts (sealed 1 t.snapshot (1 + pieces) payload ∷ w.texts)))
+      (λ is. (
+        u.stage.0,
+        record {
           payloads = parts;
           each = each;
           unspoiled = p.unspoiled;
           seen = seen;
           due = λ been. ⊎_elim (λ noted_it. inl (any_left w.parts (payload ∷ []) (knows (eqb-true (length payload) 0 is) noted_it))) (λ logged. inr logged) (u.stage.1 been);
-        }))
-        (λ is. (u.stage.0, u.stage.1, record {
+        },
+      ))
+      (λ is. (
+        u.stage.0,
+        u.stage.1,
+        record {
           many = omega (arith, p.many, length-append w.parts (payload ∷ []));
           each = each;
           unspoiled = ap (λ (f : File). f.spoiled) (cond-false (pieces + 1 == 0) empty_file e.beside (not_none pieces)) ∙ p.unspoiled;
           seen = ap (λ (f : File). f.seen) (cond-false (pieces + 1 == 0) empty_file e.beside (not_none pieces)) ∙ seen;
-        })))
+        },
+      )))
 
   pieces_fail : (w : World) (payload landed : List ℕ) → IsSound (staged Writing w) → w.folder.ended ≡ false → IsSound (after_piece t (staged Writing w) payload false landed)
   pieces_fail w payload landed h going =
@@ -692,9 +699,9 @@ module _ (has : List ℕ → Bool) (t : Titles) where
   stage_on_file Ending w count end flies f log flying acknowledged memory texts grows g due h = (g, record { payloads = h.1.payloads; each = h.1.each; unspoiled = h.1.unspoiled; seen = h.1.seen; due = due h.1.payloads h.1.due })
   stage_on_file Syncing w count end flies f log flying acknowledged memory texts grows g due h = (g, record { payloads = h.1.payloads; each = h.1.each; unspoiled = h.1.unspoiled; seen = h.1.seen; due = due h.1.payloads h.1.due })
   stage_on_file Renaming w count end flies f log flying acknowledged memory texts grows g due h = (g, record { payloads = h.1.payloads; each = h.1.each; whole = h.1.whole; kept = h.1.kept; seen = h.1.seen; due = due h.1.payloads h.1.due })
-  stage_on_file Publishing w count end flies f log flying acknowledged memory texts grows g due h = 
+  stage_on_file Publishing w count end flies f log flying acknowledged memory texts grows g due h =
       let s = h.1.synced in (g, record { file = h.1.file; now = h.1.now; free = h.1.free; synced = record { payloads = s.payloads; each = s.each; whole = s.whole; kept = s.kept; seen = s.seen; due = due s.payloads s.due } })
-  stage_on_file Removing w count end flies f log flying acknowledged memory texts grows g due h = 
+  stage_on_file Removing w count end flies f log flying acknowledged memory texts grows g due h =
       let s = h.1.synced in (g, record { file = h.1.file; only = h.1.only; synced = record { payloads = s.payloads; each = s.each; whole = s.whole; kept = s.kept; seen = s.seen; due = due s.payloads s.due } })
 
   -- what is asked of the new file and the new numbers
@@ -728,7 +735,7 @@ module _ (has : List ℕ → Bool) (t : Titles) where
           flies = r.flies_each;
           seen = subst (λ (j : Journal). Front (t.journal w.home) (log ++ flying) j.file.seen) (sym there) r.seen;
           stage = stage_on_file w.folder.step w count end flies f log flying acknowledged memory texts grows
-            (subst (λ (j : Journal). IsGrowing newest count end flies w.home j log flying) (sym there) (record { is = is; unspoiled = r.unspoiled; many = r.many; far = r.far; long = r.long; one = r.one })) r.due u.stage;
+              (subst (λ (j : Journal). IsGrowing newest count end flies w.home j log flying) (sym there) (record { is = is; unspoiled = r.unspoiled; many = r.many; far = r.far; long = r.long; one = r.one })) r.due u.stage;
           remembers = r.remembers;
         };
       }

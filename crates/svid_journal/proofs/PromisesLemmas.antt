@@ -1,23 +1,21 @@
 -- What else holds over every history.
-use Rattle.std.proofs.Common.{◌≡◌, ◌≢◌, ◌⊎◌, inl, inr, ⊎_elim, ℕ, ◌+◌, ◌-◌, ◌^◌, ◌<◌, ◌≤◌, Bool, true, false, List, [], ◌∷◌, ◌++◌, length, take, drop, replicate, refl, sym, ◌∙◌, ap, subst, arith, append_assoc, length-append, Option, Some, None}
+use Rattle.std.proofs.Common.{◌≡◌, ◌≢◌, ◌⊎◌, inl, inr, ℕ, ◌+◌, Bool, true, false, List, [], ◌∷◌, ◌++◌, length, take, drop, refl, sym, ◌∙◌, ap, subst, arith, append_assoc, length-append, Option, Some, None}
 use Rattle.std.specs.List.{AllByRecursion}
 use Rattle.std.specs.Str.{bytes_eq}
 use Rattle.std.proofs.lemmas.Bool.{cases_Bool, false≢true, true≢false}
-use Rattle.std.proofs.lemmas.List.{take_at, drop_at, append-nil}
+use Rattle.std.proofs.lemmas.List.{take_at, drop_at}
 use Rattle.std.proofs.lemmas.Slice.Eq.{bytes_eq-Decides}
 use Rattle.svid_journal.specs.declared.fault.Fault.{Fault}
-use Rattle.svid_journal.specs.declared.folder.Folder.{Folder}
 use Rattle.svid_journal.specs.Titles.{bytes_of}
-use Rattle.svid_journal.specs.Frames.{tag_of, numbers_of, gap, sealed, filler, frame_of, frames_of, IsPayload, IsReading}
+use Rattle.svid_journal.specs.Frames.{tag_of, numbers_of, gap, sealed, frame_of, frames_of, IsPayload, IsReading}
 use Rattle.svid_journal.specs.Reading.{HasLater}
-use Rattle.svid_journal.specs.Folder.{begun, begin_fault, answer_fault, put_fault, landed_fault, piece_fault, ended, opened}
-use Rattle.svid_journal.specs.Disk.{Outcome, IsOutcome, IsLeft, after_crash}
+use Rattle.svid_journal.specs.Folder.{begun, begin_fault, answer_fault, put_fault, landed_fault, piece_fault}
 use Rattle.svid_journal.specs.History.{Titles, titles_of, World, Event, after_answer, after_piece, after_put, after_grow, after_sync, unless, grow_fault, happens, history, fresh, IsAllowed, AreAllowed}
 use Rattle.svid_journal.specs.History.Event.{Begin, Answer, Piece, Put, Grow, Sync, Crash, Start}
 use Rattle.svid_journal.specs.Promises.{Among, IsOfAnother, IsAsWritten, MakesUpNoTag, IsClash, EachAppended, OnlyAppended, NothingElseIsRead, DamageIsSeen, IsNoStart, EndedAcknowledgesNothing, example, ExampleIsAllowed}
 use Rattle.svid_journal.proofs.FramesLemmas.{length-frame_in, is_head, head_front, filler_is_no_head, zeros_are_no_head, frames_of-append, frames_of-push, each_push}
 use Rattle.svid_journal.proofs.CrashLemmas.{damage_seen}
-use Rattle.svid_journal.proofs.HistoryLemmas.{Front, IsSound, Stands, is_begin, is_answer, is_piece, is_put, is_grow, is_landed, always, at_first, home_left}
+use Rattle.svid_journal.proofs.HistoryLemmas.{Front, is_begin, is_answer, is_piece, is_put, is_grow, is_landed, always, at_first, home_left}
 
 -- Nothing else is read.
 
@@ -154,26 +152,37 @@ one = 7 ∷ []
 -- the worlds of the example, from its end
 abbrev w1 : Titles → World
 w1 t = after_put t fresh one true []
+
 abbrev w2 : Titles → World
 w2 t = after_sync (w1 t) true
+
 abbrev w3 : Titles → World
 w3 t = let w = w2 t in record { folder = begun w.folder; disk = w.disk; home = w.home; log = w.log; flying = w.flying; parts = w.parts; acknowledged = w.acknowledged; memory = w.memory; noted = w.noted; texts = w.texts }
+
 abbrev w4 : Titles → World
 w4 t = after_answer (w3 t) true
+
 abbrev w5 : Titles → World
 w5 t = after_answer (w4 t) true
+
 abbrev w6 : Titles → World
 w6 t = after_piece t (w5 t) one true []
+
 abbrev w7 : Titles → World
 w7 t = after_piece t (w6 t) [] true []
+
 abbrev w8 : Titles → World
 w8 t = after_answer (w7 t) true
+
 abbrev w9 : Titles → World
 w9 t = after_answer (w8 t) true
+
 abbrev w10 : Titles → World
 w10 t = after_answer (w9 t) true
+
 abbrev w11 : Titles → World
 w11 t = after_answer (w10 t) true
+
 abbrev w12 : Titles → World
 w12 t = after_answer (w11 t) true
 
@@ -230,17 +239,17 @@ example_ends t =
 pub example_is_allowed : ExampleIsAllowed
 example_is_allowed has t = (
   then has t (Put one true []) (drop 1 example) fresh (w1 t) tt (e1 t)
-  (then has t (Sync true) (drop 2 example) (w1 t) (w2 t) tt (e2 t)
-  (then has t Begin (drop 3 example) (w2 t) (w3 t) tt (e3 t)
-  (then has t (Answer true) (drop 4 example) (w3 t) (w4 t) tt (e4 t)
-  (then has t (Answer true) (drop 5 example) (w4 t) (w5 t) tt (e5 t)
-  (then has t (Piece one true []) (drop 6 example) (w5 t) (w6 t) (λ e. absurd (omega (arith, e))) (e6 t)
-  (then has t (Piece [] true []) (drop 7 example) (w6 t) (w7 t) (λ e h. h) (e7 t)
-  (then has t (Answer true) (drop 8 example) (w7 t) (w8 t) tt (e8 t)
-  (then has t (Answer true) (drop 9 example) (w8 t) (w9 t) tt (e9 t)
-  (then has t (Answer true) (drop 10 example) (w9 t) (w10 t) tt (e10 t)
-  (then has t (Answer true) (drop 11 example) (w10 t) (w11 t) tt (e11 t)
-  (then has t (Answer true) (drop 12 example) (w11 t) (w12 t) tt (e12 t) tt))))))))))),
+      (then has t (Sync true) (drop 2 example) (w1 t) (w2 t) tt (e2 t)
+      (then has t Begin (drop 3 example) (w2 t) (w3 t) tt (e3 t)
+      (then has t (Answer true) (drop 4 example) (w3 t) (w4 t) tt (e4 t)
+      (then has t (Answer true) (drop 5 example) (w4 t) (w5 t) tt (e5 t)
+      (then has t (Piece one true []) (drop 6 example) (w5 t) (w6 t) (λ e. absurd (omega (arith, e))) (e6 t)
+      (then has t (Piece [] true []) (drop 7 example) (w6 t) (w7 t) (λ e h. h) (e7 t)
+      (then has t (Answer true) (drop 8 example) (w7 t) (w8 t) tt (e8 t)
+      (then has t (Answer true) (drop 9 example) (w8 t) (w9 t) tt (e9 t)
+      (then has t (Answer true) (drop 10 example) (w9 t) (w10 t) tt (e10 t)
+      (then has t (Answer true) (drop 11 example) (w10 t) (w11 t) tt (e11 t)
+      (then has t (Answer true) (drop 12 example) (w11 t) (w12 t) tt (e12 t) tt))))))))))),
   ap (λ (w : World). w.acknowledged) (example_ends t),
   ap (λ (w : World). w.folder) (example_ends t),
 )

@@ -1,8 +1,7 @@
 -- What a reader has read.
-use Rattle.std.proofs.Common.{◌≡◌, ◌⊎◌, inl, inr, ◌≢◌, ℕ, zero, suc, ◌+◌, ◌*◌, ◌/◌, ◌^◌, ◌<◌, ◌≤◌, Bool, true, false, List, [], ◌∷◌, ◌++◌, length, take, drop, refl, sym, ◌∙◌, ap, subst, arith, append_assoc, length-append, length-drop}
+use Rattle.std.proofs.Common.{◌≡◌, inl, inr, ℕ, ◌+◌, ◌*◌, ◌/◌, ◌^◌, ◌<◌, ◌≤◌, List, [], ◌∷◌, ◌++◌, length, take, drop, refl, sym, ◌∙◌, ap, arith, append_assoc, length-append, length-drop}
 use Rattle.std.specs.Prelude.{◌==◌}
 use Rattle.std.specs.Int.{to_be_bytes, w32, w64}
-use Rattle.std.specs.List.{AllByRecursion}
 use Rattle.std.proofs.lemmas.Bool.{cases_lt}
 use Rattle.std.proofs.lemmas.List.{drop_at, take_at, length_push}
 use Rattle.svid_journal.specs.declared.title.Title.{Title}
@@ -11,8 +10,8 @@ use Rattle.svid_journal.specs.Titles.{bytes_of}
 use Rattle.svid_journal.specs.Frames.{tag_of, numbers_of, sealed, head_of, frame_in, frame_of, frames_of, IsPayload, BeginsWithNone, IsReading}
 use Rattle.svid_journal.specs.declared.reader.Next.{Next}
 use Rattle.svid_journal.specs.declared.reader.Next.TheVariants.{Payload, End, Tear, Damage, Newer, Unfit}
-use Rattle.svid_journal.specs.Reading.{BeginsLater, HasLater, IsNewer, HasNewer, IsFit, GoesOn, Stops, IsNext, HasRead, ReadsOn, ends_marked}
-use Rattle.svid_journal.proofs.FramesLemmas.{length-tag_of, length-frame_in, frame_len-is, is_head, stated_number, same_number, frames_of-push, one_more, each_push, longer}
+use Rattle.svid_journal.specs.Reading.{BeginsLater, HasNewer, IsFit, GoesOn, Stops, IsNext, HasRead, ReadsOn, ends_marked}
+use Rattle.svid_journal.proofs.FramesLemmas.{length-tag_of, length-frame_in, frame_len-is, is_head, stated_number, one_more, each_push, longer}
 
 -- a head tells its format
 pub head_code : (v : ℕ) (title : List ℕ) (number : ℕ) (payload stated : List ℕ) → stated ≡ head_of v title number payload → to_be_bytes w32 (v * 16777216 + length payload) ≡ drop 28 stated

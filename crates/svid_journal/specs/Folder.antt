@@ -7,6 +7,7 @@ use Rattle.svid_journal.specs.declared.call.Call.TheVariants.{Nothing, CreateJou
 use Rattle.svid_journal.specs.declared.fault.Fault.{Fault}
 use Rattle.svid_journal.specs.declared.fault.Fault.TheVariants.{Unfit, Ended, NotGrowing, Busy, NothingDue, Flying, NotFlying, NotWriting, NoMark, TooLong, Full, NoMemory}
 use Rattle.svid_journal.specs.declared.folder.Folder.{Folder}
+use Rattle.svid_journal.specs.declared.words.Words.{Words}
 use Rattle.svid_journal.specs.declared.title.File.TheVariants.{Journal, Snapshot}
 use Rattle.svid_journal.specs.declared.title.Title.{Title}
 use Rattle.svid_journal.specs.Frames.{frame_len}
@@ -82,6 +83,20 @@ gap_of Syncing = 2
 gap_of Renaming = 2
 gap_of Publishing = 2
 gap_of Removing = 2
+
+-- the number of a step
+abbrev pub step_number : Step → ℕ
+step_number Idle = 0
+step_number Starting = 1
+step_number Entering = 2
+step_number Creating = 3
+step_number Naming = 4
+step_number Writing = 5
+step_number Ending = 6
+step_number Syncing = 7
+step_number Renaming = 8
+step_number Publishing = 9
+step_number Removing = 10
 
 -- the call that is due
 abbrev pub due_at : Step → Folder → Call
@@ -239,3 +254,11 @@ journal_title f folder = record { file = Journal f.newest; folder = folder }
 
 abbrev pub snapshot_title : List ℕ → Title
 snapshot_title folder = record { file = Snapshot; folder = folder }
+
+-- the numbers of a folder as they are kept
+abbrev pub bool_number : Bool → ℕ
+bool_number false = 0
+bool_number true = 1
+
+abbrev pub words_of : Folder → Words
+words_of f = record { step = step_number f.step; oldest = f.oldest; newest = f.newest; ended = bool_number f.ended; count = f.count; end = f.end; flying = f.flying; pieces = f.pieces }

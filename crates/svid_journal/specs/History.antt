@@ -1,6 +1,6 @@
 -- What happens to a folder: appends, switches, failures, crashes and starts. The program's part is that of `Folder`, the disk's that of `Disk`.
-use Rattle.std.specs.Prelude.{◌≡◌, ◌⊎◌, ℕ, ◌+◌, ◌<◌, ◌≤◌, Bool, true, false, if◌then◌else◌, List, [], ◌∷◌, ◌++◌, length, Option, Some, None}
-use Rattle.std.specs.List.{AllByRecursion, list_any}
+use Rattle.std.specs.Prelude.{◌≡◌, ◌⊎◌, ℕ, ◌+◌, ◌≤◌, Bool, true, false, if◌then◌else◌, List, [], ◌∷◌, ◌++◌, length, Option, Some, None}
+use Rattle.std.specs.List.{list_any}
 use Rattle.svid_journal.specs.declared.step.Step.{Step}
 use Rattle.svid_journal.specs.declared.step.Step.TheVariants.{Idle, Starting, Entering, Creating, Naming, Writing, Ending, Syncing, Renaming, Publishing, Removing}
 use Rattle.svid_journal.specs.declared.call.Call.{Call}
@@ -9,11 +9,10 @@ use Rattle.svid_journal.specs.declared.fault.Fault.{Fault}
 use Rattle.svid_journal.specs.declared.fault.Fault.TheVariants.{NotGrowing}
 use Rattle.svid_journal.specs.declared.folder.Folder.{Folder}
 use Rattle.svid_journal.specs.declared.title.File.TheVariants.{Journal, Snapshot}
-use Rattle.svid_journal.specs.declared.title.Title.{Title}
 use Rattle.svid_journal.specs.Titles.{bytes_of}
-use Rattle.svid_journal.specs.Frames.{sealed, frame_of, frames_of, IsPayload, IsReading}
+use Rattle.svid_journal.specs.Frames.{sealed, frame_of, frames_of, IsReading}
 use Rattle.svid_journal.specs.Folder.{ready_rows, first_row, is_starting, begin_fault, answer_fault, put_fault, landed_fault, piece_fault, open_fault, opened, begun, answered, given_up, due_at, flown, landed, lost, ended, pieced}
-use Rattle.svid_journal.specs.Disk.{Disk, Outcome, IsOutcome, as_seen, IsLeft, empty_file, settled, create_journal, write_journal, sync_journal, remove_journal, write_piece, sync_beside, rename_beside, sync_folder, after_crash}
+use Rattle.svid_journal.specs.Disk.{Disk, Outcome, IsOutcome, as_seen, empty_file, settled, create_journal, write_journal, sync_journal, remove_journal, write_piece, sync_beside, rename_beside, sync_folder, after_crash}
 
 -- the titles of a folder's files
 pub record Titles : Type 0 where

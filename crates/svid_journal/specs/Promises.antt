@@ -1,7 +1,6 @@
 -- What a state folder promises, over every history.
-use Rattle.std.specs.Prelude.{◌≡◌, ◌≢◌, ◌⊎◌, ℕ, ◌+◌, ◌^◌, ◌<◌, ◌≤◌, Bool, true, false, List, [], ◌∷◌, ◌++◌, length, take, drop, replicate}
+use Rattle.std.specs.Prelude.{◌≡◌, ◌≢◌, ◌⊎◌, ℕ, ◌+◌, ◌^◌, ◌<◌, Bool, true, false, List, [], ◌∷◌, ◌++◌, length, take, drop, replicate}
 use Rattle.std.specs.List.{AllByRecursion, list_any}
-use Rattle.svid_journal.specs.declared.folder.Folder.{Folder}
 use Rattle.svid_journal.specs.declared.step.Step.TheVariants.{Idle}
 use Rattle.svid_journal.specs.Frames.{tag_of, sealed, filler, frame_of, frames_of, IsPayload, IsReading}
 use Rattle.svid_journal.specs.Reading.{HasLater}

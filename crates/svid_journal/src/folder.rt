@@ -288,11 +288,12 @@ impl Folder {
     /// Appends to `out` the frame of a payload, and tells at which place of the journal that grows it is to be written.
     ///
     /// An empty payload is a mark. The next frame is handed out once this one is synced: [`Folder::synced`], [`Folder::unwritten`] and
-    /// [`Folder::failed`] tell what became of it.
+    /// [`Folder::failed`] tell what became of it. On a fault nothing is appended.
     pub fn put(&mut self, out: &mut Vec<u8>, folder: [u8; 16], payload: &[u8]) -> Result<u64, Fault>
         ensures ok { IfOk result (λ at. (put_fault self.old (length payload.now) ≡ None) × (at ≡ self.old.end) × (self.new ≡ flown self.old (length payload.now))) }
         ensures frame { OnOk result (out.new.items ≡ out.old.items ++ frame_of (bytes_of (journal_title self.old folder)) (1 + self.old.count) payload.now) }
         ensures err { IfErr result (λ e. RefusedBy (put_fault self.old (length payload.now)) e × (self.new ≡ self.old)) }
+        ensures none { OnErr result (out.new.items ≡ out.old.items) }
     {
         if let Some(fault) = self.put_fault(payload.len()) {
             return Err(fault);
@@ -345,11 +346,17 @@ impl Folder {
     }
 
     /// Appends to `out` the frame of the next piece of a snapshot, which is to be written behind the ones before it. An empty payload is
-    /// the mark that ends the snapshot.
-    pub fn piece(&mut self, out: &mut Vec<u8>, folder: [u8; 16], payload: &[u8]) -> Result<(), Fault>
+    /// the mark that ends the snapshot. On a fault nothing is appended.
+    pub fn piece(
+        &mut self,
+        out: &mut Vec<u8>,
+        folder: [u8; 16],
+        payload: &[u8],
+    ) -> Result<(), Fault>
         ensures ok { OnOk result ((piece_fault self.old (length payload.now) ≡ None) × (self.new ≡ pieced self.old (length payload.now))) }
         ensures frame { OnOk result (out.new.items ≡ out.old.items ++ frame_of (bytes_of (snapshot_title folder)) (1 + self.old.pieces) payload.now) }
         ensures err { IfErr result (λ e. RefusedBy (piece_fault self.old (length payload.now)) e × (self.new ≡ self.old)) }
+        ensures none { OnErr result (out.new.items ≡ out.old.items) }
     {
         if let Some(fault) = self.piece_fault(payload.len()) {
             return Err(fault);

@@ -1,4 +1,4 @@
-ghost use Rattle.std.specs.Prelude.{◌≡◌, ◌≢◌, ◌+◌, ◌*◌, ◌/◌, ◌%◌, ◌<◌, ◌≤◌, ◌^◌, ◌++◌, [], ◌∷◌, List, ℕ, length, take, drop, MatchOption, IfSome, IfNone, OnOk};
+ghost use Rattle.std.specs.Prelude.{◌≡◌, ◌≢◌, ◌+◌, ◌*◌, ◌/◌, ◌%◌, ◌<◌, ◌≤◌, ◌^◌, ◌++◌, [], ◌∷◌, List, ℕ, length, take, drop, MatchOption, IfSome, IfNone, OnOk, OnErr, vec_len};
 ghost use Rattle.std.specs.Int.{to_be_bytes, w32, w64};
 ghost use Rattle.sha2.specs.Sha256.{sha256};
 ghost use Rattle.svid_journal.specs.Titles.{bytes_of};
@@ -90,6 +90,23 @@ fn filler(count: usize) -> &'static [u8]
 }
 
 // Appends the frame of a payload. Out of memory, it may have appended a front of it.
+fn push_parts(
+    out: &mut Vec<u8>,
+    title: &Title,
+    number: u64,
+    payload: &[u8],
+) -> Result<(), AllocError>
+    requires { IsPayload payload.now }
+    ensures ok { OnOk result (out.new.items ≡ out.old.items ++ frame_of (bytes_of title.now) number payload.now) }
+    ensures front { take (vec_len out.old) out.new.items ≡ out.old.items }
+{
+    out.extend_from_slice(&head(FORMAT, title, number, payload))?;
+    out.extend_from_slice(payload)?;
+    out.extend_from_slice(filler(gap(payload.len())))?;
+    Ok(())
+}
+
+// Appends the frame of a payload, or out of memory nothing.
 pub(crate) fn push_frame(
     out: &mut Vec<u8>,
     title: &Title,
@@ -97,12 +114,15 @@ pub(crate) fn push_frame(
     payload: &[u8],
 ) -> Result<(), AllocError>
     requires { IsPayload payload.now }
-    ensures { OnOk result (out.new.items ≡ out.old.items ++ frame_of (bytes_of title.now) number payload.now) }
+    ensures ok { OnOk result (out.new.items ≡ out.old.items ++ frame_of (bytes_of title.now) number payload.now) }
+    ensures err { OnErr result (out.new.items ≡ out.old.items) }
 {
-    out.extend_from_slice(&head(FORMAT, title, number, payload))?;
-    out.extend_from_slice(payload)?;
-    out.extend_from_slice(filler(gap(payload.len())))?;
-    Ok(())
+    let before = out.len();
+    let pushed = push_parts(out, title, number, payload);
+    if pushed.is_err() {
+        out.truncate(before);
+    }
+    pushed
 }
 
 pub(crate) fn split_head(bytes: &[u8]) -> Option<(&[u8], &[u8])>

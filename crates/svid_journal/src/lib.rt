@@ -9,6 +9,7 @@ pub mod laws;
 mod reader;
 mod step;
 mod title;
+mod words;
 
 pub use call::Call;
 pub use fault::Fault;
@@ -17,3 +18,7 @@ pub use frame::{FORMAT, MOST_PAYLOAD, frame_len};
 pub use reader::{Next, Reader};
 pub use step::Step;
 pub use title::{File, Title};
+pub use words::Words;
+
+#[cfg(test)]
+mod tests;

@@ -1,0 +1,127 @@
+use super::*;
+use std::test::*;
+
+const FOLDER: [u8; 16] = [7; 16];
+
+const JOURNAL: Title = Title {
+    file: File::Journal(3),
+    folder: FOLDER,
+};
+
+const SNAPSHOT: Title = Title {
+    file: File::Snapshot,
+    folder: FOLDER,
+};
+
+// By Python's hashlib: of journal 3, number 1 with the payload `hi`, and number 2, a mark.
+const FILE: [u8; 96] = [
+    13, 139, 96, 242, 198, 195, 198, 65, 119, 108, 28, 191, 100, 142, 167, 241, 209, 175, 72, 149,
+    0, 0, 0, 0, 0, 0, 0, 1, 1, 0, 0, 2, 104, 105, 255, 255, 255, 255, 255, 255, 255, 255, 255, 255,
+    255, 255, 255, 255, 255, 255, 255, 255, 255, 255, 255, 255, 255, 255, 255, 255, 255, 255, 255,
+    255, 211, 28, 58, 189, 147, 177, 154, 74, 11, 61, 227, 23, 242, 36, 122, 179, 83, 30, 95, 246,
+    0, 0, 0, 0, 0, 0, 0, 2, 1, 0, 0, 0,
+];
+
+// By Python's hashlib: the head of number 1 of journal 3 with the payload `hi`, in format 2.
+const NEWER: [u8; 32] = [
+    59, 243, 163, 178, 107, 78, 57, 69, 109, 100, 0, 155, 235, 197, 173, 35, 37, 148, 217, 5, 0, 0,
+    0, 0, 0, 0, 0, 1, 2, 0, 0, 2,
+];
+
+// Behind `count` payloads, what stands there.
+fn stop(title: &Title, file: &[u8], count: usize) -> (u64, Next<'static>) {
+    let mut reader = Reader::new();
+    for _ in 0..count {
+        reader.next(title, file);
+    }
+    match reader.next(title, file) {
+        Next::Payload(_) => (reader.at, Next::Payload(b"")),
+        Next::End => (reader.at, Next::End),
+        Next::Tear => (reader.at, Next::Tear),
+        Next::Damage => (reader.at, Next::Damage),
+        Next::Newer(format) => (reader.at, Next::Newer(format)),
+        Next::Unfit => (reader.at, Next::Unfit),
+    }
+}
+
+#[test]
+fn tells_what_stands_in_a_file(rt: HostRuntime) -> Result<(), Fail> {
+    let mut reader = Reader::new();
+    assert_eq!(rt; reader.next(&JOURNAL, &FILE), Next::Payload(b"hi"));
+    assert_eq!(rt; reader.next(&JOURNAL, &FILE), Next::Payload(b""));
+    assert_eq!(rt; reader.next(&JOURNAL, &FILE), Next::End);
+    assert_eq!(rt; stop(&JOURNAL, &FILE[..95], 1), (64, Next::Tear));
+    assert_eq!(rt; stop(&JOURNAL, &FILE[..63], 0), (0, Next::Tear));
+    assert_eq!(rt; stop(&JOURNAL, &[0; 64], 0), (0, Next::End));
+    assert_eq!(rt; stop(&SNAPSHOT, &FILE, 0), (0, Next::Damage));
+    let mut first = FILE;
+    first[33] = 0;
+    assert_eq!(rt; stop(&JOURNAL, &first, 0), (0, Next::Damage));
+    let mut last = FILE;
+    last[70] = 0;
+    assert_eq!(rt; stop(&JOURNAL, &last, 1), (64, Next::Tear));
+    let mut newer = FILE;
+    newer[..32].copy_from_slice(&NEWER);
+    assert_eq!(rt; stop(&JOURNAL, &newer, 0), (0, Next::Newer(2)));
+    Ok(())
+}
+
+#[test]
+fn hands_out_frames(rt: HostRuntime) -> Result<(), Fail> {
+    let mut folder = Folder::open(1, 2)?;
+    folder.answer(true)?;
+    folder.answer(true)?;
+    let mut file = Vec::new(rt.alloc());
+    assert_eq!(rt; folder.put(&mut file, FOLDER, b"hi")?, 0);
+    folder.synced()?;
+    assert_eq!(rt; folder.put(&mut file, FOLDER, b"")?, 64);
+    folder.synced()?;
+    assert_eq!(rt; file.as_slice(), FILE.as_slice());
+    Ok(())
+}
+
+#[test]
+fn makes_a_snapshot_and_removes_old_journals(rt: HostRuntime) -> Result<(), Fail> {
+    let mut folder = Folder::open(1, 2)?;
+    let mut calls = Vec::new(rt.alloc());
+    for _ in 0..2 {
+        calls.push(folder.due()?)?;
+        folder.answer(true)?;
+    }
+    folder.begin()?;
+    for _ in 0..2 {
+        calls.push(folder.due()?)?;
+        folder.answer(true)?;
+    }
+    calls.push(folder.due()?)?;
+    let mut out = Vec::new(rt.alloc());
+    folder.piece(&mut out, FOLDER, b"hi")?;
+    folder.piece(&mut out, FOLDER, b"")?;
+    folder.answer(true)?;
+    for _ in 0..6 {
+        calls.push(folder.due()?)?;
+        folder.answer(true)?;
+    }
+    calls.push(folder.due()?)?;
+    assert_eq!(rt;
+        calls.as_slice(),
+        [
+            Call::CreateJournal(3),
+            Call::SyncFolder,
+            Call::CreateJournal(4),
+            Call::SyncFolder,
+            Call::WriteSnapshot,
+            Call::SyncSnapshot,
+            Call::RenameSnapshot,
+            Call::SyncFolder,
+            Call::RemoveJournal(1),
+            Call::RemoveJournal(2),
+            Call::RemoveJournal(3),
+            Call::Nothing,
+        ]
+        .as_slice()
+    );
+    assert_eq!(rt; stop(&SNAPSHOT, out.as_slice(), 2), (96, Next::End));
+    assert_eq!(rt; Words::of(&folder).folder(), Some(folder));
+    Ok(())
+}
