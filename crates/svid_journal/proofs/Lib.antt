@@ -4,3 +4,4 @@ pub mod ReadingLemmas
 pub mod CrashLemmas
 pub mod HistoryLemmas
 pub mod PromisesLemmas
+pub mod TitlesLemmas

@@ -1,5 +1,6 @@
 //! What holds of a folder over every history, as contracts of functions without a body.
 
+ghost use Rattle.svid_journal.specs.Titles.{TitlesDiffer};
 ghost use Rattle.svid_journal.specs.Promises.{AcknowledgedIsRead, DamageIsSeen, EndedAcknowledgesNothing, ExampleIsAllowed, NothingElseIsRead};
 
 /// Over every history of appends, switches, failures, crashes and starts: a use that was acknowledged is read at the next start,
@@ -11,4 +12,9 @@ pub fn histories_keep()
     ensures damage { DamageIsSeen }
     ensures ended { EndedAcknowledgesNothing }
     ensures example { ExampleIsAllowed }
+{}
+
+/// Two files have two titles.
+pub fn titles_differ()
+    ensures { TitlesDiffer }
 {}

@@ -1,4 +1,7 @@
+ghost use Rattle.std.specs.Prelude.{◌<◌};
+
 use super::*;
+use std::alloc::Global;
 use std::test::*;
 
 const FOLDER: [u8; 16] = [7; 16];
@@ -123,5 +126,39 @@ fn makes_a_snapshot_and_removes_old_journals(rt: HostRuntime) -> Result<(), Fail
     );
     assert_eq!(rt; stop(&SNAPSHOT, out.as_slice(), 2), (96, Next::End));
     assert_eq!(rt; Words::of(&folder).folder(), Some(folder));
+    Ok(())
+}
+
+// Under tools/failmalloc.c a request of these many bytes has the nth allocation that follows refused, and one of `ASK` bytes is given
+// exactly where one was. No allocator gives so much, so without it both are refused.
+const ARM: usize = 4_611_686_018_427_387_904;
+
+const ASK: usize = 6_917_529_027_641_081_856;
+
+fn refuse(alloc: Global, nth: usize)
+    requires { nth < 4294967296 }
+{
+    let _ = Vec::<u8>::with_capacity(alloc, ARM + nth);
+}
+
+#[test]
+fn answers_that_memory_is_refused(rt: HostRuntime) -> Result<(), Fail> {
+    let mut folder = Folder::open(1, 0)?;
+    folder.answer(true)?;
+    folder.answer(true)?;
+    for nth in 1..100usize {
+        let before = folder;
+        let mut out = Vec::new(rt.alloc());
+        refuse(rt.alloc(), nth);
+        let put = folder.put(&mut out, FOLDER, b"hi");
+        let was_refused = Vec::<u8>::with_capacity(rt.alloc(), ASK).is_ok();
+        refuse(rt.alloc(), 0);
+        if !was_refused {
+            assert_eq!(rt; put, Ok(0));
+            break;
+        }
+        assert_eq!(rt; put, Err(Fault::NoMemory));
+        assert_eq!(rt; (out.len(), folder), (0, before));
+    }
     Ok(())
 }
