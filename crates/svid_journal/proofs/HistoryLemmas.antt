@@ -3,7 +3,7 @@ use Rattle.std.proofs.Common.{◌≡◌, ◌⊎◌, inl, inr, ⊎_elim, ℕ, ◌
 use Rattle.std.specs.Prelude.{◌==◌, ◌&&◌, ◌||◌, MatchBool, not, nat_lt, nat_le}
 use Rattle.std.specs.List.{AllByRecursion, list_any}
 use Rattle.std.proofs.Math.Seq.{take-add}
-use Rattle.std.proofs.lemmas.Bool.{cond_both, cond-false, leb-true, leb-false, false≢true, true≢false, eq-eqb, eqb-true, ne_eqb, or_left, or_right, or_cases}
+use Rattle.std.proofs.lemmas.Bool.{cond_both, cond-false, leb-true, leb-false, false≢true, true≢false, eq-eqb, eqb-true, eqb-false, cases_Bool, ne_eqb, or_left, or_right, or_cases}
 use Rattle.std.proofs.lemmas.List.{take_at, drop_at, drop_all, append-nil}
 use Rattle.std.proofs.lemmas.List.Folds.{list_any-append}
 use Rattle.svid_journal.specs.declared.step.Step.{Step}
@@ -293,10 +293,10 @@ module _ (has : List ℕ → Bool) (t : Titles) where
 
   abbrev StepFact : Step → World → Type 0
   StepFact Starting w = (k : ℕ) → (w.disk.journals k).here.now ≡ true → k ≤ w.folder.newest
-  StepFact Entering w = (w.home ≤ w.folder.newest) × IsMade (w.disk.journals (w.folder.newest + 1))
+  StepFact Entering w = (w.home ≤ w.folder.newest) × IsMade (w.disk.journals (w.folder.newest + 1)) × (w.logs (w.folder.newest + 1) ≡ [])
   StepFact Idle w = Growing w
   StepFact Creating w = Growing w
-  StepFact Naming w = Growing w × IsMade (w.disk.journals (w.folder.newest + 1))
+  StepFact Naming w = Growing w × IsMade (w.disk.journals (w.folder.newest + 1)) × (w.logs (w.folder.newest + 1) ≡ [])
   StepFact Writing w = Growing w × IsDue w.noted w.log w.acknowledged × AreParts w.folder.pieces w.disk.beside w.parts
   StepFact Ending w = Growing w × IsWritten w.disk.beside w.log w.acknowledged
   StepFact Syncing w = Growing w × IsWritten w.disk.beside w.log w.acknowledged
@@ -311,8 +311,16 @@ module _ (has : List ℕ → Bool) (t : Titles) where
     pub stage : StepFact w.folder.step w
     pub remembers : list_any has (w.acknowledged ++ w.flying) ≡ true → list_any has w.memory ≡ true
 
+  -- a file begins with these payloads
+  pub record IsLogged (title : List ℕ) (payloads : Payloads) (f : File) : Type 0 where
+    pub each : AllByRecursion IsPayload payloads
+    pub kept : Front title payloads f.kept
+    pub seen : Front title payloads f.seen
+
   -- what always holds
   pub record IsSound (w : World) : Type 0 where
+    pub logged : (k : ℕ) → IsLogged (t.journal k) (w.logs k) (w.disk.journals k).file
+    pub this : w.logs w.home ≡ w.log
     pub stands : Stands (t.journal w.home) w.log (w.disk.journals w.home)
     pub named : IsOneOf w.disk.snapshot.may w.disk.snapshot.now
     pub held : list_any has w.acknowledged ≡ true → IsHeld w.disk w.home w.log
@@ -363,17 +371,35 @@ module _ (has : List ℕ → Bool) (t : Titles) where
 
   -- the same at a step
   abbrev staged : Step → World → World
-  staged step w = record { folder = at_step w.folder step; disk = w.disk; home = w.home; log = w.log; flying = w.flying; parts = w.parts; acknowledged = w.acknowledged; memory = w.memory; noted = w.noted; texts = w.texts }
+  staged step w = record { folder = at_step w.folder step; disk = w.disk; home = w.home; log = w.log; logs = w.logs; flying = w.flying; parts = w.parts; acknowledged = w.acknowledged; memory = w.memory; noted = w.noted; texts = w.texts }
+
+  nothing_logged : (title : List ℕ) → IsLogged title [] empty_file
+  nothing_logged title = record { each = tt; kept = record { rest = []; is = refl }; seen = record { rest = []; is = refl } }
+
+  -- at one number there is another journal, with another log
+  logged_put : (journals : ℕ → Journal) (n : ℕ) (j : Journal) (logs later : ℕ → Payloads) → ((k : ℕ) → IsLogged (t.journal k) (logs k) (journals k).file) → ((k : ℕ) → (k ≡ n → ⊥) → later k ≡ logs k) → IsLogged (t.journal n) (later n) j.file → (k : ℕ) → IsLogged (t.journal k) (later k) (put journals n j k).file
+  logged_put journals n j logs later old others new k =
+      elim (cases_Bool (k == n)) [
+        | inl same ↦
+            let is : k ≡ n = eqb-true k n same in
+            subst (λ (m : ℕ). IsLogged (t.journal m) (later m) (put journals n j m).file) (sym is) (subst (λ (x : Journal). IsLogged (t.journal n) (later n) x.file) (sym (put_same journals n j)) new)
+        | inr other ↦
+            let apart = eqb-false k n other in
+            subst (λ (ps : Payloads). IsLogged (t.journal k) ps (put journals n j k).file) (sym (others k apart)) (subst (λ (x : Journal). IsLogged (t.journal k) (logs k) x.file) (sym (put_other journals n j k apart)) (old k))
+      ]
 
   -- with another folder, on another disk
-  abbrev moved_to : World → Folder → Disk → Payloads → Payloads → World
-  moved_to w f d parts texts = record { folder = f; disk = d; home = w.home; log = w.log; flying = w.flying; parts = parts; acknowledged = w.acknowledged; memory = w.memory; noted = w.noted; texts = texts }
+  abbrev moved_to : World → (ℕ → Payloads) → Folder → Disk → Payloads → Payloads → World
+  moved_to w logs f d parts texts = record { folder = f; disk = d; home = w.home; log = w.log; logs = logs; flying = w.flying; parts = parts; acknowledged = w.acknowledged; memory = w.memory; noted = w.noted; texts = texts }
 
   -- a disk on which the journals of before and the snapshot are the same
-  moved : (w : World) (f : Folder) (d : Disk) (parts texts : Payloads) → IsSound w → w.folder.ended ≡ false → ((k : ℕ) → k ≤ w.home → d.journals k ≡ w.disk.journals k) → d.snapshot ≡ w.disk.snapshot → (IsUp w → StepFact f.step (moved_to w f d parts texts)) → IsSound (moved_to w f d parts texts)
-  moved w f d parts texts h going same snap fact =
+  moved_with : (w : World) (logs : ℕ → Payloads) (f : Folder) (d : Disk) (parts texts : Payloads) → IsSound w → w.folder.ended ≡ false → ((k : ℕ) → k ≤ w.home → d.journals k ≡ w.disk.journals k) → d.snapshot ≡ w.disk.snapshot → ((k : ℕ) → IsLogged (t.journal k) (logs k) (d.journals k).file) → logs w.home ≡ w.log
+      → (IsUp w → StepFact f.step (moved_to w logs f d parts texts)) → IsSound (moved_to w logs f d parts texts)
+  moved_with w logs f d parts texts h going same snap logged this fact =
       let here = same w.home (omega arith) in
       record {
+        logged = logged;
+        this = this;
         stands = subst (Stands (t.journal w.home) w.log) (sym here) h.stands;
         named = subst (λ (name : Name (Option File)). IsOneOf name.may name.now) (sym snap) h.named;
         held = λ a. IsHeld-put w.disk d w.home w.log snap (λ k below. same k (omega arith)) (h.held a);
@@ -385,14 +411,20 @@ module _ (has : List ℕ → Bool) (t : Titles) where
         };
       }
 
+  moved : (w : World) (f : Folder) (d : Disk) (parts texts : Payloads) → IsSound w → w.folder.ended ≡ false → ((k : ℕ) → d.journals k ≡ w.disk.journals k) → d.snapshot ≡ w.disk.snapshot → (IsUp w → StepFact f.step (moved_to w w.logs f d parts texts)) → IsSound (moved_to w w.logs f d parts texts)
+  moved w f d parts texts h going same snap fact =
+      moved_with w w.logs f d parts texts h going (λ k below. same k) snap (λ k. subst (λ (j : Journal). IsLogged (t.journal k) (w.logs k) j.file) (sym (same k)) (h.logged k)) h.this fact
+
   -- what the journal that grows has, where it is the same
   regrown : (newest count end flies home : ℕ) (i j : Journal) (log flying : Payloads) → j ≡ i → IsGrowing newest count end flies home i log flying → IsGrowing newest count end flies home j log flying
   regrown newest count end flies home i j log flying same g = subst (λ (x : Journal). IsGrowing newest count end flies home x log flying) (sym same) g
 
   -- a sync of the folder failed
-  ends : (w : World) (parts : Payloads) → IsSound w → IsSound (moved_to w (ended w.folder) (sync_folder false w.disk) parts w.texts)
+  ends : (w : World) (parts : Payloads) → IsSound w → IsSound (moved_to w w.logs (ended w.folder) (sync_folder false w.disk) parts w.texts)
   ends w parts h =
       record {
+        logged = h.logged;
+        this = h.this;
         stands = Stands-named false (t.journal w.home) w.log (w.disk.journals w.home) h.stands;
         named = now-named false w.disk.snapshot h.named;
         held = λ a. IsHeld-named false w.disk w.home w.log h.named (h.held a);
@@ -408,7 +440,7 @@ module _ (has : List ℕ → Bool) (t : Titles) where
 
   -- the next journal grows
   abbrev with_next : World → Step → World
-  with_next w step = record { folder = grown w.folder step; disk = sync_folder true w.disk; home = w.folder.newest + 1; log = []; flying = []; parts = []; acknowledged = w.acknowledged; memory = w.memory; noted = w.memory; texts = w.texts }
+  with_next w step = record { folder = grown w.folder step; disk = sync_folder true w.disk; home = w.folder.newest + 1; log = []; logs = w.logs; flying = []; parts = []; acknowledged = w.acknowledged; memory = w.memory; noted = w.memory; texts = w.texts }
 
   Growing-next : (w : World) (step : Step) → (sync_folder true w.disk).journals (w.folder.newest + 1) ≡ empty_journal → Growing (with_next w step)
   Growing-next w step empty = regrown (w.folder.newest + 1) 0 0 0 (w.folder.newest + 1) empty_journal ((sync_folder true w.disk).journals (w.folder.newest + 1)) [] [] empty (record { is = refl; unspoiled = refl; many = refl; far = refl; long = refl; one = omega arith })
@@ -416,14 +448,16 @@ module _ (has : List ℕ → Bool) (t : Titles) where
   remembered : (w : World) → IsUp w → list_any has w.acknowledged ≡ true → list_any has w.memory ≡ true
   remembered w u a = u.remembers (list_any-append has w.acknowledged w.flying ∙ or_left (list_any has w.acknowledged) (list_any has w.flying) a)
 
-  grows_next_is : (w : World) (step : Step) → IsSound w → w.folder.ended ≡ false → w.home ≤ w.folder.newest → IsMade (w.disk.journals (w.folder.newest + 1)) → ((sync_folder true w.disk).journals (w.folder.newest + 1) ≡ empty_journal → StepFact step (with_next w step)) → IsSound (with_next w step)
-  grows_next_is w step h going low made fact =
+  grows_next_is : (w : World) (step : Step) → IsSound w → w.folder.ended ≡ false → w.home ≤ w.folder.newest → IsMade (w.disk.journals (w.folder.newest + 1)) → w.logs (w.folder.newest + 1) ≡ [] → ((sync_folder true w.disk).journals (w.folder.newest + 1) ≡ empty_journal → StepFact step (with_next w step)) → IsSound (with_next w step)
+  grows_next_is w step h going low made none fact =
       let d = w.disk in
       let next = w.folder.newest + 1 in
       let here = (d.journals next).here in
       let empty : (sync_folder true d).journals next ≡ empty_journal =
       λ i. record { file = made.file i; here = (free_named here made.free ∙ ap settled made.now) i } in
       record {
+        logged = h.logged;
+        this = none;
         stands = subst (Stands (t.journal next) []) (sym empty) (Stands-empty (t.journal next));
         named = now-named true d.snapshot h.named;
         held = λ a. IsHeld-named true d next [] h.named (IsHeld-closed d w.home next w.log [] (omega arith) h.stands (h.held a));
@@ -457,6 +491,8 @@ module _ (has : List ℕ → Bool) (t : Titles) where
       let gone : Journal = record { file = (d.journals oldest).file; here = leads false (d.journals oldest).here } in
       let grows : (remove_journal oldest d).journals w.home ≡ d.journals w.home = put_other d.journals oldest gone w.home (λ e. omega (arith, below, fact.0.is, e)) in
       record {
+        logged = logged_put d.journals oldest gone w.logs w.logs h.logged (λ k apart. refl) (let l = h.logged oldest in record { each = l.each; kept = l.kept; seen = l.seen });
+        this = h.this;
         stands = subst (Stands (t.journal w.home) w.log) (sym grows) h.stands;
         named = h.named;
         held = λ a. published_held d (remove_journal oldest d) w.home w.log w.acknowledged refl fact.1 (fact.1.synced.due a);
@@ -480,12 +516,14 @@ module _ (has : List ℕ → Bool) (t : Titles) where
       let above : (k : ℕ) → (d.journals k).here.now ≡ true → k ≤ w.folder.newest = (h.up going).stage in
       let low : w.home ≤ w.folder.newest = above w.home h.stands.now in
       let made : Journal = record { file = empty_file; here = leads true (d.journals next).here } in
-      moved (staged Starting w) (at_step w.folder Entering) (create_journal next d) w.parts w.texts h going (λ k below. put_other d.journals next made k (λ is. omega (arith, below, low, is))) refl
-      (λ u. (low, subst IsMade (sym (put_same d.journals next made)) (record { file = refl; now = refl; free = refl })))
-  answers Starting false w h going order mark = record { stands = h.stands; named = h.named; held = h.held; up = λ is. absurd (true≢false is) }
+      moved_with (staged Starting w) (put w.logs next []) (at_step w.folder Entering) (create_journal next d) w.parts w.texts h going (λ k below. put_other d.journals next made k (λ is. omega (arith, below, low, is))) refl
+      (logged_put d.journals next made w.logs (put w.logs next []) h.logged (λ k apart. put_other w.logs next [] k apart) (subst (λ (ps : Payloads). IsLogged (t.journal next) ps empty_file) (sym (put_same w.logs next [])) (nothing_logged (t.journal next))))
+      (put_other w.logs next [] w.home (λ is. omega (arith, low, is)) ∙ h.this)
+      (λ u. (low, subst IsMade (sym (put_same d.journals next made)) (record { file = refl; now = refl; free = refl }), put_same w.logs next []))
+  answers Starting false w h going order mark = record { logged = h.logged; this = h.this; stands = h.stands; named = h.named; held = h.held; up = λ is. absurd (true≢false is) }
   answers Entering true w h going order mark =
       let fact = (h.up going).stage in
-      grows_next_is (staged Entering w) Idle h going fact.0 fact.1 (λ empty. Growing-next (staged Entering w) Idle empty)
+      grows_next_is (staged Entering w) Idle h going fact.0 fact.1 fact.2 (λ empty. Growing-next (staged Entering w) Idle empty)
   answers Entering false w h going order mark = ends (staged Entering w) w.parts h
   answers Creating true w h going order mark =
       let d = w.disk in
@@ -493,49 +531,56 @@ module _ (has : List ℕ → Bool) (t : Titles) where
       let low = (h.up going).stage.is in
       let made : Journal = record { file = empty_file; here = leads true (d.journals next).here } in
       let same : (k : ℕ) → k ≤ w.home → (create_journal next d).journals k ≡ d.journals k = λ k below. put_other d.journals next made k (λ is. omega (arith, below, low, is)) in
-      moved (staged Creating w) (at_step w.folder Naming) (create_journal next d) w.parts w.texts h going same refl
+      moved_with (staged Creating w) (put w.logs next []) (at_step w.folder Naming) (create_journal next d) w.parts w.texts h going same refl
+      (logged_put d.journals next made w.logs (put w.logs next []) h.logged (λ k apart. put_other w.logs next [] k apart) (subst (λ (ps : Payloads). IsLogged (t.journal next) ps empty_file) (sym (put_same w.logs next [])) (nothing_logged (t.journal next))))
+      (put_other w.logs next [] w.home (λ is. omega (arith, low, is)) ∙ h.this)
       (λ u. (
         regrown w.folder.newest w.folder.count w.folder.end w.folder.flying w.home (d.journals w.home) ((create_journal next d).journals w.home) w.log w.flying (same w.home (omega arith)) u.stage,
         subst IsMade (sym (put_same d.journals next made)) (record { file = refl; now = refl; free = refl }),
+        put_same w.logs next [],
       ))
   answers Creating false w h going order mark =
-      moved (staged Creating w) (at_step w.folder Idle) w.disk w.parts w.texts h going (λ k below. refl) refl (λ u. u.stage)
+      moved (staged Creating w) (at_step w.folder Idle) w.disk w.parts w.texts h going (λ k. refl) refl (λ u. u.stage)
   answers Naming true w h going order mark =
       let u = h.up going in
-      grows_next_is (staged Naming w) Writing h going (omega (arith, u.stage.0.is)) u.stage.1
+      grows_next_is (staged Naming w) Writing h going (omega (arith, u.stage.0.is)) u.stage.1 u.stage.2
       (λ empty. (Growing-next (staged Naming w) Writing empty, λ a. inl (remembered (staged Naming w) u a), record { many = refl; each = tt; unspoiled = refl; seen = refl }))
   answers Naming false w h going order mark = ends (staged Naming w) w.parts h
   answers Writing true w h going order mark = absurd (true≢false mark)
   answers Writing false w h going order mark =
-      moved (staged Writing w) (at_step w.folder Idle) w.disk w.parts w.texts h going (λ k below. refl) refl (λ u. u.stage.0)
+      moved (staged Writing w) (at_step w.folder Idle) w.disk w.parts w.texts h going (λ k. refl) refl (λ u. u.stage.0)
   answers Ending true w h going order mark =
-      moved (staged Ending w) (at_step w.folder Syncing) w.disk w.parts w.texts h going (λ k below. refl) refl (λ u. u.stage)
+      moved (staged Ending w) (at_step w.folder Syncing) w.disk w.parts w.texts h going (λ k. refl) refl (λ u. u.stage)
   answers Ending false w h going order mark =
-      moved (staged Ending w) (at_step w.folder Idle) w.disk w.parts w.texts h going (λ k below. refl) refl (λ u. u.stage.0)
+      moved (staged Ending w) (at_step w.folder Idle) w.disk w.parts w.texts h going (λ k. refl) refl (λ u. u.stage.0)
   answers Syncing true w h going order mark =
       let f = w.disk.beside in
       let whole : File = record { seen = f.seen; kept = f.seen; whole = true; spoiled = false } in
-      moved (staged Syncing w) (at_step w.folder Renaming) (sync_beside true w.disk) w.parts w.texts h going (λ k below. refl) refl
+      moved (staged Syncing w) (at_step w.folder Renaming) (sync_beside true w.disk) w.parts w.texts h going (λ k. refl) refl
       (λ u. (u.stage.0, subst (λ (g : File). IsSynced g w.log w.acknowledged) (sym (cond-false f.spoiled f whole u.stage.1.unspoiled)) (record { payloads = u.stage.1.payloads; each = u.stage.1.each; whole = refl; kept = u.stage.1.seen; seen = u.stage.1.seen; due = u.stage.1.due })))
   answers Syncing false w h going order mark =
-      moved (staged Syncing w) (at_step w.folder Idle) (sync_beside false w.disk) w.parts w.texts h going (λ k below. refl) refl (λ u. u.stage.0)
+      moved (staged Syncing w) (at_step w.folder Idle) (sync_beside false w.disk) w.parts w.texts h going (λ k. refl) refl (λ u. u.stage.0)
   answers Renaming true w h going order mark =
       let d = w.disk in
       let fact = (h.up going).stage in
       record {
+        logged = h.logged;
+        this = h.this;
         stands = h.stands;
         named = IsOneOf-push d.snapshot.may (Some d.beside);
         held = λ been. renamed_held d w.home w.log w.acknowledged fact.1 (fact.1.due been) (h.held been);
         up = λ is. let u = h.up going in record { flies = u.flies; seen = u.seen; stage = (fact.0, record { file = d.beside; now = refl; free = refl; synced = fact.1 }); remembers = u.remembers };
       }
   answers Renaming false w h going order mark =
-      moved (staged Renaming w) (at_step w.folder Idle) w.disk w.parts w.texts h going (λ k below. refl) refl (λ u. u.stage.0)
+      moved (staged Renaming w) (at_step w.folder Idle) w.disk w.parts w.texts h going (λ k. refl) refl (λ u. u.stage.0)
   answers Publishing true w h going order mark =
       let d = w.disk in
       let u = h.up going in
       let g = u.stage.0 in
       let n = u.stage.1 in
       record {
+        logged = h.logged;
+        this = h.this;
         stands = Stands-named true (t.journal w.home) w.log (d.journals w.home) h.stands;
         named = now-named true d.snapshot h.named;
         held = λ been. IsHeld-named true d w.home w.log h.named (h.held been);
@@ -553,11 +598,11 @@ module _ (has : List ℕ → Bool) (t : Titles) where
   answers Removing true w h going order mark =
       removes w h going (omega (arith, order))
   answers Removing false w h going order mark =
-      moved (staged Removing w) (at_step w.folder Idle) w.disk w.parts w.texts h going (λ k below. refl) refl (λ u. u.stage.0)
+      moved (staged Removing w) (at_step w.folder Idle) w.disk w.parts w.texts h going (λ k. refl) refl (λ u. u.stage.0)
 
   -- a new journal and a new snapshot begin
-  begins : (step : Step) (w : World) → IsSound (staged step w) → w.folder.ended ≡ false → is_idle step ≡ true → IsSound (moved_to (staged step w) (begun (staged step w).folder) w.disk w.parts w.texts)
-  begins Idle w h going idle = moved (staged Idle w) (at_step w.folder Creating) w.disk w.parts w.texts h going (λ k below. refl) refl (λ u. u.stage)
+  begins : (step : Step) (w : World) → IsSound (staged step w) → w.folder.ended ≡ false → is_idle step ≡ true → IsSound (moved_to (staged step w) w.logs (begun (staged step w).folder) w.disk w.parts w.texts)
+  begins Idle w h going idle = moved (staged Idle w) (at_step w.folder Creating) w.disk w.parts w.texts h going (λ k. refl) refl (λ u. u.stage)
   begins Starting w h going idle = absurd (false≢true idle)
   begins Entering w h going idle = absurd (false≢true idle)
   begins Creating w h going idle = absurd (false≢true idle)
@@ -599,13 +644,13 @@ module _ (has : List ℕ → Bool) (t : Titles) where
       let at = length (frames_of t.snapshot 1 w.parts) in
       let e = write_piece pieces at (frame_of t.snapshot (1 + pieces) payload) d in
       let parts = w.parts ++ payload ∷ [] in
-      moved (staged Writing w) (pieced (at_step w.folder Writing) (length payload)) e parts (sealed 1 t.snapshot (1 + pieces) payload ∷ w.texts) h going (λ k below. refl) refl
+      moved (staged Writing w) (pieced (at_step w.folder Writing) (length payload)) e parts (sealed 1 t.snapshot (1 + pieces) payload ∷ w.texts) h going (λ k. refl) refl
       (λ u.
       let p = u.stage.2 in
       let each = each_append w.parts (payload ∷ []) p.each (bears, tt) in
       let seen : e.beside.seen ≡ frames_of t.snapshot 1 parts =
       ap (λ (n : ℕ). (written at (frame_of t.snapshot (1 + n) payload) (beside_of pieces d.beside)).seen) p.many ∙ more_seen (beside_of pieces d.beside) w.parts payload p.seen in
-      cond_both (length payload == 0) Ending Writing (λ (step : Step). StepFact step (moved_to (staged Writing w) (pieced (at_step w.folder Writing) (length payload)) e parts (sealed 1 t.snapshot (1 + pieces) payload ∷ w.texts)))
+      cond_both (length payload == 0) Ending Writing (λ (step : Step). StepFact step (moved_to (staged Writing w) w.logs (pieced (at_step w.folder Writing) (length payload)) e parts (sealed 1 t.snapshot (1 + pieces) payload ∷ w.texts)))
       (λ is. (
         u.stage.0,
         record {
@@ -629,7 +674,7 @@ module _ (has : List ℕ → Bool) (t : Titles) where
 
   pieces_fail : (w : World) (payload landed : List ℕ) → IsSound (staged Writing w) → w.folder.ended ≡ false → IsSound (after_piece t (staged Writing w) payload false landed)
   pieces_fail w payload landed h going =
-      moved (staged Writing w) (at_step w.folder Idle) (write_piece w.folder.pieces (length (frames_of t.snapshot 1 w.parts)) landed w.disk) (w.parts ++ payload ∷ []) (sealed 1 t.snapshot (1 + w.folder.pieces) payload ∷ w.texts) h going (λ k below. refl) refl (λ u. u.stage.0)
+      moved (staged Writing w) (at_step w.folder Idle) (write_piece w.folder.pieces (length (frames_of t.snapshot 1 w.parts)) landed w.disk) (w.parts ++ payload ∷ []) (sealed 1 t.snapshot (1 + w.folder.pieces) payload ∷ w.texts) h going (λ k. refl) refl (λ u. u.stage.0)
 
   pieces : (step : Step) (ok : Bool) (w : World) (payload landed : List ℕ) → IsSound (staged step w) → piece_fault (staged step w).folder (length payload) ≡ None → (length payload ≡ 0 → list_any has w.noted ≡ true → list_any has w.parts ≡ true) → IsSound (after_piece t (staged step w) payload ok landed)
   pieces Writing true w payload landed h e knows = let r = is_piece (staged Writing w).folder (length payload) e in pieces_on w payload h r.0 r.2 knows
@@ -672,13 +717,14 @@ module _ (has : List ℕ → Bool) (t : Titles) where
   ungrown newest f d k below = put_other d.journals newest (changed f (d.journals newest)) k (λ e. omega (arith, below, e))
 
   -- another file of the journal that grows, other numbers of it, and another log
-  abbrev rewritten_to : World → ℕ → ℕ → ℕ → (File → File) → Payloads → Payloads → Payloads → Payloads → Payloads → World
-  rewritten_to w count end flies f log flying acknowledged memory texts =
+  abbrev rewritten_to : World → (ℕ → Payloads) → ℕ → ℕ → ℕ → (File → File) → Payloads → Payloads → Payloads → Payloads → Payloads → World
+  rewritten_to w logs count end flies f log flying acknowledged memory texts =
       record {
         folder = record { step = w.folder.step; oldest = w.folder.oldest; newest = w.folder.newest; ended = w.folder.ended; count = count; end = end; flying = flies; pieces = w.folder.pieces };
         disk = on_file w.folder.newest f w.disk;
         home = w.home;
         log = log;
+        logs = logs;
         flying = flying;
         parts = w.parts;
         acknowledged = acknowledged;
@@ -688,24 +734,26 @@ module _ (has : List ℕ → Bool) (t : Titles) where
       }
 
   -- what was due stays due as the log grows
-  stage_on_file : (step : Step) (w : World) (count end flies : ℕ) (f : File → File) (log flying acknowledged memory texts : Payloads) → is_starting step ≡ false → Growing (rewritten_to w count end flies f log flying acknowledged memory texts)
-      → ((payloads : Payloads) → IsDue payloads w.log w.acknowledged → IsDue payloads log acknowledged) → StepFact step w → StepFact step (rewritten_to w count end flies f log flying acknowledged memory texts)
-  stage_on_file Idle w count end flies f log flying acknowledged memory texts grows g due h = g
-  stage_on_file Starting w count end flies f log flying acknowledged memory texts grows g due h = absurd (true≢false grows)
-  stage_on_file Entering w count end flies f log flying acknowledged memory texts grows g due h = absurd (true≢false grows)
-  stage_on_file Creating w count end flies f log flying acknowledged memory texts grows g due h = g
-  stage_on_file Naming w count end flies f log flying acknowledged memory texts grows g due h = (g, subst IsMade (sym (put_other w.disk.journals w.folder.newest (changed f (w.disk.journals w.folder.newest)) (w.folder.newest + 1) (λ e. omega (arith, e)))) h.1)
-  stage_on_file Writing w count end flies f log flying acknowledged memory texts grows g due h = (g, due w.noted h.1, h.2)
-  stage_on_file Ending w count end flies f log flying acknowledged memory texts grows g due h = (g, record { payloads = h.1.payloads; each = h.1.each; unspoiled = h.1.unspoiled; seen = h.1.seen; due = due h.1.payloads h.1.due })
-  stage_on_file Syncing w count end flies f log flying acknowledged memory texts grows g due h = (g, record { payloads = h.1.payloads; each = h.1.each; unspoiled = h.1.unspoiled; seen = h.1.seen; due = due h.1.payloads h.1.due })
-  stage_on_file Renaming w count end flies f log flying acknowledged memory texts grows g due h = (g, record { payloads = h.1.payloads; each = h.1.each; whole = h.1.whole; kept = h.1.kept; seen = h.1.seen; due = due h.1.payloads h.1.due })
-  stage_on_file Publishing w count end flies f log flying acknowledged memory texts grows g due h =
+  stage_on_file : (step : Step) (w : World) (logs : ℕ → Payloads) (count end flies : ℕ) (f : File → File) (log flying acknowledged memory texts : Payloads) → ((k : ℕ) → (k ≡ w.home → ⊥) → logs k ≡ w.logs k) → w.home ≡ w.folder.newest → is_starting step ≡ false → Growing (rewritten_to w logs count end flies f log flying acknowledged memory texts)
+      → ((payloads : Payloads) → IsDue payloads w.log w.acknowledged → IsDue payloads log acknowledged) → StepFact step w → StepFact step (rewritten_to w logs count end flies f log flying acknowledged memory texts)
+  stage_on_file Idle w logs count end flies f log flying acknowledged memory texts others is grows g due h = g
+  stage_on_file Starting w logs count end flies f log flying acknowledged memory texts others is grows g due h = absurd (true≢false grows)
+  stage_on_file Entering w logs count end flies f log flying acknowledged memory texts others is grows g due h = absurd (true≢false grows)
+  stage_on_file Creating w logs count end flies f log flying acknowledged memory texts others is grows g due h = g
+  stage_on_file Naming w logs count end flies f log flying acknowledged memory texts others is grows g due h = (g, subst IsMade (sym (put_other w.disk.journals w.folder.newest (changed f (w.disk.journals w.folder.newest)) (w.folder.newest + 1) (λ e. omega (arith, e)))) h.1, others (w.folder.newest + 1) (λ e. omega (arith, e, is)) ∙ h.2)
+  stage_on_file Writing w logs count end flies f log flying acknowledged memory texts others is grows g due h = (g, due w.noted h.1, h.2)
+  stage_on_file Ending w logs count end flies f log flying acknowledged memory texts others is grows g due h = (g, record { payloads = h.1.payloads; each = h.1.each; unspoiled = h.1.unspoiled; seen = h.1.seen; due = due h.1.payloads h.1.due })
+  stage_on_file Syncing w logs count end flies f log flying acknowledged memory texts others is grows g due h = (g, record { payloads = h.1.payloads; each = h.1.each; unspoiled = h.1.unspoiled; seen = h.1.seen; due = due h.1.payloads h.1.due })
+  stage_on_file Renaming w logs count end flies f log flying acknowledged memory texts others is grows g due h = (g, record { payloads = h.1.payloads; each = h.1.each; whole = h.1.whole; kept = h.1.kept; seen = h.1.seen; due = due h.1.payloads h.1.due })
+  stage_on_file Publishing w logs count end flies f log flying acknowledged memory texts others is grows g due h =
       let s = h.1.synced in (g, record { file = h.1.file; now = h.1.now; free = h.1.free; synced = record { payloads = s.payloads; each = s.each; whole = s.whole; kept = s.kept; seen = s.seen; due = due s.payloads s.due } })
-  stage_on_file Removing w count end flies f log flying acknowledged memory texts grows g due h =
+  stage_on_file Removing w logs count end flies f log flying acknowledged memory texts others is grows g due h =
       let s = h.1.synced in (g, record { file = h.1.file; only = h.1.only; synced = record { payloads = s.payloads; each = s.each; whole = s.whole; kept = s.kept; seen = s.seen; due = due s.payloads s.due } })
 
   -- what is asked of the new file and the new numbers
-  record IsRewrite (w : World) (count end flies : ℕ) (f : File → File) (log flying acknowledged memory : Payloads) : Type 0 where
+  record IsRewrite (w : World) (logs : ℕ → Payloads) (count end flies : ℕ) (f : File → File) (log flying acknowledged memory : Payloads) : Type 0 where
+    others : (k : ℕ) → (k ≡ w.home → ⊥) → logs k ≡ w.logs k
+    this : logs w.home ≡ log
     each : AllByRecursion IsPayload log
     kept : Front (t.journal w.home) log (f (w.disk.journals w.home).file).kept
     unspoiled : (f (w.disk.journals w.home).file).spoiled ≡ false
@@ -719,8 +767,8 @@ module _ (has : List ℕ → Bool) (t : Titles) where
     held : list_any has acknowledged ≡ true → IsHeld w.disk w.home log
     remembers : list_any has (acknowledged ++ flying) ≡ true → list_any has memory ≡ true
 
-  rewritten : (w : World) (count end flies : ℕ) (f : File → File) (log flying acknowledged memory texts : Payloads) → IsSound w → w.folder.ended ≡ false → is_starting w.folder.step ≡ false → IsRewrite w count end flies f log flying acknowledged memory → IsSound (rewritten_to w count end flies f log flying acknowledged memory texts)
-  rewritten w count end flies f log flying acknowledged memory texts h going grows r =
+  rewritten : (w : World) (logs : ℕ → Payloads) (count end flies : ℕ) (f : File → File) (log flying acknowledged memory texts : Payloads) → IsSound w → w.folder.ended ≡ false → is_starting w.folder.step ≡ false → IsRewrite w logs count end flies f log flying acknowledged memory → IsSound (rewritten_to w logs count end flies f log flying acknowledged memory texts)
+  rewritten w logs count end flies f log flying acknowledged memory texts h going grows r =
       let d = w.disk in
       let newest = w.folder.newest in
       let u = h.up going in
@@ -728,13 +776,17 @@ module _ (has : List ℕ → Bool) (t : Titles) where
       let there = grown_is w.home newest f d is in
       let s = h.stands in
       record {
+        logged = logged_put d.journals newest (changed f (d.journals newest)) w.logs logs h.logged (λ k apart. r.others k (λ e. apart (e ∙ is)))
+          (subst (λ (n : ℕ). IsLogged (t.journal n) (logs n) (f (d.journals n).file)) is
+          (subst (λ (ps : Payloads). IsLogged (t.journal w.home) ps (f (d.journals w.home).file)) (sym r.this) (record { each = r.each; kept = r.kept; seen = Front-first (t.journal w.home) log flying (f (d.journals w.home).file).seen r.seen })));
+        this = r.this;
         stands = subst (Stands (t.journal w.home) log) (sym there) (record { now = s.now; sure = s.sure; each = r.each; kept = r.kept; seen = Front-first (t.journal w.home) log flying (f (d.journals w.home).file).seen r.seen });
         named = h.named;
         held = λ a. IsHeld-put d (on_file newest f d) w.home log refl (λ k below. ungrown newest f d k (omega (arith, below, is))) (r.held a);
         up = λ _. record {
           flies = r.flies_each;
           seen = subst (λ (j : Journal). Front (t.journal w.home) (log ++ flying) j.file.seen) (sym there) r.seen;
-          stage = stage_on_file w.folder.step w count end flies f log flying acknowledged memory texts grows
+          stage = stage_on_file w.folder.step w logs count end flies f log flying acknowledged memory texts r.others is grows
               (subst (λ (j : Journal). IsGrowing newest count end flies w.home j log flying) (sym there) (record { is = is; unspoiled = r.unspoiled; many = r.many; far = r.far; long = r.long; one = r.one })) r.due u.stage;
           remembers = r.remembers;
         };
@@ -778,8 +830,10 @@ module _ (has : List ℕ → Bool) (t : Titles) where
       let same : frame ≡ put_frame = λ i. frame_of (t.journal (g.is i)) (1 + sym g.many i) payload in
       let bytes : take at file.seen ++ (frame ++ drop (at + length frame) file.seen) ≡ take w.folder.end file.seen ++ (put_frame ++ drop (w.folder.end + length put_frame) file.seen) =
       λ i. take (sym g.far i) file.seen ++ (same i ++ drop (sym g.far i + length (same i)) file.seen) in
-      rewritten w w.folder.count w.folder.end (frame_len (length payload)) (written w.folder.end put_frame) w.log (payload ∷ []) w.acknowledged (w.memory ++ payload ∷ []) (sealed 1 (t.journal w.folder.newest) (1 + w.folder.count) payload ∷ w.texts) h p.0 p.1
+      rewritten w w.logs w.folder.count w.folder.end (frame_len (length payload)) (written w.folder.end put_frame) w.log (payload ∷ []) w.acknowledged (w.memory ++ payload ∷ []) (sealed 1 (t.journal w.folder.newest) (1 + w.folder.count) payload ∷ w.texts) h p.0 p.1
       (record {
+        others = λ k apart. refl;
+        this = h.this;
         each = h.stands.each;
         kept = Front-cut title w.log file.kept w.folder.end (omega (arith, g.far)) h.stands.kept;
         unspoiled = g.unspoiled;
@@ -802,8 +856,10 @@ module _ (has : List ℕ → Bool) (t : Titles) where
       let at = length (frames_of title 1 w.log) in
       let bytes : take at file.seen ++ (landed ++ drop (at + length landed) file.seen) ≡ take w.folder.end file.seen ++ (landed ++ drop (w.folder.end + length landed) file.seen) =
       λ i. take (sym g.far i) file.seen ++ (landed ++ drop (sym g.far i + length landed) file.seen) in
-      rewritten w w.folder.count w.folder.end 0 (written w.folder.end landed) w.log [] w.acknowledged (w.memory ++ payload ∷ []) (sealed 1 (t.journal w.folder.newest) (1 + w.folder.count) payload ∷ w.texts) h p.0 p.1
+      rewritten w w.logs w.folder.count w.folder.end 0 (written w.folder.end landed) w.log [] w.acknowledged (w.memory ++ payload ∷ []) (sealed 1 (t.journal w.folder.newest) (1 + w.folder.count) payload ∷ w.texts) h p.0 p.1
       (record {
+        others = λ k apart. refl;
+        this = h.this;
         each = h.stands.each;
         kept = Front-cut title w.log file.kept w.folder.end (omega (arith, g.far)) h.stands.kept;
         unspoiled = g.unspoiled;
@@ -830,8 +886,10 @@ module _ (has : List ℕ → Bool) (t : Titles) where
       let back = frames_of title (1 + length w.log) w.flying in
       let far : length (frames_of title 1 (w.log ++ w.flying)) ≤ at = subst (λ (n : ℕ). length (frames_of (t.journal n) 1 (w.log ++ w.flying)) ≤ at) (sym g.is) behind in
       let less : length (frames_of title 1 w.log) ≤ at = omega (arith, far, ap length (frames_of-append title 1 w.log w.flying), length-append (frames_of title 1 w.log) back) in
-      rewritten w f.count f.end f.flying (written at landed) w.log w.flying w.acknowledged w.memory w.texts h r.0 up
+      rewritten w w.logs f.count f.end f.flying (written at landed) w.log w.flying w.acknowledged w.memory w.texts h r.0 up
       (record {
+        others = λ k apart. refl;
+        this = h.this;
         each = h.stands.each;
         kept = Front-cut title w.log file.kept at less h.stands.kept;
         unspoiled = g.unspoiled;
@@ -880,8 +938,10 @@ module _ (has : List ℕ → Bool) (t : Titles) where
       let is : forced true file ≡ whole = cond-false file.spoiled file whole g.unspoiled in
       let one = one_flies title (1 + length w.log) w.folder.flying w.flying g.long g.one p.2 in
       let back = frames_of title (1 + length w.log) w.flying in
-      rewritten w (w.folder.count + 1) (w.folder.end + w.folder.flying) 0 (forced true) (w.log ++ w.flying) [] (w.acknowledged ++ w.flying) w.memory w.texts h p.0 p.1
+      rewritten w (put w.logs w.home (w.log ++ w.flying)) (w.folder.count + 1) (w.folder.end + w.folder.flying) 0 (forced true) (w.log ++ w.flying) [] (w.acknowledged ++ w.flying) w.memory w.texts h p.0 p.1
       (record {
+        others = λ k apart. put_other w.logs w.home (w.log ++ w.flying) k apart;
+        this = put_same w.logs w.home (w.log ++ w.flying);
         each = each_append w.log w.flying h.stands.each u.flies;
         kept = subst (λ (x : File). Front title (w.log ++ w.flying) x.kept) (sym is) u.seen;
         unspoiled = ap (λ (x : File). x.spoiled) is;
@@ -901,6 +961,8 @@ module _ (has : List ℕ → Bool) (t : Titles) where
       let s = h.stands in
       let there = grown_is w.home w.folder.newest (forced false) w.disk is in
       record {
+        logged = logged_put w.disk.journals w.folder.newest (changed (forced false) (w.disk.journals w.folder.newest)) w.logs w.logs h.logged (λ k apart. refl) (let l = h.logged w.folder.newest in record { each = l.each; kept = l.kept; seen = l.seen });
+        this = h.this;
         stands = subst (Stands (t.journal w.home) w.log) (sym there) (record { now = s.now; sure = s.sure; each = s.each; kept = s.kept; seen = s.seen });
         named = h.named;
         held = λ a. IsHeld-put w.disk (on_file w.folder.newest (forced false) w.disk) w.home w.log refl (λ k below. ungrown w.folder.newest (forced false) w.disk k (omega (arith, below, is))) (h.held a);
@@ -941,6 +1003,8 @@ module _ (has : List ℕ → Bool) (t : Titles) where
   crashes : (w : World) (o : Outcome) → IsSound w → IsOutcome w.disk o → IsSound (after_end w (ended w.folder) (after_crash o) [])
   crashes w o h left =
       record {
+        logged = λ k. let l = h.logged k in record { each = l.each; kept = Front-left (t.journal k) (w.logs k) (w.disk.journals k).file (o.bytes k) (left.journals k) l.kept; seen = Front-left (t.journal k) (w.logs k) (w.disk.journals k).file (o.bytes k) (left.journals k) l.kept };
+        this = h.this;
         stands = Stands-left (t.journal w.home) w.log (w.disk.journals w.home) (o.here w.home) (o.bytes w.home) h.stands (left.names w.home) (left.journals w.home);
         named = inl refl;
         held = λ a. held_left w.disk w.home w.log o left (h.held a);
@@ -950,6 +1014,8 @@ module _ (has : List ℕ → Bool) (t : Titles) where
   starts : (w : World) (oldest newest : ℕ) (read : Payloads) → IsSound w → ((k : ℕ) → (w.disk.journals k).here.now ≡ true → k ≤ newest) → (list_any has w.acknowledged ≡ true → list_any has read ≡ true) → IsSound (after_end w (opened oldest newest) w.disk read)
   starts w oldest newest read h above knows =
       record {
+        logged = h.logged;
+        this = h.this;
         stands = h.stands;
         named = h.named;
         held = h.held;
@@ -1003,7 +1069,7 @@ module _ (has : List ℕ → Bool) (t : Titles) where
   -- Histories.
 
   kept : (w : World) (e : Event) → IsSound w → IsAllowed has t w e → IsSound (happens t w e)
-  kept w Begin h a = unless_both (begin_fault w.folder) (moved_to w (begun w.folder) w.disk w.parts w.texts) w IsSound (λ e. let b = is_begin w.folder e in begins w.folder.step w h b.0 b.1) h
+  kept w Begin h a = unless_both (begin_fault w.folder) (moved_to w w.logs (begun w.folder) w.disk w.parts w.texts) w IsSound (λ e. let b = is_begin w.folder e in begins w.folder.step w h b.0 b.1) h
   kept w (Answer ok) h a = unless_both (answer_fault w.folder ok) (after_answer w ok) w IsSound (λ e. let b = is_answer w.folder ok e in answers w.folder.step ok w h b.0 b.1 b.2) h
   kept w (Piece payload ok landed) h a = unless_both (piece_fault w.folder (length payload)) (after_piece t w payload ok landed) w IsSound (λ e. pieces w.folder.step ok w payload landed h e a) h
   kept w (Put payload ok landed) h a = unless_both (put_fault w.folder (length payload)) (after_put t w payload ok landed) w IsSound (λ e. puts ok w payload landed h e) h
@@ -1019,6 +1085,8 @@ module _ (has : List ℕ → Bool) (t : Titles) where
   pub at_first : IsSound fresh
   at_first =
       record {
+        logged = logged_put (λ k. record { file = empty_file; here = settled false }) 1 (record { file = empty_file; here = leads true (settled false) }) (λ k. []) (λ k. []) (λ k. nothing_logged (t.journal k)) (λ k apart. refl) (nothing_logged (t.journal 1));
+        this = refl;
         stands = Stands-empty (t.journal 1);
         named = inl refl;
         held = λ a. absurd (false≢true a);
@@ -1030,10 +1098,10 @@ module _ (has : List ℕ → Bool) (t : Titles) where
         };
       }
 
-  -- of the journal that grew last, what was acknowledged is left in front
-  pub home_left : (w : World) → IsSound w → (o : Outcome) → IsLeft w.disk o → AllByRecursion IsPayload w.log × Front (t.journal w.home) w.log (o.bytes w.home)
-  home_left w h o (inl left) = (h.stands.each, Front-left (t.journal w.home) w.log (w.disk.journals w.home).file (o.bytes w.home) (left.journals w.home) h.stands.kept)
-  home_left w h o (inr is) = (h.stands.each, subst (λ (x : Outcome). Front (t.journal w.home) w.log (x.bytes w.home)) (sym is) h.stands.seen)
+  -- of each journal, what was acknowledged since it was made is left in front
+  pub journal_left : (w : World) → IsSound w → (o : Outcome) → IsLeft w.disk o → (k : ℕ) → AllByRecursion IsPayload (w.logs k) × Front (t.journal k) (w.logs k) (o.bytes k)
+  journal_left w h o (inl left) k = let l = h.logged k in (l.each, Front-left (t.journal k) (w.logs k) (w.disk.journals k).file (o.bytes k) (left.journals k) l.kept)
+  journal_left w h o (inr is) k = let l = h.logged k in (l.each, subst (λ (x : Outcome). Front (t.journal k) (w.logs k) (x.bytes k)) (sym is) l.seen)
 
   sound_read : (w : World) → IsSound w → list_any has w.acknowledged ≡ true → (o : Outcome) → IsLeft w.disk o → IsRead has t o
   sound_read w h a o (inl left) = held_read w.disk w.home w.log o left h.stands (h.held a)

@@ -12,10 +12,10 @@ use Rattle.svid_journal.specs.Reading.{HasLater}
 use Rattle.svid_journal.specs.Folder.{begun, begin_fault, answer_fault, put_fault, landed_fault, piece_fault}
 use Rattle.svid_journal.specs.History.{Titles, titles_of, World, Event, after_answer, after_piece, after_put, after_grow, after_sync, unless, grow_fault, happens, history, fresh, IsAllowed, AreAllowed}
 use Rattle.svid_journal.specs.History.Event.{Begin, Answer, Piece, Put, Grow, Sync, Crash, Start}
-use Rattle.svid_journal.specs.Promises.{Among, IsOfAnother, IsAsWritten, MakesUpNoTag, IsClash, EachAppended, OnlyAppended, NothingElseIsRead, DamageIsSeen, IsNoStart, EndedAcknowledgesNothing, example, ExampleIsAllowed}
+use Rattle.svid_journal.specs.Promises.{Among, IsOfAnother, IsAsWritten, MakesUpNoTag, IsClash, EachAppended, OnlyAppended, JournalsAreRead, NothingElseIsRead, DamageIsSeen, IsNoStart, EndedAcknowledgesNothing, example, ExampleIsAllowed}
 use Rattle.svid_journal.proofs.FramesLemmas.{length-frame_in, is_head, head_front, filler_is_no_head, zeros_are_no_head, frames_of-append, frames_of-push, each_push}
-use Rattle.svid_journal.proofs.CrashLemmas.{damage_seen}
-use Rattle.svid_journal.proofs.HistoryLemmas.{Front, is_begin, is_answer, is_piece, is_put, is_grow, is_landed, always, at_first, home_left}
+use Rattle.svid_journal.proofs.CrashLemmas.{damage_seen, on_behind}
+use Rattle.svid_journal.proofs.HistoryLemmas.{Front, is_begin, is_answer, is_piece, is_put, is_grow, is_landed, always, at_first, journal_left}
 
 -- Nothing else is read.
 
@@ -99,17 +99,23 @@ parts_of [] after lost next all = (tt, all.1.0)
 parts_of (b ∷ before) after lost next all = let rest = parts_of before after lost next all.1 in ((all.0, rest.0), rest.1)
 
 pub damage_is_seen : DamageIsSeen
-damage_is_seen has t events allowed o left before after lost next broken log few long payloads rest reading =
-    let w = history t events fresh in
-    let title = t.journal w.home in
+damage_is_seen has t events allowed o left k before after lost next broken log few long payloads rest reading =
+    let title = t.journal k in
     let sound = always has t events fresh (at_first has t) allowed in
-    let stands = home_left has t w sound o left in
+    let stands = journal_left has t (history t events fresh) sound o left k in
     let each = subst (AllByRecursion IsPayload) log stands.0 in
-    let front = subst (λ (ps : List (List ℕ)). Front title ps (o.bytes w.home)) log stands.1 in
-    let back = back_is title (o.bytes w.home) broken lost next before after long front in
+    let front = subst (λ (ps : List (List ℕ)). Front title ps (o.bytes k)) log stands.1 in
+    let back = back_is title (o.bytes k) broken lost next before after long front in
     let fits = parts_of before after lost next each in
     let found = damage_seen title broken lost next front.rest rest before after payloads fits.0 fits.1 few long (subst (λ (x : List ℕ). IsReading title (frames_of title 1 before ++ (broken ++ x)) payloads rest) back reading) in
     subst (λ (x : List ℕ). ((payloads ≡ before) × HasLater title (1 + length before) rest) ⊎ ((payload behind : List ℕ) × IsPayload payload × (broken ++ x ≡ frame_of title (1 + length before) payload ++ behind))) (sym back) found
+
+pub journals_are_read : JournalsAreRead
+journals_are_read has t events allowed o left k payloads rest reading =
+    let sound = always has t events fresh (at_first has t) allowed in
+    let stands = journal_left has t (history t events fresh) sound o left k in
+    let on = on_behind (t.journal k) (o.bytes k) stands.1.rest rest ((history t events fresh).logs k) payloads stands.0 stands.1.is reading in
+    (on.more, on.first)
 
 -- The end.
 
@@ -123,7 +129,7 @@ refused None v w over taken = absurd (true≢false (sym over ∙ taken refl))
 refused (Some fault) v w over taken = record { over = over; none = refl }
 
 stays : (t : Titles) (w : World) (e : Event) → w.folder.ended ≡ true → IsNoStart e → StaysEnded w (happens t w e)
-stays t w Begin over is = refused (begin_fault w.folder) (record { folder = begun w.folder; disk = w.disk; home = w.home; log = w.log; flying = w.flying; parts = w.parts; acknowledged = w.acknowledged; memory = w.memory; noted = w.noted; texts = w.texts }) w over (λ e. (is_begin w.folder e).0)
+stays t w Begin over is = refused (begin_fault w.folder) (record { folder = begun w.folder; disk = w.disk; home = w.home; log = w.log; logs = w.logs; flying = w.flying; parts = w.parts; acknowledged = w.acknowledged; memory = w.memory; noted = w.noted; texts = w.texts }) w over (λ e. (is_begin w.folder e).0)
 stays t w (Answer ok) over is = refused (answer_fault w.folder ok) (after_answer w ok) w over (λ e. (is_answer w.folder ok e).0)
 stays t w (Piece payload ok landed) over is = refused (piece_fault w.folder (length payload)) (after_piece t w payload ok landed) w over (λ e. (is_piece w.folder (length payload) e).0)
 stays t w (Put payload ok landed) over is = refused (put_fault w.folder (length payload)) (after_put t w payload ok landed) w over (λ e. (is_put w.folder (length payload) e).0)
@@ -157,7 +163,7 @@ abbrev w2 : Titles → World
 w2 t = after_sync (w1 t) true
 
 abbrev w3 : Titles → World
-w3 t = let w = w2 t in record { folder = begun w.folder; disk = w.disk; home = w.home; log = w.log; flying = w.flying; parts = w.parts; acknowledged = w.acknowledged; memory = w.memory; noted = w.noted; texts = w.texts }
+w3 t = let w = w2 t in record { folder = begun w.folder; disk = w.disk; home = w.home; log = w.log; logs = w.logs; flying = w.flying; parts = w.parts; acknowledged = w.acknowledged; memory = w.memory; noted = w.noted; texts = w.texts }
 
 abbrev w4 : Titles → World
 w4 t = after_answer (w3 t) true

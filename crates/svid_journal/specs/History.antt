@@ -12,7 +12,7 @@ use Rattle.svid_journal.specs.declared.title.File.TheVariants.{Journal, Snapshot
 use Rattle.svid_journal.specs.Titles.{bytes_of}
 use Rattle.svid_journal.specs.Frames.{sealed, frame_of, frames_of, IsReading}
 use Rattle.svid_journal.specs.Folder.{ready_rows, first_row, is_starting, begin_fault, answer_fault, put_fault, landed_fault, piece_fault, open_fault, opened, begun, answered, given_up, due_at, flown, landed, lost, ended, pieced}
-use Rattle.svid_journal.specs.Disk.{Disk, Outcome, IsOutcome, as_seen, empty_file, settled, create_journal, write_journal, sync_journal, remove_journal, write_piece, sync_beside, rename_beside, sync_folder, after_crash}
+use Rattle.svid_journal.specs.Disk.{Disk, Outcome, IsOutcome, as_seen, empty_file, settled, put, create_journal, write_journal, sync_journal, remove_journal, write_piece, sync_beside, rename_beside, sync_folder, after_crash}
 
 -- the titles of a folder's files
 pub record Titles : Type 0 where
@@ -30,6 +30,8 @@ pub record World : Type 0 where
   pub home : ℕ
   -- the payloads of that journal that were acknowledged
   pub log : List (List ℕ)
+  -- those of each journal, since it was made
+  pub logs : ℕ → List (List ℕ)
   -- one that was written behind them, and not synced
   pub flying : List (List ℕ)
   -- the payloads of a snapshot that were written so far
@@ -72,6 +74,16 @@ called SyncSnapshot ok d = sync_beside ok d
 called RenameSnapshot ok d = if ok then rename_beside d else d
 called (RemoveJournal k) ok d = if ok then remove_journal k d else d
 
+-- a journal that is made has no payloads
+abbrev pub logs_of : Call → Bool → (ℕ → List (List ℕ)) → ℕ → List (List ℕ)
+logs_of (CreateJournal k) ok logs = if ok then put logs k [] else logs
+logs_of Nothing ok logs = logs
+logs_of SyncFolder ok logs = logs
+logs_of WriteSnapshot ok logs = logs
+logs_of SyncSnapshot ok logs = logs
+logs_of RenameSnapshot ok logs = logs
+logs_of (RemoveJournal k) ok logs = logs
+
 -- the next journal grows behind a step that succeeds
 abbrev pub grows_next : Step → Bool → Bool
 grows_next Entering ok = ok
@@ -95,6 +107,7 @@ after_answer w ok =
       disk = called (due_at w.folder.step w.folder) ok w.disk;
       home = if next then w.folder.newest + 1 else w.home;
       log = if next then [] else w.log;
+      logs = logs_of (due_at w.folder.step w.folder) ok w.logs;
       flying = if next then [] else w.flying;
       parts = if next then [] else w.parts;
       acknowledged = w.acknowledged;
@@ -111,6 +124,7 @@ after_piece t w payload ok landed =
       disk = write_piece w.folder.pieces (length (frames_of t.snapshot 1 w.parts)) (if ok then frame_of t.snapshot (1 + w.folder.pieces) payload else landed) w.disk;
       home = w.home;
       log = w.log;
+      logs = w.logs;
       flying = w.flying;
       parts = w.parts ++ payload ∷ [];
       acknowledged = w.acknowledged;
@@ -127,6 +141,7 @@ after_put t w payload ok landed =
       disk = write_journal f.newest f.end (if ok then frame_of (t.journal f.newest) (1 + f.count) payload else landed) w.disk;
       home = w.home;
       log = w.log;
+      logs = w.logs;
       flying = if ok then payload ∷ [] else [];
       parts = w.parts;
       acknowledged = w.acknowledged;
@@ -137,7 +152,7 @@ after_put t w payload ok landed =
 
 abbrev pub after_grow : World → ℕ → List ℕ → World
 after_grow w at landed =
-    record { folder = w.folder; disk = write_journal w.folder.newest at landed w.disk; home = w.home; log = w.log; flying = w.flying; parts = w.parts; acknowledged = w.acknowledged; memory = w.memory; noted = w.noted; texts = w.texts }
+    record { folder = w.folder; disk = write_journal w.folder.newest at landed w.disk; home = w.home; log = w.log; logs = w.logs; flying = w.flying; parts = w.parts; acknowledged = w.acknowledged; memory = w.memory; noted = w.noted; texts = w.texts }
 
 -- what is synced is acknowledged
 abbrev pub after_sync : World → Bool → World
@@ -147,6 +162,7 @@ after_sync w ok =
       disk = sync_journal w.folder.newest ok w.disk;
       home = w.home;
       log = if ok then w.log ++ w.flying else w.log;
+      logs = if ok then put w.logs w.home (w.log ++ w.flying) else w.logs;
       flying = [];
       parts = w.parts;
       acknowledged = if ok then w.acknowledged ++ w.flying else w.acknowledged;
@@ -158,7 +174,7 @@ after_sync w ok =
 -- the program is gone, and with it the record
 abbrev pub after_end : World → Folder → Disk → List (List ℕ) → World
 after_end w folder disk memory =
-    record { folder = folder; disk = disk; home = w.home; log = w.log; flying = []; parts = []; acknowledged = w.acknowledged; memory = memory; noted = []; texts = w.texts }
+    record { folder = folder; disk = disk; home = w.home; log = w.log; logs = w.logs; flying = []; parts = []; acknowledged = w.acknowledged; memory = memory; noted = []; texts = w.texts }
 
 -- nothing happens where the folder refuses the call
 abbrev pub unless : Option Fault → World → World → World
@@ -171,7 +187,7 @@ grow_fault f = first_row (ready_rows f ((NotGrowing, is_starting f.step) ∷ [])
 
 -- what happens next
 abbrev pub happens : Titles → World → Event → World
-happens t w Begin = unless (begin_fault w.folder) (record { folder = begun w.folder; disk = w.disk; home = w.home; log = w.log; flying = w.flying; parts = w.parts; acknowledged = w.acknowledged; memory = w.memory; noted = w.noted; texts = w.texts }) w
+happens t w Begin = unless (begin_fault w.folder) (record { folder = begun w.folder; disk = w.disk; home = w.home; log = w.log; logs = w.logs; flying = w.flying; parts = w.parts; acknowledged = w.acknowledged; memory = w.memory; noted = w.noted; texts = w.texts }) w
 happens t w (Answer ok) = unless (answer_fault w.folder ok) (after_answer w ok) w
 happens t w (Piece payload ok landed) = unless (piece_fault w.folder (length payload)) (after_piece t w payload ok landed) w
 happens t w (Put payload ok landed) = unless (put_fault w.folder (length payload)) (after_put t w payload ok landed) w
@@ -193,6 +209,7 @@ fresh =
       disk = sync_folder true (create_journal 1 (record { journals = λ k. record { file = empty_file; here = settled false }; snapshot = settled None; beside = empty_file }));
       home = 1;
       log = [];
+      logs = λ k. [];
       flying = [];
       parts = [];
       acknowledged = [];

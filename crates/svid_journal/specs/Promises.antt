@@ -12,6 +12,12 @@ use Rattle.svid_journal.specs.History.Event.{Begin, Answer, Piece, Put, Grow, Sy
 abbrev pub AcknowledgedIsRead : Type 0
 AcknowledgedIsRead = (has : List ℕ → Bool) (t : Titles) (events : List Event) → AreAllowed has t events fresh → list_any has (history t events fresh).acknowledged ≡ true → (o : Outcome) → IsLeft (history t events fresh).disk o → IsRead has t o
 
+-- What was acknowledged of a journal since it was made is read of it first, in order, whatever is left.
+abbrev pub JournalsAreRead : Type 0
+JournalsAreRead =
+    (has : List ℕ → Bool) (t : Titles) (events : List Event) → AreAllowed has t events fresh → (o : Outcome) → IsLeft (history t events fresh).disk o
+    → (k : ℕ) (payloads : List (List ℕ)) (rest : List ℕ) → IsReading (t.journal k) (o.bytes k) payloads rest → (more : List (List ℕ)) × (payloads ≡ (history t events fresh).logs k ++ more)
+
 -- Nothing else is read.
 
 -- one of the texts is this one
@@ -55,17 +61,16 @@ NothingElseIsRead =
     (folder : List ℕ) → length folder ≡ 16 → (events : List Event) (bytes : List ℕ)
     → ((k : ℕ) → OnlyAppended (history (titles_of folder) events fresh) ((titles_of folder).journal k) bytes) × OnlyAppended (history (titles_of folder) events fresh) (titles_of folder).snapshot bytes
 
--- Of the journal that grew last, whatever is left: where the bytes of an acknowledged frame that another acknowledged one stands behind were
--- changed, reading stops there, and finds a later frame; or a frame of its number stands there.
+-- Of each journal, whatever is left: where the bytes of an acknowledged frame that another acknowledged one stands behind were changed,
+-- reading stops there, and finds a later frame; or a frame of its number stands there.
 abbrev pub DamageIsSeen : Type 0
 DamageIsSeen =
     (has : List ℕ → Bool) (t : Titles) (events : List Event) → AreAllowed has t events fresh → (o : Outcome) → IsLeft (history t events fresh).disk o
-    → (before after : List (List ℕ)) (lost next broken : List ℕ) → (history t events fresh).log ≡ before ++ lost ∷ next ∷ after → 2 + length before < 2 ^ 64
-    → let title = t.journal (history t events fresh).home in
-    length broken ≡ length (frame_of title (1 + length before) lost)
-    → let back = drop (length (frames_of title 1 before) + length broken) (o.bytes (history t events fresh).home) in
-    (payloads : List (List ℕ)) (rest : List ℕ) → IsReading title (frames_of title 1 before ++ (broken ++ back)) payloads rest
-    → ((payloads ≡ before) × HasLater title (1 + length before) rest) ⊎ ((payload behind : List ℕ) × IsPayload payload × (broken ++ back ≡ frame_of title (1 + length before) payload ++ behind))
+    → (k : ℕ) (before after : List (List ℕ)) (lost next broken : List ℕ) → (history t events fresh).logs k ≡ before ++ lost ∷ next ∷ after → 2 + length before < 2 ^ 64
+    → length broken ≡ length (frame_of (t.journal k) (1 + length before) lost)
+    → let back = drop (length (frames_of (t.journal k) 1 before) + length broken) (o.bytes k) in
+    (payloads : List (List ℕ)) (rest : List ℕ) → IsReading (t.journal k) (frames_of (t.journal k) 1 before ++ (broken ++ back)) payloads rest
+    → ((payloads ≡ before) × HasLater (t.journal k) (1 + length before) rest) ⊎ ((payload behind : List ℕ) × IsPayload payload × (broken ++ back ≡ frame_of (t.journal k) (1 + length before) payload ++ behind))
 
 -- Once a sync failed, nothing is acknowledged until the next start.
 
