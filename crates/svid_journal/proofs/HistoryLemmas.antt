@@ -777,8 +777,8 @@ module _ (has : List ℕ → Bool) (t : Titles) where
       let s = h.stands in
       record {
         logged = logged_put d.journals newest (changed f (d.journals newest)) w.logs logs h.logged (λ k apart. r.others k (λ e. apart (e ∙ is)))
-          (subst (λ (n : ℕ). IsLogged (t.journal n) (logs n) (f (d.journals n).file)) is
-          (subst (λ (ps : Payloads). IsLogged (t.journal w.home) ps (f (d.journals w.home).file)) (sym r.this) (record { each = r.each; kept = r.kept; seen = Front-first (t.journal w.home) log flying (f (d.journals w.home).file).seen r.seen })));
+            (subst (λ (n : ℕ). IsLogged (t.journal n) (logs n) (f (d.journals n).file)) is
+            (subst (λ (ps : Payloads). IsLogged (t.journal w.home) ps (f (d.journals w.home).file)) (sym r.this) (record { each = r.each; kept = r.kept; seen = Front-first (t.journal w.home) log flying (f (d.journals w.home).file).seen r.seen })));
         this = r.this;
         stands = subst (Stands (t.journal w.home) log) (sym there) (record { now = s.now; sure = s.sure; each = r.each; kept = r.kept; seen = Front-first (t.journal w.home) log flying (f (d.journals w.home).file).seen r.seen });
         named = h.named;
