@@ -1,5 +1,7 @@
 use crate::faults::no_memory;
 use std::alloc::Global;
+use std::io;
+use std::io::Write;
 use svid_script_base::byte_words::bytes;
 use svid_script_base::env::{Env, Failing};
 use svid_script_base::out::Out;
@@ -8,8 +10,6 @@ use svid_script_base::say::{say_bytes, say_lines};
 use svid_script_base::stop::Stop;
 use svid_script_base::streams;
 use svid_script_base::words::{number, word, words_of};
-use std::io;
-use std::io::Write;
 use svid_script_checks::Validators;
 use svid_script_tokens::Trust;
 
