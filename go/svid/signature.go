@@ -63,14 +63,21 @@ func algorithmName(name []byte) string {
 	return string(name)
 }
 
-func verifyPKCS1(a *algorithm, key crypto.PublicKey, digest, signature []byte) bool {
+// rsaKey is the key, if it is of RSA and the signature has the modulus's length and is below the modulus (RFC 8017,
+// sections 5.2.2, 8.1.2 and 8.2.2). Go 1.19 takes the signature plus the modulus too.
+func rsaKey(key crypto.PublicKey, signature []byte) (*rsa.PublicKey, bool) {
 	k, ok := key.(*rsa.PublicKey)
+	return k, ok && len(signature) == k.Size() && new(big.Int).SetBytes(signature).Cmp(k.N) < 0
+}
+
+func verifyPKCS1(a *algorithm, key crypto.PublicKey, digest, signature []byte) bool {
+	k, ok := rsaKey(key, signature)
 	return ok && rsa.VerifyPKCS1v15(k, a.hash, digest, signature) == nil
 }
 
 // verifyPSS wants a salt of exactly the hash's length (RFC 7518, section 3.5).
 func verifyPSS(a *algorithm, key crypto.PublicKey, digest, signature []byte) bool {
-	k, ok := key.(*rsa.PublicKey)
+	k, ok := rsaKey(key, signature)
 	return ok && rsa.VerifyPSS(k, a.hash, digest, signature, &rsa.PSSOptions{SaltLength: a.hash.Size()}) == nil
 }
 

@@ -1,0 +1,105 @@
+package svid_test
+
+import (
+	"encoding/base64"
+	"encoding/json"
+	"errors"
+	"fmt"
+	"math/big"
+	"strings"
+	"testing"
+
+	"svid.example/go/internal/issuer"
+	"svid.example/go/svid"
+)
+
+// exampleKey is example's key for the algorithm, and its JWK.
+func exampleKey(t *testing.T, algorithm string) (key *svid.Key, jwk map[string]string) {
+	t.Helper()
+	var set struct{ Keys []map[string]string }
+	if err := json.Unmarshal(example.JWKSet(), &set); err != nil {
+		t.Fatal(err)
+	}
+	for _, jwk := range set.Keys {
+		if jwk["kid"] == issuer.KeyID(algorithm) {
+			key, err := svid.ParseKey(mustJSON(jwk))
+			if err != nil {
+				t.Fatal(err)
+			}
+			return key, jwk
+		}
+	}
+	t.Fatalf("there is no key for %s", algorithm)
+	return nil, nil
+}
+
+// signing is the text that a token signs, and the signature. The number makes another token.
+func signing(t *testing.T, algorithm string, number int) (signed string, signature []byte) {
+	t.Helper()
+	token := example.Token(algorithm, claims(fmt.Sprint(number)))
+	end := strings.LastIndexByte(token, '.')
+	return token[:end], unBase64(t, token[end+1:])
+}
+
+func unBase64(t *testing.T, text string) []byte {
+	t.Helper()
+	bytes, err := base64.RawURLEncoding.DecodeString(text)
+	if err != nil {
+		t.Fatal(err)
+	}
+	return bytes
+}
+
+// wantVerify wants a key to have made only the first of these signatures.
+func wantVerify(t *testing.T, key *svid.Key, algorithm, signed string, good []byte, others map[string][]byte) {
+	t.Helper()
+	if err := key.Verify(algorithm, signed, good); err != nil {
+		t.Errorf("%s: %v", algorithm, err)
+	}
+	for what, signature := range others {
+		if err := key.Verify(algorithm, signed, signature); !errors.Is(err, svid.ErrSignature) {
+			t.Errorf("%s, %s: %v", algorithm, what, err)
+		}
+	}
+}
+
+// An RSA signature is a number below the modulus, and has the modulus's length (RFC 8017, sections 5.2.2, 8.1.2 and 8.2.2).
+// No other number that leaves the same rest counts, and no other spelling.
+func TestAnRSASignatureHasOneForm(t *testing.T) {
+	key, jwk := exampleKey(t, "RS256")
+	modulus := new(big.Int).SetBytes(unBase64(t, jwk["n"]))
+	length := (modulus.BitLen() + 7) / 8
+	for _, algorithm := range issuer.Algorithms {
+		if algorithm[0] == 'E' {
+			continue
+		}
+		for number, done := 0, false; !done; number++ {
+			signed, signature := signing(t, algorithm, number)
+			more := new(big.Int).Add(new(big.Int).SetBytes(signature), modulus)
+			if done = more.BitLen() <= 8*length; !done {
+				continue // The sum does not fit in the length: the next token's may.
+			}
+			wantVerify(t, key, algorithm, signed, signature, map[string][]byte{
+				"the modulus more":             more.FillBytes(make([]byte, length)),
+				"the modulus more, and a zero": more.FillBytes(make([]byte, length+1)),
+				"a zero in front":              append([]byte{0}, signature...),
+				"the modulus itself":           modulus.Bytes(),
+				"zero":                         make([]byte, length),
+				"nothing":                      nil,
+			})
+		}
+	}
+}
+
+// A zero at the beginning of a signature may not be left out.
+func TestAnRSASignatureIsNotCut(t *testing.T) {
+	key, _ := exampleKey(t, "RS256")
+	for _, algorithm := range []string{"RS256", "PS256"} {
+		for number, done := 0, false; !done; number++ {
+			signed, signature := signing(t, algorithm, number)
+			if done = signature[0] == 0; done {
+				wantVerify(t, key, algorithm, signed, signature, map[string][]byte{"without its zero": signature[1:]})
+			}
+		}
+	}
+}
