@@ -2,6 +2,7 @@
 
 Usage: tokens.py FOLDER. Writes bundles.json, renewed.json (the bundles as they are later), tokens.txt (a name and a token a line), and
 due.txt, the lines that live.py prints, sorted. Needs the packages `cryptography` and `jwt` (PyJWT), which signs."""
+import itertools
 import json
 import pathlib
 import sys
@@ -37,6 +38,11 @@ def resigned(token, change):
     """The token with another signature, by its own and by what it signs."""
     text, _, signature = token.rpartition(".")
     return f"{text}.{base64url_encode(change(base64url_decode(signature), text.encode())).decode()}"
+
+
+def found(makes, fits):
+    """The first token that fits, of those with the numbers from 0."""
+    return next(token for token in map(makes, itertools.count()) if fits(base64url_decode(token.rpartition(".")[2])))
 
 
 def as_der(raw, _):
@@ -80,6 +86,15 @@ def main(folder):
         ("off-curve", signed(of["ES256"], "ES256", "off", "off-curve"), bad, no_key),
         ("other-curve", signed(of["ES256"], "ES256", "named", "other-curve"), bad, no_key),
     ]
+    # Other numbers and other spellings of good RSA signatures (RFC 8017, sections 5.2.2, 8.1.2 and 8.2.2).
+    modulus = rsa_key.public_key().public_numbers().n
+    more = lambda raw: int.from_bytes(raw, "big") + modulus
+    for alg in ("RS256", "PS256"):
+        fits = found(lambda at: signed(rsa_key, alg, "RSA", f"{alg} more {at}"), lambda raw: more(raw).bit_length() <= 2048)
+        zero = found(lambda at: signed(rsa_key, alg, "RSA", f"{alg} zero {at}"), lambda raw: raw[0] == 0)
+        cases += [(f"modulus-more-{alg}", resigned(fits, lambda raw, _: more(raw).to_bytes(256, "big")), bad, no_key)]
+        cases += [(f"zero-in-front-{alg}", resigned(zero, lambda raw, _: b"\0" + raw), bad, no_key)]
+        cases += [(f"zero-left-out-{alg}", resigned(zero, lambda raw, _: raw[1:]), bad, no_key)]
     due = []
     for name, _, first, later in cases:
         again = "SVID_REPLAYED" if first == good else first

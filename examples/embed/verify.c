@@ -62,7 +62,8 @@ int verify(void *context, const uint8_t *alg_name, size_t alg_len, const uint8_t
     len = base64url((const char *)token + at, token_len - at, signature, sizeof signature);
     if (key && at > 0 && len > 0) {
         if (!alg->curve) {
-            good = is_good(key, alg, signature, len, token, at - 1);
+            /* (for PSS, OpenSSL takes one that lacks the zeros at its beginning: RFC 8017, section 8.1.2, does not) */
+            good = len == (size_t)EVP_PKEY_get_size(key) && is_good(key, alg, signature, len, token, at - 1);
         } else if (len == 2 * alg->half && (der_len = der_of(signature, alg->half, &der)) > 0) {
             good = is_good(key, alg, der, der_len, token, at - 1);
         }

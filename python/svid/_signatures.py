@@ -99,11 +99,15 @@ def _rsa(alg: str, jwk: dict[str, Any]) -> _Good:
     if numbers.n.bit_length() not in _RSA_BITS or numbers.e not in _RSA_EXPONENTS:
         return _never
     public, algorithm = numbers.public_key(), _HASHES[alg[2:]]
+    size = (numbers.n.bit_length() + 7) // 8
     scheme: padding.AsymmetricPadding = padding.PKCS1v15()
     if alg.startswith("PS"):
         scheme = padding.PSS(padding.MGF1(algorithm), algorithm.digest_size)
 
     def good(signed: bytes, signature: bytes) -> bool:
+        # OpenSSL takes a shorter one for PSS (RFC 8017, section 8.1.2, does not).
+        if len(signature) != size:
+            return False
         try:
             public.verify(signature, signed, scheme, algorithm)
         except InvalidSignature:

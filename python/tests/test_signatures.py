@@ -1,5 +1,7 @@
 """Signatures: tokens of four other libraries, of nine algorithms, and keys of every kind."""
 
+import hashlib
+import itertools
 import json
 import math
 import subprocess
@@ -8,7 +10,7 @@ import jwt
 import pytest
 from authlib.jose import JsonWebToken
 from cryptography.hazmat.primitives import serialization
-from cryptography.hazmat.primitives.asymmetric import ec, rsa
+from cryptography.hazmat.primitives.asymmetric import ec, padding, rsa
 from jose import jwt as python_jose
 from making import (
     ALGORITHMS,
@@ -177,7 +179,6 @@ def test_a_secret_is_no_key():
 
 ES = entry(private_key("ES256"), "k1")
 RS = entry(private_key("RS256"), "k1")
-SMALL = rsa.generate_private_key(65537, 1024)
 ODD = {
     "another curve": ("ES256", {**ES, "crv": "P-384"}),
     "a curve of another algorithm": ("ES256", entry(private_key("ES384"), "k1")),
@@ -185,7 +186,8 @@ ODD = {
     "no curve": ("ES256", {name: it for name, it in ES.items() if name != "crv"}),
     "no point": ("ES256", {**ES, "x": ES["y"]}),
     "a coordinate of no length": ("ES256", {**ES, "x": ""}),
-    "a coordinate that is too long": ("ES256", {**ES, "x": "AA" + ES["x"]}),
+    "a coordinate that is too long": ("ES256", {**ES, "x": b64(bytes(1) + unb64(ES["x"]))}),
+    "another one that is too long": ("ES256", {**ES, "y": b64(bytes(3) + unb64(ES["y"]))}),
     "a coordinate with padding": ("ES256", {**ES, "x": ES["x"] + "="}),
     "a coordinate with a line end": ("ES256", {**ES, "x": ES["x"] + "\n"}),
     "a coordinate that is no text": ("ES256", {**ES, "x": 7}),
@@ -276,14 +278,115 @@ def rsa_key(exponent):
             return made.private_key()
 
 
-def test_an_rsa_key_of_1024_bits_verifies_nothing():
-    with validator(bundle(entry(SMALL, "k1"))) as checks:
-        assert verdict(checks, token("RS256", SMALL)) == BAD_SIGNATURE
+@pytest.mark.parametrize("bits", [1024, 2047, 2048])
+def test_an_rsa_key_has_2048_bits_or_more(bits):
+    expected = BAD_SIGNATURE if bits < 2048 else ACCEPTED
+    key = rsa.generate_private_key(65537, bits)
+    assert key.public_key().public_numbers().n.bit_length() == bits
+    with validator(bundle(entry(key, "k1"))) as checks:
+        assert verdict(checks, token("RS256", key)) == expected
+
+
+def test_an_rsa_key_may_have_16384_bits():
+    modulus, private = many_primes(16_384)
+    jwk = {**RS, "n": number(modulus)}
+    signed = token("RS256").rpartition(".")[0]
+    made = pow(int.from_bytes(padded(signed.encode(), 2048), "big"), private, modulus)
+    with validator(bundle(jwk)) as checks:
+        assert verdict(checks, f"{signed}.{b64(made.to_bytes(2048, 'big'))}") == ACCEPTED
+
+
+def many_primes(bits):
+    """A modulus of so many bits and the private exponent of 65537: made of primes that are soon found."""
+    modulus, phi = 1, 1
+    while modulus.bit_length() <= bits - 2048:
+        numbers = rsa.generate_private_key(65537, 2048).private_numbers()
+        modulus, phi = modulus * numbers.p * numbers.q, phi * (numbers.p - 1) * (numbers.q - 1)
+    small = [2, 3, 5, 7, 13, 23, 43, 83, 163, 317, 631]  # each less than twice the one before it
+    rest = [it for it in small if (modulus * it).bit_length() == bits]
+    if rest:
+        modulus, phi = modulus * rest[-1], phi * (rest[-1] - 1)
+    assert modulus.bit_length() == bits
+    return modulus, pow(65537, -1, phi)
+
+
+def padded(signed, size):
+    """What a signature by RS256 of so many bytes is a power of (RFC 8017, section 9.2)."""
+    info = bytes.fromhex("3031300d060960864801650304020105000420")
+    told = info + hashlib.sha256(signed).digest()
+    return b"\0\1" + b"\xff" * (size - len(told) - 3) + b"\0" + told
 
 
 def test_a_key_that_names_its_algorithm():
     with validator(bundle({**ES, "alg": "ES256"})) as checks:
         assert verdict(checks, token()) == ACCEPTED
+
+
+def accepted(made, others, bundles):
+    """Whether a token is accepted with each of these signatures, and with its own."""
+    signed, _, own = made.rpartition(".")
+    with validator(bundles) as checks:
+        said = [verdict(checks, f"{signed}.{b64(it)}") for it in [*others, unb64(own)]]
+    assert set(said) <= {ACCEPTED, BAD_SIGNATURE}
+    return [it == ACCEPTED for it in said]
+
+
+def signatures_that_are_other_forms(alg, made):
+    """Other numbers and other spellings of a token's RSA signature, where all of them fit."""
+    n = private_key(alg).public_key().public_numbers().n
+    own = unb64(made.rpartition(".")[2])
+    more = int.from_bytes(own, "big") + n
+    if more.bit_length() > 8 * len(own):
+        return []
+    more, modulus = more.to_bytes(len(own), "big"), n.to_bytes(len(own), "big")
+    return [more, bytes(1) + more, bytes(1) + own, modulus, bytes(len(own))]
+
+
+@pytest.mark.parametrize("alg", [it for it in ALGORITHMS if it[0] != "E"])
+def test_an_rsa_signature_has_one_form(alg):
+    """It is below the modulus, and has its length (RFC 8017, 5.2.2, 8.1.2 and 8.2.2)."""
+    tokens = (token(alg, jti=str(number)) for number in itertools.count())
+    made = next(it for it in tokens if signatures_that_are_other_forms(alg, it))
+    others = signatures_that_are_other_forms(alg, made)
+    bundles = bundle(entry(private_key(alg), "k1"))
+    assert accepted(made, others, bundles) == [False] * len(others) + [True]
+
+
+@pytest.mark.parametrize("alg", ["RS256", "PS256"])
+def test_an_rsa_signature_is_not_cut(alg):
+    """A zero at its beginning may not be left out."""
+    tokens = (token(alg, jti=str(number)) for number in itertools.count())
+    made = next(it for it in tokens if unb64(it.rpartition(".")[2])[0] == 0)
+    own = unb64(made.rpartition(".")[2])
+    bundles = bundle(entry(private_key(alg), "k1"))
+    assert accepted(made, [own[1:]], bundles) == [False, True]
+
+
+@pytest.mark.parametrize("alg", ["PS256", "PS384", "PS512"])
+def test_a_salt_has_the_length_of_the_hash(alg):
+    """RFC 7518, section 3.5."""
+    made, hashed = token(alg), SIGNERS[alg].hash_alg()
+    signed = made.rpartition(".")[0].encode()
+    size = hashed.digest_size
+    longest = 256 - size - 2
+    others = [
+        private_key(alg).sign(signed, padding.PSS(padding.MGF1(hashed), salt), hashed)
+        for salt in (0, 1, size - 1, size + 1, 20, longest)
+    ]
+    bundles = bundle(entry(private_key(alg), "k1"))
+    assert accepted(made, others, bundles) == [False] * len(others) + [True]
+
+
+@pytest.mark.parametrize("alg", ["ES256", "ES384", "ES512"])
+def test_r_and_s_have_the_length_of_the_order(alg):
+    """No zero may stand in front of either, or behind (RFC 7518, section 3.4)."""
+    made = token(alg)
+    own = unb64(made.rpartition(".")[2])
+    r, s = own[: len(own) // 2], own[len(own) // 2 :]
+    zero = bytes(1)
+    others = [zero + own, r + zero + s, zero + r + zero + s, own + zero, own + 2 * zero]
+    bundles = bundle(entry(private_key(alg), "k1"))
+    assert accepted(made, others, bundles) == [False] * len(others) + [True]
 
 
 @pytest.mark.parametrize("r, s", [(0, 0), (0, 1), (1, 0), (2**256 - 1, 2**256 - 1)])

@@ -56,6 +56,10 @@ fn answer(row: &Row, token: &[u8]) -> Option<bool> {
     match kind {
         Kind::Curve { half, .. } => signature = der_of(&signature, half)?,
         Kind::Rsa(padding) => {
+            // (for PSS, OpenSSL takes one that lacks the zeros at its beginning: RFC 8017, section 8.1.2, does not)
+            if signature.len() != key.size() {
+                return None;
+            }
             verifier.set_rsa_padding(padding).ok()?;
             if padding == Padding::PKCS1_PSS {
                 verifier.set_rsa_pss_saltlen(RsaPssSaltlen::DIGEST_LENGTH).ok()?;
