@@ -139,6 +139,63 @@ export function testVerdicts(start) {
     });
   }
 
+  // Wants the page to accept a token, and none of the others that have the same text and one of these signatures.
+  async function wantOneForm(mine, token, others) {
+    const end = token.lastIndexOf(".") + 1;
+    for (const [what, signature] of Object.entries(others)) {
+      await page.write({ ...fresh(), bundles: bundlesOf(mine.entry), token: token.slice(0, end) + base64url(signature) });
+      assert.equal((await shown()).said, "Refused: BadSignature", `${mine.alg}, ${what}`);
+    }
+    await page.write({ ...fresh(), bundles: bundlesOf(mine.entry), token });
+    assert.equal((await shown()).said, "Accepted", mine.alg);
+  }
+
+  // The first token of a key whose signature fits: each has another jti.
+  async function found(mine, fits) {
+    for (let jti = 0; ; jti++) {
+      const token = await sign(mine, { alg: mine.alg, kid: mine.kid }, { ...GOOD, jti: String(jti) });
+      const signature = Buffer.from(token.slice(token.lastIndexOf(".") + 1), "base64url");
+      if (fits(signature)) return { token, signature };
+    }
+  }
+
+  test("an RSA signature is below the modulus, and has its length (RFC 8017, 5.2.2, 8.1.2 and 8.2.2)", async () => {
+    const numberOf = (bytes) => BigInt(`0x${Buffer.from(bytes).toString("hex")}`);
+    const bytesOf = (number) => Buffer.from(number.toString(16).padStart(512, "0"), "hex");
+    for (const alg of ALGORITHMS.filter((it) => it[0] !== "E")) {
+      const mine = await makeKey(alg), modulus = numberOf(Buffer.from(mine.entry.n, "base64url"));
+      const { token, signature } = await found(mine, (it) => numberOf(it) + modulus < 1n << 2048n);
+      await wantOneForm(mine, token, {
+        "the modulus more": bytesOf(numberOf(signature) + modulus), "the modulus": bytesOf(modulus),
+        "a zero in front": Buffer.concat([Buffer.alloc(1), signature]), zero: Buffer.alloc(256),
+      });
+      if (alg.endsWith("512")) continue;
+      const short = await found(mine, (it) => it[0] === 0);
+      await wantOneForm(mine, short.token, { "without its zero": short.signature.subarray(1) });
+    }
+  });
+
+  test("a salt has the length of the hash (RFC 7518, 3.5)", async () => {
+    for (const [alg, size] of Object.entries({ PS256: 32, PS384: 48, PS512: 64 })) {
+      const mine = await makeKey(alg), { token } = await found(mine, () => true), others = {};
+      for (const saltLength of [0, 20, size - 1, size + 1, 254 - size]) {
+        others[`a salt of ${saltLength}`] = await mine.sign(token.slice(0, token.lastIndexOf(".")), { saltLength });
+      }
+      await wantOneForm(mine, token, others);
+    }
+  });
+
+  test("r and s have the length of the curve's order (RFC 7518, 3.4)", async () => {
+    for (const alg of ALGORITHMS.filter((it) => it[0] === "E")) {
+      const mine = await makeKey(alg), { token, signature } = await found(mine, () => true), zero = Buffer.alloc(1);
+      const r = signature.subarray(0, signature.length / 2), s = signature.subarray(signature.length / 2);
+      await wantOneForm(mine, token, {
+        "0 r s": Buffer.concat([zero, r, s]), "r 0 s": Buffer.concat([r, zero, s]), "0 r 0 s": Buffer.concat([zero, r, zero, s]),
+        "r s 0": Buffer.concat([r, s, zero]), "r s 0 0": Buffer.concat([r, s, zero, zero]), "zero": Buffer.alloc(signature.length),
+      });
+    }
+  });
+
   test("each reason to pass a key over is told, and each answer of a key", async () => {
     const other = await makeKey("ES256", "key-ES256"), curve = await makeKey("ES384", "key-ES256"), rsa = await makeKey("RS256", "key-ES256");
     const omit = (name) => Object.fromEntries(Object.entries(key.entry).filter(([it]) => it !== name));
@@ -178,7 +235,9 @@ export function testVerdicts(start) {
         [{ alg: "RS512" }, /^can't be used: its alg is "RS512", and that of the token is RS256/],
         [{ alg: null }, /^can't be used: its alg is null/],
         [{ n: small.entry.n }, /^can't be used: its modulus has 1,024 bits, and must have from 2,048 to 16,384/],
+        [{ n: number([0x7f, ...Array(255).fill(255)]) }, /^can't be used: its modulus has 2,047 bits/],
         [{ n: number([1, ...Array(2048).fill(1)]) }, /^can't be used: its modulus has 16,385 bits/],
+        [{ n: number([128, ...Array(2047).fill(1)]) }, /^(does not verify the signature|can't be used: (?!its modulus))/],
         [{ n: undefined }, /^can't be used: its n is no base64url/],
         [{ e: number([1]) }, /^can't be used: its exponent is no odd number/],
         [{ e: number([2]) }, /^can't be used: its exponent/],
@@ -189,7 +248,8 @@ export function testVerdicts(start) {
       ]],
       "ES256": [ec, [
         [{}, /^verifies the signature/],
-        [{ x: `AA${ec.entry.x}` }, /^can't be used: its x /],
+        [{ x: base64url(Buffer.concat([Buffer.alloc(1), Buffer.from(ec.entry.x, "base64url")])) }, /^can't be used: its x has 33 bytes, and P-256 needs 32/],
+        [{ y: `AAAA${ec.entry.y}` }, /^can't be used: its y has 35 bytes, and P-256 needs 32/],
         [{ x: `${ec.entry.x}\n` }, /^can't be used: its x is no base64url/],
         [{ y: ec.entry.y.slice(0, 42) }, /^can't be used: its y (is no base64url|has 31 bytes, and P-256 needs 32)/],
         [{ x: base64url(Buffer.alloc(32)) }, /^can't be used: /],
