@@ -63,11 +63,11 @@ func algorithmName(name []byte) string {
 	return string(name)
 }
 
-// rsaKey is the key, if it is of RSA and the signature has the modulus's length and is below the modulus (RFC 8017,
-// sections 5.2.2, 8.1.2 and 8.2.2). Go 1.19 takes the signature plus the modulus too.
+// rsaKey is the key, if it is of RSA and the signature is below its modulus (RFC 8017, section 5.2.2), as Go 1.19 does not
+// check. (That the signature has the modulus's length, each of Go's two verifiers checks.)
 func rsaKey(key crypto.PublicKey, signature []byte) (*rsa.PublicKey, bool) {
 	k, ok := key.(*rsa.PublicKey)
-	return k, ok && len(signature) == k.Size() && new(big.Int).SetBytes(signature).Cmp(k.N) < 0
+	return k, ok && new(big.Int).SetBytes(signature).Cmp(k.N) < 0
 }
 
 func verifyPKCS1(a *algorithm, key crypto.PublicKey, digest, signature []byte) bool {

@@ -1,6 +1,11 @@
 package svid_test
 
 import (
+	"bytes"
+	"crypto/ecdsa"
+	"crypto/elliptic"
+	"crypto/rand"
+	"crypto/sha512"
 	"encoding/base64"
 	"encoding/json"
 	"errors"
@@ -101,5 +106,47 @@ func TestAnRSASignatureIsNotCut(t *testing.T) {
 				wantVerify(t, key, algorithm, signed, signature, map[string][]byte{"without its zero": signature[1:]})
 			}
 		}
+	}
+}
+
+// r and s have the length of the curve's order each (RFC 7518, section 3.4): no zero may be put in front of either, or
+// behind, or be left out.
+func TestAnECSignatureHasOneForm(t *testing.T) {
+	join := func(parts ...[]byte) []byte { return bytes.Join(parts, nil) }
+	zero := []byte{0}
+	for _, algorithm := range []string{"ES256", "ES384", "ES512"} {
+		key, _ := exampleKey(t, algorithm)
+		for number, done := 0, false; !done; number++ {
+			signed, signature := signing(t, algorithm, number)
+			r, s := signature[:len(signature)/2], signature[len(signature)/2:]
+			if done = s[0] == 0; done {
+				wantVerify(t, key, algorithm, signed, signature, map[string][]byte{
+					"0 r s": join(zero, r, s), "r 0 s": join(r, zero, s), "0 r 0 s": join(zero, r, zero, s),
+					"r s 0": join(r, s, zero), "r s 0 0": join(r, s, zero, zero), "s without its zero": join(r, s[1:]),
+					"zero": make([]byte, len(signature)), "nothing": nil,
+				})
+			}
+		}
+	}
+}
+
+// A key signs by the algorithm of its curve alone, also where its signature has the length that is due on its curve.
+func TestACurveHasOneAlgorithm(t *testing.T) {
+	private, err := ecdsa.GenerateKey(elliptic.P256(), rand.Reader)
+	if err != nil {
+		t.Fatal(err)
+	}
+	key, err := svid.ParseKey(mustJSON(issuer.ECKey("a", &private.PublicKey)))
+	if err != nil {
+		t.Fatal(err)
+	}
+	sum := sha512.Sum384([]byte("text"))
+	r, s, err := ecdsa.Sign(rand.Reader, private, sum[:])
+	if err != nil {
+		t.Fatal(err)
+	}
+	signature := append(r.FillBytes(make([]byte, 32)), s.FillBytes(make([]byte, 32))...)
+	if err := key.Verify("ES384", "text", signature); !errors.Is(err, svid.ErrSignature) {
+		t.Errorf("ES384 by a key on P-256: %v", err)
 	}
 }

@@ -11,6 +11,7 @@ import (
 	"errors"
 	"fmt"
 	"log"
+	"math/big"
 	"strings"
 	"sync"
 	"sync/atomic"
@@ -313,32 +314,63 @@ func TestKeysThatCannotBeUsed(t *testing.T) {
 		}
 		return string(text)
 	}
-	modulus := func(bytes int) string {
-		n := make([]byte, bytes)
-		n[0], n[bytes-1] = 0x80, 1
-		return base64.RawURLEncoding.EncodeToString(n)
+	encode := base64.RawURLEncoding.EncodeToString
+	modulus := func(bits int) string {
+		n := new(big.Int).SetBit(big.NewInt(1), bits-1, 1)
+		return encode(n.Bytes())
 	}
-	zero := base64.RawURLEncoding.EncodeToString(make([]byte, 32))
+	// A coordinate that begins with a zero, and which can be written without it.
+	var short *ecdsa.PrivateKey
+	for short == nil || short.X.BitLen() > 31*8 {
+		if short, err = ecdsa.GenerateKey(elliptic.P256(), rand.Reader); err != nil {
+			t.Fatal(err)
+		}
+	}
+	cut := issuer.ECKey("a", &short.PublicKey)
+	cut["x"] = encode(short.X.Bytes())
+	x := p256.X.FillBytes(make([]byte, 32))
+	leftOver := []byte(encode(x))
+	leftOver[42]++ // (the last two bits of 43 characters are none of 32 bytes)
+	zero := encode(make([]byte, 32))
 	for what, jwk := range map[string]string{
 		"no JSON":             `{`,
 		"a type of its own":   `{"kty":"oct","k":"AA"}`,
-		"RSA of 1,024 bits":   `{"kty":"RSA","n":"` + modulus(128) + `","e":"AQAB"}`,
-		"RSA of 16,392 bits":  `{"kty":"RSA","n":"` + modulus(2049) + `","e":"AQAB"}`,
-		"exponent 1":          `{"kty":"RSA","n":"` + modulus(256) + `","e":"AQ"}`,
-		"exponent 2":          `{"kty":"RSA","n":"` + modulus(256) + `","e":"Ag"}`,
-		"exponent 2^32+1":     `{"kty":"RSA","n":"` + modulus(256) + `","e":"AQAAAAE"}`,
-		"no exponent":         `{"kty":"RSA","n":"` + modulus(256) + `"}`,
-		"padding":             `{"kty":"RSA","n":"` + modulus(256) + `","e":"AQAB=="}`,
-		"a number":            `{"kty":"RSA","n":"` + modulus(256) + `","e":65537}`,
-		"names in capitals":   `{"KTY":"RSA","N":"` + modulus(256) + `","E":"AQAB"}`,
+		"a bad one for ES256": `{"kty":"oct","k":"AA","alg":"ES256"}`,
+		"RSA of 1,024 bits":   `{"kty":"RSA","n":"` + modulus(1024) + `","e":"AQAB"}`,
+		"RSA of 2,047 bits":   `{"kty":"RSA","n":"` + modulus(2047) + `","e":"AQAB"}`,
+		"RSA of 16,385 bits":  `{"kty":"RSA","n":"` + modulus(16385) + `","e":"AQAB"}`,
+		"exponent 1":          `{"kty":"RSA","n":"` + modulus(2048) + `","e":"AQ"}`,
+		"exponent 2":          `{"kty":"RSA","n":"` + modulus(2048) + `","e":"Ag"}`,
+		"exponent 65536":      `{"kty":"RSA","n":"` + modulus(2048) + `","e":"AQAA"}`,
+		"exponent 2^31+1":     `{"kty":"RSA","n":"` + modulus(2048) + `","e":"gAAAAQ"}`,
+		"exponent 2^32+1":     `{"kty":"RSA","n":"` + modulus(2048) + `","e":"AQAAAAE"}`,
+		"no exponent":         `{"kty":"RSA","n":"` + modulus(2048) + `"}`,
+		"padding":             `{"kty":"RSA","n":"` + modulus(2048) + `","e":"AQAB=="}`,
+		"a number":            `{"kty":"RSA","n":"` + modulus(2048) + `","e":65537}`,
+		"names in capitals":   `{"KTY":"RSA","N":"` + modulus(2048) + `","E":"AQAB"}`,
 		"a curve of its own":  ec("crv", "secp256k1"),
 		"a longer curve":      ec("crv", "P-384"),
 		"a short coordinate":  ec("x", "AA"),
+		"one without a zero":  string(mustJSON(cut)),
+		"one with a zero":     ec("x", encode(append([]byte{0}, x...))),
+		"one with three":      ec("y", "AAAA"+issuer.ECKey("a", &p256.PublicKey)["y"]),
+		"bits left over":      ec("x", string(leftOver)),
 		"a point off a curve": ec("x", zero),
 		"not base64url":       ec("x", strings.Repeat("+", 43)),
 		"a line end":          ec("x", strings.Repeat("A", 43)+"\n"),
 	} {
-		if _, err := svid.ParseKey([]byte(jwk)); !errors.Is(err, svid.ErrKey) {
+		if key, err := svid.ParseKey([]byte(jwk)); !errors.Is(err, svid.ErrKey) || key != nil {
+			t.Errorf("%s: %v", what, err)
+		}
+	}
+	for what, jwk := range map[string]string{
+		"RSA of 2,048 bits":  `{"kty":"RSA","n":"` + modulus(2048) + `","e":"AQAB"}`,
+		"RSA of 16,384 bits": `{"kty":"RSA","n":"` + modulus(16384) + `","e":"AQAB"}`,
+		"exponent 3":         `{"kty":"RSA","n":"` + modulus(2048) + `","e":"Aw"}`,
+		"exponent 2^31-1":    `{"kty":"RSA","n":"` + modulus(2048) + `","e":"f____w"}`,
+		"a zero in it":       string(mustJSON(issuer.ECKey("a", &short.PublicKey))),
+	} {
+		if _, err := svid.ParseKey([]byte(jwk)); err != nil {
 			t.Errorf("%s: %v", what, err)
 		}
 	}
