@@ -134,7 +134,12 @@ func TestWithdrawOfStandardInput(t *testing.T) {
 	admin := filepath.Join(t.TempDir(), "admin.sock")
 	p := start(t, bundleOption(bundleFile(t, example)), "--state", filepath.Join(t.TempDir(), "state"), "--admin", admin)
 	one := token(t, "one", time.Minute)
-	status, out, err := svidd(t, " \t"+one+"\r\n", "withdraw", "--admin", admin, "-")
+	for _, bad := range []string{" \t" + one + "\r\n", one + " \n", one + "\n" + token(t, "two", time.Minute) + "\n"} {
+		if status, out, err := here(bad, "withdraw", "--admin", admin, "-"); status != 2 || out != "" || err == "" {
+			t.Errorf("%q: %d %q %q", bad, status, out, err)
+		}
+	}
+	status, out, err := svidd(t, one+"\r\n", "withdraw", "--admin", admin, "-")
 	if status != 0 || !strings.HasPrefix(out, "withdrawn ") || err != "" {
 		t.Errorf("%d %q %q", status, out, err)
 	}

@@ -58,10 +58,21 @@ func verify(args []string, std stdio) int {
 	return exitYes
 }
 
-// readToken reads a token from standard input. White space around it is none of it.
+var errLines = errors.New("standard input has more than one line: give it one token")
+
+// readToken reads standard input: one token, with or without one line end, which is LF or CR LF. All else is part of the
+// token, and rejected with it. Of a token that is too long it reads as much as shows that.
 func readToken(std stdio) (string, error) {
-	text, err := io.ReadAll(io.LimitReader(std.in, svid.MaxToken+2))
-	return strings.TrimSpace(string(text)), err
+	const most = svid.MaxToken + len("\r\n")
+	text, err := io.ReadAll(io.LimitReader(std.in, int64(most+1)))
+	token := string(text)
+	if strings.HasSuffix(token, "\n") {
+		token = strings.TrimSuffix(strings.TrimSuffix(token, "\n"), "\r")
+	}
+	if err == nil && strings.Contains(token, "\n") {
+		err = errLines
+	}
+	return token, err
 }
 
 // judge is nil for a token that a validator with an empty record accepts.

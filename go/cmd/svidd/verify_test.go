@@ -1,0 +1,76 @@
+package main
+
+import (
+	"encoding/base64"
+	"encoding/json"
+	"strings"
+	"testing"
+	"time"
+
+	"svid.example/go/svid"
+)
+
+// Standard input of verify is one token, with or without one line end. All other bytes belong to the token, and a token with
+// them is none.
+func TestVerifyReadsOneToken(t *testing.T) {
+	bundle := bundleOption(bundleFile(t, example))
+	good, longest := token(t, "a", time.Minute), longestToken(t)
+	blanks := strings.Repeat(" ", svid.MaxToken)
+	for _, row := range []struct {
+		stdin, want string
+		status      int
+	}{
+		{good, "", 0},
+		{good + "\n", "", 0},
+		{good + "\r\n", "", 0},
+		{longest, "", 0},
+		{longest + "\n", "", 0},
+		{longest + "\r\n", "", 0},
+		{" " + good, "refused HeaderSpelling", 1},
+		{"\t" + good + "\n", "refused HeaderSpelling", 1},
+		{"\ufeff" + good, "refused HeaderSpelling", 1},
+		{good + " ", "refused SignatureSpelling", 1},
+		{good + " \n", "refused SignatureSpelling", 1},
+		{good + "\r", "refused SignatureSpelling", 1},
+		{good + "\r\r\n", "refused SignatureSpelling", 1},
+		{good + "\x00", "refused SignatureSpelling", 1},
+		{good + blanks + good, "refused TooLong", 1},
+		{"  " + good + blanks + "A", "refused TooLong", 1},
+		{"\n", "refused NotThreeParts", 1},
+		{"\n" + good, "more than one line", 2},
+		{good + "\n\n", "more than one line", 2},
+		{good + "\r\n\r\n", "more than one line", 2},
+		{good + "\n" + good + "\n", "more than one line", 2},
+		{good + "\n" + blanks + "A", "more than one line", 2},
+		{longest + "\n" + " ", "more than one line", 2},
+		{longest + "\r\n" + "A", "more than one line", 2},
+		{longest + "A\n", "refused TooLong", 1},
+	} {
+		status, out, err := here(row.stdin, "verify", "--audience", "ledger", bundle)
+		if status != row.status || !strings.Contains(err, row.want) || (out == "") != (status != 0) {
+			t.Errorf("%.40q and %d bytes: %d %q %q, and %q is due", row.stdin, len(row.stdin), status, out, err, row.want)
+		}
+	}
+}
+
+// longestToken is a good token of svid.MaxToken bytes.
+func longestToken(t *testing.T) string {
+	t.Helper()
+	const room = `{"alg":"ES256","kid":"ec-256","more":""}`
+	claims, err := json.Marshal(map[string]any{"sub": example.Subject("/web"), "aud": "ledger", "exp": time.Now().Unix() + 60})
+	if err != nil {
+		t.Fatal(err)
+	}
+	payload := string(claims)
+	for more := 48000; more < 50000; more++ {
+		for _, blanks := range []string{"", " ", "  "} {
+			header := strings.Replace(room, `""`, `"`+strings.Repeat("m", more)+`"`, 1)
+			length := base64.RawURLEncoding.EncodedLen(len(header)) + base64.RawURLEncoding.EncodedLen(len(payload+blanks)) + 2 + 86
+			if length == svid.MaxToken {
+				return example.Sign("ES256", header, payload+blanks)
+			}
+		}
+	}
+	t.Fatal("no token has that length")
+	return ""
+}
