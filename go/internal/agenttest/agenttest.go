@@ -10,6 +10,7 @@ import (
 	"os/exec"
 	"path/filepath"
 	"strings"
+	"syscall"
 	"testing"
 )
 
@@ -95,6 +96,19 @@ func (a *Agent) say(t testing.TB, what map[string]any) string {
 		t.Fatal(err)
 	}
 	return strings.TrimSpace(line)
+}
+
+// Freeze stops the agent, so that it says nothing, and is still there. Thaw lets it go on.
+func (a *Agent) Freeze(t testing.TB) { a.signal(t, syscall.SIGSTOP) }
+
+// Thaw lets a frozen agent go on.
+func (a *Agent) Thaw(t testing.TB) { a.signal(t, syscall.SIGCONT) }
+
+func (a *Agent) signal(t testing.TB, s syscall.Signal) {
+	t.Helper()
+	if err := a.run.Process.Signal(s); err != nil {
+		t.Fatal(err)
+	}
 }
 
 // Kill kills the agent, if it runs.

@@ -28,7 +28,7 @@ import (
 
 const (
 	usualEvery    = 5 * time.Second  // between two looks at files and folders
-	usualLimit    = 15 * time.Second // for one answer over https
+	usualLimit    = 15 * time.Second // for one answer over https, and the first one of a Workload API
 	mostRedirects = 5
 	mostSaid      = 16 // entries of one bundle that are logged each by itself
 )
@@ -43,7 +43,7 @@ type Options struct {
 	Check func(domain string, document json.RawMessage) error
 	// Every is the time between two looks at files and folders; 0 is five seconds.
 	Every time.Duration
-	// Limit is how long one answer over https may take; 0 is fifteen seconds.
+	// Limit is how long one answer over https may take, and the first one of a Workload API; 0 is fifteen seconds.
 	Limit time.Duration
 	// Roots are the authorities for https; nil is the system's.
 	Roots *x509.CertPool

@@ -14,6 +14,8 @@ import (
 // that means no good takes more than a hundred times its length in memory, for each processor.
 const mostDocument = 1 << 20
 
+var errTooLong = fmt.Errorf("it has more than %d bytes", mostDocument)
+
 // A document is what of a bundle this package looks at.
 type document struct {
 	Keys        []json.RawMessage `json:"keys"`
@@ -95,7 +97,7 @@ func passedOver(entry json.RawMessage) (why string) {
 func readAll(r io.Reader) ([]byte, error) {
 	text, err := io.ReadAll(io.LimitReader(r, mostDocument+1))
 	if err == nil && len(text) > mostDocument {
-		err = fmt.Errorf("it has more than %d bytes", mostDocument)
+		err = errTooLong
 	}
 	return text, err
 }

@@ -3,6 +3,7 @@ package bundles
 import (
 	"context"
 	"errors"
+	"fmt"
 	"sort"
 	"strings"
 	"time"
@@ -24,7 +25,7 @@ func (w *Watcher) attend(ctx context.Context, s Spec) {
 		w.fault(s.Source, err) // (checkAll has read it)
 		return
 	}
-	client, pause := workload.NewClient(address), shortestPause
+	client, pause := workload.NewClient(address, w.options.Limit), shortestPause
 	for {
 		err := client.WatchBundles(ctx, func(bundles map[string][]byte) {
 			pause = shortestPause
@@ -67,24 +68,55 @@ func (w *Watcher) adopt(s Spec, bundles map[string][]byte) {
 	for name := range bundles {
 		names = append(names, name)
 	}
-	sort.Strings(names)
-	changed, there := false, map[string]bool{}
+	sort.Slice(names, func(i, j int) bool { // the small ones first: they have room
+		a, b := len(bundles[names[i]]), len(bundles[names[j]])
+		return a < b || a == b && names[i] < names[j]
+	})
+	changed, there, room := false, map[string]bool{}, mostDocument
 	for _, name := range names {
 		domain := strings.TrimPrefix(name, "spiffe://")
 		if _, named := w.specOf(domain); named {
 			continue
 		}
 		there[s.of(domain)] = true
-		text := bundles[name]
-		if mended, err := jwks.ForTokens(text); err == nil {
-			text = mended // (else judge says what is wrong)
+		text, err := bundles[name], checkDomain(domain)
+		if err == nil {
+			text, err = mended(text, &room)
 		}
-		_, now := w.judge(domain, s.of(domain), text, checkDomain(domain))
+		_, now := w.judge(domain, s.of(domain), text, err)
 		changed = now || changed
 	}
 	if w.dropOthers(s, there) || changed {
 		w.tell()
 	}
+}
+
+// mended is a bundle of a Workload API as the validator wants it, if there is room for it among the bytes that all of them may
+// have. It takes what it needs of that.
+func mended(text []byte, room *int) ([]byte, error) {
+	if err := fits(len(text), *room); err != nil {
+		return nil, err
+	}
+	whole, err := jwks.ForTokens(text)
+	if err != nil {
+		whole = text // (judge says what is wrong)
+	}
+	if err := fits(len(whole), *room); err != nil {
+		return nil, err
+	}
+	*room -= len(whole)
+	return whole, nil
+}
+
+// fits is an error where a bundle of so many bytes has no room.
+func fits(bytes, room int) error {
+	switch {
+	case bytes > mostDocument:
+		return errTooLong
+	case bytes > room:
+		return fmt.Errorf("with it, the bundles of this Workload API have more than %d bytes", mostDocument)
+	}
+	return nil
 }
 
 // Answered says whether a Workload API has given its bundles, where one is asked.

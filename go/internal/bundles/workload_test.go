@@ -93,6 +93,75 @@ func TestTheAgentIsAway(t *testing.T) {
 	o.await(t, "a word of it", o.says("bundle source is well again source "+agent.Address))
 }
 
+// An agent that says nothing is told of, and asked again.
+func TestASilentAgent(t *testing.T) {
+	agent := agenttest.Start(t)
+	_, o := watch(t, func(options *Options) { options.Limit = 200 * time.Millisecond }, WorkloadAPI(agent.Address))
+	o.await(t, "a word of its silence", o.says("bundle not read source "+agent.Address+" why it is silent"))
+	agent.Give(t, map[string]string{"spiffe://example.org": bare})
+	o.await(t, "the bundle", o.calledTimes(1))
+	o.want(t, map[string]string{"example.org": used})
+	o.await(t, "a word of that", o.says("bundle source is well again source "+agent.Address))
+}
+
+// The bundles of a Workload API have together no more bytes than a file may have. The greatest are passed over.
+func TestGreatBundlesOfAWorkloadAPI(t *testing.T) {
+	// A bundle of so many bytes, which the validator is given as it is.
+	sized := func(bytes int) string {
+		const begin, end = `{"keys":[{"kid":"a","kty":"EC","use":"jwt-svid","x":"`, `"}]}`
+		return begin + strings.Repeat("A", bytes-len(begin+end)) + end
+	}
+	const most = 1 << 20
+	small, other, half := sized(1000), sized(1001), sized(most/2)
+	unused := strings.Replace(sized(1017), `"use":"jwt-svid",`, "", 1) // It has 1,000 bytes, and 1,017 once its key says its use.
+	agent := agenttest.Start(t)
+	give := func(bundles ...string) {
+		t.Helper()
+		named := map[string]string{}
+		for i, text := range bundles {
+			named["spiffe://"+string(rune('a'+i))] = text
+		}
+		agent.Give(t, named)
+	}
+	give(small, small, small)
+	_, o := watch(t, nil, WorkloadAPI(agent.Address))
+	calls := 1
+	for _, step := range []struct {
+		given, due []string
+		fault      string
+	}{
+		{nil, []string{small, small, small}, ""},
+		// The last good one stays, and all others are taken.
+		{[]string{sized(15 << 20), other, small}, []string{small, other, small}, "source a of " + agent.Address + " why it has more than 1048576 bytes"},
+		{[]string{other, sized(most + 1), small}, []string{other, other, small}, "source b of " + agent.Address + " why it has more than 1048576 bytes"},
+		{[]string{small, small, small + strings.Repeat(" ", most)}, []string{small, small, small}, "source c of " + agent.Address + " why it has more than 1048576 bytes"},
+		{[]string{other, small, sized(most - 2001)}, []string{other, small, sized(most - 2001)}, ""},
+		{[]string{sized(1002), sized(1000), sized(most - 2001)}, []string{sized(1002), small, sized(most - 2001)}, "source c of " + agent.Address + " why with it"},
+		{[]string{unused, small, sized(most - 2017)}, []string{sized(1017), small, sized(most - 2017)}, ""},
+		{[]string{small, unused, sized(most - 2016)}, []string{small, sized(1017), sized(most - 2017)}, ""},
+		{[]string{sized(1002), small, small}, []string{sized(1002), small, small}, ""},
+		{[]string{half + " ", half, small}, []string{sized(1002), half, small}, "source a of " + agent.Address + " why with it"},
+	} {
+		if step.given != nil {
+			give(step.given...)
+			calls++
+		}
+		o.await(t, "the bundles", o.calledTimes(calls))
+		if step.fault != "" {
+			o.await(t, step.fault, o.says("bundle not read; the last good one stays "+step.fault))
+		}
+		for i, text := range step.due {
+			if got := o.last[string(rune('a'+i))]; got != text {
+				t.Errorf("call %d: bundle %d has %d bytes, and %d are due", calls, i, len(got), len(text))
+			}
+		}
+	}
+
+	// What is longer once each key says its use counts as what it becomes: 300 kB, and 1.9 MB.
+	give(small, small, small, `{"keys":[`+strings.Repeat("{},", 100_000)+"{}]}")
+	o.await(t, "the one that grows", o.says("bundle not read source d of "+agent.Address+" why it has more than 1048576 bytes"))
+}
+
 // A bundle that is named by itself counts before that of the Workload API.
 func TestANamedBundleBesideAWorkloadAPI(t *testing.T) {
 	agent := agenttest.Start(t)

@@ -7,7 +7,6 @@ package workload
 import (
 	"bytes"
 	"context"
-	"crypto/tls"
 	"encoding/binary"
 	"errors"
 	"fmt"
@@ -17,6 +16,8 @@ import (
 	"net/url"
 	"strconv"
 	"strings"
+	"sync/atomic"
+	"time"
 
 	"golang.org/x/net/http2"
 	"google.golang.org/protobuf/encoding/protowire"
@@ -27,6 +28,11 @@ const (
 	method = "/SpiffeWorkloadAPI/FetchJWTBundles"
 	// mostMessage is how many bytes a message may have: bundles of some hundred trust domains.
 	mostMessage = 16 << 20
+	// mostHeaders is how many bytes the headers of an answer may have, and those behind its messages, which say why it ended.
+	mostHeaders = 1 << 16
+	// idle is how long a server may send nothing before it is asked by HTTP/2 whether it is still there. Servers of gRPC hang up
+	// on who asks more often than every five minutes.
+	idle = 6 * time.Minute
 	// frameHead is what stands before each message of gRPC: whether it is compressed, and its length.
 	frameHead = 5
 )
@@ -43,27 +49,54 @@ const (
 // ErrForGood: the server rejects the call as it is made, so the client does not make it again.
 var ErrForGood = errors.New("it rejects the call itself")
 
-// A Client asks the Workload API of one address.
-type Client struct{ http http.Client }
-
-// NewClient returns a client. It connects when it is asked for something.
-func NewClient(a Address) *Client {
-	dialer := net.Dialer{}
-	return &Client{http.Client{Transport: &http2.Transport{
-		AllowHTTP: true,
-		DialTLSContext: func(ctx context.Context, _, _ string, _ *tls.Config) (net.Conn, error) {
-			return dialer.DialContext(ctx, a.network, a.where)
-		},
-		DisableCompression: true,
-	}}}
+// A Client asks the Workload API of one address. Each call has a connection of its own.
+type Client struct {
+	address     Address
+	limit, idle time.Duration
 }
+
+// NewClient returns a client. The limit is how long the server may take for its first message, for the rest of one that it
+// has begun, and to say that it is still there.
+func NewClient(a Address, limit time.Duration) *Client { return &Client{a, limit, idle} }
 
 // WatchBundles calls give with the bundles of all trust domains, by what the server calls these, once for each message. A
 // message has all that are valid from then on. A bundle is a JWK set.
 //
-// It returns when ctx ends, when the server ends the stream, or when something is wrong: the error is never nil, and wraps
-// ErrForGood where the server does not want this call again.
+// It returns when ctx ends, when the server ends the stream or is silent for too long, or when something is wrong: the error
+// is never nil, and wraps ErrForGood where the server does not want this call again.
 func (c *Client) WatchBundles(ctx context.Context, give func(bundles map[string][]byte)) error {
+	within, end := context.WithCancel(ctx)
+	defer end()
+	var isLate atomic.Bool
+	late := time.AfterFunc(c.limit, func() {
+		isLate.Store(true)
+		end()
+	})
+	defer late.Stop()
+	err := c.watch(within, late, give)
+	if isLate.Load() {
+		return fmt.Errorf("it is silent: no bundles came within %v", c.limit)
+	}
+	return err
+}
+
+// watch is WatchBundles. The timer late runs while a message is due.
+func (c *Client) watch(ctx context.Context, late *time.Timer, give func(bundles map[string][]byte)) error {
+	conn, err := new(net.Dialer).DialContext(ctx, c.address.network, c.address.where)
+	if err != nil {
+		return err
+	}
+	defer conn.Close()
+	transport := http2.Transport{
+		DisableCompression: true,
+		MaxHeaderListSize:  mostHeaders,
+		ReadIdleTimeout:    c.idle,
+		PingTimeout:        c.limit,
+	}
+	server, err := transport.NewClientConn(conn)
+	if err != nil {
+		return err
+	}
 	// (The request has one message, which is empty.)
 	request, err := http.NewRequestWithContext(ctx, http.MethodPost, "http://localhost"+method, bytes.NewReader(make([]byte, frameHead)))
 	if err != nil {
@@ -75,12 +108,8 @@ func (c *Client) WatchBundles(ctx context.Context, give func(bundles map[string]
 		"User-Agent":         {"svidd"},
 		"Workload.spiffe.io": {"true"}, // SPIFFE Workload Endpoint, section 3
 	}
-	answer, err := c.http.Do(request)
+	answer, err := server.RoundTrip(request)
 	if err != nil {
-		var at *url.Error
-		if errors.As(err, &at) {
-			err = at.Err // The address says nothing.
-		}
 		return err
 	}
 	defer answer.Body.Close()
@@ -88,7 +117,8 @@ func (c *Client) WatchBundles(ctx context.Context, give func(bundles map[string]
 		return fmt.Errorf("it answers %s with %q: no gRPC is served there", answer.Status, kind)
 	}
 	for {
-		message, err := readMessage(answer.Body)
+		message, err := readMessage(answer.Body, func() { late.Reset(c.limit) })
+		late.Stop()
 		if err == io.EOF {
 			return ending(answer)
 		}
@@ -103,11 +133,15 @@ func (c *Client) WatchBundles(ctx context.Context, give func(bundles map[string]
 	}
 }
 
-// readMessage reads one message of a stream. io.EOF: there is none any more.
-func readMessage(stream io.Reader) ([]byte, error) {
+// readMessage reads one message of a stream, and calls begun at its first byte. io.EOF: there is none any more.
+func readMessage(stream io.Reader, begun func()) ([]byte, error) {
 	var head [frameHead]byte
-	if _, err := io.ReadFull(stream, head[:]); err != nil {
+	if _, err := io.ReadFull(stream, head[:1]); err != nil {
 		return nil, err
+	}
+	begun()
+	if _, err := io.ReadFull(stream, head[1:]); err != nil {
+		return nil, cut(err)
 	}
 	n := binary.BigEndian.Uint32(head[1:])
 	switch {
@@ -122,6 +156,14 @@ func readMessage(stream io.Reader) ([]byte, error) {
 		err = io.ErrUnexpectedEOF
 	}
 	return message, err
+}
+
+// cut is the error of a stream that ends within a message.
+func cut(err error) error {
+	if err == io.EOF {
+		return io.ErrUnexpectedEOF
+	}
+	return err
 }
 
 // ending says why a stream has ended. The status stands behind it, or, where there was no message, in front.

@@ -28,7 +28,7 @@ func client(t *testing.T, address string) *Client {
 	if err != nil {
 		t.Fatal(err)
 	}
-	return NewClient(a)
+	return NewClient(a, patience)
 }
 
 // watch begins to watch, and returns what is given, and why it ended.
@@ -123,6 +123,127 @@ func TestTheContextEndsIt(t *testing.T) {
 	}
 }
 
+// ends wants a call to end with an error that has this text, which says that the server can be asked again.
+func ends(t *testing.T, what string, c *Client, want string) {
+	t.Helper()
+	ctx, cancel := context.WithTimeout(context.Background(), patience)
+	defer cancel()
+	err := c.WatchBundles(ctx, func(map[string][]byte) {})
+	if err == nil || !strings.Contains(err.Error(), want) || errors.Is(err, ErrForGood) || ctx.Err() != nil {
+		t.Errorf("%s: %v, want %q", what, err, want)
+	}
+}
+
+// A server that says nothing is left after the limit. The next call has a connection of its own.
+func TestASilentServer(t *testing.T) {
+	const limit, want = 200 * time.Millisecond, "it is silent: no bundles came within 200ms"
+	agent := agenttest.Start(t)
+	c := client(t, agent.Address)
+	c.limit = limit
+	ends(t, "one of gRPC without bundles", c, want)
+	agent.Freeze(t)
+	ends(t, "one that is frozen", c, want)
+	agent.Thaw(t)
+	c.limit = patience
+	agent.Give(t, map[string]string{"a": "b"})
+	ctx, cancel := context.WithTimeout(context.Background(), patience)
+	defer cancel()
+	err := c.WatchBundles(ctx, func(bundles map[string][]byte) {
+		if string(bundles["a"]) == "b" {
+			cancel()
+		}
+	})
+	if !errors.Is(err, context.Canceled) {
+		t.Errorf("the call behind them: %v", err)
+	}
+
+	for what, begin := range map[string]string{
+		"one that sends headers alone":     "",
+		"one that begins a head":           "\x00",
+		"one that ends a head":             "\x00\x00\x00\x00\x08",
+		"one that begins a message":        "\x00\x00\x00\x00\x08\x0a\x06\x0a\x01a",
+		"one that begins the second":       "\x00\x00\x00\x00\x08\x0a\x06\x0a\x01a\x12\x01b\x00",
+		"one that is within the second":    "\x00\x00\x00\x00\x08\x0a\x06\x0a\x01a\x12\x01b\x00\x00\x00\x00\x08\x0a",
+		"one whose first message is empty": "\x00\x00\x00\x00\x00\x00\x00",
+	} {
+		server := httptest.NewUnstartedServer(nil)
+		server.Config.Handler = h2c.NewHandler(http.HandlerFunc(func(w http.ResponseWriter, r *http.Request) {
+			w.Header().Set("Content-Type", "application/grpc")
+			io.WriteString(w, begin)
+			w.(http.Flusher).Flush()
+			<-r.Context().Done()
+		}), &http2.Server{})
+		server.Start()
+		c := client(t, "tcp://"+server.Listener.Addr().String())
+		c.limit = limit
+		ends(t, what, c, want)
+		server.Close()
+	}
+
+	deaf, err := net.Listen("tcp", "127.0.0.1:0")
+	if err != nil {
+		t.Fatal(err)
+	}
+	defer deaf.Close()
+	c = client(t, "tcp://"+deaf.Addr().String())
+	c.limit = limit
+	ends(t, "one that takes no connection", c, want)
+	conn, err := deaf.Accept()
+	if err != nil {
+		t.Fatal(err)
+	}
+	defer conn.Close()
+	if err := conn.SetDeadline(time.Now().Add(patience)); err != nil {
+		t.Fatal(err)
+	}
+	if _, err := io.ReadAll(conn); err != nil {
+		t.Errorf("the connection is still there: %v", err)
+	}
+}
+
+// Between two messages a server may be silent for longer than the limit.
+func TestAServerWithoutNews(t *testing.T) {
+	agent := agenttest.Start(t)
+	one, two := map[string]string{"a": "b"}, map[string]string{"a": "c"}
+	agent.Give(t, one)
+	c := client(t, agent.Address)
+	c.limit = 500 * time.Millisecond
+	ctx, cancel := context.WithTimeout(context.Background(), patience)
+	defer cancel()
+	given, news := 0, make(chan bool)
+	err := c.WatchBundles(ctx, func(bundles map[string][]byte) {
+		if given++; given == 1 {
+			time.AfterFunc(3*c.limit, func() {
+				defer close(news)
+				agent.Give(t, two)
+			})
+			return
+		}
+		if string(bundles["a"]) != "c" {
+			t.Errorf("%q", bundles)
+		}
+		cancel()
+	})
+	<-news
+	if !errors.Is(err, context.Canceled) || given != 2 {
+		t.Errorf("%d messages: %v", given, err)
+	}
+}
+
+// A server that has given bundles is silent until they change. Whether it is still there, it is asked after a while.
+func TestAServerThatIsGoneIsMissed(t *testing.T) {
+	agent := agenttest.Start(t)
+	agent.Give(t, map[string]string{"a": "b"})
+	c := client(t, agent.Address)
+	c.idle, c.limit = time.Second, 500*time.Millisecond
+	ctx, cancel := context.WithTimeout(context.Background(), 12*time.Second)
+	defer cancel()
+	err := c.WatchBundles(ctx, func(map[string][]byte) { agent.Freeze(t) })
+	if err == nil || ctx.Err() != nil {
+		t.Errorf("%v", err)
+	}
+}
+
 func TestNobodyAnswers(t *testing.T) {
 	err := client(t, "unix://"+filepath.Join(t.TempDir(), "agent.sock")).WatchBundles(context.Background(), nil)
 	if err == nil || !strings.Contains(err.Error(), "no such file") {
@@ -143,10 +264,13 @@ func TestBadServers(t *testing.T) {
 		"no status":             {func(w http.ResponseWriter) { good(w) }, "without a status"},
 		"a status that is none": {func(w http.ResponseWriter) { good(w); w.Header().Set("Grpc-Status", "x") }, "without a status"},
 		"an end":                {func(w http.ResponseWriter) { good(w); ok(w) }, "it has ended the stream"},
+		"a byte of a head":      {func(w http.ResponseWriter) { good(w); io.WriteString(w, "\x00"); ok(w) }, "unexpected EOF"},
 		"half a head":           {func(w http.ResponseWriter) { good(w); io.WriteString(w, "\x00\x00\x00"); ok(w) }, "unexpected EOF"},
 		"half a message":        {func(w http.ResponseWriter) { good(w); io.WriteString(w, "\x00\x00\x00\x00\x09\x0a"); ok(w) }, "unexpected EOF"},
 		"a compressed message":  {func(w http.ResponseWriter) { good(w); io.WriteString(w, "\x01\x00\x00\x00\x00") }, "compressed"},
 		"a great message":       {func(w http.ResponseWriter) { good(w); io.WriteString(w, "\x00\x01\x00\x00\x01") }, "of 16777217 bytes"},
+		"the greatest, cut":     {func(w http.ResponseWriter) { good(w); io.WriteString(w, "\x00\x01\x00\x00\x00a"); ok(w) }, "unexpected EOF"},
+		"a great status":        {func(w http.ResponseWriter) { good(w); w.Header().Set("Grpc-Message", strings.Repeat("a", 1<<17)) }, "COMPRESSION_ERROR"},
 		"a bad message":         {func(w http.ResponseWriter) { good(w); io.WriteString(w, "\x00\x00\x00\x00\x02\x0a\x09") }, "no JWTBundlesResponse"},
 	} {
 		server := httptest.NewUnstartedServer(nil)
