@@ -2,9 +2,11 @@
 
 from __future__ import annotations
 
+import errno
 import json
 import os
 import pathlib
+import stat
 from collections.abc import Iterator, Mapping
 from typing import Any, Union
 
@@ -48,7 +50,7 @@ class Source:
         path = pathlib.Path(self._given)
         if path.is_dir():
             return _joined({file.stem: file for file in _files(path)})
-        text = path.read_bytes()
+        text = _contents(path)
         if isinstance(_object(text, str(path)).get("keys"), list):
             return _joined({path.stem: text})
         return text
@@ -92,9 +94,17 @@ def _text(name: str, bundle: Bundle) -> bytes:
             return json.dumps(dict(bundle), allow_nan=False).encode()
         except (TypeError, ValueError, RecursionError) as error:
             raise BadBundles(f"the bundle of {name} is no JSON: {error}") from error
-    text = bundle if isinstance(bundle, bytes) else pathlib.Path(bundle).read_bytes()
+    text = bundle if isinstance(bundle, bytes) else _contents(pathlib.Path(bundle))
     _object(text, f"the bundle of {name}")
     return text
+
+
+def _contents(path: pathlib.Path) -> bytes:
+    """What a regular file has. (To open a pipe, or to read one, may take for ever.)"""
+    with open(path, "rb", opener=lambda name, how: os.open(name, how | os.O_NONBLOCK)) as file:
+        if not stat.S_ISREG(os.fstat(file.fileno()).st_mode):
+            raise OSError(errno.EINVAL, "Not a regular file", str(path))
+        return file.read()
 
 
 def _object(text: bytes, what: str) -> dict[str, Any]:

@@ -120,6 +120,19 @@ def test_a_file_that_is_missing(tmp_path):
             validator(given)
 
 
+@pytest.mark.parametrize("linked", [False, True])
+def test_a_pipe_is_not_waited_for(tmp_path, linked):
+    pipe = tmp_path / "other.example.json"
+    os.mkfifo(tmp_path / "pipe")
+    pipe.symlink_to("pipe") if linked else os.mkfifo(pipe)
+    (tmp_path / "example.org.json").write_text(json.dumps(SPIRE))
+    for given in pipe, str(pipe), tmp_path, {"example.org": JWKS, "other.example": pipe}:
+        with pytest.raises(OSError, match="Not a regular file.*other.example.json"):
+            validator(given)
+    with pytest.raises(OSError, match="Not a regular file.*null"):
+        validator("/dev/null")
+
+
 def test_renewing():
     with validator() as checks:
         made = token(jti="1")

@@ -297,7 +297,7 @@ def test_an_rsa_key_may_have_16384_bits():
 
 
 def many_primes(bits):
-    """A modulus of so many bits and the private exponent of 65537: made of primes that are soon found."""
+    """A modulus of so many bits and its private exponent, of primes that are soon found."""
     modulus, phi = 1, 1
     while modulus.bit_length() <= bits - 2048:
         numbers = rsa.generate_private_key(65537, 2048).private_numbers()

@@ -21,8 +21,10 @@ import (
 	"net/http"
 	"os"
 	"path/filepath"
+	"sort"
 	"strings"
 	"sync"
+	"syscall"
 	"time"
 )
 
@@ -179,18 +181,36 @@ func (w *Watcher) readFile(domain, name string) (changed bool) {
 	return changed
 }
 
+var errNotRegular = errors.New("it is no regular file")
+
+// readFile reads a regular file. To open a pipe, or to read one, may take for ever.
 func readFile(name string) ([]byte, error) {
-	f, err := os.Open(name)
+	f, err := os.OpenFile(name, os.O_RDONLY|syscall.O_NONBLOCK, 0)
 	if err != nil {
 		return nil, err
 	}
 	defer f.Close()
+	if is, err := f.Stat(); err != nil || !is.Mode().IsRegular() {
+		return nil, errNotRegular
+	}
 	return readAll(f)
+}
+
+// readDir is os.ReadDir, which does not wait for a pipe.
+func readDir(dir string) ([]os.DirEntry, error) {
+	f, err := os.OpenFile(dir, os.O_RDONLY|syscall.O_NONBLOCK|syscall.O_DIRECTORY, 0)
+	if err != nil {
+		return nil, err
+	}
+	defer f.Close()
+	entries, err := f.ReadDir(-1)
+	sort.Slice(entries, func(i, j int) bool { return entries[i].Name() < entries[j].Name() })
+	return entries, err
 }
 
 // readFolder reads each file DOMAIN.json of a folder, and drops the domains whose file is gone.
 func (w *Watcher) readFolder(dir string) (changed bool) {
-	entries, err := os.ReadDir(dir)
+	entries, err := readDir(dir)
 	if w.fault(dir, err); err != nil {
 		return false
 	}
