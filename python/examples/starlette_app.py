@@ -2,7 +2,7 @@
 
     SVID_BUNDLES=bundles uvicorn starlette_app:app
 
-The validator is made when the server starts, so each worker process has its own.
+The validator is made when the server starts. Run one worker process: each would have its own.
 """
 
 from __future__ import annotations

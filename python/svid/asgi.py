@@ -21,6 +21,9 @@ class SvidMiddleware:
     There `scope["spiffe_id"]` is the SPIFFE ID of the token's subject, a str. Any other request is
     answered with status 401, and any other websocket is closed before it is accepted. A check runs
     on the event loop: it takes little more than to verify one signature.
+
+    Run one process: a server with several workers accepts a token once in each of them. For
+    several, put the sidecar svidd in front of the service (docs/SIDECAR.md).
     """
 
     def __init__(self, app: App, validator: Validator) -> None:

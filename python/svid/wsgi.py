@@ -18,6 +18,9 @@ class SvidMiddleware:
 
     There `environ["svid.spiffe_id"]` is the SPIFFE ID of the token's subject, a str. Any other
     request is answered with status 401. Servers with several threads may use it.
+
+    Run one process: a server with several workers accepts a token once in each of them. For
+    several, put the sidecar svidd in front of the service (docs/SIDECAR.md).
     """
 
     def __init__(self, app: App, validator: Validator) -> None:

@@ -10,6 +10,8 @@ import shutil
 import subprocess
 
 import pytest
+import svid.asgi
+import svid.wsgi
 
 PYTHON = pathlib.Path(__file__).parent.parent
 BLOCK = re.compile(r"^```(\w*)\n(.*?)^```$", re.MULTILINE | re.DOTALL)
@@ -51,6 +53,20 @@ def test_the_first_block_has_ten_lines():
     page = (PYTHON / "README.md").read_text()
     explained = page.partition("Line by line:\n\n")[2].partition("\n\n")[0].splitlines()
     assert len(first.splitlines()) == len(explained) == 10
+
+
+@pytest.mark.parametrize(
+    "text",
+    [
+        (PYTHON / "README.md").read_text().partition("## Web services")[2].partition("\n## ")[0],
+        svid.asgi.SvidMiddleware.__doc__,
+        svid.wsgi.SvidMiddleware.__doc__,
+    ],
+    ids=["README", "ASGI", "WSGI"],
+)
+def test_it_says_what_several_workers_accept(text):
+    """Who reads of the middleware must learn there that each worker accepts a token."""
+    assert "one process" in text and "workers" in text and "svidd" in text and "SIDECAR.md" in text
 
 
 def test_console(checkout):

@@ -198,7 +198,7 @@ func readFile(name string) ([]byte, error) {
 
 // readDir is os.ReadDir, which does not wait for a pipe.
 func readDir(dir string) ([]os.DirEntry, error) {
-	f, err := os.OpenFile(dir, os.O_RDONLY|syscall.O_NONBLOCK|syscall.O_DIRECTORY, 0)
+	f, err := os.OpenFile(dir, os.O_RDONLY|syscall.O_DIRECTORY, 0)
 	if err != nil {
 		return nil, err
 	}
