@@ -26,8 +26,8 @@
 // has seen. A message carries a record or a part of it to other validators. All
 // times are whole seconds since 1970.
 //
-// Building needs cgo, and of this repository the file include/svid.h and the
-// libsvid.a under dist for the machine.
+// Building needs cgo (CGO_ENABLED=1 and a C compiler), and of this repository
+// the file include/svid.h and the libsvid.a under dist for the machine.
 package svid
 
 // #include "svid.h"

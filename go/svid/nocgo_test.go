@@ -1,0 +1,25 @@
+package svid_test
+
+import (
+	"os"
+	"os/exec"
+	"strings"
+	"testing"
+)
+
+// Without cgo the build of the package, or of what uses it, ends with one line that says what is missing.
+func TestABuildWithoutCgo(t *testing.T) {
+	for _, what := range []string{"./svid", "./cmd/svidd", "./..."} {
+		build := exec.Command("go", "build", "-o", os.DevNull, what)
+		build.Dir = ".."
+		build.Env = append(os.Environ(), "CGO_ENABLED=0")
+		said, err := build.CombinedOutput()
+		lines := map[string]bool{}
+		for _, line := range strings.Split(strings.TrimSpace(string(said)), "\n") {
+			lines[line] = true // (for ./... there are two that are the same)
+		}
+		if err == nil || len(lines) != 1 || !strings.Contains(string(said), "build it with CGO_ENABLED=1 and a C compiler") {
+			t.Errorf("%s: %v\n%s", what, err, said)
+		}
+	}
+}
