@@ -1,0 +1,267 @@
+package svid
+
+import (
+	"bytes"
+	"errors"
+	"reflect"
+	"runtime"
+	"testing"
+	"time"
+)
+
+// The race detector does not see what the C library writes. So these tests hold a lock, or all handles, and want each call to
+// wait for it.
+
+// inside runs a call. By its name the calls that wait are found among all goroutines.
+//
+//go:noinline
+func inside(call func(), done chan<- string, name string) {
+	call()
+	done <- name
+}
+
+// waiting is how many calls of inside wait for a lock or for a channel.
+func waiting() (n int) {
+	stacks := make([]byte, 1<<20)
+	stacks = stacks[:runtime.Stack(stacks, true)]
+	for _, stack := range bytes.Split(stacks, []byte("\n\n")) {
+		if !bytes.Contains(stack, []byte("svid.inside(")) {
+			continue
+		}
+		state, frames, _ := bytes.Cut(stack, []byte("\n"))
+		if bytes.HasPrefix(frames, []byte("sync.runtime_Semacquire")) || bytes.Contains(state, []byte("[chan receive")) {
+			n++
+		}
+	}
+	return n
+}
+
+// wantWait wants each of the calls to wait until free is called, and to return behind that.
+func wantWait(t *testing.T, what string, free func(), calls map[string]func()) {
+	t.Helper()
+	done := make(chan string, len(calls))
+	for name, call := range calls {
+		go inside(call, done, name)
+	}
+	returned := 0
+	for end := time.Now().Add(20 * time.Second); returned+waiting() < len(calls); time.Sleep(time.Millisecond) {
+		select {
+		case name := <-done:
+			returned++
+			t.Errorf("%s does not wait: %s", name, what)
+		default:
+		}
+		if time.Now().After(end) {
+			t.Fatalf("calls neither wait nor return: %s", what)
+		}
+	}
+	free()
+	for ; returned < len(calls); returned++ {
+		select {
+		case <-done:
+		case <-time.After(20 * time.Second):
+			t.Fatalf("a call does not return: %s", what)
+		}
+	}
+}
+
+// methods wants calls to have every exported method of a value.
+func methods(t *testing.T, of any, calls map[string]func()) {
+	t.Helper()
+	for kind, i := reflect.TypeOf(of), 0; i < kind.NumMethod(); i++ {
+		if calls[kind.Method(i).Name] == nil {
+			t.Errorf("there is no call of %s here", kind.Method(i).Name)
+		}
+	}
+}
+
+func openValidator(t *testing.T, bundles []byte) *Validator {
+	t.Helper()
+	v, err := Open(Options{Audiences: []string{"ledger"}, Bundles: bundles, Longest: 3600})
+	if err != nil {
+		t.Fatal(err)
+	}
+	t.Cleanup(v.Close)
+	return v
+}
+
+func TestEachCallOfAValidatorHoldsItsLock(t *testing.T) {
+	const now = 1_767_225_600
+	one := newIssuer(t, "example.org")
+	v, k := openValidator(t, one.Bundles()), openKeyring(t, string(one.Bundles()))
+	token := one.Token("ES256", map[string]any{"sub": "spiffe://example.org/web", "aud": "ledger", "exp": now + 300, "jti": "a"})
+	yes, err := k.Verify(token)
+	if err != nil {
+		t.Fatal(err)
+	}
+	judged, err := v.Judge(now, token, yes)
+	if err != nil {
+		t.Fatal(err)
+	}
+	summary, err := v.Summary()
+	if err != nil {
+		t.Fatal(err)
+	}
+	calls := map[string]func(){
+		"Accept":       func() { _, _ = v.Accept(k, now, token) },
+		"Answer":       func() { _, _ = v.Answer(now, summary) },
+		"Check":        func() { _, _ = v.Check(now, token, yes) },
+		"CheckClaimed": func() { _, _ = v.CheckClaimed(now, token, yes, judged.Use.Batch()) },
+		"Close":        v.Close,
+		"Judge":        func() { _, _ = v.Judge(now, token, yes) },
+		"JudgeAgain":   func() { _ = v.JudgeAgain(now, judged) },
+		"Save":         func() { _ = v.Save(&bytes.Buffer{}) },
+		"SetBundles":   func() { _ = v.SetBundles(one.Bundles()) },
+		"Summary":      func() { _, _ = v.Summary() },
+		"Take":         func() { _ = v.Take(now, judged.Use.Batch()) },
+		"Tick":         func() { _ = v.Tick(now) },
+		"WalkAnswer":   func() { _, _ = v.WalkAnswer(now, 10, summary, 1000) },
+		"WalkSummary":  func() { _, _ = v.WalkSummary(0) },
+		"Withdraw":     func() { _, _ = v.Withdraw(now, judged.Use.Key, now+300) },
+	}
+	methods(t, v, calls)
+	v.mu.Lock()
+	wantWait(t, "another call holds the validator's lock", v.mu.Unlock, calls)
+}
+
+// The lock is held until the library has returned: for a long call that shows.
+func TestALongCallKeepsTheLock(t *testing.T) {
+	const now = 1_767_225_600
+	v := openValidator(t, []byte(`{}`))
+	uses := make([]Use, 100_000)
+	for i := range uses {
+		uses[i] = Use{Key: TokenKey{byte(i), byte(i >> 8), byte(i >> 16)}, Expires: now + 300, At: now - uint64(i%10)}
+	}
+	batches := Batches(uses)
+	done := make(chan error)
+	go func() { done <- v.Take(now, batches) }()
+	held := 0
+	for {
+		select {
+		case err := <-done:
+			if err != nil || held == 0 {
+				t.Errorf("the lock was held %d times of those that were looked: %v", held, err)
+			}
+			return
+		default:
+		}
+		if v.mu.TryLock() {
+			v.mu.Unlock()
+		} else {
+			held++
+		}
+	}
+}
+
+func TestEachCallOfAKeyringHoldsItsLock(t *testing.T) {
+	one := newIssuer(t, "example.org")
+	k := openKeyring(t, string(one.Bundles()))
+	token := func(jti string) string {
+		return one.Token("ES256", map[string]any{"sub": "spiffe://example.org/web", "aud": "ledger", "exp": 2_000_000_000, "jti": jti})
+	}
+	planned := token("a")
+	if _, err := k.Verify(planned); err != nil {
+		t.Fatal(err)
+	}
+	strange := token("b")[:20]
+	reading := map[string]func(){
+		"Candidates":              func() { _, _ = k.Candidates(planned) },
+		"Verify":                  func() { _, _ = k.Verify(planned) },
+		"a Verify without a plan": func() { _, _ = k.Verify(strange) },
+	}
+	changing := map[string]func(){
+		"SetBundles": func() { _ = k.SetBundles(one.Bundles()) },
+	}
+	all := map[string]func(){"Close": nil}
+	for name, call := range reading {
+		all[name] = call
+	}
+	for name, call := range changing {
+		all[name] = call
+	}
+	all["Close"] = func() {}
+	methods(t, k, all)
+	delete(all, "Close")
+	k.mu.Lock()
+	wantWait(t, "another call holds the keyring's lock", k.mu.Unlock, all)
+	changing["Close"] = k.Close
+	k.mu.RLock()
+	wantWait(t, "a call reads the bundles", k.mu.RUnlock, changing)
+}
+
+// A handle of the library serves one call at a time, and is there for the next one afterwards.
+func TestEachHandleServesOneCall(t *testing.T) {
+	one := newIssuer(t, "example.org")
+	k := openKeyring(t, string(one.Bundles()))
+	var all []*asker
+	for range make([]struct{}, cap(k.askers)) {
+		all = append(all, <-k.askers)
+	}
+	free := func() {
+		for _, a := range all {
+			k.askers <- a
+		}
+	}
+	wantWait(t, "all handles are in use", free, map[string]func(){
+		"Candidates": func() { _, _ = k.Candidates("a.b.c") },
+		"Verify":     func() { _, _ = k.Verify("a.b.c") },
+	})
+	if len(k.askers) != cap(k.askers) {
+		t.Errorf("%d handles of %d are left", len(k.askers), cap(k.askers))
+	}
+}
+
+// The keys and plans of bundles have a lock of their own.
+func TestTheKeysOfBundlesHaveALock(t *testing.T) {
+	one := newIssuer(t, "example.org")
+	k := openKeyring(t, string(one.Bundles()))
+	token := one.Token("ES256", map[string]any{"sub": "spiffe://example.org/web", "aud": "ledger", "exp": 2_000_000_000, "jti": "a"})
+	s, _ := cutToken(token)
+	signature, err := s.signatureBytes()
+	if err != nil {
+		t.Fatal(err)
+	}
+	candidates, keys, err := k.candidates(token)
+	if err != nil || !s.readDomain() {
+		t.Fatal(err)
+	}
+	text := []byte(candidates[0].Key.JSON())
+	changing := map[string]func(){
+		"a new key":  func() { keys.get([]byte("{}")) },
+		"a new plan": func() { keys.keep(&s, candidates, 0, signature) },
+	}
+	all := map[string]func(){"a known key": func() { keys.get(text) }, "a plan": func() { k.planOf(&s) }}
+	for name, call := range changing {
+		all[name] = call
+	}
+	keys.mu.Lock()
+	wantWait(t, "another call changes the keys", keys.mu.Unlock, all)
+	changing["a new key"] = func() { keys.get([]byte(`{"kty":"EC"}`)) }
+	keys.mu.RLock()
+	wantWait(t, "another call reads the keys", keys.mu.RUnlock, changing)
+}
+
+// The handles of bundles that were replaced are closed, and those of a keyring that is closed.
+func TestOldBundlesAreFreed(t *testing.T) {
+	one := newIssuer(t, "example.org")
+	k := openKeyring(t, string(one.Bundles()))
+	for i, replace := range []func(){
+		func() {
+			if err := k.SetBundles(one.Bundles()); err != nil {
+				t.Fatal(err)
+			}
+		},
+		k.Close,
+	} {
+		old := k.askers
+		replace()
+		if len(old) != cap(old) {
+			t.Errorf("%d: %d handles of %d", i, len(old), cap(old))
+		}
+		for n := len(old); n > 0; n-- {
+			if _, err := (<-old).ask("a.b.c"); !errors.Is(err, ErrClosed) {
+				t.Errorf("%d: a handle is still open: %v", i, err)
+			}
+		}
+	}
+}
