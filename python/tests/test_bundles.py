@@ -84,6 +84,17 @@ def test_the_workload_api():
             svid.from_workload_api({"spiffe://example.org": bad})
 
 
+def test_an_x509_key_of_the_workload_api_signs_no_token():
+    """Its use stays, whatever that is: only a key that names none is for tokens."""
+    for use, said in (
+        ("jwt-svid", ACCEPTED),
+        ("x509-svid", "refused NoKey"),
+        (None, "refused NoKey"),
+    ):
+        text = json.dumps({"keys": [{**entry(KEY, "k1"), "use": use}]}).encode()
+        assert says(svid.from_workload_api({"spiffe://example.org": text})) == said
+
+
 @pytest.mark.parametrize(
     "given",
     [
@@ -169,6 +180,48 @@ def test_files_that_change_are_read_again(tmp_path):
         assert verdict(checks, token()) == ACCEPTED
         path.unlink()
         assert verdict(checks, token(jti="2")) == "refused UnknownDomain"
+
+
+def rotation(which):
+    """A bundle of another key: as many bytes for each."""
+    return json.dumps({"keys": [entry(private_key("ES256", which), "k1")]})
+
+
+def replaced(path, text, time):
+    new = path.with_suffix(".new")
+    new.write_text(text)
+    os.utime(new, ns=(time, time))
+    os.replace(new, path)
+
+
+def written(path, text, time):
+    path.write_text(text)
+    os.utime(path, ns=(time + 1, time + 1))
+
+
+def grown(path, text, time):
+    path.write_text(text + "\n")
+    os.utime(path, ns=(time, time))
+
+
+@pytest.mark.parametrize("rotate", [replaced, written, grown])
+def test_a_rotation_that_differs_in_one_thing_is_seen(tmp_path, rotate):
+    """In its file alone, in a nanosecond of its time, or in its size."""
+    path = tmp_path / "example.org.json"
+    path.write_text(rotation(0))
+    time = path.stat().st_mtime_ns // 10**9 * 10**9
+    os.utime(path, ns=(time, time))
+    before = path.stat()
+    with validator(path, refresh=0) as checks:
+        assert verdict(checks, token(jti="1")) == ACCEPTED
+        rotate(path, rotation(1), time)
+        after = path.stat()
+        same = [
+            getattr(before, it) == getattr(after, it) for it in ("st_ino", "st_mtime_ns", "st_size")
+        ]
+        assert same.count(False) == 1
+        assert verdict(checks, token(jti="2")) == "refused BadSignature"
+        assert verdict(checks, token(jti="2", key=private_key("ES256", 1))) == ACCEPTED
 
 
 @pytest.mark.parametrize("refresh", [None, 3600])

@@ -4,9 +4,12 @@ import (
 	"net"
 	"os"
 	"path/filepath"
+	"strings"
 	"syscall"
 	"testing"
 	"time"
+
+	"svid.example/go/internal/agenttest"
 )
 
 // Only a regular file is read: a pipe would not let go of who opens it.
@@ -48,6 +51,57 @@ func TestWhatIsNoRegularFile(t *testing.T) {
 		o.wantLines(t, 1, "bundle not read source "+in("socket.example.json")+" why open ")
 	case <-time.After(20 * time.Second):
 		t.Fatal("it waits for a pipe")
+	}
+}
+
+// A rotation of the same length is one, also within a second.
+func TestARotationOfTheSameLength(t *testing.T) {
+	folder := t.TempDir()
+	name := filepath.Join(folder, "example.org.json")
+	write(t, name, spire)
+	w, o := watch(t, nil, Folder(folder))
+	before, err := os.Stat(name)
+	if err != nil {
+		t.Fatal(err)
+	}
+	other := strings.Replace(spire, `"kid": "C6`, `"kid": "D6`, 1)
+	write(t, name, other)
+	if err := os.Chtimes(name, before.ModTime(), before.ModTime()); err != nil {
+		t.Fatal(err)
+	}
+	w.Reload()
+	o.want(t, map[string]string{"example.org": other})
+	w.Reload()
+	if o.calls != 2 {
+		t.Errorf("told %d times", o.calls)
+	}
+}
+
+// A trust domain's name has 1 to 255 letters of a to z, digits, '.', '-' and '_' (SPIFFE-ID, section 2.1).
+func TestNamesOfTrustDomains(t *testing.T) {
+	const good = "abcdefghijklmnopqrstuvwxyz0123456789.-_"
+	for c := 0; c < 256; c++ {
+		name := "a" + string([]byte{byte(c)}) + "b"
+		if err := checkDomain(name); (err == nil) != strings.Contains(good, name[1:2]) {
+			t.Errorf("%q: %v", name, err)
+		}
+	}
+	for length, want := range map[int]bool{0: false, 1: true, 255: true, 256: false} {
+		if err := checkDomain(strings.Repeat("a", length)); (err == nil) != want {
+			t.Errorf("%d bytes: %v", length, err)
+		}
+	}
+	// What is no name gets no bundle, and the log says why.
+	folder := t.TempDir()
+	write(t, filepath.Join(folder, "spiffe:example.json"), spire)
+	_, o := watch(t, nil, Folder(folder))
+	o.wantLines(t, 1, `is no trust domain's name`)
+	agent := agenttest.Start(t)
+	agent.Give(t, map[string]string{"spiffe://a/b": spire, "spiffe://a": spire, "spiffe://spiffe://b": spire})
+	_, o = watch(t, nil, WorkloadAPI(agent.Address))
+	o.await(t, "the bundle", o.calledTimes(1))
+	if len(o.last) != 1 || o.last["a"] == "" {
+		t.Errorf("%q", o.last)
 	}
 }
 
