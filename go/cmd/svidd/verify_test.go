@@ -3,10 +3,16 @@ package main
 import (
 	"encoding/base64"
 	"encoding/json"
+	"encoding/pem"
+	"net/http"
+	"net/http/httptest"
+	"os"
+	"path/filepath"
 	"strings"
 	"testing"
 	"time"
 
+	"svid.example/go/internal/issuer"
 	"svid.example/go/svid"
 )
 
@@ -73,4 +79,36 @@ func longestToken(t *testing.T) string {
 	}
 	t.Fatal("no token has that length")
 	return ""
+}
+
+// verify waits for each bundle that is named: the one that comes last may be the token's.
+func TestVerifyWaitsForEachBundle(t *testing.T) {
+	other, err := issuer.New("example.com")
+	if err != nil {
+		t.Fatal(err)
+	}
+	first := make(chan bool)
+	server := httptest.NewTLSServer(http.HandlerFunc(func(w http.ResponseWriter, r *http.Request) {
+		if r.URL.Path == "/first" {
+			defer close(first)
+			_, _ = w.Write(example.JWKSet())
+			return
+		}
+		<-first
+		time.Sleep(500 * time.Millisecond) // so that the first one is there without this one
+		_, _ = w.Write(other.JWKSet())
+	}))
+	defer server.Close()
+	authorities := filepath.Join(t.TempDir(), "authorities.pem")
+	text := pem.EncodeToMemory(&pem.Block{Type: "CERTIFICATE", Bytes: server.Certificate().Raw})
+	if err := os.WriteFile(authorities, text, 0o600); err != nil {
+		t.Fatal(err)
+	}
+	t.Setenv("SSL_CERT_FILE", authorities)
+	one := other.Token("ES256", map[string]any{"sub": "spiffe://example.com/web", "aud": "ledger", "exp": time.Now().Unix() + 60, "jti": "a"})
+	status, out, said := svidd(t, one, "verify", "--audience", "ledger",
+		"--bundle", "example.org="+server.URL+"/first", "--bundle", "example.com="+server.URL+"/second")
+	if status != 0 || !strings.Contains(out, `"jti":"a"`) {
+		t.Errorf("%d %q %q", status, out, said)
+	}
 }
