@@ -1,14 +1,17 @@
-// Package group shares acceptances and withdrawals with the other validators of a group, over one JetStream key-value
+// Package group shares acceptances and withdrawals with the other validators of a group, over one JetStream stream, their
 // bucket, which is their log: its values have one order, and every member reads all of them in it, its own ones too.
 //
-// Each value is whole batches as docs/FORMATS.md has them. A value has a key of its own, so that none ever takes the
-// place of another:
+// Each value is whole batches as docs/FORMATS.md has them. A value has a key of its own, and the bucket refuses a second
+// value of a key, so that none ever takes the place of another:
 //
-//	u.MEMBER.N   uses and withdrawals that the record of this member has gained
-//	c.MEMBER.N   uses that this member claims: of all claims of a token, the first in the bucket counts
+//	u.MEMBER.N.TAG   uses and withdrawals that the record of this member has gained
+//	c.MEMBER.N.TAG   uses that this member claims: of all claims of a token, the first in the bucket counts
 //
-// MEMBER is 32 hexadecimal digits, drawn at random when the member joins, and N the number that it gives the value.
-// What was put before a crash is known to its maker only by the bucket, as another member's.
+// MEMBER is 32 hexadecimal digits, drawn at random when the member joins, and N the number that it gives the value. TAG is
+// 16 digits that nobody else knows before the value is in the bucket: so nobody takes its key. What was put before a crash
+// is known to its maker only by the bucket, as another member's.
+//
+// Members join a bucket only if it keeps each value until it expires, whatever is published to it (keeps).
 //
 // Beside the bucket, members repair what the broker may have lost: at times a member sends a summary of its record to
 // another, which answers with what differs (Summaries).
@@ -18,12 +21,14 @@
 package group
 
 import (
+	"bytes"
 	"context"
+	"crypto/hmac"
 	"crypto/rand"
+	"crypto/sha256"
 	"encoding/hex"
 	"errors"
 	"fmt"
-	"strconv"
 	"strings"
 	"sync"
 	"sync/atomic"
@@ -33,14 +38,14 @@ import (
 )
 
 const (
-	connectWait   = 250 * time.Millisecond // between two tries to reach a server
-	pingEvery     = 5 * time.Second        // a server that misses two pings counts as gone
-	attemptWait   = time.Second            // for the broker's answer, before it is asked again
-	makeWait      = 5 * time.Second        // the same where the bucket is made
-	readWait      = 2 * time.Second        // the same where reading it begins, at first; longer after each failure
-	mostReadWait  = 30 * time.Second       // and at the most, for a broker that is busy
-	attemptPause  = 50 * time.Millisecond  // behind a failed attempt
-	operationName = "KV-Operation"         // the header by which a key-value bucket marks a key as deleted
+	connectWait  = 250 * time.Millisecond // between two tries to reach a server
+	pingEvery    = 5 * time.Second        // a server that misses two pings counts as gone
+	attemptWait  = time.Second            // for the broker's answer, before it is asked again
+	makeWait     = 5 * time.Second        // the same where the bucket is made
+	readWait     = 2 * time.Second        // the same where reading it begins, at first; longer after each failure
+	mostReadWait = 30 * time.Second       // and at the most, for a broker that is busy
+	attemptPause = 50 * time.Millisecond  // behind a failed attempt
+	tagLen       = 8                      // bytes of a key that nobody can guess
 )
 
 // MostReplicas is how many servers keep a bucket at the most, as JetStream has it.
@@ -103,7 +108,9 @@ type Group struct {
 	subject string // what its keys' subjects begin with
 	conn    *nats.Conn
 	js      nats.JetStreamContext
-	member  string // this member's name in keys
+	member  string        // this member's name in keys
+	secret  [32]byte      // what the tags of its keys are made from
+	found   chan struct{} // holds one if the broker was away, and is there again
 
 	stored atomic.Uint64 // the place of the last own value that the broker has stored, as far as it has said so
 
@@ -122,8 +129,8 @@ type Group struct {
 // Join connects to the broker, makes the group's bucket where it is not there, and begins to read it. It tries until
 // ctx ends, so a broker that comes up later is waited for.
 //
-// A bucket that is there but could lose a claim before its token expires (a shorter TTL, a limit behind which old
-// values go) is an error that says so.
+// A bucket that is there but could lose a claim before its token expires (a shorter TTL, a key that takes a second value,
+// a limit behind which old values go) is an error that says so, and what to do.
 func Join(ctx context.Context, o Options, s Sink) (*Group, error) {
 	if err := o.check(); err != nil {
 		return nil, err
@@ -133,7 +140,10 @@ func Join(ctx context.Context, o Options, s Sink) (*Group, error) {
 		return nil, fmt.Errorf("group: no random bytes for the name of a member: %w", err)
 	}
 	g := &Group{options: o, stream: "KV_" + o.Name, subject: "$KV." + o.Name + ".", member: hex.EncodeToString(member[:]),
-		sink: s, ready: make(chan struct{})}
+		sink: s, ready: make(chan struct{}), found: make(chan struct{}, 1)}
+	if _, err := rand.Read(g.secret[:]); err != nil {
+		return nil, fmt.Errorf("group: no random bytes for the keys of values: %w", err)
+	}
 	g.life, g.end = context.WithCancel(context.Background())
 	if err := g.connect(ctx); err != nil {
 		return nil, err
@@ -184,7 +194,13 @@ func (g *Group) connect(ctx context.Context) error {
 		nats.PingInterval(pingEvery),
 		nats.MaxPingsOutstanding(2),
 		nats.DisconnectErrHandler(func(_ *nats.Conn, err error) { g.log("broker lost", "why", err) }),
-		nats.ReconnectHandler(func(nc *nats.Conn) { g.log("broker found", "server", nc.ConnectedUrlRedacted()) }),
+		nats.ReconnectHandler(func(nc *nats.Conn) {
+			g.log("broker found", "server", nc.ConnectedUrlRedacted())
+			select {
+			case g.found <- struct{}{}:
+			default:
+			}
+		}),
 		nats.ErrorHandler(func(_ *nats.Conn, _ *nats.Subscription, err error) { g.log("broker says", "why", err) }),
 	}, g.options.Connect...)
 	said := ""
@@ -232,23 +248,42 @@ func (g *Group) Taken() uint64 { return g.taken.Load() }
 // Aside returns how many values the sink did not take.
 func (g *Group) Aside() uint64 { return g.aside.Load() }
 
+// errTaken: the bucket has another value under the key of one that this member puts.
+var errTaken = errors.New("someone else has put another value under the key of this one: it is not stored")
+
+// keyOf is the key of a value of this member.
+func (g *Group) keyOf(kind Kind, number uint64) string {
+	key := fmt.Sprintf("%c.%s.%d", kind, g.member, number)
+	tag := hmac.New(sha256.New, g.secret[:])
+	tag.Write([]byte(key))
+	return key + "." + hex.EncodeToString(tag.Sum(nil)[:tagLen])
+}
+
 // Put puts a value of this kind into the bucket, and returns once the broker has stored it. message is whole batches, of
 // no more bytes than the broker's messages may have. number is greater than 0, and another one in each call.
 //
 // It tries until ctx ends. The error then says what the broker said last; the value may be stored all the same, also
 // later, but never twice: the broker takes a value only if its key has none yet.
 func (g *Group) Put(ctx context.Context, kind Kind, number uint64, message []byte) error {
-	subject := g.subject + string(rune(kind)) + "." + g.member + "." + strconv.FormatUint(number, 10)
+	subject := g.subject + g.keyOf(kind, number)
 	return persist(ctx, "group: put", func() (bool, error) {
 		attempt, cancel := context.WithTimeout(ctx, attemptWait)
 		defer cancel()
 		m := &nats.Msg{Subject: subject, Header: nats.Header{}, Data: message}
-		stored, err := g.js.PublishMsg(m, nats.Context(attempt), nats.ExpectLastSequencePerSubject(0))
+		ack, err := g.js.PublishMsg(m, nats.Context(attempt), nats.ExpectLastSequencePerSubject(0))
 		switch {
 		case err == nil:
-			g.isStored(stored.Sequence)
+			g.isStored(ack.Sequence)
 			return true, nil
-		case errors.Is(err, nats.ErrKeyExists): // An earlier attempt has stored it, and its answer was lost.
+		case errors.Is(err, nats.ErrKeyExists): // An earlier attempt may have stored it, and its answer was lost.
+			is, err := g.get(attempt, map[string]any{"last_by_subj": subject})
+			if err != nil {
+				return false, err
+			}
+			if !bytes.Equal(is.Data, message) {
+				return true, errTaken
+			}
+			g.isStored(is.Place)
 			return true, nil
 		}
 		return errors.Is(err, nats.ErrMaxPayload), err

@@ -10,6 +10,7 @@ import (
 	"net"
 	"os"
 	"os/exec"
+	"regexp"
 	"runtime"
 	"strings"
 	"sync"
@@ -208,9 +209,9 @@ func TestKeysOfTheBucket(t *testing.T) {
 	if err != nil {
 		t.Fatal(err)
 	}
-	want := fmt.Sprintf("[u.%s.1 c.%s.3]", a.member, a.member)
-	if got := fmt.Sprint(names); got != want || len(a.member) != 32 {
-		t.Errorf("%s, want %s", got, want)
+	want := regexp.MustCompile("^\\[u.[0-9a-f]{32}.1.[0-9a-f]{16} c.[0-9a-f]{32}.3.[0-9a-f]{16}]$")
+	if got := fmt.Sprint(names); !want.MatchString(got) || fmt.Sprintf("[%s %s]", a.keyOf(Uses, 1), a.keyOf(Claims, 3)) != got {
+		t.Error(got)
 	}
 }
 
@@ -273,7 +274,7 @@ func wantOneOrder(t *testing.T, members []*member, want int) {
 	}
 }
 
-// A proxy stands before a server, and can hold back what the server says, or cut its connections.
+// A proxy stands before a server, and can hold back what the server says, or cut its connections. It knows what clients said.
 type proxy struct {
 	URL    string
 	listen net.Listener
@@ -281,6 +282,7 @@ type proxy struct {
 	free   *sync.Cond
 	held   bool
 	open   []net.Conn
+	heard  bytes.Buffer
 }
 
 func newProxy(t *testing.T, server string) *proxy {
@@ -305,11 +307,25 @@ func newProxy(t *testing.T, server string) *proxy {
 			p.mu.Lock()
 			p.open = append(p.open, client, up)
 			p.mu.Unlock()
-			go func() { io.Copy(up, client); up.Close() }()
+			go func() { io.Copy(io.MultiWriter(up, p), client); up.Close() }()
 			go func() { p.back(client, up); client.Close() }()
 		}
 	}()
 	return p
+}
+
+// Write keeps what a client said.
+func (p *proxy) Write(said []byte) (int, error) {
+	p.mu.Lock()
+	defer p.mu.Unlock()
+	return p.heard.Write(said)
+}
+
+// times is how often clients said something.
+func (p *proxy) times(text string) int {
+	p.mu.Lock()
+	defer p.mu.Unlock()
+	return strings.Count(p.heard.String(), text)
 }
 
 // back copies what the server says, when it is not held.
@@ -347,9 +363,12 @@ func (p *proxy) cut() {
 // TestAPutWhoseAnswerIsLost lets the broker store a value, and holds back or cuts off its answer. The call must find that
 // it is stored, once.
 func TestAPutWhoseAnswerIsLost(t *testing.T) {
-	for name, after := range map[string]func(*proxy){
-		"late": func(p *proxy) { time.Sleep(attemptWait + 100*time.Millisecond); p.hold(false) },
-		"cut":  func(p *proxy) { p.cut(); p.hold(false) },
+	for name, after := range map[string]func(*proxy, *member){
+		"late": func(p *proxy, a *member) {
+			natstest.Await(t, "a second attempt", func() bool { return p.times("HPUB $KV.test."+a.keyOf(Claims, 1)+" ") > 1 })
+			p.hold(false)
+		},
+		"cut": func(p *proxy, _ *member) { p.cut(); p.hold(false) },
 	} {
 		t.Run(name, func(t *testing.T) {
 			s := natstest.Start(t)
@@ -360,7 +379,7 @@ func TestAPutWhoseAnswerIsLost(t *testing.T) {
 			p.hold(true)
 			go func() { first <- a.Put(patience(t), Claims, 1, b) }()
 			awaitHeld(t, other, b) // It is stored, and its maker does not know.
-			after(p)
+			after(p, a)
 			if err := <-first; err != nil {
 				t.Fatal(err)
 			}
@@ -394,22 +413,90 @@ func TestAValueThatIsTooLarge(t *testing.T) {
 
 // A value that a member has put, and that the broker has stored, comes soon, though what should bring it does not.
 func TestReadingBeginsAnewForAnOwnValue(t *testing.T) {
+	silence = time.Hour // so that nothing else lets reading begin anew
+	t.Cleanup(func() { silence = silenceWait })
 	s := natstest.Start(t)
 	a := join(t, options(1, s.URL))
 	awaitHeld(t, a, tell(t, a, 1))
-	for c := range a.js.ConsumerNames(a.stream) { // (it would make another one after two heartbeats)
+	for c := range a.js.ConsumerNames(a.stream) {
 		if err := a.js.DeleteConsumer(a.stream, c); err != nil {
 			t.Fatal(err)
 		}
 	}
-	from := time.Now()
 	awaitHeld(t, a, tell(t, a, 2))
-	if took := time.Since(from); took > 2*heartbeat {
-		t.Errorf("after %v", took)
-	}
-	if !a.logged("an own one") && !a.logged("no value came") {
+	if !a.logged("no value came") {
 		t.Error(a.lines)
 	}
+}
+
+// A broker that says nothing any more is asked anew, though nobody waits for a value.
+func TestReadingBeginsAnewBehindASilence(t *testing.T) {
+	silence = heartbeat / 20
+	t.Cleanup(func() { silence = silenceWait })
+	s := natstest.Start(t)
+	a, b := join(t, options(1, s.URL)), join(t, options(2, s.URL))
+	natstest.Await(t, "a new beginning", func() bool { return b.logged("said nothing") })
+	awaitHeld(t, b, tell(t, a, 1))
+}
+
+// An operator is who may change the bucket itself.
+type operator struct {
+	t  *testing.T
+	js nats.JetStreamContext
+}
+
+// edit changes the settings of the bucket.
+func (o operator) edit(change func(*nats.StreamConfig)) {
+	o.t.Helper()
+	info, err := o.js.StreamInfo("KV_test")
+	if err != nil {
+		o.t.Fatal(err)
+	}
+	c := info.Config
+	change(&c)
+	if _, err := o.js.UpdateStream(&c); err != nil {
+		o.t.Fatal(err)
+	}
+}
+
+// during changes the settings of the bucket while it does something.
+func (o operator) during(change func(*nats.StreamConfig), do func()) {
+	o.t.Helper()
+	var before nats.StreamConfig
+	o.edit(func(c *nats.StreamConfig) { before = *c; change(c) })
+	do()
+	o.edit(func(c *nats.StreamConfig) { *c = before })
+}
+
+// removeAllBut removes the oldest values of the bucket, which must leave one at least.
+func (o operator) removeAllBut(left int64) {
+	o.t.Helper()
+	o.during(func(c *nats.StreamConfig) { c.MaxMsgs = left }, func() { o.awaitLeft(uint64(left)) })
+}
+
+// removeAll removes all values of the bucket.
+func (o operator) removeAll() {
+	o.t.Helper()
+	o.during(func(c *nats.StreamConfig) { c.MaxAge, c.Duplicates = 100*time.Millisecond, 100*time.Millisecond }, func() { o.awaitLeft(0) })
+}
+
+func (o operator) awaitLeft(n uint64) {
+	o.t.Helper()
+	natstest.Await(o.t, "values to go", func() bool {
+		info, err := o.js.StreamInfo("KV_test")
+		return err == nil && info.State.Msgs == n
+	})
+}
+
+// remove removes a value of the bucket: another one, which comes last, takes its place under the key.
+func (o operator) remove(key string, other []byte) {
+	o.t.Helper()
+	loose := func(c *nats.StreamConfig) { c.Discard, c.DiscardNewPerSubject = nats.DiscardOld, false }
+	o.during(loose, func() {
+		if _, err := o.js.Publish("$KV.test."+key, other); err != nil {
+			o.t.Fatal(err)
+		}
+	})
 }
 
 // A member that finds values missing says so with the next one.
@@ -421,16 +508,93 @@ func TestAGapIsTold(t *testing.T) {
 	p.hold(true)
 	p.cut()
 	tell(t, a, 2)
-	if err := a.js.PurgeStream("KV_test", &nats.StreamPurgeRequest{Subject: fmt.Sprintf("$KV.test.u.%s.2", a.member)}); err != nil {
-		t.Fatal(err)
-	}
+	other := batch(key(7), a.place)
+	operator{t, a.js}.remove(a.keyOf(Uses, 2), other)
 	last := tell(t, a, 3)
 	p.hold(false)
 	awaitHeld(t, b, last)
-	wantValues(t, b, Value{Kind: Uses, Message: batch(key(1), a.place)}, Value{Kind: Uses, Message: last, Gap: true})
-	awaitHeld(t, b, tell(t, a, 4))
-	if got := b.inOrder(); got[2].Gap {
-		t.Error("a gap is told twice")
+	wantValues(t, b, Value{Kind: Uses, Message: batch(key(1), a.place)}, Value{Kind: Uses, Message: other, Gap: true}, Value{Kind: Uses, Message: last})
+	if !b.logged("values are gonefrom2to2") {
+		t.Error(b.lines)
+	}
+}
+
+// A member that has read nothing yet knows that the first value is to be the bucket's first one, or the one behind those
+// that were gone when it joined.
+func TestAGapInFrontOfTheFirstValueIsTold(t *testing.T) {
+	s := natstest.Start(t)
+	p := newProxy(t, s.URL)
+	a := join(t, options(1, s.URL))
+	by := operator{t, a.js}
+	for round, before := range []int{0, 3} {
+		for n := 0; n < before; n++ {
+			awaitHeld(t, a, tell(t, a, 10+n))
+		}
+		if before > 0 {
+			by.removeAll()
+		}
+		b := join(t, options(2, p.URL))
+		if n := b.Taken(); n != 0 {
+			t.Fatalf("a member that came to an empty bucket has read %d values", n)
+		}
+		p.hold(true)
+		p.cut()
+		awaitHeld(t, a, tell(t, a, 1+10*round))
+		last := tell(t, a, 2+10*round)
+		by.removeAllBut(1)
+		p.hold(false)
+		awaitHeld(t, b, last)
+		wantValues(t, b, Value{Kind: Uses, Message: last, Gap: true})
+		if !b.logged("values are gone") || !b.logged(errGone.Error()) {
+			t.Error(b.lines)
+		}
+		next := tell(t, a, 3+10*round)
+		awaitHeld(t, b, next)
+		wantValues(t, b, Value{Kind: Uses, Message: last, Gap: true}, Value{Kind: Uses, Message: next})
+		b.Close()
+		by.removeAll()
+	}
+}
+
+// Where all values are gone that a member has not read, it says so with the next one.
+func TestAGapOfAllValuesIsTold(t *testing.T) {
+	s := natstest.Start(t)
+	p := newProxy(t, s.URL)
+	a, b := join(t, options(1, s.URL)), join(t, options(2, p.URL))
+	p.hold(true)
+	p.cut()
+	awaitHeld(t, a, tell(t, a, 1))
+	operator{t, a.js}.removeAll()
+	p.hold(false)
+	natstest.Await(t, "the gap", func() bool { return b.logged("values are gonefrom1to1") }) // by idle
+	last := tell(t, a, 2)
+	awaitHeld(t, b, last)
+	wantValues(t, b, Value{Kind: Uses, Message: last, Gap: true})
+}
+
+// What is gone when a member joins is told to the operator: as a fault, unless it may have expired. No request waits for
+// anything then, so no value has a gap in front of it.
+func TestWhatIsGoneBeforeAMemberJoins(t *testing.T) {
+	s := natstest.Start(t)
+	a := join(t, options(1, s.URL))
+	for n := 1; n < 4; n++ {
+		awaitHeld(t, a, tell(t, a, n))
+	}
+	by := operator{t, a.js}
+	by.removeAllBut(1)
+	b := join(t, options(2, s.URL))
+	wantValues(t, b, Value{Kind: Uses, Message: batch(key(3), a.place)})
+	const front = "values in front of the first one are gone"
+	if !b.logged(front) || !b.logged(errGone.Error()) || a.logged(front) {
+		t.Error(b.lines, a.lines)
+	}
+	by.edit(func(c *nats.StreamConfig) { c.MaxAge, c.Duplicates = 100*time.Millisecond, 100*time.Millisecond })
+	by.awaitLeft(0)
+	o := options(3, s.URL)
+	o.TTL = 100 * time.Millisecond
+	c := join(t, o)
+	if !c.logged(front) || c.logged(errGone.Error()) {
+		t.Error(c.lines)
 	}
 }
 
@@ -442,16 +606,14 @@ func TestValuesThatWereReadAreNoGap(t *testing.T) {
 	for n := 0; n < 3; n++ {
 		awaitHeld(t, b, tell(t, a, n))
 	}
-	if err := a.js.PurgeStream("KV_test"); err != nil {
-		t.Fatal(err)
-	}
+	operator{t, a.js}.removeAll()
 	p.cut()
 	c := join(t, options(3, s.URL))
 	last := tell(t, a, 3)
 	for _, m := range []*member{a, b, c} {
 		awaitHeld(t, m, last)
-		if got := m.inOrder(); got[len(got)-1].Gap {
-			t.Errorf("%+v", got)
+		if got := m.inOrder(); got[len(got)-1].Gap || m.logged("values are gone") {
+			t.Errorf("%+v %v", got, m.lines)
 		}
 	}
 }
@@ -568,23 +730,6 @@ func replicas(m *member) int {
 	return n
 }
 
-func TestTheMarkOfADeletedKeyIsNoValue(t *testing.T) {
-	s := natstest.Start(t)
-	a := join(t, options(1, s.URL))
-	awaitHeld(t, a, tell(t, a, 1))
-	kv, err := a.js.KeyValue("test")
-	if err != nil {
-		t.Fatal(err)
-	}
-	if err := kv.Delete("u." + a.member + ".1"); err != nil {
-		t.Fatal(err)
-	}
-	awaitHeld(t, a, tell(t, a, 2))
-	if a.Aside() != 0 || a.Taken() != 2 {
-		t.Errorf("%d aside, %d taken", a.Aside(), a.Taken())
-	}
-}
-
 func TestValuesThatAreNoBatchAreAside(t *testing.T) {
 	s := natstest.Start(t)
 	a := join(t, options(1, s.URL))
@@ -664,23 +809,29 @@ func TestBucketThatWasRemovedIsMadeAnew(t *testing.T) {
 	awaitHeld(t, b, tell(t, a, 99))
 }
 
-// Someone removes the bucket's last values by hand. A member that comes anew does not wait for these.
+// Someone has removed the bucket's last values by hand. A member that comes anew does not wait for these.
 func TestReadyThoughTheLastValuesAreGone(t *testing.T) {
 	s := natstest.Start(t)
-	a := join(t, options(1, s.URL))
-	for n := 0; n < 5; n++ {
-		awaitHeld(t, a, tell(t, a, n))
+	by := operator{t, newLiar(t, s.URL).js}
+	if _, err := by.js.CreateKeyValue(oldBucket); err != nil {
+		t.Fatal(err)
 	}
-	for n := 3; n < 5; n++ {
-		if err := a.js.PurgeStream("KV_test", &nats.StreamPurgeRequest{Subject: fmt.Sprintf("$KV.test.u.%s.%d", a.member, n+1)}); err != nil {
+	for n := 0; n < 5; n++ {
+		if _, err := by.js.Publish(fmt.Sprint("$KV.test.u.", n), batch(key(n), [16]byte{1})); err != nil {
 			t.Fatal(err)
 		}
 	}
+	for n := 3; n < 5; n++ {
+		if err := by.js.PurgeStream("KV_test", &nats.StreamPurgeRequest{Subject: fmt.Sprint("$KV.test.u.", n)}); err != nil {
+			t.Fatal(err)
+		}
+	}
+	by.edit(asDue)
 	b := join(t, options(2, s.URL))
 	if b.Taken() != 3 {
 		t.Errorf("ready with %d values", b.Taken())
 	}
-	awaitHeld(t, b, tell(t, a, 9))
+	awaitHeld(t, b, tell(t, b, 9))
 	if b.logged("reading the bucket anew") {
 		t.Error(b.lines)
 	}
@@ -709,53 +860,6 @@ func TestJoinWaitsForABroker(t *testing.T) {
 	restart(t, s)
 	if err := <-joined; err != nil {
 		t.Fatal(err)
-	}
-}
-
-func TestJoinRefusesABucketThatForgets(t *testing.T) {
-	s := natstest.Start(t)
-	nc, err := nats.Connect(s.URL)
-	if err != nil {
-		t.Fatal(err)
-	}
-	defer nc.Close()
-	js, err := nc.JetStream()
-	if err != nil {
-		t.Fatal(err)
-	}
-	good := func(name string) *nats.StreamConfig {
-		return &nats.StreamConfig{Name: "KV_" + name, Subjects: []string{"$KV." + name + ".>"}, MaxMsgsPerSubject: 1,
-			MaxAge: time.Hour, Discard: nats.DiscardNew, DenyDelete: true, AllowRollup: true}
-	}
-	for name, change := range map[string]func(*nats.StreamConfig){
-		"good":     func(*nats.StreamConfig) {},
-		"longer":   func(c *nats.StreamConfig) { c.MaxAge = 2 * time.Hour },
-		"for-good": func(c *nats.StreamConfig) { c.MaxAge = 0 },
-		"full":     func(c *nats.StreamConfig) { c.MaxBytes = 1 << 20 },
-		"shorter":  func(c *nats.StreamConfig) { c.MaxAge = time.Minute },
-		"drops":    func(c *nats.StreamConfig) { c.MaxBytes, c.Discard = 1<<20, nats.DiscardOld },
-		"memory":   func(c *nats.StreamConfig) { c.Storage = nats.MemoryStorage },
-		"deletes":  func(c *nats.StreamConfig) { c.DenyDelete = false },
-		"stream":   func(c *nats.StreamConfig) { c.MaxMsgsPerSubject = -1 },
-		"fewer":    func(*nats.StreamConfig) {},
-	} {
-		config := good(name)
-		change(config)
-		if _, err := js.AddStream(config); err != nil {
-			t.Fatal(name, err)
-		}
-		o := options(1, s.URL)
-		if o.Name = name; name == "fewer" {
-			o.Replicas = 3
-		}
-		g, err := Join(patience(t), o, &sink{})
-		if err == nil {
-			g.Close()
-		}
-		keeps := name == "good" || name == "longer" || name == "for-good" || name == "full"
-		if keeps != (err == nil) {
-			t.Errorf("%s: %v", name, err)
-		}
 	}
 }
 

@@ -16,10 +16,15 @@ const (
 	idleWait        = 5 * time.Second  // the same once it has caught up
 	ownWait         = time.Second / 2  // without a value though an own one is stored, before reading begins again: a claim waits for it
 	stallWait       = 10 * time.Second // without a value that is there, before reading begins anew; longer after each time in vain
+	mostAnewWait    = time.Second / 4  // between two beginnings
 	mostAtOnce      = 256              // values are given to the sink
 	mostBytesAtOnce = 1 << 20          // of these, before the last
+)
 
-	heartbeat = 2 * time.Second // of the broker where it has no value; when two are missing it is asked anew
+var (
+	errGone = errors.New("someone removed them, or the broker lost them: a token that one of them names can be accepted again by " +
+		"sidecars that have not read it")
+	errAnother = errors.New("the bucket is another one than before, or has lost values")
 )
 
 // A reader reads the bucket's values in their order, and goes on behind the last one after whatever happened to the
@@ -27,18 +32,14 @@ const (
 type reader struct {
 	group  *Group
 	bucket bucket
-	seen   uint64    // the place of the last value that was read
-	stamp  time.Time // when the broker stored that
+	seen   uint64    // the place of the last value that was read, or of the last one that was gone before
+	stamp  time.Time // when the broker stored that value; zero if it was not read
 	last   time.Time // when a value came, or reading began
 
-	// Of the last value that was read: the consumer that brought it, which the client makes again where the broker was
-	// away or values are missing, and the value's number there.
-	consumer string
-	number   uint64
-
-	gap  bool      // values behind that one are gone
-	look time.Time // when idle asked for the bucket's state last
-	lack int       // how often in a row idle found an own value stored that has not come
+	gap    bool      // values behind that one are gone
+	look   time.Time // when idle asked for the bucket's state last
+	lack   int       // how often in a row idle found an own value stored that has not come
+	forget string    // what was said about settings by which the bucket may lose values
 
 	room []Value       // for values to take at once
 	wait time.Duration // for the broker's answer where reading begins
@@ -50,15 +51,42 @@ type reader struct {
 // watch reads until the group is closed.
 func (g *Group) watch(b bucket) {
 	defer g.tasks.Done()
-	r := reader{group: g, bucket: b, wait: readWait}
+	r := reader{group: g, bucket: b, seen: b.first - 1, wait: readWait}
+	r.front()
+	said, behind, rest := "", uint64(0), attemptPause
 	for g.life.Err() == nil {
 		err := r.read()
 		if g.life.Err() != nil {
 			return
 		}
-		g.log("reading the bucket anew", "behind", r.seen, "why", err)
-		pause(g.life, attemptPause)
+		if errors.Is(err, errFound) {
+			continue
+		}
+		if rest *= 2; rest > mostAnewWait {
+			rest = mostAnewWait
+		}
+		if r.seen != behind {
+			rest = attemptPause
+		}
+		if err.Error() != said || r.seen != behind {
+			g.log("reading the bucket anew", "behind", r.seen, "why", err)
+		}
+		said, behind = err.Error(), r.seen
+		pause(g.life, rest)
 	}
+}
+
+// front says that values are gone which the bucket had before this member joined. No claim of this member is open then.
+func (r *reader) front() {
+	b := r.bucket
+	if b.first == 1 {
+		return
+	}
+	fields := []any{"first", b.first, "made", b.created.UTC().Format(time.RFC3339), "keeps", b.keeps.String()}
+	if b.keeps == 0 || time.Since(b.created) < b.keeps { // None can have expired.
+		fields = append(fields, "why", errGone)
+	}
+	r.group.log("values in front of the first one are gone", fields...)
 }
 
 // pause returns after d, or when ctx ends.
@@ -73,14 +101,11 @@ func pause(ctx context.Context, d time.Duration) {
 func (r *reader) read() error {
 	r.catchUp()
 	g := r.group
-	js, err := g.conn.JetStream(nats.MaxWait(r.wait))
-	if err != nil {
-		return err
+	select {
+	case <-g.found: // Reading begins now in any case.
+	default:
 	}
-	// No subject is named: the broker would look at each one of the bucket to count those that fit, and take a minute
-	// for a million.
-	values, err := js.SubscribeSync("", nats.BindStream(g.stream), nats.OrderedConsumer(),
-		nats.IdleHeartbeat(heartbeat), nats.StartSequence(r.seen+1))
+	f, err := g.feedFrom(r.seen+1, r.wait)
 	if errors.Is(err, nats.ErrStreamNotFound) {
 		return r.reopen()
 	}
@@ -90,14 +115,17 @@ func (r *reader) read() error {
 		}
 		return err
 	}
+	defer f.close()
 	r.wait, r.last = readWait, time.Now()
-	defer values.Unsubscribe()
+	if err := r.isSame(); err != nil {
+		return err
+	}
 	for {
-		m, err := values.NextMsg(r.patience())
-		if errors.Is(err, nats.ErrTimeout) {
-			err = r.idle(values)
+		m, about, err := f.next(r.patience())
+		if errors.Is(err, errNoValue) {
+			err = r.idle(f)
 		} else if err == nil {
-			err = r.values(values, m)
+			err = r.values(f, m, about)
 		}
 		if err != nil {
 			return err
@@ -113,38 +141,26 @@ func (r *reader) patience() time.Duration {
 }
 
 // values gives a value to the sink, and with it those that have come behind it meanwhile.
-func (r *reader) values(from *nats.Subscription, m *nats.Msg) error {
+func (r *reader) values(f *feed, m *nats.Msg, about *nats.MsgMetadata) error {
 	all := r.room[:0]
-	for size := 0; ; {
-		about, err := m.Metadata()
-		if err != nil {
-			r.group.take(all)
-			return err
-		}
-		if about.Consumer != r.consumer {
-			r.group.take(all)
-			all = all[:0]
-			if err := r.isSame(); err != nil {
-				return err
-			}
-		}
+	var wrong error
+	for size := 0; wrong == nil; {
 		place := about.Sequence.Stream
-		r.gap = r.gap || r.seen > 0 && place != r.seen+1
-		r.seen, r.stamp, r.last, r.vain, r.lack = place, about.Timestamp, time.Now(), 0, 0
-		r.consumer, r.number = about.Consumer, about.Sequence.Consumer
-		if m.Header.Get(operationName) == "" {
-			v := r.group.valueOf(m, place)
-			v.Gap, r.gap = r.gap, false
-			all = append(all, v)
-			size += len(m.Data)
-		} // else it is the mark of a key that someone deleted, and no value
-		// The sink is told of all that is there, so that none waits for the broker.
-		if n, _, err := from.Pending(); n == 0 || err != nil || len(all) == mostAtOnce || size > mostBytesAtOnce {
+		if place <= r.seen {
+			wrong = errAnother
+			r.begin(r.bucket)
 			break
 		}
-		if m, err = from.NextMsg(idleUntilReady); err != nil {
-			break // It is told again by the next call.
+		r.missing(place - 1)
+		r.seen, r.stamp, r.last, r.vain, r.lack = place, about.Timestamp, time.Now(), 0, 0
+		v := r.group.valueOf(m, place)
+		v.Gap, r.gap = r.gap, false
+		all = append(all, v)
+		// The sink is told of all that is there, so that none waits for the broker.
+		if size += len(m.Data); len(all) == mostAtOnce || size > mostBytesAtOnce {
+			break
 		}
+		m, about, wrong = f.next(0)
 	}
 	r.group.take(all)
 	r.room = all
@@ -152,29 +168,66 @@ func (r *reader) values(from *nats.Subscription, m *nats.Msg) error {
 		all[i] = Value{} // The room keeps no message alive.
 	}
 	r.catchUp()
-	return nil
+	if errors.Is(wrong, errNoValue) {
+		return nil
+	}
+	return wrong
+}
+
+// missing notes that values behind the last one, up to this place, were gone before they were read.
+func (r *reader) missing(to uint64) {
+	if to <= r.seen {
+		return
+	}
+	fields := []any{"from", r.seen + 1, "to", to}
+	if r.isReady() { // else the first ones may expire while reading begins
+		fields = append(fields, "why", errGone)
+	}
+	r.group.log("values are gone", fields...)
+	r.gap, r.seen, r.stamp = true, to, time.Time{}
 }
 
 // isSame returns nil if the bucket still has the value that was read last, at its place: then what comes behind it goes on
 // where reading ended. A broker that lost its last values with its power gives their places to others, which would be
 // passed over, so all is read again then.
 func (r *reader) isSame() error {
-	if r.seen == 0 {
+	g := r.group
+	info, err := g.info(g.life)
+	if err != nil {
+		return err
+	}
+	r.mind(info.Config)
+	if !info.Created.Equal(r.bucket.created) || info.State.Last < r.seen {
+		r.begin(bucketOf(info))
+		return errAnother
+	}
+	if r.stamp.IsZero() {
 		return nil
 	}
-	ctx, cancel := context.WithTimeout(r.group.life, readWait)
+	ctx, cancel := context.WithTimeout(g.life, readWait)
 	defer cancel()
-	m, err := r.group.js.GetMsg(r.group.stream, r.seen, nats.Context(ctx))
+	m, err := g.get(ctx, map[string]any{"seq": r.seen})
 	switch {
 	case errors.Is(err, nats.ErrMsgNotFound): // It has expired, or someone removed it. Nothing else took its place.
 		return nil
 	case err != nil:
 		return err
 	case !m.Time.Equal(r.stamp):
-		r.begin(r.bucket)
+		r.begin(bucketOf(info))
 		return errors.New("the bucket has another value than before at the place of the last one: the broker has lost values")
 	}
 	return nil
+}
+
+// mind says that someone changed the bucket, so that it may lose values. Who has read them goes on: the next one to join
+// does not.
+func (r *reader) mind(c config) {
+	err := r.group.keeps(c)
+	if err == nil {
+		r.forget = ""
+		return
+	}
+	r.group.logChange(&r.forget, "bucket", err)
 }
 
 // valueOf reads a value's key. One that no member wrote is taken as uses, and put aside if it is none.
@@ -184,9 +237,10 @@ func (g *Group) valueOf(m *nats.Msg, place uint64) Value {
 	if strings.HasPrefix(key, "c.") {
 		v.Kind = Claims
 	}
-	if kind, rest, _ := strings.Cut(key, "."); kind == "c" || kind == "u" {
-		if member, number, _ := strings.Cut(rest, "."); member == g.member {
-			v.Own, _ = strconv.ParseUint(number, 10, 64)
+	if parts := strings.Split(key, "."); len(parts) == 4 && parts[1] == g.member {
+		number, _ := strconv.ParseUint(parts[2], 10, 64)
+		if key == g.keyOf(v.Kind, number) {
+			v.Own = number
 		}
 	}
 	return v
@@ -209,7 +263,10 @@ func (r *reader) isReady() bool {
 }
 
 // idle looks at the bucket where no value has come for a while. An error says that reading must begin anew.
-func (r *reader) idle(values *nats.Subscription) error {
+func (r *reader) idle(f *feed) error {
+	if r.group.conn.IsConnected() && time.Since(f.heard) > silence {
+		return errSilent
+	}
 	if r.lack++; r.group.stored.Load() <= r.seen {
 		r.lack = 0
 	}
@@ -218,46 +275,36 @@ func (r *reader) idle(values *nats.Subscription) error {
 		return nil
 	}
 	r.look = time.Now()
-	ctx, cancel := context.WithTimeout(r.group.life, attemptWait)
-	defer cancel()
-	info, err := r.group.js.StreamInfo(r.group.stream, nats.Context(ctx))
+	info, err := r.group.info(r.group.life)
 	switch {
 	case errors.Is(err, nats.ErrStreamNotFound):
 		return r.reopen()
 	case err != nil:
 		return nil // The broker is away, which the connection's handlers log.
-	case !info.Created.Equal(r.bucket.created) || info.State.LastSeq < r.seen:
-		r.begin(bucket{info.Created, info.State.LastSeq})
-		return errors.New("the bucket is another one than before, or has lost values")
-	case info.State.FirstSeq > info.State.LastSeq: // All values have expired.
-		r.gap = r.gap || 0 < r.seen && r.seen < info.State.LastSeq
-		r.seen = info.State.LastSeq
+	}
+	r.mind(info.Config)
+	switch {
+	case !info.Created.Equal(r.bucket.created) || info.State.Last < r.seen:
+		r.begin(bucketOf(info))
+		return errAnother
+	case info.State.First > info.State.Last: // All values are gone.
+		r.missing(info.State.Last)
 		r.catchUp()
 		return nil
-	case info.State.LastSeq > r.seen && r.allCame(values): // Someone removed the last values.
-		r.gap, r.seen = true, info.State.LastSeq
+	case info.State.Last > r.seen && f.allCame(): // Someone removed the last values.
+		r.missing(info.State.Last)
 		r.catchUp()
 		return nil
-	case info.State.LastSeq > r.seen && (isLate || time.Since(r.last) > stallWait<<r.vain):
+	case info.State.Last > r.seen && (isLate || time.Since(r.last) > stallWait<<r.vain):
 		r.lack = 0
 		if r.vain < 3 {
 			r.vain++
 		}
-		return fmt.Errorf("no value came behind %d, and %d is there", r.seen, info.State.LastSeq)
-	case info.State.LastSeq == r.seen && isLate: // The own value is lost, or was one of an earlier bucket.
+		return fmt.Errorf("no value came behind %d, and %d is there", r.seen, info.State.Last)
+	case info.State.Last == r.seen && isLate: // The own value is lost, or was one of an earlier bucket.
 		r.group.stored.Store(r.seen)
 	}
 	return nil
-}
-
-// allCame says whether the broker has sent all values that it has, and all of them were read.
-func (r *reader) allCame(values *nats.Subscription) bool {
-	info, err := values.ConsumerInfo()
-	if err != nil || info.NumPending > 0 {
-		return false
-	}
-	sent := info.Delivered.Consumer
-	return sent == 0 || info.Name == r.consumer && sent == r.number
 }
 
 // reopen makes the bucket anew where someone removed it.
@@ -273,5 +320,6 @@ func (r *reader) reopen() error {
 // begin lets the reader read a bucket from its beginning.
 func (r *reader) begin(b bucket) {
 	r.group.stored.Store(0)
-	r.bucket, r.seen, r.gap, r.vain, r.lack = b, 0, true, 0, 0
+	r.bucket, r.seen, r.stamp, r.gap, r.vain, r.lack = b, b.first-1, time.Time{}, true, 0, 0
+	r.front()
 }

@@ -1,0 +1,155 @@
+package group
+
+import (
+	"context"
+	"errors"
+	"fmt"
+	"strconv"
+	"strings"
+	"time"
+
+	"github.com/nats-io/nats.go"
+)
+
+const (
+	heartbeat   = 2 * time.Second // of the broker where it has no value
+	silenceWait = 5 * time.Second // in which two heartbeats are missing
+)
+
+// silence is how long the broker may say nothing. Tests alone change it.
+var silence = silenceWait
+
+var (
+	errNoValue = errors.New("no value came in time")
+	errFound   = errors.New("the broker was away")
+	errLost    = errors.New("values were lost on their way")
+	errSilent  = fmt.Errorf("the broker said nothing for %v", silenceWait)
+)
+
+// A feed is the bucket's values from a place on, as the broker sends them.
+//
+// The client has a subscription of this kind (an "ordered consumer"), which a member that lies can stop: a value may have
+// the header by which the broker marks its heartbeats, and the client then passes over the value, misses it, begins anew
+// at its place, and so on for ever. So a feed takes for a value what the broker sends as one, whatever its header is.
+type feed struct {
+	group    *Group
+	consumer string // the broker's name for the feed
+	inbox    *nats.Subscription
+	messages chan *nats.Msg
+	done     chan struct{}
+	number   uint64    // of the last value, in this feed
+	heard    time.Time // when something came last
+}
+
+// feedFrom lets the broker send values. It waits so long for the broker's answer.
+func (g *Group) feedFrom(place uint64, wait time.Duration) (*feed, error) {
+	f := &feed{group: g, messages: make(chan *nats.Msg, mostAtOnce), done: make(chan struct{}), heard: time.Now()}
+	inbox := g.conn.NewInbox()
+	var err error
+	f.inbox, err = g.conn.Subscribe(inbox, func(m *nats.Msg) {
+		select {
+		case f.messages <- m:
+		case <-f.done:
+		}
+	})
+	if err != nil {
+		return nil, err
+	}
+	ctx, cancel := context.WithTimeout(g.life, wait)
+	defer cancel()
+	// No subject is named: the broker would look at each one of the bucket to count those that fit, and take a minute
+	// for a million.
+	request := map[string]any{"stream_name": g.stream, "config": nats.ConsumerConfig{
+		DeliverSubject: inbox, DeliverPolicy: nats.DeliverByStartSequencePolicy, OptStartSeq: place,
+		AckPolicy: nats.AckNonePolicy, MaxDeliver: 1, Heartbeat: heartbeat, FlowControl: true, Replicas: 1, MemoryStorage: true,
+	}}
+	var made struct{ Name string }
+	if err := g.call(ctx, "CONSUMER.CREATE."+g.stream, request, &made); err != nil {
+		f.close()
+		return nil, err
+	}
+	f.consumer = made.Name
+	return f, nil
+}
+
+// close ends the feed.
+func (f *feed) close() {
+	close(f.done)
+	_ = f.inbox.Unsubscribe()
+	if f.consumer != "" { // The broker forgets it in any case, after a while without a reader.
+		_ = f.group.conn.Publish("$JS.API.CONSUMER.DELETE."+f.group.stream+"."+f.consumer, nil)
+	}
+}
+
+// next returns the next value, or errNoValue if none comes in time. Another error says that the feed is of no use any more.
+func (f *feed) next(wait time.Duration) (m *nats.Msg, about *nats.MsgMetadata, err error) {
+	for about == nil && err == nil {
+		select {
+		case m = <-f.messages:
+			about, err = f.read(m)
+			continue
+		default:
+		}
+		if wait == 0 {
+			return nil, nil, errNoValue
+		}
+		timer := time.NewTimer(wait)
+		select {
+		case m = <-f.messages:
+			about, err = f.read(m)
+		case <-timer.C:
+			err = errNoValue
+		case <-f.group.found:
+			err = errFound
+		case <-f.group.life.Done():
+			err = f.group.life.Err()
+		}
+		timer.Stop()
+	}
+	return m, about, err
+}
+
+// read reads what the broker says about a value. It answers what is no value, and returns nil then.
+func (f *feed) read(m *nats.Msg) (*nats.MsgMetadata, error) {
+	f.heard = time.Now()
+	if !strings.HasPrefix(m.Reply, "$JS.ACK.") { // The broker alone chooses that, and gives it to each value.
+		return nil, f.control(m)
+	}
+	about, err := m.Metadata()
+	if err != nil {
+		return nil, err
+	}
+	if f.number++; about.Sequence.Consumer != f.number {
+		return nil, errLost
+	}
+	return about, nil
+}
+
+// control answers the broker, which asks whether all was read that it has sent, and compares how much that was.
+func (f *feed) control(m *nats.Msg) error {
+	for _, asks := range []string{m.Reply, m.Header.Get("Nats-Consumer-Stalled")} {
+		if strings.HasPrefix(asks, "$JS.FC."+f.group.stream+".") {
+			if err := f.group.conn.Publish(asks, nil); err != nil {
+				return err
+			}
+		}
+	}
+	if sent := m.Header.Get("Nats-Last-Consumer"); sent != "" && sent != strconv.FormatUint(f.number, 10) {
+		return errLost
+	}
+	return nil
+}
+
+// allCame says whether the broker has sent all values that it has, and all of them were read.
+func (f *feed) allCame() bool {
+	ctx, cancel := context.WithTimeout(f.group.life, attemptWait)
+	defer cancel()
+	var info struct {
+		Pending   uint64 `json:"num_pending"`
+		Delivered struct {
+			Number uint64 `json:"consumer_seq"`
+		}
+	}
+	err := f.group.call(ctx, "CONSUMER.INFO."+f.group.stream+"."+f.consumer, nil, &info)
+	return err == nil && info.Pending == 0 && info.Delivered.Number == f.number
+}

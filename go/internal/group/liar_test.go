@@ -1,0 +1,230 @@
+package group
+
+import (
+	"bufio"
+	"context"
+	"fmt"
+	"net"
+	"strings"
+	"testing"
+	"time"
+
+	"github.com/nats-io/nats.go"
+
+	"svid.example/go/internal/broker"
+	"svid.example/go/internal/natstest"
+)
+
+// A liar is who may publish to the bucket, and wants others to lose or miss values.
+type liar struct {
+	t    *testing.T
+	conn *nats.Conn
+	js   nats.JetStreamContext
+}
+
+func newLiar(t *testing.T, urls ...string) *liar {
+	t.Helper()
+	conn, err := nats.Connect(strings.Join(urls, ","))
+	if err != nil {
+		t.Fatal(err)
+	}
+	t.Cleanup(conn.Close)
+	js, err := conn.JetStream()
+	if err != nil {
+		t.Fatal(err)
+	}
+	return &liar{t, conn, js}
+}
+
+// put stores a value, with a header of its own making.
+func (l *liar) put(key string, value []byte, header nats.Header) error {
+	_, err := l.js.PublishMsg(&nats.Msg{Subject: "$KV.test." + key, Header: header, Data: value})
+	return err
+}
+
+// keys are the keys of the bucket's values, in their order.
+func (l *liar) keys() (all []string) {
+	l.t.Helper()
+	state, err := l.js.StreamInfo("KV_test")
+	if err != nil {
+		l.t.Fatal(err)
+	}
+	for n := state.State.FirstSeq; n <= state.State.LastSeq; n++ {
+		if m, err := l.js.GetMsg("KV_test", n); err == nil {
+			all = append(all, strings.TrimPrefix(m.Subject, "$KV.test."))
+		}
+	}
+	return all
+}
+
+// Whoever may publish to the bucket can add values to it, and nothing more: what is there stays.
+func TestPublishingRemovesNothing(t *testing.T) {
+	for name, n := range map[string]int{"one server": 1, "three servers": 3} {
+		t.Run(name, func(t *testing.T) {
+			var servers []*broker.Server
+			if n == 1 {
+				servers = []*broker.Server{natstest.Start(t)}
+			} else {
+				servers = natstest.Cluster(t, n)
+			}
+			o := options(1, broker.URLs(servers)...)
+			o.Replicas = n
+			a := join(t, o)
+			for n := 0; n < 5; n++ {
+				awaitHeld(t, a, tell(t, a, n))
+			}
+			l := newLiar(t, broker.URLs(servers)...)
+			keys := l.keys()
+			lies := map[string]func() error{
+				"a roll-up of all":          func() error { return l.put("u.liar.1", batchOf(), nats.Header{"Nats-Rollup": {"all"}}) },
+				"a roll-up of a key":        func() error { return l.put(keys[2], batchOf(), nats.Header{"Nats-Rollup": {"sub"}}) },
+				"a roll-up of nonsense":     func() error { return l.put("u.liar.2", batchOf(), nats.Header{"Nats-Rollup": {"x"}}) },
+				"a second value of a key":   func() error { return l.put(keys[2], batchOf(), nil) },
+				"the mark of a deleted key": func() error { return l.put(keys[2], nil, nats.Header{"KV-Operation": {"DEL"}}) },
+				"the mark of a purged key": func() error {
+					return l.put(keys[2], nil, nats.Header{"KV-Operation": {"PURGE"}, "Nats-Rollup": {"sub"}})
+				},
+				"a purge":    func() error { return l.js.PurgeStream("KV_test") },
+				"a deletion": func() error { return l.js.DeleteMsg("KV_test", 3) },
+				"a second bucket": func() error {
+					_, err := l.js.AddStream(&nats.StreamConfig{Name: "KV_test", Subjects: []string{"$KV.test.>"}, MaxAge: time.Second})
+					return err
+				},
+			}
+			for what, lie := range lies {
+				if err := lie(); err == nil {
+					t.Errorf("%s is not refused", what)
+				}
+				if got := l.keys(); fmt.Sprint(got) != fmt.Sprint(keys) {
+					t.Fatalf("%s: %v, before %v", what, got, keys)
+				}
+			}
+			for i, s := range servers { // They keep it so when they begin anew.
+				s.Kill()
+				restart(t, s)
+				natstest.Await(t, "JetStream", s.Answers)
+				if n > 1 {
+					natstest.Await(t, "its copy of the bucket", func() bool { return replicas(a) == n })
+				}
+				if err := l.put(keys[2], batchOf(), nil); err == nil {
+					t.Errorf("a second value of a key is not refused by server %d", i)
+				}
+			}
+			b := join(t, o)
+			if got := len(b.inOrder()); got != 5 {
+				t.Errorf("a member that comes anew reads %d values", got)
+			}
+		})
+	}
+}
+
+// The broker marks what it says of itself by a header, which a value may have too. It is read as any other value.
+func TestNoHeaderHidesAValue(t *testing.T) {
+	for name, header := range map[string]nats.Header{
+		"none":                 {},
+		"a mark of a broker":   {"Status": {"100"}},
+		"idle":                 {"Status": {"100"}, "Description": {"Idle Heartbeat"}, "Nats-Last-Consumer": {"7"}},
+		"stalled":              {"Status": {"100"}, "Description": {"Idle Heartbeat"}, "Nats-Consumer-Stalled": {"$KV.test.u.stalled.1"}},
+		"flow":                 {"Status": {"100"}, "Description": {"FlowControl Request"}},
+		"no responders":        {"Status": {"503"}},
+		"a missing consumer":   {"Status": {"409"}, "Description": {"Consumer Deleted"}},
+		"the mark of a delete": {"KV-Operation": {"DEL"}},
+	} {
+		header := header
+		t.Run(name, func(t *testing.T) {
+			t.Parallel()
+			s := natstest.Start(t)
+			p := newProxy(t, s.URL)
+			a, b := join(t, options(1, s.URL)), join(t, options(2, p.URL))
+			awaitHeld(t, b, tell(t, a, 1))
+			l := newLiar(t, s.URL)
+			if err := l.put("u.liar.1", nil, header); err != nil {
+				t.Fatal(err)
+			}
+			if err := l.put("u.liar.2", batch(key(7), a.place), header); err != nil {
+				t.Fatal(err)
+			}
+			last := tell(t, a, 2)
+			awaitHeld(t, b, batch(key(7), a.place))
+			awaitHeld(t, b, last)
+			c := join(t, options(3, s.URL))
+			if !c.has(last) || !c.has(batch(key(7), a.place)) {
+				t.Error("a member that comes anew does not read all")
+			}
+			// It is the last value that was read, and reading begins anew behind it.
+			if err := l.put("u.liar.3", nil, header); err != nil {
+				t.Fatal(err)
+			}
+			natstest.Await(t, "it to be read", func() bool { return b.Aside() == 2 })
+			p.cut()
+			awaitHeld(t, b, tell(t, a, 3))
+			for _, v := range b.inOrder() {
+				if v.Gap {
+					t.Errorf("%+v", v)
+				}
+			}
+			if got := l.keys(); len(got) != 6 {
+				t.Errorf("%v", got)
+			}
+		})
+	}
+}
+
+// A header that can't be read does not stop anything either, where it is that of the last value before reading begins anew.
+func TestABadHeaderStopsNothing(t *testing.T) {
+	s := natstest.Start(t)
+	a, b := join(t, options(1, s.URL)), join(t, options(2, s.URL))
+	awaitHeld(t, b, tell(t, a, 1))
+	const bad = "NATS/1.0\r\nno colon\r\n\r\n"
+	raw(t, s.URL, fmt.Sprintf("HPUB $KV.test.u.liar.1 %d %d\r\n%s\r\n", len(bad), len(bad), bad))
+	natstest.Await(t, "it to be read", func() bool { return b.Aside() == 1 })
+	s.Kill()
+	restart(t, s)
+	awaitHeld(t, b, tell(t, a, 2))
+}
+
+// A liar that takes the next keys of a member does not suppress what it says.
+func TestAnotherValueUnderTheKey(t *testing.T) {
+	s := natstest.Start(t)
+	a, b := join(t, options(1, s.URL)), join(t, options(2, s.URL))
+	awaitHeld(t, b, tell(t, a, 1))
+	l := newLiar(t, s.URL)
+	for n := 2; n < 10; n++ {
+		if err := l.put(fmt.Sprintf("u.%s.%d", a.member, n), batchOf(), nil); err != nil {
+			t.Fatal(err)
+		}
+	}
+	for n := 2; n < 10; n++ {
+		use := batch(key(n), a.place)
+		ctx, cancel := context.WithTimeout(context.Background(), 5*time.Second)
+		err := a.Put(ctx, Uses, a.next.Add(1), use)
+		cancel()
+		if err != nil {
+			continue // It is not done, and its caller knows.
+		}
+		awaitHeld(t, b, use)
+	}
+}
+
+// raw says something to a server, and returns once it has answered a ping behind it.
+func raw(t *testing.T, url, text string) {
+	t.Helper()
+	c, err := net.Dial("tcp", strings.TrimPrefix(url, "nats://"))
+	if err != nil {
+		t.Fatal(err)
+	}
+	defer c.Close()
+	if _, err := c.Write([]byte("CONNECT {\"headers\":true,\"verbose\":false}\r\n" + text + "PING\r\n")); err != nil {
+		t.Fatal(err)
+	}
+	lines := bufio.NewScanner(c)
+	for lines.Scan() {
+		switch line := lines.Text(); {
+		case line == "PONG":
+			return
+		case strings.HasPrefix(line, "-ERR"):
+			t.Fatal(line)
+		}
+	}
+	t.Fatal(lines.Err())
+}
