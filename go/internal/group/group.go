@@ -290,6 +290,18 @@ func (g *Group) Put(ctx context.Context, kind Kind, number uint64, message []byt
 	})
 }
 
+// Stored returns when the broker stored a value that this member has put, by the broker's clock.
+func (g *Group) Stored(ctx context.Context, kind Kind, number uint64) (at time.Time, err error) {
+	err = persist(ctx, "group: look for a stored value", func() (bool, error) {
+		attempt, cancel := context.WithTimeout(ctx, attemptWait)
+		defer cancel()
+		is, err := g.get(attempt, map[string]any{"last_by_subj": g.subject + g.keyOf(kind, number)})
+		at = is.Time
+		return err == nil, err
+	})
+	return at, err
+}
+
 // isStored lets the reader know of the place of an own value.
 func (g *Group) isStored(place uint64) {
 	for before := g.stored.Load(); before < place && !g.stored.CompareAndSwap(before, place); before = g.stored.Load() {

@@ -924,6 +924,112 @@ func TestSummariesOfOneMember(t *testing.T) {
 	}
 }
 
+// A broker that is away for long is found again: nothing bounds how often it is tried.
+func TestABrokerThatIsAwayForLong(t *testing.T) {
+	s := natstest.Start(t)
+	a := join(t, options(1, s.URL))
+	if n := a.conn.Opts.MaxReconnect; n >= 0 {
+		t.Errorf("after %d tries the client gives up", n)
+	}
+}
+
+// A member is ready with the last value that the bucket held when it joined, and not before.
+func TestReadyWithTheLastValue(t *testing.T) {
+	r := reader{group: &Group{ready: make(chan struct{})}, bucket: bucket{first: 1, last: 3}}
+	for seen := uint64(0); seen < 5; seen++ {
+		r.seen = seen
+		r.catchUp()
+		if got := r.isReady(); got != (seen >= 3) {
+			t.Errorf("ready with value %d: %v", seen, got)
+		}
+	}
+}
+
+// delivered is a value as a broker sends it: the place in the bucket, and the number in the feed.
+func delivered(n int, place, number uint64) *nats.Msg {
+	return &nats.Msg{Subject: "$KV.test.u.x", Sub: &nats.Subscription{}, Data: batch(key(n), [16]byte{1}),
+		Reply: fmt.Sprintf("$JS.ACK.KV_test.c.1.%d.%d.1700000000000000000.0", place, number)}
+}
+
+// Values that came before one that is missing on its way are given to the sink, and reading begins anew behind them.
+func TestValuesBeforeALossAreTaken(t *testing.T) {
+	for name, lost := range map[string]*nats.Msg{
+		"a value":     delivered(4, 4, 4),
+		"a heartbeat": {Header: nats.Header{"Status": {"100"}, "Description": {"Idle Heartbeat"}, "Nats-Last-Consumer": {"3"}}},
+	} {
+		s := &sink{}
+		g := &Group{sink: s, ready: make(chan struct{}), life: context.Background()}
+		f := &feed{group: g, messages: make(chan *nats.Msg, 9)}
+		f.messages <- delivered(1, 1, 1)
+		f.messages <- delivered(2, 2, 2)
+		f.messages <- lost
+		r := reader{group: g}
+		m, about, err := f.next(time.Second)
+		if err == nil {
+			err = r.values(f, m, about)
+		}
+		if err != errLost || len(s.order) != 2 || r.seen != 2 || r.gap {
+			t.Errorf("%s: %v, %d values, seen %d", name, err, len(s.order), r.seen)
+		}
+	}
+}
+
+// A place that lies behind the last one is one of another bucket: all is read again.
+func TestAPlaceThatWasReadBefore(t *testing.T) {
+	s := &sink{}
+	g := &Group{sink: s, ready: make(chan struct{}), life: context.Background()}
+	f := &feed{group: g, messages: make(chan *nats.Msg, 9)}
+	f.messages <- delivered(1, 5, 1)
+	r := reader{group: g, bucket: bucket{first: 1, last: 9, created: time.Now()}, seen: 5}
+	m, about, err := f.next(time.Second)
+	if err == nil {
+		err = r.values(f, m, about)
+	}
+	if err != errAnother || len(s.order) != 0 || r.seen != 0 || !r.gap {
+		t.Errorf("%v, %d values, seen %d", err, len(s.order), r.seen)
+	}
+}
+
+// A slow is a sink that takes its time until it is let go.
+type slow struct {
+	begun, free chan struct{}
+	once        sync.Once
+}
+
+func (s *slow) Take([]Value) []error {
+	s.once.Do(func() { close(s.begun) })
+	<-s.free
+	return nil
+}
+
+// Close ends a member that is in the midst of many values, as soon as its sink lets it.
+func TestCloseInTheMidstOfValues(t *testing.T) {
+	s := natstest.Start(t)
+	a := join(t, options(1, s.URL))
+	for n := 0; n < 4*mostAtOnce; n++ {
+		tell(t, a, n)
+	}
+	a.Close()
+	before := runtime.NumGoroutine()
+	b := &slow{begun: make(chan struct{}), free: make(chan struct{})}
+	g, err := Join(patience(t), options(2, s.URL), b)
+	if err != nil {
+		t.Fatal(err)
+	}
+	<-b.begun
+	closed := make(chan struct{})
+	go func() { defer close(closed); g.Close() }()
+	natstest.Await(t, "the end of the connection", func() bool { return !g.Connected() })
+	select {
+	case <-closed:
+		t.Error("closed while the sink takes values")
+	default:
+	}
+	close(b.free)
+	<-closed
+	natstest.Await(t, "the end of its goroutines", func() bool { return runtime.NumGoroutine() <= before })
+}
+
 // Close ends every goroutine that Join and Summaries began, also of a member whose broker is away.
 func TestCloseLeavesNothing(t *testing.T) {
 	s := natstest.Start(t)

@@ -2,7 +2,7 @@ package group
 
 import (
 	"bufio"
-	"context"
+	"bytes"
 	"fmt"
 	"net"
 	"strings"
@@ -184,25 +184,50 @@ func TestABadHeaderStopsNothing(t *testing.T) {
 }
 
 // A liar that takes the next keys of a member does not suppress what it says.
-func TestAnotherValueUnderTheKey(t *testing.T) {
+func TestALiarThatTakesTheNextKeys(t *testing.T) {
 	s := natstest.Start(t)
 	a, b := join(t, options(1, s.URL)), join(t, options(2, s.URL))
 	awaitHeld(t, b, tell(t, a, 1))
 	l := newLiar(t, s.URL)
+	seen := l.keys()[0]
+	tag := seen[strings.LastIndex(seen, ".")+1:]
 	for n := 2; n < 10; n++ {
-		if err := l.put(fmt.Sprintf("u.%s.%d", a.member, n), batchOf(), nil); err != nil {
-			t.Fatal(err)
+		for _, end := range []string{"", "." + tag} {
+			if err := l.put(fmt.Sprintf("u.%s.%d%s", a.member, n, end), batchOf(), nil); err != nil {
+				t.Fatal(err)
+			}
 		}
 	}
 	for n := 2; n < 10; n++ {
-		use := batch(key(n), a.place)
-		ctx, cancel := context.WithTimeout(context.Background(), 5*time.Second)
-		err := a.Put(ctx, Uses, a.next.Add(1), use)
-		cancel()
-		if err != nil {
-			continue // It is not done, and its caller knows.
+		awaitHeld(t, b, tell(t, a, n))
+	}
+	for _, v := range a.inOrder() {
+		if own := !bytes.Equal(v.Message, batchOf()); own != (v.Own != 0) {
+			t.Errorf("%+v", v)
 		}
-		awaitHeld(t, b, use)
+	}
+}
+
+// What is under a value's key is not done where it is another value.
+func TestAnotherValueUnderTheKey(t *testing.T) {
+	s := natstest.Start(t)
+	a := join(t, options(1, s.URL))
+	l := newLiar(t, s.URL)
+	for n, row := range map[uint64]struct {
+		there, put []byte
+		want       error
+	}{
+		1: {batch(key(1), a.place), batch(key(1), a.place), nil}, // as where the answer to an earlier attempt was lost
+		2: {batchOf(), batch(key(2), a.place), errTaken},
+		3: {batch(key(3), a.place)[:headLen], batch(key(3), a.place), errTaken},
+		4: {nil, batch(key(4), a.place), errTaken},
+	} {
+		if err := l.put(a.keyOf(Uses, n), row.there, nil); err != nil {
+			t.Fatal(err)
+		}
+		if err := a.Put(patience(t), Uses, n, row.put); err != row.want {
+			t.Errorf("%d: %v, want %v", n, err, row.want)
+		}
 	}
 }
 

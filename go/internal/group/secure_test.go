@@ -4,6 +4,7 @@ import (
 	"crypto/ecdsa"
 	"crypto/elliptic"
 	"crypto/rand"
+	"crypto/tls"
 	"crypto/x509"
 	"encoding/pem"
 	"errors"
@@ -207,6 +208,37 @@ func TestCertificatesAreReadAnew(t *testing.T) {
 		t.Fatal(err)
 	}
 	nc.Close()
+}
+
+// A member speaks TLS 1.2 and later with the broker, and nothing older.
+func TestOldTLSIsRefused(t *testing.T) {
+	dir := t.TempDir()
+	files := newAuthority(t).write(dir, "svidd", "spiffe://example.org/svidd")
+	var o nats.Options
+	for _, option := range mustConnect(t, files) {
+		if err := option(&o); err != nil {
+			t.Fatal(err)
+		}
+	}
+	pair, err := tls.LoadX509KeyPair(files.Cert, files.Key)
+	if err != nil {
+		t.Fatal(err)
+	}
+	config := o.TLSConfig.Clone()
+	config.ServerName = "127.0.0.1"
+	for version, good := range map[uint16]bool{tls.VersionTLS10: false, tls.VersionTLS11: false, tls.VersionTLS12: true, tls.VersionTLS13: true} {
+		here, there := net.Pipe()
+		server := tls.Server(there, &tls.Config{Certificates: []tls.Certificate{pair}, MinVersion: tls.VersionTLS10, MaxVersion: version})
+		go func() { _ = server.Handshake(); there.Close() }()
+		err := tls.Client(here, config).Handshake()
+		here.Close()
+		if (err == nil) != good {
+			t.Errorf("version %x: %v", version, err)
+		}
+	}
+	if config.MinVersion != tls.VersionTLS12 {
+		t.Errorf("the least version is %x", config.MinVersion)
+	}
 }
 
 func TestFilesThatCannotBeUsed(t *testing.T) {

@@ -56,6 +56,8 @@ type Group interface {
 	// Put returns once the value is stored, and tries until ctx ends. Every
 	// member is given it then, in one order, with all values.
 	Put(ctx context.Context, kind group.Kind, number uint64, message []byte) error
+	// Stored returns when the broker stored a value that was Put, by its clock.
+	Stored(ctx context.Context, kind group.Kind, number uint64) (time.Time, error)
 	Taken() uint64
 	Aside() uint64
 	// Connected says whether the broker is there at this moment.
@@ -342,10 +344,8 @@ func (e *Engine) Withdraw(ctx context.Context, key svid.TokenKey, exp uint64) (s
 		return svid.Use{}, fmt.Errorf("revoked here, but %w", err)
 	}
 	if g := e.group.Load(); g != nil {
-		ctx, cancel := context.WithTimeout(ctx, e.Wait)
-		defer cancel()
-		if err := g.Put(ctx, group.Uses, e.values.Add(1), batch); err != nil {
-			return svid.Use{}, fmt.Errorf("revoked here, but the group was not told; try again: %w", err)
+		if err := e.tellWithdrawal(ctx, g, use); err != nil {
+			return svid.Use{}, fmt.Errorf("revoked here, but %w", err)
 		}
 	}
 	e.Metrics.Withdrawals.Add(1)

@@ -147,6 +147,10 @@ func (t *tie) Put(ctx context.Context, kind group.Kind, number uint64, message [
 	return t.fault
 }
 
+func (t *tie) Stored(context.Context, group.Kind, uint64) (time.Time, error) {
+	return time.Unix(moment, 0), nil
+}
+
 // hold lets the member read nothing, or all that it has not read. The caller does not hold mu.
 func (t *tie) hold(held bool) {
 	t.mu.Lock()

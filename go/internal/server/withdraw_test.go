@@ -1,0 +1,134 @@
+package server
+
+import (
+	"bytes"
+	"context"
+	"errors"
+	"strings"
+	"sync"
+	"testing"
+	"time"
+
+	"svid.example/go/internal/group"
+	"svid.example/go/internal/natstest"
+	"svid.example/go/svid"
+)
+
+// lines are what a log writes.
+type lines struct {
+	mu   sync.Mutex
+	text bytes.Buffer
+}
+
+func (l *lines) Write(line []byte) (int, error) {
+	l.mu.Lock()
+	defer l.mu.Unlock()
+	return l.text.Write(line)
+}
+
+func (l *lines) have(text string) bool {
+	l.mu.Lock()
+	defer l.mu.Unlock()
+	return strings.Contains(l.text.String(), text)
+}
+
+// live is a token that expires in five minutes by this machine's clock.
+func live(id string) string {
+	return example.Token("ES256", map[string]any{"sub": "spiffe://example.org/web", "aud": "ledger", "exp": svid.Now() + 300, "jti": id})
+}
+
+// running joins an engine to the bucket of a broker, and runs it until the test ends.
+func running(t *testing.T, e *Engine, url string) *Engine {
+	t.Helper()
+	ctx, cancel := context.WithTimeout(context.Background(), 30*time.Second)
+	t.Cleanup(cancel)
+	g, err := group.Join(ctx, group.Options{Servers: []string{url}, Name: "svid", Place: e.Place, TTL: time.Hour}, e)
+	if err != nil {
+		t.Fatal(err)
+	}
+	e.Join(g)
+	<-g.Ready()
+	var run sync.WaitGroup
+	running, end := context.WithCancel(context.Background())
+	run.Add(1)
+	go func() { defer run.Done(); e.Run(running) }()
+	t.Cleanup(func() { end(); run.Wait(); g.Close() })
+	return e
+}
+
+// A withdrawal by a clock that is further ahead than the others allow is not answered as done. They hear of it as soon as
+// they take it.
+func TestAWithdrawalOfAClockThatIsAhead(t *testing.T) {
+	url := natstest.Start(t).URL
+	right := running(t, ready(t, engine(t, Options{Mode: Reuse, Grouped: true, Place: svid.Place{1}, Now: svid.Now})), url)
+	var lines lines
+	fast := running(t, ready(t, engine(t, Options{Mode: Reuse, Grouped: true, Place: svid.Place{2}, Log: NewLog(&lines, Errors),
+		Now: func() uint64 { return svid.Now() + 33 }})), url)
+	one := live("a")
+	found, err := right.Find(one)
+	if err != nil {
+		t.Fatal(err)
+	}
+	_, err = fast.Withdraw(context.Background(), found.Key, found.Expires)
+	if err == nil || !strings.Contains(err.Error(), "the other sidecars take it only in") {
+		t.Error(err)
+	}
+	natstest.Await(t, "a line about it", func() bool { return lines.have(found.Key.String()) })
+	if err := check(fast, one); err != svid.Withdrawn {
+		t.Errorf("here: %v", err)
+	}
+	natstest.Await(t, "the withdrawal at another sidecar", func() bool { return check(right, one) == svid.Withdrawn })
+	if got := right.group.Load().Aside(); got != 1 {
+		t.Errorf("%d values were put aside: the first one is to be", got)
+	}
+	// One by a clock within the bound is done at once.
+	other, err := right.Find(live("b"))
+	if err != nil {
+		t.Fatal(err)
+	}
+	if _, err := right.Withdraw(context.Background(), other.Key, other.Expires); err != nil {
+		t.Error(err)
+	}
+}
+
+// Nothing is revoked before all is read, and what the group does not hear of is not answered as done.
+func TestAWithdrawalThatTheGroupDoesNotHearOf(t *testing.T) {
+	one := svid.TokenKey{1}
+	e := engine(t, Options{Mode: Reuse, Grouped: true, Wait: 50 * time.Millisecond})
+	m := &tie{broker: &broker{}, engine: e, ready: make(chan struct{})}
+	m.members = []*tie{m}
+	withdraw := func() error {
+		_, err := e.Withdraw(context.Background(), one, moment+300)
+		return err
+	}
+	wantNotReady := func(what string) {
+		t.Helper()
+		if err := withdraw(); !errors.Is(err, ErrNotReady) {
+			t.Errorf("%s: %v", what, err)
+		}
+	}
+	wantNotReady("without a bundle")
+	ready(t, e)
+	wantNotReady("without a group")
+	e.Join(m)
+	wantNotReady("before the bucket is read")
+	if len(m.log) != 0 || len(saved(t, e)) != 17 {
+		t.Errorf("%d values, and a record of %d bytes", len(m.log), len(saved(t, e)))
+	}
+	close(m.ready)
+	m.fault = errors.New("no room")
+	if err := withdraw(); !errors.Is(err, m.fault) || !strings.Contains(err.Error(), "not told") {
+		t.Errorf("the group was not told: %v", err)
+	}
+	m.fault, m.answer = nil, make(chan struct{})
+	if err := withdraw(); !errors.Is(err, context.DeadlineExceeded) {
+		t.Errorf("the group does not answer: %v", err)
+	}
+	if n := e.Metrics.Withdrawals.Load(); n != 0 {
+		t.Errorf("%d are counted", n)
+	}
+	close(m.answer)
+	if err := withdraw(); err != nil || e.Metrics.Withdrawals.Load() != 1 {
+		t.Errorf("%v, and %d are counted", err, e.Metrics.Withdrawals.Load())
+	}
+}
