@@ -72,13 +72,11 @@ func (g *Group) feedFrom(place uint64, wait time.Duration) (*feed, error) {
 	return f, nil
 }
 
-// close ends the feed.
+// close ends the feed. The broker forgets it after some seconds in which nobody listens: a member that could let it forget
+// its own one at once could end those of others too.
 func (f *feed) close() {
 	close(f.done)
 	_ = f.inbox.Unsubscribe()
-	if f.consumer != "" { // The broker forgets it in any case, after a while without a reader.
-		_ = f.group.conn.Publish("$JS.API.CONSUMER.DELETE."+f.group.stream+"."+f.consumer, nil)
-	}
 }
 
 // next returns the next value, or errNoValue if none comes in time. Another error says that the feed is of no use any more.
@@ -118,6 +116,9 @@ func (f *feed) read(m *nats.Msg) (*nats.MsgMetadata, error) {
 	about, err := m.Metadata()
 	if err != nil {
 		return nil, err
+	}
+	if about.Stream != f.group.stream || about.Consumer != f.consumer {
+		return nil, nil // Someone lets the broker send other values here.
 	}
 	if f.number++; about.Sequence.Consumer != f.number {
 		return nil, errLost

@@ -118,7 +118,10 @@ type Group struct {
 	sink   Sink
 	taken  atomic.Uint64
 	aside  atomic.Uint64
-	quiet  quiet
+	quiet  quiet // of values that were put aside
+	asked  quiet // of summaries that could not be answered
+	faults quiet // of what the client says of the broker
+	fault  string
 
 	ready chan struct{}
 	life  context.Context // ends with Close
@@ -201,7 +204,13 @@ func (g *Group) connect(ctx context.Context) error {
 			default:
 			}
 		}),
-		nats.ErrorHandler(func(_ *nats.Conn, _ *nats.Subscription, err error) { g.log("broker says", "why", err) }),
+		nats.ErrorHandler(func(_ *nats.Conn, _ *nats.Subscription, err error) {
+			held, ok := g.faults.speak(time.Now())
+			if ok || err.Error() != g.fault { // The client calls this in one goroutine.
+				g.log("broker says", "why", err, "unlogged", held)
+			}
+			g.fault = err.Error()
+		}),
 	}, g.options.Connect...)
 	said := ""
 	return persist(ctx, "group: connect", func() (bool, error) {

@@ -958,8 +958,8 @@ func TestValuesBeforeALossAreTaken(t *testing.T) {
 		"a heartbeat": {Header: nats.Header{"Status": {"100"}, "Description": {"Idle Heartbeat"}, "Nats-Last-Consumer": {"3"}}},
 	} {
 		s := &sink{}
-		g := &Group{sink: s, ready: make(chan struct{}), life: context.Background()}
-		f := &feed{group: g, messages: make(chan *nats.Msg, 9)}
+		g := &Group{stream: "KV_test", sink: s, ready: make(chan struct{}), life: context.Background()}
+		f := &feed{group: g, consumer: "c", messages: make(chan *nats.Msg, 9)}
 		f.messages <- delivered(1, 1, 1)
 		f.messages <- delivered(2, 2, 2)
 		f.messages <- lost
@@ -977,8 +977,8 @@ func TestValuesBeforeALossAreTaken(t *testing.T) {
 // A place that lies behind the last one is one of another bucket: all is read again.
 func TestAPlaceThatWasReadBefore(t *testing.T) {
 	s := &sink{}
-	g := &Group{sink: s, ready: make(chan struct{}), life: context.Background()}
-	f := &feed{group: g, messages: make(chan *nats.Msg, 9)}
+	g := &Group{stream: "KV_test", sink: s, ready: make(chan struct{}), life: context.Background()}
+	f := &feed{group: g, consumer: "c", messages: make(chan *nats.Msg, 9)}
 	f.messages <- delivered(1, 5, 1)
 	r := reader{group: g, bucket: bucket{first: 1, last: 9, created: time.Now()}, seen: 5}
 	m, about, err := f.next(time.Second)

@@ -3,9 +3,11 @@ package group
 import (
 	"bufio"
 	"bytes"
+	"errors"
 	"fmt"
 	"net"
 	"strings"
+	"sync/atomic"
 	"testing"
 	"time"
 
@@ -176,11 +178,91 @@ func TestABadHeaderStopsNothing(t *testing.T) {
 	a, b := join(t, options(1, s.URL)), join(t, options(2, s.URL))
 	awaitHeld(t, b, tell(t, a, 1))
 	const bad = "NATS/1.0\r\nno colon\r\n\r\n"
-	raw(t, s.URL, fmt.Sprintf("HPUB $KV.test.u.liar.1 %d %d\r\n%s\r\n", len(bad), len(bad), bad))
-	natstest.Await(t, "it to be read", func() bool { return b.Aside() == 1 })
+	var text strings.Builder
+	for n := 0; n < 200; n++ {
+		fmt.Fprintf(&text, "HPUB $KV.test.u.liar.%d %d %d\r\n%s\r\n", n, len(bad), len(bad), bad)
+	}
+	raw(t, s.URL, text.String())
+	natstest.Await(t, "them to be read", func() bool { return b.Aside() == 200 })
+	b.logMu.Lock()
+	if len(b.lines) > 30 {
+		t.Errorf("%d lines of log for 200 values", len(b.lines))
+	}
+	b.logMu.Unlock()
 	s.Kill()
 	restart(t, s)
 	awaitHeld(t, b, tell(t, a, 2))
+}
+
+// Summaries that can't be answered do not fill the log.
+func TestManyBadSummaries(t *testing.T) {
+	s := natstest.Start(t)
+	a := join(t, options(1, s.URL))
+	var asked atomic.Int32
+	a.Summaries(time.Hour, func() ([]byte, error) { return []byte("of a"), nil }, func([]byte) ([]byte, error) {
+		asked.Add(1)
+		return nil, errors.New("no summary")
+	})
+	l := newLiar(t, s.URL)
+	natstest.Await(t, "them to be asked", func() bool {
+		if err := l.conn.PublishRequest("svid.test.summary", l.conn.NewInbox(), []byte("lie")); err != nil {
+			t.Fatal(err)
+		}
+		return asked.Load() > 200
+	})
+	a.logMu.Lock()
+	defer a.logMu.Unlock()
+	if len(a.lines) == 0 || len(a.lines) > 30 {
+		t.Errorf("%d lines of log for 200 summaries", len(a.lines))
+	}
+}
+
+// Who lets the broker send other values to where a member listens, or some of the bucket's, changes nothing in what it reads.
+func TestValuesOfAnotherFeed(t *testing.T) {
+	s := natstest.Start(t)
+	l := newLiar(t, s.URL)
+	inboxes := make(chan string, 99)
+	if _, err := l.conn.Subscribe("_INBOX.>", func(m *nats.Msg) {
+		if strings.HasPrefix(m.Reply, "$JS.ACK.") {
+			select {
+			case inboxes <- m.Reply:
+			default:
+			}
+		}
+	}); err != nil {
+		t.Fatal(err)
+	}
+	a := join(t, options(1, s.URL))
+	awaitHeld(t, a, tell(t, a, 1))
+	if err := l.conn.Flush(); err != nil {
+		t.Fatal(err)
+	}
+	name := strings.Split(<-inboxes, ".")[3]
+	victim, err := l.js.ConsumerInfo("KV_test", name)
+	if err != nil {
+		t.Fatal(err)
+	}
+	if _, err := l.js.AddStream(&nats.StreamConfig{Name: "other", Subjects: []string{"$KV.other.>"}}); err != nil {
+		t.Fatal(err)
+	}
+	for n := 0; n < 5; n++ {
+		if _, err := l.js.Publish("$KV.other.u.x", batch(key(100+n), [16]byte{9})); err != nil {
+			t.Fatal(err)
+		}
+	}
+	for _, stream := range []string{"other", "KV_test"} {
+		if _, err := l.js.AddConsumer(stream, &nats.ConsumerConfig{DeliverSubject: victim.Config.DeliverSubject, AckPolicy: nats.AckNonePolicy}); err != nil {
+			t.Fatal(err)
+		}
+	}
+	for n := 2; n < 6; n++ {
+		awaitHeld(t, a, tell(t, a, n))
+	}
+	want := make([]Value, 5)
+	for i := range want {
+		want[i] = Value{Kind: Uses, Message: batch(key(i+1), a.place), Own: uint64(i + 1)}
+	}
+	wantValues(t, a, want...)
 }
 
 // A liar that takes the next keys of a member does not suppress what it says.

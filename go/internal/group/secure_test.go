@@ -154,8 +154,19 @@ func TestTheServersOfDeploy(t *testing.T) {
 	if c.Taken() != 3 {
 		t.Errorf("a member that comes anew reads %d values", c.Taken())
 	}
+	for what, header := range map[string]nats.Header{"all": {"Nats-Rollup": {"all"}}, "a key": {"Nats-Rollup": {"sub"}}, "nothing": {}} {
+		lie := &nats.Msg{Subject: "$KV.svid." + a.keyOf(Uses, 1), Header: header, Data: batchOf()}
+		if _, err := a.js.PublishMsg(lie); err == nil {
+			t.Errorf("a value that replaces %s is stored", what)
+		}
+	}
+	d := join(t, secured(t, 4, server, own))
+	if d.Taken() != 3 {
+		t.Errorf("a member that comes behind a liar reads %d values", d.Taken())
+	}
 	for _, forbidden := range []string{"$JS.API.STREAM.DELETE.KV_svid", "$JS.API.STREAM.PURGE.KV_svid", "$JS.API.STREAM.MSG.DELETE.KV_svid",
-		"$JS.API.STREAM.UPDATE.KV_svid", "$KV.other.a", "svid.other.summary"} {
+		"$JS.API.STREAM.UPDATE.KV_svid", "$JS.API.STREAM.RESTORE.KV_svid", "$JS.API.STREAM.CREATE.KV_other",
+		"$JS.API.CONSUMER.DELETE.KV_svid.x", "$JS.API.CONSUMER.DURABLE.CREATE.KV_svid.x", "$KV.other.a", "svid.other.summary"} {
 		if err := a.conn.Publish(forbidden, nil); err != nil {
 			t.Fatal(err)
 		}
@@ -163,7 +174,7 @@ func TestTheServersOfDeploy(t *testing.T) {
 			return a.logged(`Permissions Violation for Publish to "`+forbidden) || a.logged(`permissions violation for publish to "`+strings.ToLower(forbidden))
 		})
 	}
-	for _, m := range []*member{b, c} {
+	for _, m := range []*member{b, c, d} {
 		if m.logged("iolation") {
 			t.Error(m.lines)
 		}

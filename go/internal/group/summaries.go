@@ -86,7 +86,9 @@ func (g *Group) ask(subject string, summary func() ([]byte, error)) error {
 func (g *Group) answer(m *nats.Msg, answer func([]byte) ([]byte, error)) {
 	batches, err := answer(m.Data)
 	if err != nil {
-		g.log("a summary was not answered", "why", err, "bytes", len(m.Data))
+		if held, ok := g.asked.speak(time.Now()); ok {
+			g.log("a summary was not answered", "why", err, "bytes", len(m.Data), "unlogged", held)
+		}
 		return
 	}
 	parts, err := cut(batches, int(g.conn.MaxPayload())-headroom)
