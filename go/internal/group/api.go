@@ -55,9 +55,9 @@ func (g *Group) call(ctx context.Context, what string, in, out any) error {
 	return json.Unmarshal(m.Data, out)
 }
 
-// info asks for the bucket's stream as it is. The error is nats.ErrStreamNotFound where there is none.
-func (g *Group) info(ctx context.Context) (info streamInfo, err error) {
-	ctx, cancel := context.WithTimeout(ctx, attemptWait)
+// info asks for the bucket's stream as it is, and waits so long. The error is nats.ErrStreamNotFound where there is none.
+func (g *Group) info(ctx context.Context, wait time.Duration) (info streamInfo, err error) {
+	ctx, cancel := context.WithTimeout(ctx, wait)
 	defer cancel()
 	err = g.call(ctx, "STREAM.INFO."+g.stream, nil, &info)
 	return info, err

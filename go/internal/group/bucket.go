@@ -31,7 +31,7 @@ const mostValue = 64 << 10
 func (g *Group) openBucket(ctx context.Context) (b bucket, err error) {
 	said, same := "", 0
 	err = persist(ctx, "group: open the bucket", func() (bool, error) {
-		info, err := g.info(ctx)
+		info, err := g.info(ctx, attemptWait)
 		if errors.Is(err, nats.ErrStreamNotFound) {
 			err = g.makeBucket()
 			if err == nil {

@@ -162,6 +162,17 @@ func TestSettingsOfTheFuture(t *testing.T) {
 	}
 }
 
+// What is in front of the first value is gone: of an empty bucket that is all up to its last one.
+func TestWhereABucketBegins(t *testing.T) {
+	for _, row := range []struct{ first, last, want uint64 }{{0, 0, 1}, {1, 0, 1}, {1, 7, 1}, {3, 7, 3}, {7, 7, 7}, {8, 7, 8}, {9, 7, 8}, {0, 7, 8}} {
+		var info streamInfo
+		info.State.First, info.State.Last = row.first, row.last
+		if b := bucketOf(info); b.first != row.want || b.last != row.last {
+			t.Errorf("%+v: from %d to %d", row, b.first, b.last)
+		}
+	}
+}
+
 // A bucket as members made it once is not joined, and what the error says makes it one that is, with all that is in it, also
 // while members read it.
 func TestAnOldBucketIsMended(t *testing.T) {

@@ -785,7 +785,10 @@ func TestValuesAreTakenAtOnce(t *testing.T) {
 	}
 }
 
+// Reading goes on as soon as the broker is back, and not only when it is found that values are late.
 func TestGoesOnAfterTheBrokerWasAway(t *testing.T) {
+	silence = time.Hour
+	t.Cleanup(func() { silence = silenceWait })
 	s := natstest.Start(t)
 	a, b := join(t, options(1, s.URL)), join(t, options(2, s.URL))
 	awaitHeld(t, b, tell(t, a, 1))
@@ -794,6 +797,9 @@ func TestGoesOnAfterTheBrokerWasAway(t *testing.T) {
 		natstest.Await(t, "the loss", func() bool { return !a.Connected() && !b.Connected() })
 		restart(t, s)
 		awaitHeld(t, b, tell(t, a, n))
+	}
+	if b.logged("no value came") {
+		t.Error(b.lines)
 	}
 }
 

@@ -295,20 +295,25 @@ func TestAnotherValueUnderTheKey(t *testing.T) {
 	s := natstest.Start(t)
 	a := join(t, options(1, s.URL))
 	l := newLiar(t, s.URL)
-	for n, row := range map[uint64]struct {
+	for i, row := range []struct {
 		there, put []byte
 		want       error
 	}{
-		1: {batch(key(1), a.place), batch(key(1), a.place), nil}, // as where the answer to an earlier attempt was lost
-		2: {batchOf(), batch(key(2), a.place), errTaken},
-		3: {batch(key(3), a.place)[:headLen], batch(key(3), a.place), errTaken},
-		4: {nil, batch(key(4), a.place), errTaken},
+		{batch(key(1), a.place), batch(key(1), a.place), nil}, // as where the answer to an earlier attempt was lost
+		{batchOf(), batch(key(2), a.place), errTaken},
+		{batch(key(3), a.place)[:headLen], batch(key(3), a.place), errTaken},
+		{nil, batch(key(4), a.place), errTaken},
 	} {
+		n := uint64(i + 1)
 		if err := l.put(a.keyOf(Uses, n), row.there, nil); err != nil {
 			t.Fatal(err)
 		}
+		place := uint64(len(l.keys()))
 		if err := a.Put(patience(t), Uses, n, row.put); err != row.want {
 			t.Errorf("%d: %v, want %v", n, err, row.want)
+		}
+		if known := a.stored.Load() == place; known != (row.want == nil) { // The reader waits for it then.
+			t.Errorf("%d: the last own value is known to be at %d, and is at %d", n, a.stored.Load(), place)
 		}
 	}
 }

@@ -109,17 +109,17 @@ func (r *reader) read() error {
 	if errors.Is(err, nats.ErrStreamNotFound) {
 		return r.reopen()
 	}
+	if err == nil {
+		defer f.close()
+		err = r.isSame()
+	}
 	if err != nil {
 		if r.wait *= 2; r.wait > mostReadWait {
 			r.wait = mostReadWait
 		}
 		return err
 	}
-	defer f.close()
 	r.wait, r.last = readWait, time.Now()
-	if err := r.isSame(); err != nil {
-		return err
-	}
 	for {
 		m, about, err := f.next(r.patience())
 		if errors.Is(err, errNoValue) {
@@ -192,7 +192,7 @@ func (r *reader) missing(to uint64) {
 // passed over, so all is read again then.
 func (r *reader) isSame() error {
 	g := r.group
-	info, err := g.info(g.life)
+	info, err := g.info(g.life, r.wait)
 	if err != nil {
 		return err
 	}
@@ -204,7 +204,7 @@ func (r *reader) isSame() error {
 	if r.stamp.IsZero() {
 		return nil
 	}
-	ctx, cancel := context.WithTimeout(g.life, readWait)
+	ctx, cancel := context.WithTimeout(g.life, r.wait)
 	defer cancel()
 	m, err := g.get(ctx, map[string]any{"seq": r.seen})
 	switch {
@@ -275,7 +275,7 @@ func (r *reader) idle(f *feed) error {
 		return nil
 	}
 	r.look = time.Now()
-	info, err := r.group.info(r.group.life)
+	info, err := r.group.info(r.group.life, attemptWait)
 	switch {
 	case errors.Is(err, nats.ErrStreamNotFound):
 		return r.reopen()
