@@ -88,6 +88,7 @@ type process struct {
 	address string
 	run     *exec.Cmd
 	log     *lines
+	stderr  *os.File // takes the log where it is not nil
 	client  *http.Client
 }
 
@@ -118,12 +119,19 @@ func start(t testing.TB, args ...string) *process {
 // startBy starts it by another program.
 func startBy(t testing.TB, program []string, args ...string) *process {
 	t.Helper()
+	p := prepare(t, program, args...)
+	p.start()
+	return p
+}
+
+// prepare gives a process its command line, and lets it end with the test.
+func prepare(t testing.TB, program []string, args ...string) *process {
+	t.Helper()
 	p := &process{t: t, program: program, address: freeAddress(t), log: &lines{}, client: &http.Client{
 		Timeout: patience, Transport: &http.Transport{MaxIdleConnsPerHost: 64},
 	}}
 	p.args = append([]string{"serve", "--audience", "ledger", "--longest", "3600", "--listen", p.address}, args...)
 	t.Cleanup(p.kill)
-	p.start()
 	return p
 }
 
@@ -157,6 +165,9 @@ func (p *process) launch() {
 		p.run = exec.Command(words[0], words[1:]...)
 	}
 	p.run.Stderr = p.log
+	if p.stderr != nil {
+		p.run.Stderr = p.stderr
+	}
 	if err := p.run.Start(); err != nil {
 		p.t.Fatal(err)
 	}

@@ -28,6 +28,8 @@ const (
 	requestWait = time.Minute
 	// idleWait is how long a connection may stay idle.
 	idleWait = 2 * time.Minute
+	// logWait is how long the end of the process waits for standard error to take the last lines.
+	logWait = time.Second
 	// clockStep is how many seconds the clock may go ahead at once, as it does where the machine was suspended.
 	clockStep = 600
 	// spareHeap is how many bytes of garbage gather, beside as many as are in use, before they are collected. Only a few
@@ -60,7 +62,10 @@ func serve(args []string, std stdio) int {
 	signals := make(chan os.Signal, 8)
 	signal.Notify(signals, syscall.SIGHUP, syscall.SIGTERM, syscall.SIGINT)
 	defer signal.Stop(signals)
-	log := server.NewLog(std.err, logLevels[o.log])
+	signal.Ignore(syscall.SIGPIPE) // A log whose reader is gone ends no service.
+	outlet := server.NewOutlet(std.err)
+	defer outlet.Close(logWait)
+	log := server.NewLog(outlet, logLevels[o.log])
 	s := &sidecar{options: o, log: log, failed: make(chan error, 1), spare: make([]byte, spareHeap)}
 	if err := s.run(signals); err != nil {
 		log.Error("end", err)

@@ -29,8 +29,19 @@ type Log struct {
 	out   io.Writer
 }
 
-// NewLog returns a log that writes to out what the level has.
+// NewLog returns a log that writes to out what the level has. Its callers wait for
+// out: give it an Outlet where that may hang.
 func NewLog(out io.Writer, level Level) *Log { return &Log{level: level, out: out} }
+
+// Dropped is how many lines the log's Outlet has dropped. It is 0 where the log has
+// none.
+func (l *Log) Dropped() uint64 {
+	if l == nil {
+		return 0
+	}
+	outlet, _ := l.out.(*Outlet)
+	return outlet.Dropped()
+}
 
 // Error logs that something went wrong.
 func (l *Log) Error(event string, err error, fields ...any) {

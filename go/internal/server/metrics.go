@@ -97,6 +97,7 @@ func (e *Engine) WriteMetrics(w io.Writer) error {
 	if e.Grouped {
 		p.gauge("svidd_untold_uses", "Uses that wait to be told to the group.", float64(len(e.untold)))
 	}
+	p.counter("svidd_log_lines_dropped_total", "Lines of the log that were dropped, since standard error did not take them.", e.Log.Dropped())
 	p.gauge("svidd_ready", "1 once bundles, record and the group's bucket are read, until the sidecar ends. In mode strict it stays 1 while the broker is away.", truth(e.Ready() == nil))
 	if m.BundleAges != nil {
 		p.head("svidd_bundle_age_seconds", "gauge", "Time since a trust domain's bundle was last read; +Inf if it never was.")

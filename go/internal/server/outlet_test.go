@@ -1,0 +1,232 @@
+package server
+
+import (
+	"bytes"
+	"errors"
+	"fmt"
+	"strings"
+	"sync"
+	"testing"
+	"time"
+)
+
+// A sink is a writer that hangs, and fails, as it is told.
+type sink struct {
+	mu    sync.Mutex // is held while it hangs
+	begun chan int   // the length of each write, before it is made; nobody need read it
+	text  bytes.Buffer
+	takes int // bytes until it fails; negative where it never does
+}
+
+func newSink() *sink { return &sink{begun: make(chan int, 1<<16), takes: -1} }
+
+func (s *sink) Write(b []byte) (int, error) {
+	s.begun <- len(b)
+	s.mu.Lock()
+	defer s.mu.Unlock()
+	if s.takes >= 0 && len(b) > s.takes {
+		n := s.takes
+		s.text.Write(b[:n])
+		s.takes = 0
+		return n, errors.New("no space left on device")
+	}
+	if s.takes >= 0 {
+		s.takes -= len(b)
+	}
+	return s.text.Write(b)
+}
+
+// fail lets it take so many bytes more, and fail behind them.
+func (s *sink) fail(takes int) {
+	s.mu.Lock()
+	defer s.mu.Unlock()
+	s.takes = takes
+}
+
+func (s *sink) String() string {
+	s.mu.Lock()
+	defer s.mu.Unlock()
+	return s.text.String()
+}
+
+// give gives an outlet the lines with these numbers.
+func give(o *Outlet, from, to int, length int) {
+	for i := from; i < to; i++ {
+		fmt.Fprintf(o, "%0*d\n", length-1, i)
+	}
+}
+
+// The writer hangs: what has room waits, the rest is dropped and counted, and nobody waits. Behind that all goes on, in order.
+func TestAnOutletThatHangs(t *testing.T) {
+	out := newSink()
+	out.mu.Lock()
+	o := NewOutlet(out)
+	const length, room = 64, mostWaiting / 64
+	give(o, 0, 1, length)
+	<-out.begun // The first line is with the writer.
+	give(o, 1, 1+room, length)
+	if n := o.Dropped(); n != 0 {
+		t.Errorf("%d lines are dropped of those that have room", n)
+	}
+	give(o, 1+room, 1+room+7, length)
+	fmt.Fprintln(o) // This one has room by itself, and stands behind one that is dropped.
+	if n := o.Dropped(); n != 8 {
+		t.Errorf("%d lines are dropped, want 8", n)
+	}
+	out.mu.Unlock()
+	await(t, "the line that counts", func() bool { return strings.Contains(out.String(), `"dropped":8`) })
+	give(o, 5000, 5001, length)
+	o.Close(time.Minute)
+	lines := strings.Split(strings.TrimSuffix(out.String(), "\n"), "\n")
+	if len(lines) != 1+room+2 {
+		t.Fatalf("%d lines, want %d", len(lines), 1+room+2)
+	}
+	for i, line := range lines[:1+room] {
+		if line != fmt.Sprintf("%0*d", length-1, i) {
+			t.Fatalf("line %d is %q", i, line)
+		}
+	}
+	if line := lines[1+room]; !strings.Contains(line, `"event":"log"`) || !strings.Contains(line, `"error":"8 lines were dropped`) || !strings.Contains(line, `"time":"2`) {
+		t.Errorf("the line that counts is %q", line)
+	}
+	if want := fmt.Sprintf("%0*d", length-1, 5000); lines[2+room] != want {
+		t.Errorf("the last line is %q", lines[2+room])
+	}
+	// (only the first line of all is as long as it is; the others share pages)
+	for len(out.begun) > 2 {
+		if n := <-out.begun; n > onePage || n < onePage-length {
+			t.Fatalf("%d bytes are written at once", n)
+		}
+	}
+}
+
+// A line that is longer than a page is written at once, and one that is longer than all the room is dropped.
+func TestAnOutletsLongLines(t *testing.T) {
+	out := newSink()
+	o := NewOutlet(out)
+	long := strings.Repeat("a", 3*onePage) + "\n"
+	out.mu.Lock()
+	fmt.Fprintln(o, "first")
+	<-out.begun
+	fmt.Fprint(o, long)
+	fmt.Fprintln(o, "last")
+	out.mu.Unlock()
+	if n := <-out.begun; n != len(long) {
+		t.Errorf("%d bytes are written at once", n)
+	}
+	await(t, "the last line", func() bool { return strings.HasSuffix(out.String(), "last\n") })
+	fmt.Fprint(o, strings.Repeat("b", mostWaiting)+"\n")
+	fmt.Fprintln(o, "next")
+	o.Close(time.Minute)
+	if text := out.String(); o.Dropped() != 1 && o.Dropped() != 2 || strings.Contains(text, "b") || !strings.HasPrefix(text, "first\n"+long+"last\n") {
+		t.Errorf("%d lines are dropped, %q", o.Dropped(), text[len(long):])
+	}
+}
+
+// The writer fails, in the middle of a line too: what it did not take is counted, and the next line begins a line.
+func TestAnOutletThatFails(t *testing.T) {
+	out := newSink()
+	o := NewOutlet(out)
+	for round, row := range []struct {
+		takes int
+		want  string
+	}{
+		{0, ""},
+		{3, "000\n"}, // half a line, which is ended once that can be done
+		{8, "0000007\n"},
+	} {
+		out.fail(row.takes)
+		before, had := o.Dropped(), len(out.String())
+		out.mu.Lock()
+		fmt.Fprintln(o, "0000007")
+		fmt.Fprintln(o, "0000008")
+		out.mu.Unlock()
+		lost := uint64(2)
+		if row.takes == 8 {
+			lost = 1
+		}
+		await(t, "lines that are lost", func() bool { return o.Dropped() == before+lost })
+		out.fail(-1)
+		fmt.Fprintln(o, "again")
+		await(t, "another line", func() bool { return strings.Contains(out.String()[had:], `"dropped"`) })
+		if got := out.String()[had:]; !strings.HasPrefix(got, row.want+"again\n{") || !strings.Contains(got, fmt.Sprintf(`"dropped":%d,`, lost)) {
+			t.Errorf("round %d: %q", round, got)
+		}
+	}
+	o.Close(time.Minute)
+}
+
+// Lines that are lost one after the other are said together.
+func TestAnOutletThatFailsForLong(t *testing.T) {
+	out := newSink()
+	o := NewOutlet(out)
+	out.fail(0)
+	for i := uint64(1); i <= 5; i++ {
+		fmt.Fprintln(o, "lost")
+		await(t, "a line that is lost", func() bool { return o.Dropped() == i })
+	}
+	out.fail(-1)
+	fmt.Fprintln(o, "again")
+	o.Close(time.Minute)
+	if got := out.String(); !strings.HasPrefix(got, "again\n{") || !strings.Contains(got, `"dropped":5,`) || strings.Count(got, "\n") != 2 {
+		t.Errorf("%q", got)
+	}
+}
+
+// Close waits for what came, but not for a writer that hangs, and behind it every line is dropped.
+func TestTheEndOfAnOutlet(t *testing.T) {
+	out := newSink()
+	o := NewOutlet(out)
+	give(o, 0, 1000, 20)
+	o.Close(time.Minute)
+	if n := strings.Count(out.String(), "\n"); n != 1000 {
+		t.Errorf("%d lines are written", n)
+	}
+	fmt.Fprintln(o, "late")
+	if o.Dropped() != 1 || strings.Contains(out.String(), "late") {
+		t.Errorf("behind the end: %d dropped, %q", o.Dropped(), out)
+	}
+
+	hung := newSink()
+	hung.mu.Lock()
+	o = NewOutlet(hung)
+	fmt.Fprintln(o, "a")
+	from := time.Now()
+	o.Close(10 * time.Millisecond)
+	if took := time.Since(from); took > 20*time.Second {
+		t.Errorf("Close took %v", took)
+	}
+	hung.mu.Unlock()
+	<-o.ended
+}
+
+// Lines of many goroutines are all written or counted, and none is mixed with another one.
+func TestAnOutletOfMany(t *testing.T) {
+	out := newSink()
+	o := NewOutlet(out)
+	log := NewLog(o, All)
+	var all sync.WaitGroup
+	const writers, each = 8, 2000
+	for i := 0; i < writers; i++ {
+		all.Add(1)
+		go func() {
+			defer all.Done()
+			for n := 0; n < each; n++ {
+				log.Event("one", "text", "\n")
+			}
+		}()
+	}
+	all.Wait()
+	o.Close(time.Minute)
+	written := uint64(0)
+	for _, line := range strings.Split(strings.TrimSuffix(out.String(), "\n"), "\n") {
+		if strings.HasSuffix(line, `,"text":"\n","time":"`+line[len(line)-29:]) && strings.HasPrefix(line, `{"event":"one"`) {
+			written++
+		} else if !strings.Contains(line, `"dropped"`) {
+			t.Fatalf("%q", line)
+		}
+	}
+	if written+log.Dropped() != writers*each {
+		t.Errorf("%d lines are written, %d dropped", written, log.Dropped())
+	}
+}
