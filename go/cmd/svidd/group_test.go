@@ -216,7 +216,7 @@ func TestAMemberThatLies(t *testing.T) {
 		t.Fatal(err)
 	}
 	p.await("the claim aside", func() bool { return p.metric("svidd_messages_aside_total") == "3" })
-	if status, _, body := p.check(victim); status != 503 || !strings.Contains(body, "no use of it") {
+	if status, _, body := p.check(victim); status != 503 || !strings.Contains(body, "NotClaimed") {
 		t.Errorf("claimed from far ahead: %d %q", status, body)
 	}
 	p.want(token(t, "other", time.Minute), 200, "")

@@ -230,25 +230,36 @@ func killAll(pid int) {
 	}
 }
 
-// signal sends svidd a signal. buildah, which may run it, passes none on. So the signal goes to the process with svidd's own
-// command line, where there is one.
+// signal sends svidd a signal. What runs it, such as buildah, may pass none on. So the signal goes to svidd itself, where that
+// runs.
 func (p *process) signal(s syscall.Signal) error {
-	pid := p.run.Process.Pid
-	if n := len(p.program); n > 0 {
-		line := strings.Join(append(p.program[n-1:n:n], p.args...), "\x00") + "\x00"
-		processes, err := filepath.Glob("/proc/[0-9]*")
-		if err != nil {
-			return err
-		}
-		for _, folder := range processes {
-			if text, err := os.ReadFile(filepath.Join(folder, "cmdline")); err == nil && string(text) == line {
-				if pid, err = strconv.Atoi(filepath.Base(folder)); err != nil {
-					return err
-				}
-			}
-		}
+	pid, err := p.pid()
+	if err != nil {
+		return err
+	}
+	if pid == 0 {
+		pid = p.run.Process.Pid
 	}
 	return syscall.Kill(pid, s)
+}
+
+// pid is the process with svidd's own command line, and 0 where there is none.
+func (p *process) pid() (int, error) {
+	n := len(p.program)
+	if n == 0 {
+		return p.run.Process.Pid, nil
+	}
+	line := strings.Join(append(p.program[n-1:n:n], p.args...), "\x00") + "\x00"
+	processes, err := filepath.Glob("/proc/[0-9]*")
+	if err != nil {
+		return 0, err
+	}
+	for _, folder := range processes {
+		if text, err := os.ReadFile(filepath.Join(folder, "cmdline")); err == nil && string(text) == line {
+			return strconv.Atoi(filepath.Base(folder))
+		}
+	}
+	return 0, nil
 }
 
 func (p *process) get(path string) (status int, body string) {

@@ -39,7 +39,7 @@ func (s *sidecar) listen() ([]served, error) {
 			main.Close()
 			return nil, err
 		}
-		servers = append(servers, served{s.server(s.engine.Admin(s.watcher.Reload)), admin})
+		servers = append(servers, served{s.server(s.engine.Admin(s.reload)), admin})
 	}
 	for _, each := range servers {
 		go func(it served) {

@@ -108,7 +108,7 @@ func (o *options) addServe(f *flag.FlagSet) {
 	f.StringVar(&o.files.Creds, "nats-creds", "", "`FILE` of a NATS user's credentials, as nsc writes it")
 	f.StringVar(&o.group, "group", "svid", "`NAME` of the group's bucket")
 	f.IntVar(&o.replicas, "replicas", 1, "`NUMBER` of NATS servers that keep the bucket, if it must be made")
-	f.DurationVar(&o.wait, "wait", 2*time.Second, "the longest `TIME` for the group's answer to one claim")
+	f.DurationVar(&o.wait, "wait", 2*time.Second, "the longest `TIME` that one request waits for the group, or for the disk")
 	f.DurationVar(&o.summaries, "summaries", 5*time.Minute, "`TIME` between two repairs by summaries")
 	f.StringVar(&o.state, "state", "", "folder `DIR` where the record is kept")
 	f.StringVar(&o.log, "log", "decisions", "`LEVEL`: errors, decisions or all")

@@ -28,6 +28,8 @@ const (
 	requestWait = time.Minute
 	// idleWait is how long a connection may stay idle.
 	idleWait = 2 * time.Minute
+	// endWait is how long the record's last snapshot, and what waits for the group, may take once no request is under way.
+	endWait = 20 * time.Second
 	// logWait is how long the end of the process waits for standard error to take the last lines.
 	logWait = time.Second
 	// clockStep is how many seconds the clock may go ahead at once, as it does where the machine was suspended.
@@ -39,6 +41,9 @@ const (
 
 // errClock ends the sidecar: the next one begins with the clock as it is.
 var errClock = fmt.Errorf("the clock went ahead by more than %d seconds, and stayed there for a minute: start svidd again, and it takes the clock as it is", clockStep)
+
+// errHangs ends a sidecar that can't write its last snapshot. The next start reads the journals instead.
+var errHangs = fmt.Errorf("the state folder did not take a last snapshot within %v: svidd ends without, and loses nothing that it answered 200", endWait)
 
 func serve(args []string, std stdio) int {
 	f := flag.NewFlagSet("svidd serve", flag.ContinueOnError)
@@ -66,7 +71,7 @@ func serve(args []string, std stdio) int {
 	outlet := server.NewOutlet(std.err)
 	defer outlet.Close(logWait)
 	log := server.NewLog(outlet, logLevels[o.log])
-	s := &sidecar{options: o, log: log, failed: make(chan error, 1), spare: make([]byte, spareHeap)}
+	s := &sidecar{options: o, log: log, reloads: make(chan struct{}, 1), failed: make(chan error, 1), spare: make([]byte, spareHeap)}
 	if err := s.run(signals); err != nil {
 		log.Error("end", err)
 		return exitFailed
@@ -81,8 +86,9 @@ type sidecar struct {
 	engine  *server.Engine
 	journal *journal.Journal // nil without --state
 	watcher *bundles.Watcher
-	failed  chan error // what ends the sidecar
-	spare   []byte     // counts as in use, and costs only addresses, since nobody writes to it
+	reloads chan struct{} // asks for the bundles to be read again
+	failed  chan error    // what ends the sidecar
+	spare   []byte        // counts as in use, and costs only addresses, since nobody writes to it
 
 	joining sync.Mutex
 	group   *group.Group // nil until it is joined
@@ -93,10 +99,9 @@ type sidecar struct {
 func (s *sidecar) run(signals <-chan os.Signal) error {
 	ctx, cancel := context.WithCancel(context.Background())
 	defer cancel()
-	if err := s.open(ctx); err != nil {
+	if goOn, err := s.begin(signals, func() error { return s.open(ctx) }); !goOn {
 		return err
 	}
-	defer s.close()
 
 	// The address is bound before the record is read: a proxy gets 503 and not a
 	// refused connection, and an address that is taken is known at once.
@@ -104,7 +109,7 @@ func (s *sidecar) run(signals <-chan os.Signal) error {
 	if err != nil {
 		return err
 	}
-	if err := s.load(); err != nil {
+	if goOn, err := s.begin(signals, s.load); !goOn {
 		return err
 	}
 	var keeping sync.WaitGroup
@@ -121,9 +126,34 @@ func (s *sidecar) run(signals <-chan os.Signal) error {
 	notify("STOPPING=1")
 	s.shutdown(servers)
 	cancel()
-	keeping.Wait()
-	s.log.Event("end")
+	ended := make(chan struct{})
+	go func() { defer close(ended); keeping.Wait(); s.close() }()
+	select {
+	case <-ended:
+		s.log.Event("end")
+	case <-time.After(endWait):
+		s.log.Error("snapshot", errHangs)
+	}
 	return failure
+}
+
+// begin takes a step of the start. It goes on unless that fails, or a signal says to end meanwhile: the step may hang, as a
+// disk does. (Nothing is lost then, since no token was accepted yet.)
+func (s *sidecar) begin(signals <-chan os.Signal, step func() error) (goOn bool, err error) {
+	done := make(chan error, 1)
+	go func() { done <- step() }()
+	for {
+		select {
+		case err := <-done:
+			return err == nil, err
+		case sig := <-signals:
+			s.log.Event("signal", "name", sig.String())
+			if sig != syscall.SIGHUP {
+				return false, nil
+			}
+			s.reload()
+		}
+	}
 }
 
 // open opens the state folder, the engine and the bundles.
@@ -167,7 +197,27 @@ func (s *sidecar) open(ctx context.Context) error {
 		return err
 	}
 	s.engine.Metrics.BundleAges = s.watcher.Ages
+	go s.reloadAll(ctx)
 	return nil
+}
+
+// reload lets the bundles be read again. It does not wait for that, since a file may hang.
+func (s *sidecar) reload() {
+	select {
+	case s.reloads <- struct{}{}:
+	default: // One is to begin, which sees all that this one would.
+	}
+}
+
+func (s *sidecar) reloadAll(ctx context.Context) {
+	for {
+		select {
+		case <-ctx.Done():
+			return
+		case <-s.reloads:
+			s.watcher.Reload()
+		}
+	}
 }
 
 // close gives back what open and join took.
@@ -281,7 +331,7 @@ func (s *sidecar) await(signals <-chan os.Signal) error {
 			if sig != syscall.SIGHUP {
 				return nil
 			}
-			s.watcher.Reload()
+			s.reload()
 		}
 	}
 }

@@ -107,7 +107,7 @@ func TestABundleThatIsNotThereYet(t *testing.T) {
 	p.want(token(t, "a", time.Hour), 200, "")
 	claims := map[string]any{"sub": "spiffe://example.com/web", "aud": "ledger", "exp": time.Now().Add(time.Hour).Unix(), "jti": "b"}
 	one := other.Token("ES256", claims)
-	p.want(one, 503, "the bundle of the token's trust domain was not read yet")
+	p.want(one, 503, "NoBundle")
 	if age := p.metric(`svidd_bundle_age_seconds{trust_domain="example.com"}`); age != "+Inf" {
 		t.Errorf("its age is %s", age)
 	}

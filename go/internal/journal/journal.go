@@ -13,7 +13,8 @@
 // `svid merge` read them. Behind the batches of the journal that grows stand bytes FF, until it is closed. Batches may be
 // told in any order and more than once, which makes the rest simple:
 //
-//   - Append returns after the batch is on the disk. Callers that come while a write is under way share the next one.
+//   - Append returns after the batch is on the disk. Callers that come while a write is under way share the next one. None
+//     waits for longer than it wants: a goroutine writes for all of them.
 //     It writes over the bytes FF, so that the file's length changes seldom: to force a new length to the disk takes
 //     longer than the bytes themselves.
 //   - Snapshot first begins a new journal, then writes the record to snapshot.new, forces it to the disk, renames it
@@ -26,16 +27,24 @@ package journal
 
 import (
 	"bytes"
+	"context"
 	"errors"
 	"fmt"
 	"io"
 	"os"
 	"sync"
+	"sync/atomic"
 	"syscall"
 )
 
 // ErrClosed is what a call returns after Close.
 var ErrClosed = errors.New("journal: closed")
+
+// errFull is what Append returns while so much waits for the disk that there is no room for more.
+var errFull = errors.New("journal: the disk does not answer, and too much waits for it")
+
+// mostGathered is how many bytes wait for a write that is under way.
+const mostGathered = 16 << 20
 
 // A Journal is an open state folder. Its methods may be called from many goroutines at once.
 type Journal struct {
@@ -46,12 +55,13 @@ type Journal struct {
 	gather    sync.Mutex // guards gathering
 	gathering *commit    // what the next write takes, nil where no caller waits
 
-	write  sync.Mutex // held over a write; guards the fields below
-	file   *os.File   // the journal that grows
-	number uint64     // its number
-	size   int64      // how long its batches are, all of them on the disk
-	room   int64      // its length; what is behind size is filler
-	broken error      // why nothing can be appended any more
+	write  sync.Mutex   // held over a write; guards the fields below
+	file   *os.File     // the journal that grows
+	number uint64       // its number
+	size   int64        // how long its batches are, all of them on the disk
+	shown  atomic.Int64 // is size, for who does not wait for a write
+	room   int64        // its length; what is behind size is filler
+	broken error        // why nothing can be appended any more
 
 	snapshot sync.Mutex // held over a snapshot
 
@@ -119,8 +129,15 @@ func (j *Journal) recover() error {
 		return err
 	}
 	j.messages = append(messages, tail...)
-	j.file, j.number, j.size, j.room, j.cut = file, last, int64(len(tail)), int64(len(tail)), cut
+	j.file, j.number, j.room, j.cut = file, last, int64(len(tail)), cut
+	j.setSize(int64(len(tail)))
 	return nil
+}
+
+// setSize sets size. The caller holds write, or is the only one.
+func (j *Journal) setSize(size int64) {
+	j.size = size
+	j.shown.Store(size)
 }
 
 // Messages returns the batches that Open found in the snapshot and the journals, one after the other, for the
@@ -137,12 +154,9 @@ func (j *Journal) Messages() []byte {
 // write that no Append had answered. It is worth a line in the log where it is not 0.
 func (j *Journal) Cut() int64 { return j.cut }
 
-// Size returns how many bytes of batches the journal that grows has, by which a caller decides when to take a Snapshot.
-func (j *Journal) Size() int64 {
-	j.write.Lock()
-	defer j.write.Unlock()
-	return j.size
-}
+// Size returns how many bytes of batches the journal that grows has, by which a caller decides when to take a Snapshot. It
+// waits for no disk.
+func (j *Journal) Size() int64 { return j.shown.Load() }
 
 // Append writes batch, whole batches of version 2, behind the journal, and returns after it is on the disk.
 //
@@ -150,32 +164,47 @@ func (j *Journal) Size() int64 {
 // batches are refused, since Open would cut off all that stands behind them. Where a write fails (the disk is full),
 // the journal is as it was, and a later Append may succeed. Where the disk does not say what it holds (fdatasync
 // failed), this and every later Append fails until the folder is opened anew.
-func (j *Journal) Append(batch []byte) error {
+//
+// Append waits until ctx ends, and wraps its error then. What becomes of the batch is open in that case: the disk has it now,
+// or later, or never.
+func (j *Journal) Append(ctx context.Context, batch []byte) error {
 	if _, err := scan(bytes.NewReader(batch)); err != nil {
 		return fmt.Errorf("journal: append: %w", err)
 	}
-	c, first := j.join(batch)
-	if !first {
-		<-c.done
-		return c.err
+	c, err := j.join(batch)
+	if err != nil {
+		return err
 	}
-	j.write.Lock()
-	j.seal()
-	c.err = j.commit(c.bytes)
-	j.write.Unlock()
-	close(c.done)
-	return c.err
+	select {
+	case <-c.done:
+		return c.err
+	case <-ctx.Done():
+		return fmt.Errorf("journal: the disk did not answer in time: %w", ctx.Err())
+	}
 }
 
-// join adds batch to what the next write takes, and says whether it is the first there: that caller writes for all.
-func (j *Journal) join(batch []byte) (c *commit, first bool) {
+// join adds batch to what the next write takes. The first one there lets that write begin.
+func (j *Journal) join(batch []byte) (*commit, error) {
 	j.gather.Lock()
 	defer j.gather.Unlock()
-	if first = j.gathering == nil; first {
+	if j.gathering == nil {
 		j.gathering = &commit{done: make(chan struct{})}
+		go j.writeNext(j.gathering)
+	}
+	if len(j.gathering.bytes)+len(batch) > mostGathered {
+		return nil, errFull
 	}
 	j.gathering.bytes = append(j.gathering.bytes, batch...)
-	return j.gathering, first
+	return j.gathering, nil
+}
+
+// writeNext takes a commit to the disk, once the write before it is through.
+func (j *Journal) writeNext(c *commit) {
+	j.write.Lock()
+	defer j.write.Unlock()
+	j.seal()
+	c.err = j.commit(c.bytes)
+	close(c.done)
 }
 
 // seal ends the gathering: who comes from now on is the first of the next write.
@@ -196,7 +225,7 @@ func (j *Journal) commit(b []byte) error {
 	if err := j.force(); err != nil {
 		return err
 	}
-	j.size += int64(len(b))
+	j.setSize(j.size + int64(len(b)))
 	return nil
 }
 
@@ -315,7 +344,8 @@ func (j *Journal) beginNext() (uint64, error) {
 		return 0, err
 	}
 	j.file.Close() // All of it is on the disk: nothing is lost by an error here.
-	j.file, j.number, j.size, j.room = next, j.number+1, 0, 0
+	j.file, j.number, j.room = next, j.number+1, 0
+	j.setSize(0)
 	return j.number, nil
 }
 

@@ -2,6 +2,7 @@ package journal
 
 import (
 	"bytes"
+	"context"
 	"encoding/binary"
 	"errors"
 	"fmt"
@@ -50,7 +51,7 @@ func mustOpen(t *testing.T, dir string) *Journal {
 
 func mustAppend(t *testing.T, j *Journal, b []byte) {
 	t.Helper()
-	if err := j.Append(b); err != nil {
+	if err := j.Append(context.Background(), b); err != nil {
 		t.Fatal(err)
 	}
 }
@@ -185,7 +186,7 @@ func TestEachFailedSyncOfASnapshotLosesNothing(t *testing.T) {
 			mustAppend(t, j, batch(3))
 			n := uint64(4)
 			add := func() error {
-				err := j.Append(batch(n))
+				err := j.Append(context.Background(), batch(n))
 				if err == nil {
 					acknowledged = append(acknowledged, batch(n)...)
 				}
@@ -229,7 +230,7 @@ func TestAFolderThatCannotBeForcedToTheDiskIsTheEnd(t *testing.T) {
 			t.Errorf("snapshot %d: %v", i, err)
 		}
 	}
-	if err := j.Append(batch(3)); !errors.Is(err, errUnsureNames) {
+	if err := j.Append(context.Background(), batch(3)); !errors.Is(err, errUnsureNames) {
 		t.Errorf("append: %v", err)
 	}
 	if got := names(t, dir); got != "journal.1 journal.2 lock snapshot" {
@@ -421,7 +422,7 @@ func TestANextJournalWithoutASureNameIsTheEnd(t *testing.T) {
 	if err := j.Snapshot(writes(batches(0, 3))); !errors.Is(err, errUnsureNames) {
 		t.Error(err)
 	}
-	if err := j.Append(batch(3)); !errors.Is(err, errUnsureNames) {
+	if err := j.Append(context.Background(), batch(3)); !errors.Is(err, errUnsureNames) {
 		t.Error(err)
 	}
 }
@@ -496,7 +497,7 @@ func TestAppendRefusesWhatOpenWouldCut(t *testing.T) {
 	dir := t.TempDir()
 	j := mustOpen(t, dir)
 	for _, bad := range [][]byte{[]byte("x"), batch(1)[:81], late, early, many, double, append([]byte("JSR\x02\x02"), make([]byte, 8200)...)} {
-		if err := j.Append(bad); err == nil {
+		if err := j.Append(context.Background(), bad); err == nil {
 			t.Errorf("%d bytes that are no batch were appended", len(bad))
 		}
 	}
@@ -520,7 +521,7 @@ func TestClosed(t *testing.T) {
 	j := mustOpen(t, t.TempDir())
 	mustClose(t, j)
 	_, place := j.Place()
-	for _, err := range []error{j.Append(batch(1)), j.Snapshot(writes(nil)), place, j.Close()} {
+	for _, err := range []error{j.Append(context.Background(), batch(1)), j.Snapshot(writes(nil)), place, j.Close()} {
 		if err != ErrClosed {
 			t.Error(err)
 		}
@@ -542,7 +543,7 @@ func TestManyCallersShareOneSync(t *testing.T) {
 	var all sync.WaitGroup
 	appends := func(n uint64) {
 		defer all.Done()
-		if err := j.Append(batch(n)); err != nil {
+		if err := j.Append(context.Background(), batch(n)); err != nil {
 			t.Error(err)
 		}
 	}
@@ -576,15 +577,98 @@ func TestManyCallersShareOneSync(t *testing.T) {
 func TestFailedSyncIsTheEnd(t *testing.T) {
 	j := mustOpen(t, t.TempDir())
 	j.datasync = func(int) error { return syscall.EIO }
-	if err := j.Append(batch(1)); !errors.Is(err, syscall.EIO) {
+	if err := j.Append(context.Background(), batch(1)); !errors.Is(err, syscall.EIO) {
 		t.Fatal(err)
 	}
 	j.datasync = syscall.Fdatasync // What the kernel says next is worth nothing.
-	if err := j.Append(batch(2)); !errors.Is(err, syscall.EIO) {
+	if err := j.Append(context.Background(), batch(2)); !errors.Is(err, syscall.EIO) {
 		t.Fatal(err)
 	}
 	if err := j.Snapshot(writes(nil)); !errors.Is(err, syscall.EIO) {
 		t.Fatal(err)
+	}
+}
+
+// hang lets each fdatasync of a journal wait until it is let go. begun hears of each one.
+func hang(j *Journal) (begun <-chan bool, let func()) {
+	begins, ahead := make(chan bool, 100), make(chan struct{})
+	j.datasync = func(fd int) error {
+		begins <- true
+		<-ahead
+		return syscall.Fdatasync(fd)
+	}
+	return begins, func() { close(ahead) }
+}
+
+// Where the disk hangs, nobody waits for longer than it wants, and Size not at all. What was given up is there in the end, if
+// the disk comes back, and all that comes then goes on as before.
+func TestADiskThatHangs(t *testing.T) {
+	dir := t.TempDir()
+	j := mustOpen(t, dir)
+	mustAppend(t, j, batch(1000)) // (the file has grown)
+	begun, let := hang(j)
+	for n := uint64(0); n < 3; n++ { // the first is being written, the others wait
+		ctx, giveUp := context.WithCancel(context.Background())
+		answer := make(chan error)
+		go func(n uint64) { answer <- j.Append(ctx, batch(n)) }(n)
+		if n == 0 {
+			<-begun
+		}
+		giveUp()
+		if err := <-answer; !errors.Is(err, context.Canceled) {
+			t.Errorf("batch %d: %v", n, err)
+		}
+	}
+	if n := j.Size(); n != 82 {
+		t.Errorf("the size is %d", n)
+	}
+	// Those that wait for the disk have a bound.
+	ctx, giveUp := context.WithCancel(context.Background())
+	giveUp()
+	big, last := batches(2000, 2000+mostUses), error(nil)
+	for i := 0; i < 2+mostGathered/len(big) && last == nil; i++ {
+		if err := j.Append(ctx, big); !errors.Is(err, context.Canceled) {
+			last = err
+		}
+	}
+	if last != errFull {
+		t.Errorf("too much waits: %v", last)
+	}
+	let()
+	mustAppend(t, j, batch(1001))
+	if err := j.Snapshot(func(io.Writer) error { return io.ErrClosedPipe }); !errors.Is(err, io.ErrClosedPipe) {
+		t.Error(err)
+	}
+	mustAppend(t, j, batch(1002))
+	mustClose(t, j)
+	found := mustOpen(t, dir).Messages()
+	for _, n := range []uint64{1000, 0, 1, 2, 2000, 1001, 1002} {
+		if bytes.Count(found, batch(n)) == 0 {
+			t.Errorf("batch %d is not there", n)
+		}
+	}
+}
+
+// Who gives up holds nobody up: the write that it began goes on, and so does the next one.
+func TestWhoGaveUpHoldsNobodyUp(t *testing.T) {
+	j := mustOpen(t, t.TempDir())
+	mustAppend(t, j, batch(0))
+	begun, let := hang(j)
+	gone, giveUp := context.WithCancel(context.Background())
+	first, second := make(chan error), make(chan error)
+	go func() { first <- j.Append(gone, batch(1)) }()
+	<-begun
+	go func() { second <- j.Append(context.Background(), batch(2)) }()
+	giveUp()
+	if err := <-first; !errors.Is(err, context.Canceled) {
+		t.Error(err)
+	}
+	let()
+	if err := <-second; err != nil {
+		t.Error(err)
+	}
+	if n := j.Size(); n != 3*82 {
+		t.Errorf("the size is %d", n)
 	}
 }
 
@@ -659,7 +743,7 @@ func appender(dir string) int {
 		go func() {
 			for {
 				n := take()
-				if err := j.Append(batch(n)); err != nil {
+				if err := j.Append(context.Background(), batch(n)); err != nil {
 					failed <- err
 				}
 				fmt.Printf("%d\n", n)
@@ -758,13 +842,13 @@ func fullDisk(dir string) int {
 	syscall.Setrlimit(syscall.RLIMIT_FSIZE, &syscall.Rlimit{Cur: 1000, Max: before.Max})
 	n := uint64(0)
 	for err == nil {
-		if err = j.Append(batch(n)); err == nil {
+		if err = j.Append(context.Background(), batch(n)); err == nil {
 			n++
 		}
 	}
-	refused := j.Append(batch(n))
+	refused := j.Append(context.Background(), batch(n))
 	syscall.Setrlimit(syscall.RLIMIT_FSIZE, &before)
-	again := j.Append(batch(n))
+	again := j.Append(context.Background(), batch(n))
 	fmt.Print(n, errors.Is(err, syscall.EFBIG), errors.Is(refused, syscall.EFBIG), again)
 	return 0
 }
@@ -792,7 +876,7 @@ func BenchmarkAppend(b *testing.B) {
 	b.SetParallelism(16)
 	b.RunParallel(func(pb *testing.PB) {
 		for pb.Next() {
-			if err := j.Append(one); err != nil {
+			if err := j.Append(context.Background(), one); err != nil {
 				b.Error(err)
 			}
 		}

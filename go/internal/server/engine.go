@@ -40,9 +40,9 @@ var ErrNoBundle = errors.New("the bundle of the token's trust domain was not rea
 
 // A Journal keeps acceptances on the disk.
 type Journal interface {
-	// Append returns after the batch is on the disk.
-	Append(batch []byte) error
-	// Size is how many bytes were appended since the last snapshot.
+	// Append returns after the batch is on the disk, or once ctx ends: the disk may have the batch then, now or later.
+	Append(ctx context.Context, batch []byte) error
+	// Size is how many bytes were appended since the last snapshot. It waits for no disk.
 	Size() int64
 	// Snapshot replaces snapshot and journal by what write writes, and loses
 	// nothing that is appended meanwhile.
@@ -76,7 +76,7 @@ type Options struct {
 	Place     svid.Place
 	Journal   Journal       // nil keeps nothing on the disk
 	Grouped   bool          // the engine is not ready before it joined a group
-	Wait      time.Duration // for the group's answer to a claim or a withdrawal
+	Wait      time.Duration // for the disk and the group, in one request
 	Now       func() uint64 // nil is svid.Now
 	Log       *Log
 }
@@ -95,7 +95,8 @@ type Engine struct {
 	untold    chan svid.Use
 	values    atomic.Uint64 // numbers of what was put into the group's bucket, except for claims
 
-	loaded   atomic.Bool // the state folder's record is in the validator
+	loaded   atomic.Bool            // the state folder's record is in the validator
+	unkept   atomic.Pointer[[]byte] // what the state folder did not take last, nil where it takes all
 	draining atomic.Bool
 	jumped   atomic.Bool // the clock is further ahead than Options.Step
 	jumpedAt time.Time   // since then; tick alone uses it
@@ -198,8 +199,14 @@ func (e *Engine) Ready() error {
 	if e.jumped.Load() {
 		return fmt.Errorf("the clock went ahead by more than %d seconds at once", e.Step)
 	}
+	if e.Mode == Once && e.unkept.Load() != nil {
+		return errKeepsNothing
+	}
 	return e.canJudge()
 }
+
+// errKeepsNothing: in mode once a token would be answered 503, and be burnt.
+var errKeepsNothing = errors.New("the state folder takes no acceptances: the log says why")
 
 // canJudge returns nil once bundles, the engine's own record and the group's are
 // read.
@@ -284,10 +291,12 @@ func (e *Engine) verify(token string) ([]svid.Question, error) {
 //     all requests with this token exactly one is accepted by it; the others are
 //     Replayed, whatever becomes of that one. Nothing is on the disk. A crash
 //     here forgets the use, and nobody was answered 200.
-//  2. Append returns once the use is on the disk. If it fails, the answer is 503;
-//     memory has the use, so the token stays rejected until a restart, and it was
-//     never answered 200. A crash behind this step finds the use again at the
-//     start (Load), before the first request is judged.
+//  2. Append returns once the use is on the disk. If it fails, or takes longer than
+//     Options.Wait, the answer is 503; memory has the use, so the token stays
+//     rejected until a restart, and it was never answered 200. (The disk may have it
+//     later. Then the token stays rejected behind a restart too.) A crash behind
+//     this step finds the use again at the start (Load), before the first request is
+//     judged.
 //  3. The group is told, without waiting. What does not reach it now is repaired
 //     by summaries. Until it has heard, another sidecar may accept the token, and
 //     then the report of each lists the token.
@@ -304,16 +313,42 @@ func (e *Engine) checkOnce(token string, yes []svid.Question) (svid.Accepted, er
 	return accepted, nil
 }
 
-// keep returns once the batch is on the disk, where there is a state folder. An error says what could not be kept.
+// keep returns once the batch is on the disk, where there is a state folder, and after Options.Wait at the latest. An error
+// says what could not be kept. (A client that goes away changes nothing: what it began is kept all the same.)
 func (e *Engine) keep(what string, batch []byte) error {
 	if e.Journal == nil {
 		return nil
 	}
-	if err := e.Journal.Append(batch); err != nil {
+	if err := e.appendInTime(batch); err != nil {
 		e.Metrics.JournalFailures.Add(1)
-		return fmt.Errorf("the %s could not be kept: %w", what, err)
+		e.unkept.Store(&batch)
+		return &notKept{what, err}
 	}
+	e.unkept.Store(nil)
 	return nil
+}
+
+// A notKept is why the state folder did not take something.
+type notKept struct {
+	what string
+	why  error
+}
+
+func (n *notKept) Error() string { return fmt.Sprintf("the %s could not be kept: %v", n.what, n.why) }
+func (n *notKept) Unwrap() error { return n.why }
+
+func (e *Engine) appendInTime(batch []byte) error {
+	ctx, cancel := context.WithTimeout(context.Background(), e.Wait)
+	defer cancel()
+	return e.Journal.Append(ctx, batch)
+}
+
+// keepAgain gives the state folder once more what it did not take. So Ready answers yes again once it takes all, though
+// nobody sends tokens to who is not ready.
+func (e *Engine) keepAgain() {
+	if batch := e.unkept.Load(); batch != nil && e.appendInTime(*batch) == nil {
+		e.unkept.CompareAndSwap(batch, nil)
+	}
 }
 
 // tell lets the group hear of a use, soon.
@@ -339,8 +374,9 @@ func (e *Engine) Withdraw(ctx context.Context, key svid.TokenKey, exp uint64) (s
 	if err != nil {
 		return svid.Use{}, err
 	}
-	batch := use.Batch()
-	if err := e.keep("withdrawal", batch); err != nil {
+	ctx, cancel := context.WithTimeout(ctx, e.Wait)
+	defer cancel()
+	if err := e.keep("withdrawal", use.Batch()); err != nil {
 		return svid.Use{}, fmt.Errorf("revoked here, but %w", err)
 	}
 	if g := e.group.Load(); g != nil {

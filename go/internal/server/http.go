@@ -67,7 +67,7 @@ func (e *Engine) serveCheck(w http.ResponseWriter, r *http.Request) {
 	e.Metrics.observe(err, took)
 	e.logDecision(from, took, token, accepted, err)
 	if err != nil {
-		answerTo(err).write(w)
+		e.answerTo(err).write(w)
 		return
 	}
 	// (Header.Set would make each name canonical, and ask for memory for each value.)
@@ -101,11 +101,32 @@ type answer struct {
 	code   string // the error code of RFC 6750, section 3.1; "" where no token was given
 }
 
-func answerTo(err error) *answer {
+func (e *Engine) answerTo(err error) *answer {
 	if refusal, ok := refusalOf(err); ok {
 		return &answer{http.StatusUnauthorized, "refused", refusal.String(), "invalid_token"}
 	}
-	return &answer{status: http.StatusServiceUnavailable, result: "unavailable", reason: err.Error()}
+	return &answer{status: http.StatusServiceUnavailable, result: "unavailable", reason: e.reasonOf(err)}
+}
+
+// reasonOf is the word by which a client hears why a token could not be judged. The error itself may name files and
+// addresses, so it goes to the log alone.
+func (e *Engine) reasonOf(err error) string {
+	var kept *notKept
+	switch {
+	case errors.Is(err, ErrNotReady):
+		return "NotReady"
+	case errors.Is(err, ErrNoBundle):
+		return "NoBundle"
+	case errors.Is(err, svid.ErrJump):
+		return "ClockJump"
+	case errors.Is(err, svid.ErrNoMemory):
+		return "NoMemory"
+	case errors.As(err, &kept):
+		return "NotKept"
+	case e.Mode == Strict:
+		return "NotClaimed"
+	}
+	return "NotJudged"
 }
 
 func (a *answer) write(w http.ResponseWriter) {

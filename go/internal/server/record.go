@@ -250,6 +250,7 @@ func (e *Engine) Run(ctx context.Context) {
 	defer giveUp()
 	go func() { defer close(told); e.tellAll(ctx, last) }()
 	e.every(ctx, &tasks, tickEvery, e.tick)
+	e.every(ctx, &tasks, tickEvery, e.keepAgain)
 	var next time.Time
 	e.every(ctx, &tasks, measureEvery, func() {
 		if from := time.Now(); from.After(next) {

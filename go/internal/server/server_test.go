@@ -38,12 +38,20 @@ type disk struct {
 	mu     sync.Mutex
 	kept   []byte
 	fault  error
-	before func() // called as Append begins
+	before func()        // called as Append begins
+	hangs  chan struct{} // where it is not nil, Append waits for it
 }
 
-func (d *disk) Append(batch []byte) error {
+func (d *disk) Append(ctx context.Context, batch []byte) error {
 	if d.before != nil {
 		d.before()
+	}
+	if d.hangs != nil {
+		select {
+		case <-d.hangs:
+		case <-ctx.Done():
+			return ctx.Err()
+		}
 	}
 	d.mu.Lock()
 	defer d.mu.Unlock()

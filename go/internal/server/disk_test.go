@@ -1,0 +1,221 @@
+package server
+
+import (
+	"bytes"
+	"context"
+	"encoding/json"
+	"errors"
+	"io"
+	"net/http"
+	"strings"
+	"testing"
+	"time"
+
+	"svid.example/go/internal/journal"
+	"svid.example/go/svid"
+)
+
+// The disk hangs: each request ends in time, with 503. Its token is burnt, here and, where the disk had the use after all,
+// behind a restart. Nobody else waits for the disk, /readyz says that nothing is kept, and all goes on once the disk is back.
+func TestADiskThatHangs(t *testing.T) {
+	d := &disk{hangs: make(chan struct{})}
+	e := ready(t, engine(t, Options{Mode: Once, Journal: d, Wait: 50 * time.Millisecond}))
+	h := e.Handler()
+	for _, id := range []string{"a", "b"} {
+		w := request(h, "GET", "/check", "Bearer "+token(id))
+		if w.Code != http.StatusServiceUnavailable {
+			t.Errorf("%s: %d %s", id, w.Code, w.Body)
+		}
+		if w := request(h, "GET", "/check", "Bearer "+token(id)); w.Code != http.StatusUnauthorized {
+			t.Errorf("%s, again: %d %s", id, w.Code, w.Body)
+		}
+	}
+	if w := withdraw(e); w.Code != http.StatusServiceUnavailable {
+		t.Errorf("a withdrawal: %d %s", w.Code, w.Body)
+	}
+	if n := e.Metrics.JournalFailures.Load(); n != 3 {
+		t.Errorf("%d failures are counted", n)
+	}
+	for path, want := range map[string]int{"/metrics": 200, "/healthz": 200, "/readyz": 503} {
+		if w := request(h, "GET", path); w.Code != want {
+			t.Errorf("%s: %d %s", path, w.Code, w.Body)
+		}
+	}
+	e.keepAgain()
+	if err := e.Ready(); err != errKeepsNothing {
+		t.Errorf("ready: %v", err)
+	}
+	close(d.hangs)
+	e.keepAgain()
+	if err := e.Ready(); err != nil {
+		t.Errorf("the disk is back: %v", err)
+	}
+	if w := request(h, "GET", "/check", "Bearer "+token("c")); w.Code != http.StatusOK {
+		t.Errorf("the disk is back: %d %s", w.Code, w.Body)
+	}
+	if w := request(h, "GET", "/check", "Bearer "+token("a")); w.Code != http.StatusUnauthorized {
+		t.Errorf("a token that was given up: %d %s", w.Code, w.Body)
+	}
+}
+
+// A snapshot that is being written holds no request up, and what comes meanwhile outlives a restart. The real journal here.
+func TestNobodyWaitsForASnapshot(t *testing.T) {
+	dir := t.TempDir()
+	kept, err := journal.Open(dir)
+	if err != nil {
+		t.Fatal(err)
+	}
+	e := ready(t, engine(t, Options{Mode: Once, Journal: kept, Wait: 50 * time.Millisecond}))
+	if err := check(e, token("before")); err != nil {
+		t.Fatal(err)
+	}
+	writing, goOn := make(chan struct{}), make(chan struct{})
+	snapshot := make(chan error)
+	go func() {
+		snapshot <- kept.Snapshot(func(w io.Writer) error {
+			close(writing)
+			<-goOn
+			return e.Save(w)
+		})
+	}()
+	<-writing
+	if err := check(e, token("meanwhile")); err != nil {
+		t.Error(err)
+	}
+	if w := request(e.Handler(), "GET", "/metrics"); !strings.Contains(w.Body.String(), "svidd_journal_bytes 82\n") {
+		t.Errorf("/metrics: %s", w.Body)
+	}
+	close(goOn)
+	if err := <-snapshot; err != nil {
+		t.Error(err)
+	}
+	if err := kept.Close(); err != nil {
+		t.Fatal(err)
+	}
+	// Its end is a fault as well, and a token that comes then is burnt.
+	if err := check(e, token("closed")); !errors.Is(err, journal.ErrClosed) || e.Ready() == nil {
+		t.Errorf("closed: %v, ready: %v", err, e.Ready())
+	}
+	kept, err = journal.Open(dir)
+	if err != nil {
+		t.Fatal(err)
+	}
+	defer kept.Close()
+	again := engine(t, Options{Mode: Once, Journal: kept})
+	if err := again.SetBundles(map[string]json.RawMessage{"example.org": example.JWKSet()}); err != nil {
+		t.Fatal(err)
+	}
+	if err := again.Load(kept.Messages()); err != nil {
+		t.Fatal(err)
+	}
+	for _, id := range []string{"before", "meanwhile"} {
+		if err := check(again, token(id)); err != svid.Replayed {
+			t.Errorf("%s, behind a restart: %v", id, err)
+		}
+	}
+}
+
+// A full disk in mode once is told by /readyz. A withdrawal that is not kept is no reason in the other modes, which keep
+// acceptances elsewhere.
+func TestReadyzTellsOfADiskThatKeepsNothing(t *testing.T) {
+	for mode, want := range map[Mode]bool{Once: false, Reuse: true} {
+		d := &disk{fault: errors.New("no space left on device")}
+		e := ready(t, engine(t, Options{Mode: mode, Journal: d}))
+		if w := withdraw(e); w.Code != http.StatusServiceUnavailable {
+			t.Errorf("%s: %d %s", mode, w.Code, w.Body)
+		}
+		if got := e.Ready() == nil; got != want {
+			t.Errorf("%s: ready is %v", mode, got)
+		}
+		w := request(e.Handler(), "GET", "/readyz")
+		if (w.Code == http.StatusOK) != want || strings.Contains(w.Body.String(), "space") {
+			t.Errorf("%s: %d %s", mode, w.Code, w.Body)
+		}
+		if line := "svidd_ready 0\n"; strings.Contains(request(e.Handler(), "GET", "/metrics").Body.String(), line) == want {
+			t.Errorf("%s: svidd_ready", mode)
+		}
+	}
+	// The engine tries by itself, and an acceptance that is kept is enough.
+	for what, mend := range map[string]func(e *Engine){
+		"a request": func(e *Engine) {
+			if err := check(e, token("b")); err != nil {
+				t.Error(err)
+			}
+		},
+		"by itself": func(e *Engine) {
+			ctx, cancel := context.WithCancel(context.Background())
+			ended := make(chan struct{})
+			go func() { e.Run(ctx); close(ended) }()
+			await(t, "ready", func() bool { return e.Ready() == nil })
+			cancel()
+			<-ended
+		},
+	} {
+		d := &disk{fault: errors.New("no space left on device")}
+		e := ready(t, engine(t, Options{Mode: Once, Journal: d}))
+		if err := check(e, token("a")); err == nil || e.Ready() == nil {
+			t.Errorf("%s: %v, and it is ready", what, err)
+		}
+		d.mu.Lock()
+		d.fault = nil
+		d.mu.Unlock()
+		mend(e)
+		if err := e.Ready(); err != nil {
+			t.Errorf("%s: %v", what, err)
+		}
+	}
+}
+
+// The client of a token that could not be judged hears one word, which names nothing of the inside. The log has the error.
+func TestAClientHearsAWordOfWhatFailed(t *testing.T) {
+	const secret = "/var/lib/svidd/journal.1: nats://10.0.0.7:4222"
+	var now uint64 = moment
+	for _, row := range []struct {
+		want string
+		make func(t *testing.T, log *Log) *Engine
+	}{
+		{"NotReady", func(t *testing.T, log *Log) *Engine { return engine(t, Options{Mode: Once, Log: log}) }},
+		{"NoBundle", func(t *testing.T, log *Log) *Engine {
+			e := engine(t, Options{Mode: Once, Domains: []string{"example.org"}, Log: log})
+			if err := e.SetBundles(map[string]json.RawMessage{"example.com": json.RawMessage(`{"keys":[]}`)}); err != nil {
+				t.Fatal(err)
+			}
+			if err := e.Load(nil); err != nil {
+				t.Fatal(err)
+			}
+			return e
+		}},
+		{"ClockJump", func(t *testing.T, log *Log) *Engine {
+			e := ready(t, engine(t, Options{Mode: Once, Step: 600, Now: func() uint64 { return now }, Log: log}))
+			now += 100_000
+			return e
+		}},
+		{"NotKept", func(t *testing.T, log *Log) *Engine {
+			return ready(t, engine(t, Options{Mode: Once, Journal: &disk{fault: errors.New(secret)}, Log: log}))
+		}},
+		{"NotClaimed", func(t *testing.T, log *Log) *Engine {
+			e := ready(t, engine(t, Options{Mode: Strict, Grouped: true, Log: log}))
+			m := (&broker{}).join(e)
+			m.held, m.fault = true, errors.New(secret)
+			return e
+		}},
+	} {
+		var out bytes.Buffer
+		e := row.make(t, NewLog(&out, Errors))
+		w := request(e.Handler(), "GET", "/check", "Bearer "+token("a"))
+		if want := `{"reason":"` + row.want + `","result":"unavailable"}` + "\n"; w.Code != 503 || w.Body.String() != want {
+			t.Errorf("%s: %d %s", row.want, w.Code, w.Body)
+		}
+		if secretly := row.want == "NotKept" || row.want == "NotClaimed"; strings.Contains(out.String(), secret) != secretly || out.Len() == 0 {
+			t.Errorf("%s: the log has %s", row.want, &out)
+		}
+	}
+	// A fault that no table has, too.
+	e := engine(t, Options{Mode: Reuse})
+	if got := e.reasonOf(errors.New(secret)); got != "NotJudged" {
+		t.Error(got)
+	}
+	if got := e.reasonOf(svid.ErrNoMemory); got != "NoMemory" {
+		t.Error(got)
+	}
+}
