@@ -32,14 +32,14 @@ func (s *sidecar) listen() ([]served, error) {
 	if err != nil {
 		return nil, err
 	}
-	servers := []served{{s.server(s.engine.Handler()), main}}
+	servers := []served{{s.server(s.engine.Handler()), bounded{main}}}
 	if s.admin != "" {
 		admin, err := bind("unix:"+s.admin, private)
 		if err != nil {
 			main.Close()
 			return nil, err
 		}
-		servers = append(servers, served{s.server(s.engine.Admin(s.reload)), admin})
+		servers = append(servers, served{s.server(s.engine.Admin(s.reload)), bounded{admin}})
 	}
 	for _, each := range servers {
 		go func(it served) {

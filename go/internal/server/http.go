@@ -27,6 +27,10 @@ func refusalOf(err error) (svid.Refusal, bool) {
 // request behind /check, whatever that is.
 func (e *Engine) Handler() http.Handler {
 	return http.HandlerFunc(func(w http.ResponseWriter, r *http.Request) {
+		if r.ContentLength != 0 {
+			// Nothing reads a body. The answer goes out before it comes, and nothing is a request that stands behind it.
+			w.Header()["Connection"] = connectionEnds
+		}
 		switch path := r.URL.Path; {
 		case path == "/check" || strings.HasPrefix(path, "/check/"):
 			e.serveCheck(w, r)
@@ -75,6 +79,9 @@ func (e *Engine) serveCheck(w http.ResponseWriter, r *http.Request) {
 	headers["X-Spiffe-Id"], headers["X-Svid-Audience"], headers["X-Svid-Expires"] = values[0:1:1], values[1:2:2], values[2:3:3]
 	w.WriteHeader(http.StatusOK)
 }
+
+// connectionEnds is the Connection of an answer to a request with a body. Nobody may change it.
+var connectionEnds = []string{"close"}
 
 // noStore is the Cache-Control of each answer. Nobody may change it.
 var noStore = []string{"no-store"}
