@@ -2,7 +2,6 @@ package main
 
 import (
 	"fmt"
-	"net/http"
 	"os"
 	"os/exec"
 	"path/filepath"
@@ -80,25 +79,82 @@ func (p *process) endHanging() {
 	})
 }
 
-// A pipe or a device among the files is said, and holds nothing up.
-func TestFilesThatHang(t *testing.T) {
-	fifo := filepath.Join(t.TempDir(), "example.org.json")
-	if err := syscall.Mkfifo(fifo, 0o600); err != nil {
+// A pipe in the place of a file is said at once, where svidd can't go on without that file.
+func TestAPipeInThePlaceOfAFile(t *testing.T) {
+	folder := t.TempDir()
+	pipe, state := filepath.Join(folder, "pipe"), filepath.Join(folder, "state")
+	if err := syscall.Mkfifo(pipe, 0o600); err != nil {
 		t.Fatal(err)
 	}
-	// Of the bundles: the process goes on, hears signals, and ends.
-	p := prepare(t, nil, bundleOption(fifo), "--replay", "reuse")
+	if err := os.Mkdir(state, 0o700); err != nil {
+		t.Fatal(err)
+	}
+	if err := syscall.Mkfifo(filepath.Join(state, "place"), 0o600); err != nil {
+		t.Fatal(err)
+	}
+	bundle := bundleOption(bundleFile(t, example))
+	for _, row := range []struct {
+		args []string
+		want string
+	}{
+		{[]string{"--config", pipe}, pipe + " is no regular file"},
+		{[]string{"--config", "/dev/zero"}, "/dev/zero is no regular file"},
+		{[]string{bundle, "--state", state}, "place is no regular file"},
+		{[]string{bundle, "--state", pipe}, "pipe"},
+		{[]string{"--bundles", pipe, "--replay", "reuse"}, pipe + " is no folder. Give a folder"},
+	} {
+		p := prepare(t, nil, row.args...)
+		p.launch()
+		ended := make(chan error, 1)
+		go func() { ended <- p.run.Wait() }()
+		select {
+		case err := <-ended:
+			if status := p.run.ProcessState.ExitCode(); status != 2 || !strings.Contains(p.log.String(), row.want) {
+				t.Errorf("%q: %v, %s", row.args, err, p.log)
+			}
+		case <-time.After(patience):
+			t.Errorf("%q: svidd does not end: %s", row.args, p.log)
+			_ = p.run.Process.Kill()
+			<-ended
+		}
+	}
+}
+
+// A pipe in the place of a bundle stops neither SIGTERM nor SIGHUP.
+func TestAPipeInThePlaceOfABundle(t *testing.T) {
+	good, folder := bundleFile(t, example), t.TempDir()
+	pipe := filepath.Join(folder, "example.com.json")
+	if err := syscall.Mkfifo(pipe, 0o600); err != nil {
+		t.Fatal(err)
+	}
+	// At the start.
+	state := filepath.Join(folder, "state")
+	p := prepare(t, nil, "--bundle", "example.com="+pipe, "--state", state)
 	p.launch()
-	p.await("a life", func() bool { return p.run.Process.Signal(syscall.Signal(0)) == nil })
+	p.await("the state folder, which it opens before", func() bool {
+		_, err := os.Stat(filepath.Join(state, "place"))
+		return err == nil
+	})
 	if err := p.signal(syscall.SIGTERM); err != nil {
 		t.Fatal(err)
 	}
-	_ = http.StatusOK
-	ended := make(chan error, 1)
-	go func() { ended <- p.run.Wait() }()
-	select {
-	case <-ended:
-	case <-time.After(patience):
-		t.Error("svidd does not end")
+	p.exits()
+
+	// While it runs: the pipe comes later.
+	other := filepath.Join(t.TempDir(), "example.com.json")
+	p = start(t, bundleOption(good), "--bundle", "example.com="+other, "--replay", "reuse")
+	if err := syscall.Mkfifo(other, 0o600); err != nil {
+		t.Fatal(err)
 	}
+	for i := 0; i < 3; i++ {
+		if err := p.signal(syscall.SIGHUP); err != nil {
+			t.Fatal(err)
+		}
+	}
+	p.await("the signals", func() bool { return len(p.events("signal")) > 0 })
+	p.want(token(t, "good", time.Minute), 200, "")
+	if err := p.signal(syscall.SIGTERM); err != nil {
+		t.Fatal(err)
+	}
+	p.exits()
 }

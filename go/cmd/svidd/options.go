@@ -19,6 +19,7 @@ import (
 
 	"svid.example/go/internal/bundles"
 	"svid.example/go/internal/group"
+	"svid.example/go/internal/regular"
 	"svid.example/go/internal/server"
 	"svid.example/go/internal/workload"
 )
@@ -201,7 +202,7 @@ func isOfServe(name string) bool {
 
 // readFile reads a file of options: JSON if it begins with a brace, and TOML if not.
 func readFile(name string) (members map[string]any, err error) {
-	text, err := os.ReadFile(name)
+	text, err := regular.Read(name, mostConfig)
 	if err != nil {
 		return nil, err
 	}
@@ -262,11 +263,22 @@ func (o *options) commonProblems() (all problems) {
 		all.wrong(true, "--workload-api, --bundle, --bundles: %v", err)
 	}
 	if o.bundleFolder != "" {
-		_, err := os.ReadDir(o.bundleFolder)
-		all.wrong(err != nil, "--bundles: %v. Give a folder that has the trust bundles, each DOMAIN.json", err)
+		all.wrong(folderFault(o.bundleFolder) != nil, "--bundles: %v. Give a folder that has the trust bundles, each DOMAIN.json", folderFault(o.bundleFolder))
 	}
 	all.wrong(o.longest.given && (o.longest.value == 0 || o.longest.value > mostLongest), "--longest must be from 1 to %d seconds", uint64(mostLongest))
 	return all
+}
+
+// folderFault says why a folder can't be read. (To read what is none, such as a pipe, may take for ever.)
+func folderFault(name string) error {
+	info, err := os.Stat(name)
+	if err == nil && !info.IsDir() {
+		return fmt.Errorf("%s is no folder", name)
+	}
+	if err == nil {
+		_, err = os.ReadDir(name)
+	}
+	return err
 }
 
 // problems is everything that is wrong with the options of serve.
@@ -313,6 +325,7 @@ func (o *options) problems() problems {
 const (
 	mostLongest = 100 * 365 * 24 * 3600 // 100 years; keeps sums of times far from any limit
 	mostAhead   = 24 * 3600
+	mostConfig  = 1 << 20 // bytes of a file of options
 
 	mostSocket = 107 // bytes of the path of a unix socket, as Linux has it
 )

@@ -8,6 +8,7 @@ import (
 	"errors"
 	"fmt"
 	"io"
+	"math"
 	"os"
 	"path/filepath"
 	"sort"
@@ -15,6 +16,8 @@ import (
 	"strings"
 	"syscall"
 	"time"
+
+	"svid.example/go/internal/regular"
 )
 
 // The names of the folder's files.
@@ -24,6 +27,11 @@ const (
 	snapshotName  = "snapshot"
 	journalPrefix = "journal."
 	unfinished    = ".new"
+)
+
+const (
+	mostFile  = math.MaxInt64 - 1 // bytes of a snapshot or a journal: as many as fit into memory
+	mostPlace = 100               // bytes of the file of the place, which has 33
 )
 
 // errUnsureNames is what an error wraps where files have their names, and the disk may not have these.
@@ -71,7 +79,7 @@ var syncFile = (*os.File).Sync
 
 // hold locks the folder until the file that it returns is closed, and writes into it who holds it.
 func (f folder) hold() (*os.File, error) {
-	lock, err := os.OpenFile(f.path(lockName), os.O_RDWR|os.O_CREATE, 0o600)
+	lock, err := regular.Open(f.path(lockName), os.O_RDWR|os.O_CREATE, 0o600)
 	if err != nil {
 		return nil, fmt.Errorf("journal: %w", err)
 	}
@@ -140,7 +148,7 @@ func (f folder) dropEmptyEnd(numbers []uint64) ([]uint64, error) {
 		if err != nil {
 			return nil, fmt.Errorf("journal: %w", err)
 		}
-		if info.Size() > 0 {
+		if info.Size() > 0 || !info.Mode().IsRegular() {
 			return numbers[:n], nil
 		}
 		if err := f.remove(name); err != nil {
@@ -152,7 +160,7 @@ func (f folder) dropEmptyEnd(numbers []uint64) ([]uint64, error) {
 
 // ensure opens a file for reading and writing, and makes it, so that it lasts, where it is not there.
 func (f folder) ensure(name string) (*os.File, error) {
-	file, err := os.OpenFile(f.path(name), os.O_RDWR|os.O_CREATE, 0o600)
+	file, err := regular.Open(f.path(name), os.O_RDWR|os.O_CREATE, 0o600)
 	if err != nil {
 		return nil, fmt.Errorf("journal: %w", err)
 	}
@@ -165,7 +173,7 @@ func (f folder) ensure(name string) (*os.File, error) {
 
 // readWhole returns the content of a file that must be whole batches.
 func (f folder) readWhole(name string) ([]byte, error) {
-	content, err := os.ReadFile(f.path(name))
+	content, err := regular.Read(f.path(name), mostFile)
 	if err != nil {
 		return nil, fmt.Errorf("journal: %w", err)
 	}
@@ -225,7 +233,7 @@ func (f folder) replace(name string, write func(io.Writer) error, good func(io.R
 
 // writeNew writes a file from its beginning, and forces it to the disk.
 func (f folder) writeNew(name string, write func(io.Writer) error, good func(io.Reader) error) error {
-	file, err := os.OpenFile(f.path(name), os.O_RDWR|os.O_CREATE|os.O_TRUNC, 0o600)
+	file, err := regular.Open(f.path(name), os.O_RDWR|os.O_CREATE|os.O_TRUNC, 0o600)
 	if err != nil {
 		return err
 	}
@@ -286,7 +294,7 @@ func (f folder) remove(name string) error {
 
 // place reads the place, or makes it.
 func (f folder) place() (place [16]byte, err error) {
-	text, err := os.ReadFile(f.path(placeName))
+	text, err := regular.Read(f.path(placeName), mostPlace)
 	if errors.Is(err, os.ErrNotExist) {
 		return f.makePlace()
 	}

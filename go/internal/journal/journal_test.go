@@ -17,6 +17,8 @@ import (
 	"syscall"
 	"testing"
 	"time"
+
+	"svid.example/go/internal/regular"
 )
 
 // batch is a batch of one use, whose key begins with n.
@@ -469,6 +471,39 @@ func TestRefusesDamageThatNoCrashLeaves(t *testing.T) {
 		}
 		if _, err := Open(dir); err == nil || !strings.Contains(err.Error(), row.says) {
 			t.Errorf("%v, want %q", err, row.says)
+		}
+	}
+}
+
+// A pipe in the place of a file is said at once. One that has the name of an unfinished file is removed.
+func TestAPipeInTheFolder(t *testing.T) {
+	for _, name := range []string{"lock", "place", "snapshot", "journal.3", "journal.4", "snapshot.new", "place.new"} {
+		dir := t.TempDir()
+		for name, content := range map[string][]byte{"journal.3": batches(0, 2), "journal.4": batches(2, 3)} {
+			if err := os.WriteFile(filepath.Join(dir, name), content, 0o600); err != nil {
+				t.Fatal(err)
+			}
+		}
+		os.Remove(filepath.Join(dir, name))
+		if err := syscall.Mkfifo(filepath.Join(dir, name), 0o600); err != nil {
+			t.Fatal(err)
+		}
+		result := make(chan error)
+		go func() {
+			j, err := Open(dir)
+			if err == nil {
+				_, err = j.Place()
+				j.Close()
+			}
+			result <- err
+		}()
+		select {
+		case err := <-result:
+			if unfinished := strings.HasSuffix(name, ".new"); unfinished != (err == nil) || err != nil && !errors.Is(err, regular.ErrNot) {
+				t.Errorf("%s: %v", name, err)
+			}
+		case <-time.After(30 * time.Second):
+			t.Errorf("%s: Open hangs", name)
 		}
 	}
 }
