@@ -81,6 +81,54 @@ func TestOptionsThatServeCantRunWith(t *testing.T) {
 	}
 }
 
+// --check-config reads the bundles that are files, and says what is wrong with each.
+func TestCheckConfigReadsTheBundles(t *testing.T) {
+	folder, empty := t.TempDir(), t.TempDir()
+	write := func(name, text string) string {
+		t.Helper()
+		name = filepath.Join(folder, name)
+		if err := os.WriteFile(name, []byte(text), 0o600); err != nil {
+			t.Fatal(err)
+		}
+		return name
+	}
+	good := bundleFile(t, example)
+	gone, bad, list, none := filepath.Join(folder, "gone"), write("bad.json", "{"), write("list.json", `{"keys":1}`), write("none.json", `{"keys":[]}`)
+	for _, row := range []struct {
+		args []string
+		want []string // of these lines each; the options are good where it is empty
+		warn string
+	}{
+		{[]string{"--bundle", "example.org=" + good}, nil, ""},
+		{[]string{"--bundle", "example.org=" + gone}, []string{gone + ": no such file"}, ""},
+		{[]string{"--bundle", "example.org=" + bad}, []string{bad + ": it is no JSON object"}, ""},
+		{[]string{"--bundle", "example.org=" + list}, []string{list + `: its member "keys" is no list`}, ""},
+		{[]string{"--bundle", "example.org=" + good, "--bundle", "example.com=" + gone, "--bundle", "example.net=" + bad}, []string{gone, bad}, ""},
+		{[]string{"--bundle", "example.org=" + none}, nil, "no entry of it has the use"},
+		{[]string{"--bundles", folder}, []string{bad, list}, ""},
+		{[]string{"--bundles", empty}, []string{empty + " has no file DOMAIN.json"}, ""},
+		{[]string{"--bundles", empty, "--bundle", "example.org=" + good}, nil, ""},
+		// What answers over a socket may be away.
+		{[]string{"--bundles", empty, "--bundle", "example.org=https://127.0.0.1:1/"}, nil, ""},
+		{[]string{"--workload-api", "unix:///nothing"}, nil, ""},
+		{[]string{"--workload-api", "unix:///nothing", "--bundle", "example.org=" + bad}, []string{bad}, ""},
+	} {
+		status, out, err := here("", append([]string{"serve", "--check-config", "--audience", "a", "--longest", "60", "--replay", "reuse"}, row.args...)...)
+		isGood := status == 0 && out == "svidd: the options are good\n"
+		if isGood != (row.want == nil) || !isGood && (status != 2 || out != "") {
+			t.Errorf("%q: %d %q %q", row.args, status, out, err)
+		}
+		if isGood && row.warn == "" && err != "" || !strings.Contains(err, row.warn) || row.warn != "" && !strings.HasPrefix(err, "svidd: warning: ") {
+			t.Errorf("%q: %q", row.args, err)
+		}
+		for _, want := range row.want {
+			if !strings.Contains(err, want) {
+				t.Errorf("%q: %q does not speak of %s", row.args, err, want)
+			}
+		}
+	}
+}
+
 // verify takes the file and the environment of serve, and says what is wrong with what it is given.
 func TestVerifyWithTheOptionsOfServe(t *testing.T) {
 	folder := t.TempDir()
@@ -224,6 +272,10 @@ func TestDrainingIsSaidOnTheAdminSocket(t *testing.T) {
 	}
 	defer slow.Close()
 	if _, err := slow.Write([]byte("GET /healthz HTTP/1.1\r\nHost: a\r\n")); err != nil {
+		t.Fatal(err)
+	}
+	// Connections are accepted in their order: once a later one is answered, this one is svidd's too, and not the kernel's alone.
+	if _, err := askAt("tcp", p.address, http.MethodGet, "/healthz", nil); err != nil {
 		t.Fatal(err)
 	}
 	if err := p.signal(syscall.SIGTERM); err != nil {

@@ -61,6 +61,13 @@ func serve(args []string, std stdio) int {
 		return problems.tell(std)
 	}
 	if o.check {
+		faults, warnings := o.bundleProblems()
+		for _, sentence := range warnings {
+			fmt.Fprintf(std.err, "svidd: warning: %s\n", sentence)
+		}
+		if len(faults) > 0 {
+			return faults.tell(std)
+		}
 		fmt.Fprintln(std.out, "svidd: the options are good")
 		return exitYes
 	}
