@@ -12,6 +12,7 @@ import (
 	"os/exec"
 	"os/signal"
 	"path/filepath"
+	"runtime/debug"
 	"strings"
 	"sync"
 	"syscall"
@@ -521,6 +522,19 @@ func TestRemovesWhatWasUnfinished(t *testing.T) {
 	}
 }
 
+// What can't be removed is an error: it would be in the way of a later snapshot.
+func TestWhatWasUnfinishedAndStays(t *testing.T) {
+	for _, name := range []string{"snapshot.new", "place.new"} {
+		dir := t.TempDir()
+		if err := os.MkdirAll(filepath.Join(dir, name, "not empty"), 0o700); err != nil {
+			t.Fatal(err)
+		}
+		if _, err := Open(dir); !errors.Is(err, syscall.ENOTEMPTY) {
+			t.Errorf("%s: %v", name, err)
+		}
+	}
+}
+
 func TestAppendRefusesWhatOpenWouldCut(t *testing.T) {
 	late, early := batch(1), batch(1)
 	binary.BigEndian.PutUint64(late[73:], 101)  // accepted after the batch's moment
@@ -820,8 +834,13 @@ func TestKilledAtAnyMoment(t *testing.T) {
 		if err := c.Start(); err != nil {
 			t.Fatal(err)
 		}
-		moment := time.AfterFunc(time.Duration(20+rand.Intn(100))*time.Millisecond, func() { c.Process.Kill() })
+		var first [1]byte // It is killed some time after it has answered, however long that took.
+		if _, err := io.ReadFull(out, first[:]); err != nil {
+			t.Fatal(err)
+		}
+		moment := time.AfterFunc(time.Duration(rand.Intn(100))*time.Millisecond, func() { c.Process.Kill() })
 		text, err := io.ReadAll(out)
+		text = append(first[:], text...)
 		if err != nil {
 			t.Fatal(err)
 		}
@@ -916,4 +935,197 @@ func BenchmarkAppend(b *testing.B) {
 			}
 		}
 	})
+}
+
+// The files are this user's alone, whatever the umask is.
+func TestModesOfTheFiles(t *testing.T) {
+	defer syscall.Umask(syscall.Umask(0))
+	dir := filepath.Join(t.TempDir(), "state")
+	j := mustOpen(t, dir)
+	if _, err := j.Place(); err != nil {
+		t.Fatal(err)
+	}
+	mustAppend(t, j, batch(1))
+	modes := func() map[string]os.FileMode {
+		found := map[string]os.FileMode{}
+		err := filepath.Walk(dir, func(name string, info os.FileInfo, err error) error {
+			if err == nil {
+				found[filepath.Base(name)] = info.Mode().Perm()
+			}
+			return err
+		})
+		if err != nil {
+			t.Fatal(err)
+		}
+		return found
+	}
+	err := j.Snapshot(func(w io.Writer) error {
+		if mode := modes()["snapshot.new"]; mode != 0o600 {
+			t.Errorf("snapshot.new has mode %v", mode)
+		}
+		return writes(batch(1))(w)
+	})
+	if err != nil {
+		t.Fatal(err)
+	}
+	for name, want := range map[string]os.FileMode{"state": 0o700, "lock": 0o600, "place": 0o600, "snapshot": 0o600, "journal.2": 0o600} {
+		if got := modes()[name]; got != want {
+			t.Errorf("%s has mode %v, want %v", name, got, want)
+		}
+	}
+}
+
+// A folder that Open makes has a name that lasts: the folder above is forced to the disk. Where that can't be, Open fails.
+func TestTheNameOfANewFolderLasts(t *testing.T) {
+	above := t.TempDir()
+	var synced []string
+	real := syncFile
+	defer func() { syncFile = real }()
+	syncFile = func(f *os.File) error {
+		synced = append(synced, f.Name())
+		return real(f)
+	}
+	j := mustOpen(t, filepath.Join(above, "state"))
+	if len(synced) == 0 || synced[0] != above {
+		t.Errorf("forced to the disk: %q", synced)
+	}
+	mustClose(t, j)
+	failSync(t, 0)
+	if _, err := Open(filepath.Join(above, "another")); !errors.Is(err, errUnsureNames) {
+		t.Errorf("its name may be lost: %v", err)
+	}
+}
+
+// An fsync that fails at the start is an error: what was read may not be on the disk.
+func TestEachFailedSyncOfAStartIsAnError(t *testing.T) {
+	for number, last := 0, false; !last; number++ {
+		dir := t.TempDir()
+		if err := os.WriteFile(filepath.Join(dir, "journal.1"), batches(0, 2), 0o600); err != nil {
+			t.Fatal(err)
+		}
+		count := failSync(t, number)
+		j, err := Open(dir)
+		if err == nil {
+			_, err = j.Place()
+			j.Close()
+		}
+		if last = count() <= number; last != (err == nil) {
+			t.Errorf("fsync %d of %d fails: %v", number, count(), err)
+		}
+	}
+}
+
+// Snapshots, failed ones too, and starts leave no file open.
+func TestNoFileStaysOpen(t *testing.T) {
+	open := func() int {
+		files, err := os.ReadDir("/proc/self/fd")
+		if err != nil {
+			t.Skip(err)
+		}
+		return len(files)
+	}
+	defer debug.SetGCPercent(debug.SetGCPercent(-1)) // (it closes files that nobody has)
+	dir := t.TempDir()
+	mustClose(t, mustOpen(t, dir))
+	before := open()
+	for i := 0; i < 5; i++ {
+		j := mustOpen(t, dir)
+		if _, err := Open(dir); !errors.Is(err, ErrHeld) {
+			t.Fatal(err)
+		}
+		if _, err := j.Place(); err != nil {
+			t.Fatal(err)
+		}
+		for n := 0; n < 5; n++ {
+			mustAppend(t, j, batch(1))
+			if err := j.Snapshot(writes(batch(1))); err != nil {
+				t.Fatal(err)
+			}
+			if err := j.Snapshot(writes([]byte("no batch"))); err == nil {
+				t.Fatal("a snapshot that is none")
+			}
+		}
+		mustClose(t, j)
+		if err := os.WriteFile(filepath.Join(dir, "snapshot"), []byte("no batch"), 0o600); err != nil {
+			t.Fatal(err)
+		}
+		if _, err := Open(dir); err == nil {
+			t.Fatal("a damaged snapshot")
+		}
+		if err := os.WriteFile(filepath.Join(dir, "snapshot"), batch(1), 0o600); err != nil {
+			t.Fatal(err)
+		}
+	}
+	if n := open(); n != before {
+		t.Errorf("%d files are open, %d before", n, before)
+	}
+}
+
+// All methods at once, for the race detector, and for what they answer.
+func TestAllMethodsAtOnce(t *testing.T) {
+	dir := t.TempDir()
+	mustClose(t, mustOpen(t, dir))
+	j := mustOpen(t, dir)
+	var all sync.WaitGroup
+	const each = 30
+	var record sync.Mutex // of what was appended, as a validator has it
+	held := batch(0)
+	places := make(chan [16]byte, 2*each)
+	for g := uint64(0); g < 2; g++ {
+		for what, do := range map[string]func(n uint64){
+			"append": func(n uint64) {
+				record.Lock()
+				held = append(held, batch(n)...)
+				record.Unlock()
+				if err := j.Append(context.Background(), batch(n)); err != nil {
+					t.Error(err)
+				}
+			},
+			"snapshot": func(n uint64) {
+				if n%10 != 0 {
+					return
+				}
+				err := j.Snapshot(func(w io.Writer) error {
+					record.Lock()
+					now := append([]byte(nil), held...)
+					record.Unlock()
+					return writes(now)(w)
+				})
+				if err != nil {
+					t.Error(err)
+				}
+			},
+			"place": func(uint64) {
+				place, err := j.Place()
+				if err != nil {
+					t.Error(err)
+				}
+				places <- place
+			},
+			"size":     func(uint64) { j.Size(); j.Cut() },
+			"messages": func(uint64) { j.Messages() },
+		} {
+			all.Add(1)
+			go func(g uint64, what string, do func(uint64)) {
+				defer all.Done()
+				for n := uint64(0); n < each; n++ {
+					do(1 + g*each + n)
+				}
+			}(g, what, do)
+		}
+	}
+	all.Wait()
+	first := <-places
+	for len(places) > 0 {
+		if place := <-places; place != first {
+			t.Fatal("two places were made")
+		}
+	}
+	mustClose(t, j)
+	found := mustOpen(t, dir).Messages()
+	for n := uint64(1); n <= 2*each; n++ {
+		if !bytes.Contains(found, batch(n)) {
+			t.Errorf("batch %d is lost", n)
+		}
+	}
 }
