@@ -18,8 +18,6 @@ const mostEarly = 7 * 24 * 3600
 // earlier one has brought ahead) is further ahead of the broker's, they don't take it before then: that is an error, which
 // says from when on they do, and they are told again at that time.
 func (e *Engine) tellWithdrawal(ctx context.Context, g Group, use svid.Use) error {
-	ctx, cancel := context.WithTimeout(ctx, e.Wait)
-	defer cancel()
 	number := e.values.Add(1)
 	if err := g.Put(ctx, group.Uses, number, use.Batch()); err != nil {
 		return fmt.Errorf("the group was not told; try again: %w", err)
