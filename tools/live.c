@@ -88,7 +88,7 @@ static uint32_t call_with(int which, const loan *l) {
     case OPEN: return svid_validator_open(l->v, l->terms, in[OWN].bytes, in[OWN].len, in[TEXT].bytes, in[TEXT].len, l->told);
     case OPEN_BY_LENGTHS: return svid_validator_open_by_lengths(l->v, l->terms, in[OWN].bytes, in[OWN].len, in[LENS].bytes, in[LENS].len / sizeof(size_t), in[TEXT].bytes, in[TEXT].len, l->told);
     case BUNDLES: return svid_validator_bundles(l->v, in[TEXT].bytes, in[TEXT].len, l->told);
-    case ASK: return svid_validator_ask(l->v, in[TOKEN].bytes, in[TOKEN].len, l->out, l->room, l->told);
+    case ASK: return svid_validator_ask(l->v, in[TOKEN].bytes, in[TOKEN].len, SVID_MOST_CANDIDATES, l->out, l->room, l->told);
     case CHECK: return svid_validator_check(l->v, NOW, in[YES].bytes, in[YES].len / 32, in[TOKEN].bytes, in[TOKEN].len, l->out, l->room, l->used, l->told);
     case JUDGE: return svid_validator_judge(l->v, NOW, in[YES].bytes, in[YES].len / 32, in[TOKEN].bytes, in[TOKEN].len, l->out, l->room, l->used, l->told);
     case JUDGE_AGAIN: return svid_validator_judge_again(l->v, NOW, l->key, NOW + 100, l->told);
@@ -161,7 +161,7 @@ static void refused(void) {
             if (got.status == SVID_NO_MEMORY) {
                 svid_told told = got.told;
                 clear(&none);
-                holds(told.len == 0 && told.input == 0 && told.message == 0 && told.place == 0, "want of memory tells more");
+                holds(told.len == 0 && told.input == 0 && told.message == 0 && told.place == 0 && told.more == 0, "want of memory tells more");
                 holds(!memcmp(got.out, none.out, sizeof none.out) && !memcmp(&got.used, &none.used, sizeof none.used) && !memcmp(&got.part, &none.part, sizeof none.part), "want of memory writes");
                 if (opens(which)) holds(v.word == 0 && v.held == NULL, "what does not open is open");
                 else if (which != TAKE) holds(record(&v, after, sizeof after) == before_len && !memcmp(after, before, before_len), "want of memory changes the record");

@@ -15,10 +15,10 @@
 /* Where the fields of the structures stand, on a machine of 64 bits. */
 #define PLACE(type, field, place) _Static_assert(offsetof(type, field) == place, #type "." #field)
 PLACE(svid_id, place, 0); PLACE(svid_id, domain_len, 8); PLACE(svid_id, path_len, 16);
-PLACE(svid_told, len, 0); PLACE(svid_told, input, 8); PLACE(svid_told, message, 16); PLACE(svid_told, place, 24);
+PLACE(svid_told, len, 0); PLACE(svid_told, input, 8); PLACE(svid_told, message, 16); PLACE(svid_told, place, 24); PLACE(svid_told, more, 32);
 PLACE(svid_setting, moment, 0); PLACE(svid_setting, longest, 8); PLACE(svid_setting, place, 16);
 PLACE(svid_use, exp, 0); PLACE(svid_use, at, 8); PLACE(svid_use, key, 16); PLACE(svid_use, place, 48);
-_Static_assert(sizeof(svid_id) == 24 && sizeof(svid_told) == 32 && sizeof(svid_setting) == 32 && sizeof(svid_use) == 64, "sizes");
+_Static_assert(sizeof(svid_id) == 24 && sizeof(svid_told) == 40 && sizeof(svid_setting) == 32 && sizeof(svid_use) == 64, "sizes");
 
 /* The allocations: how many were asked for, how many stand, and which are refused. */
 static long asked, standing, refused_from, refused_to, refused_in_all;

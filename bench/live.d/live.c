@@ -50,16 +50,16 @@ static uint64_t asks[TOKENS], checks[TOKENS];
 /* Asks for a token, and checks it with the answer yes to the question of each row. */
 static void check(svid_validator *v, const uint8_t *token, size_t len, size_t turn) {
     static uint8_t rows[65536];
-    svid_question yes[16];
+    svid_question yes[SVID_MOST_CANDIDATES];
     uint8_t id[SVID_ID_ROOM];
     svid_told told;
     svid_use used;
     size_t count = 0, at = 0;
     uint64_t from = clock_ns();
-    uint32_t status = svid_validator_ask(v, token, len, rows, sizeof rows, &told);
+    uint32_t status = svid_validator_ask(v, token, len, SVID_MOST_CANDIDATES, rows, sizeof rows, &told);
     asks[turn] = clock_ns() - from;
     holds(status == SVID_OK, svid_strstatus(status));
-    while (at < told.len && count < 16) {
+    while (at < told.len) {
         memcpy(yes[count++].bytes, rows + at, 32);
         at += 32;
         for (int field = 0; field < 2; field++)

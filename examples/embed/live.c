@@ -34,22 +34,22 @@ static size_t number(const uint8_t *at) { return (size_t)at[0] << 24 | (size_t)a
 /* Checks a token: the status, and the ID of an accepted one. Signatures are verified without the lock. */
 static uint32_t check(service *s, uint64_t now, const uint8_t *token, size_t len, char id[SVID_ID_ROOM + 1]) {
     uint8_t rows[65536];
-    svid_question yes[64];   /* (keys beyond that count as no signer) */
+    svid_question yes;
     svid_told told;
     svid_use used;
     size_t count = 0;
     lock(s);
-    uint32_t status = svid_validator_ask(&s->kept, token, len, rows, sizeof rows, &told);
+    uint32_t status = svid_validator_ask(&s->kept, token, len, SVID_MOST_CANDIDATES, rows, sizeof rows, &told);
     unlock(s);
     /* Where no key may have signed the token, the check answers the first refusal that holds, which may be another. */
     if (status != SVID_OK && status < SVID_TOO_LONG) return status;
-    for (size_t at = 0, end = status == SVID_OK ? told.len : 0; at < end;) {
+    for (size_t at = 0, end = status == SVID_OK ? told.len : 0; at < end && !count;) {
         const uint8_t *question = rows + at, *alg = question + 36, *jwk = alg + number(alg - 4) + 4;
         at = (size_t)(jwk - rows) + number(jwk - 4);
-        if (count < 64 && verify(NULL, alg, number(alg - 4), jwk, number(jwk - 4), token, len)) memcpy(yes[count++].bytes, question, 32);
+        if (verify(NULL, alg, number(alg - 4), jwk, number(jwk - 4), token, len)) memcpy(yes.bytes, question, 32), count = 1;
     }
     lock(s);
-    status = svid_validator_check(&s->kept, now, yes, count, token, len, (uint8_t *)id, SVID_ID_ROOM, &used, &told);
+    status = svid_validator_check(&s->kept, now, &yes, count, token, len, (uint8_t *)id, SVID_ID_ROOM, &used, &told);
     unlock(s);
     if (status == SVID_OK) id[told.len] = 0;
     return status;

@@ -73,7 +73,7 @@ int main(int n, char **args) {
     for (size_t at = 0; at < tokens_len;) {
         const uint8_t *space = memchr(tokens + at, ' ', tokens_len - at), *end = memchr(tokens + at, '\n', tokens_len - at);
         must(space && end && space < end, "a line of the tokens is none");
-        if (svid_validator_ask(&v, space + 1, (size_t)(end - space - 1), rows, sizeof rows, &told) == SVID_OK) {
+        if (svid_validator_ask(&v, space + 1, (size_t)(end - space - 1), SVID_MOST_CANDIDATES, rows, sizeof rows, &told) == SVID_OK) {
             for (size_t row = 0; row < told.len; count++) {
                 const uint8_t *alg = rows + row + 36, *jwk = alg + number(alg - 4) + 4;
                 all += each(alg, jwk, space + 1, (size_t)(end - space - 1));

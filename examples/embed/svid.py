@@ -4,6 +4,7 @@ import os
 import sys
 
 OK, TOO_SHORT = 0, 1
+MOST_CANDIDATES = 4  # how many keys are tried for a token: SVID_MOST_CANDIDATES of the header
 
 
 class Id(c.Structure):
@@ -11,7 +12,7 @@ class Id(c.Structure):
 
 
 class Told(c.Structure):
-    _fields_ = [("len", c.c_size_t), ("input", c.c_size_t), ("message", c.c_size_t), ("place", c.c_size_t)]
+    _fields_ = [("len", c.c_size_t), ("input", c.c_size_t), ("message", c.c_size_t), ("place", c.c_size_t), ("more", c.c_size_t)]
 
     def __str__(self):
         return f"input {self.input} message {self.message} place {self.place}"

@@ -52,6 +52,7 @@ def as_der(raw, _):
 def main(folder):
     curves = {"ES256": ec.SECP256R1(), "ES384": ec.SECP384R1(), "ES512": ec.SECP521R1()}
     of = {alg: ec.generate_private_key(curve) for alg, curve in curves.items()}
+    of |= {kid: ec.generate_private_key(ec.SECP256R1()) for kid in ("fourth", "fifth")}
     of["RSA"], of["weak"] = (rsa.generate_private_key(65537, bits) for bits in (2048, 1024))
     new = ec.generate_private_key(ec.SECP256R1())
     off = entry("off", of["ES256"])
@@ -70,6 +71,10 @@ def main(folder):
     cases += [(alg, signed(of["RSA"], alg, "RSA", alg), good, no_key) for alg in ("RS256", "RS384", "RS512", "PS256", "PS384", "PS512")]
     cases += [
         ("no-kid", signed(of["ES256"], "ES256", None, "no-kid"), good, good),
+        # (of the keys of a token without a kid the first four are tried)
+        ("no-kid-fourth", signed(of["fourth"], "ES256", None, "no-kid-fourth"), good, bad),
+        ("no-kid-fifth", signed(of["fifth"], "ES256", None, "no-kid-fifth"), bad, bad),
+        ("fifth", signed(of["fifth"], "ES256", "fifth", "fifth"), good, no_key),
         ("unknown-key", signed(new, "ES256", "new", "unknown-key"), no_key, good),
         ("stranger", signed(new, "ES256", "ES256", "stranger"), bad, bad),
         ("broken", resigned(es256, lambda raw, _: bytes([raw[0] ^ 1]) + raw[1:]), bad, bad),

@@ -3,7 +3,7 @@ import ctypes as c
 import os
 import struct
 import threading
-from svid import Key, Part, Refused, Terms, Told, Use, lib
+from svid import MOST_CANDIDATES, Key, Part, Refused, Terms, Told, Use, lib
 
 BIG = 2**64 - 1
 
@@ -49,8 +49,8 @@ class Validator:
             return self._text(name, *args, room=refused.args[2])
 
     def ask(self, token):
-        """The keys that may have signed a token: of each the question, the algorithm's name, and the key as JSON."""
-        text, rows = self._text("ask", *self._lent(token)), []
+        """The first MOST_CANDIDATES keys that may have signed a token: of each the question, the algorithm's name, and the key as JSON."""
+        text, rows = self._text("ask", *self._lent(token), c.c_size_t(MOST_CANDIDATES)), []
         while text:
             row, text = [text[:32]], text[32:]
             for _ in range(2):
@@ -69,7 +69,7 @@ class Validator:
                 raise
             # Where no key may have signed the token, the check answers the first refusal that holds, which may be another.
             rows = []
-        yes = [question for question, alg, key in rows if verifies(alg, key, token)]
+        yes = next(([question] for question, alg, key in rows if verifies(alg, key, token)), [])
         out, used = c.create_string_buffer(2048), Use()
         size = self._call("check", c.c_uint64(now), b"".join(yes), c.c_size_t(len(yes)), *self._lent(token), out, c.c_size_t(2048), c.byref(used))
         return out.raw[:size].decode(), used

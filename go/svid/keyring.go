@@ -4,7 +4,7 @@ package svid
 #include "svid.h"
 
 static uint32_t ask(svid_validator *v, _GoString_ token, uint8_t *out, size_t out_len, svid_told *told) {
-    return svid_validator_ask(v, (const uint8_t *)_GoStringPtr(token), _GoStringLen(token), out, out_len, told);
+    return svid_validator_ask(v, (const uint8_t *)_GoStringPtr(token), _GoStringLen(token), SVID_MOST_CANDIDATES, out, out_len, told);
 }
 */
 import "C"
@@ -100,10 +100,17 @@ func (k *Keyring) Close() {
 	k.keys = newKeyCache() // whose plans would answer without the library
 }
 
+// MaxCandidates is how many keys are tried for a token. A token that names no kid,
+// or one that many keys have, may be signed by any of them, and each one that is
+// tried costs a hash of the token and a verification. All adapters have the same
+// number (docs/FORMATS.md).
+const MaxCandidates = C.SVID_MOST_CANDIDATES
+
 // Candidates returns the keys that may have signed the token: those of the
 // subject's trust domain, of the algorithm's type, and of the header's kid where
-// it has one. The error is a Refusal, TooLong to Jti, UnknownDomain or NoKey, if
-// the token is rejected whatever its signature is.
+// it has one. They are in the order of the bundle, and at most MaxCandidates. The
+// error is a Refusal, TooLong to Jti, UnknownDomain or NoKey, if the token is
+// rejected whatever its signature is.
 func (k *Keyring) Candidates(token string) ([]Candidate, error) {
 	candidates, _, err := k.candidates(token)
 	return candidates, err
@@ -153,16 +160,12 @@ func field(rows []byte) (text, rest []byte) {
 	return rows[4 : 4+n], rows[4+n:]
 }
 
-// MaxCandidates is how many candidate keys Verify tries, so that a trust domain with
-// thousands of keys can't make a token without a kid cost seconds.
-const MaxCandidates = 64
-
-// Verify verifies the token's signature with each candidate key, and with at most
-// the first MaxCandidates, until one made it, and returns that key's question for Validator.Check. It returns no
-// question and no error if no candidate made the signature: the validator then
-// rejects the token as BadSignature, or for what comes before that. The error is
-// that of Candidates. A token with a good signature may get its question though
-// Candidates would reject it: the validator rejects it too.
+// Verify verifies the token's signature with each of its Candidates until one made
+// it, and returns that key's question for Validator.Check. It returns no question
+// and no error if none of them made the signature: the validator then rejects the
+// token as BadSignature, or for what comes before that. The error is that of
+// Candidates. A token with a good signature may get its question though Candidates
+// would reject it: the validator rejects it too.
 func (k *Keyring) Verify(token string) ([]Question, error) {
 	s, whole := cutToken(token)
 	if whole {
@@ -177,9 +180,6 @@ func (k *Keyring) Verify(token string) ([]Question, error) {
 	signature, err := s.signatureBytes()
 	if err != nil {
 		return nil, err
-	}
-	if len(candidates) > MaxCandidates {
-		candidates = candidates[:MaxCandidates]
 	}
 	for i, c := range candidates {
 		if c.Key.Verify(c.Algorithm, s.signed, signature) == nil {

@@ -2,6 +2,7 @@
 
 import { bundlesOf, compact, entriesOf, passedOver } from "./bundles.js";
 import { parse } from "./json.js";
+import { MOST_CANDIDATES } from "./library.js";
 import { namesOf, refusalOf, REFUSALS } from "./refusals.js";
 import { recordOf } from "./record.js";
 import { partsOf } from "./token.js";
@@ -37,7 +38,7 @@ export async function examine(library, input) {
     const { key, exp } = withValidator(library, input, bundles, (it) => it.judge(judgedAt, yes, input.token)).value;
     Object.assign(verdict, { key, exp });
   }
-  return { parts, names, bundles, keys: keysOf(rows, bundles, names, asked.value.status === OK), yes, judgedAt, verdict };
+  return { parts, names, bundles, keys: keysOf(rows, bundles, names, asked.value), yes, judgedAt, verdict };
 }
 
 /** Checks a token that `examine` accepted: the record with its use, as messages. */
@@ -97,13 +98,14 @@ function explained(judged, known) {
 
 // Each entry of the bundle: its answer where it is a candidate, or why it was passed over. A candidate is known by its compact text. One
 // that the library names and no entry fits would be shown by itself.
-function keysOf(rows, bundles, names, wasAsked) {
+function keysOf(rows, bundles, names, { status, more }) {
+  const untried = more ? `only the first ${MOST_CANDIDATES} keys that fit are tried` : "the library does not name it";
   const left = [...rows];
   const entries = entriesOf(bundles, names.domain).map((entry) => {
     const reason = passedOver(entry, bundles, names), text = bundles.slice(entry.from, entry.to);
     if (reason !== undefined) return { entry, text, reason };
     const found = left.findIndex((it) => it.key === compact(entry));
-    return found === -1 ? { entry, text, reason: wasAsked ? "the library does not name it" : undefined } : { entry, text, row: left.splice(found, 1)[0] };
+    return found === -1 ? { entry, text, reason: status === OK ? untried : undefined } : { entry, text, row: left.splice(found, 1)[0] };
   });
   return [...entries, ...left.map((row) => ({ entry: parse(row.key), text: row.key, row }))];
 }

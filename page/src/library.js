@@ -1,10 +1,13 @@
 // The library svid as a WebAssembly module: the calls of include/svid.h that the page makes. A length, a time and a place in memory are
 // BigInts here, as they have 64 bits; a status is a number.
 
-const TOLD = 32, ID = 24, TERMS = 40, USE = 64, VALIDATOR = 16, DIGEST = 32;
+const TOLD = 40, ID = 24, TERMS = 40, USE = 64, VALIDATOR = 16, DIGEST = 32;
 const ID_ROOM = 2048;
 const ANY = 2n ** 64n - 1n;
 const OK = 0, TOO_SHORT = 1;
+
+/** How many keys are tried for a token. */
+export const MOST_CANDIDATES = 4n;
 
 const encoder = new TextEncoder();
 const decoder = new TextDecoder();
@@ -81,8 +84,8 @@ export class Library {
       const said = this.within((memory) => {
         const out = memory.room(size), told = memory.zeroed(TOLD);
         const status = call(memory, out, BigInt(size), told);
-        const [length, input, message, place] = memory.words(told, 4).map(Number);
-        return { status, length, input, message, place, bytes: status === OK ? memory.seen(out, length) : null };
+        const [length, input, message, place, more] = memory.words(told, 5).map(Number);
+        return { status, length, input, message, place, more, bytes: status === OK ? memory.seen(out, length) : null };
       });
       if (said.status !== TOO_SHORT) return said;
       size = said.length;
@@ -108,12 +111,14 @@ class Validator {
   }
 
   /**
-   * The keys that may have signed a token.
-   * @returns `{ status, rows }`; a row has `question`, 64 hexadecimal digits, `alg`, and `key`, the key as JSON
+   * The first keys that may have signed a token.
+   * @returns `{ status, rows, more }`, and `more` says whether there are more such keys; a row has `question`, 64 hexadecimal digits, `alg`, and `key`, the key as JSON
    */
   ask(token) {
-    const said = this.library.text((memory, ...out) => this.calls.svid_validator_ask(this.handle, ...memory.lend(token), ...out));
-    return { status: said.status, rows: said.status === OK ? rowsOf(said.bytes) : [] };
+    const said = this.library.text((memory, ...out) =>
+      this.calls.svid_validator_ask(this.handle, ...memory.lend(token), MOST_CANDIDATES, ...out),
+    );
+    return { status: said.status, rows: said.status === OK ? rowsOf(said.bytes) : [], more: said.more === 1 };
   }
 
   /** What `check` would say; the record gains nothing. */

@@ -5,7 +5,7 @@ import { spawn } from "node:child_process";
 import { once } from "node:events";
 import { readFileSync } from "node:fs";
 import { test } from "node:test";
-import { hexOf, Library } from "../src/library.js";
+import { hexOf, Library, MOST_CANDIDATES } from "../src/library.js";
 import { base64url, batch, mutated as mutatedBy, random } from "./tokens.mjs";
 
 const CALLS = 100_000, ROUND = 500, SESSION_CALLS = 8;
@@ -101,7 +101,7 @@ function sessionOf(library, now, [longest, place, own, bundle, taken, it, yes, k
   const questions = hexOf(yes).match(/.{64}/g) ?? [];
   const opened = library.withValidator({ longest: longest.readBigUInt64LE(), place }, own, bundle, (validator) => {
     const took = validator.take(0n, taken);
-    const asked = library.text((memory, ...out) => library.calls.svid_validator_ask(validator.handle, ...memory.lend(it), ...out));
+    const asked = library.text((memory, ...out) => library.calls.svid_validator_ask(validator.handle, ...memory.lend(it), MOST_CANDIDATES, ...out));
     return Buffer.concat([
       word(took.status, took.input, took.message, took.place),
       toldText(asked),

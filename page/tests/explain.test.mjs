@@ -84,3 +84,19 @@ test("what the page explains is what the library says", async (t) => {
   t.diagnostic(`page: ${CASES} explanations: ${asked} keys asked, ${passedOver} passed over, ${seen.size} verdicts`);
   assert.ok(seen.size >= 20 && asked > 500 && passedOver > 1000, `${asked} keys asked, ${passedOver} passed over, ${[...seen].join(" ")}`);
 });
+
+test("of many keys that fit, the first ones are tried", async () => {
+  const library = await Library.load(readFileSync(process.env.SVID_MODULE));
+  const keys = await Promise.all(Array.from({ length: 6 }, (_, n) => makeKey("ES256", `k${n}`)));
+  const bundles = JSON.stringify({ "example.org": { keys: keys.map((it) => it.entry) } });
+  const record = readRecord(library, new Uint8Array()), place = new Uint8Array(16);
+  const judge = (token) => examine(library, { token, bundles, domain: "", own: ["ledger"], now: NOW, longest: undefined, place, record });
+  const payload = Buffer.from('{"sub":"spiffe://example.org/a","aud":"ledger","exp":1767229200}');
+  for (const [n, key] of keys.entries()) {
+    const unnamed = await judge(await sign(key, Buffer.from('{"alg":"ES256"}'), payload));
+    assert.equal(unnamed.verdict.refusal, n < 4 ? undefined : "BadSignature");
+    assert.deepEqual(unnamed.keys.map((it) => it.reason), [...Array(4).fill(undefined), ...Array(2).fill("only the first 4 keys that fit are tried")]);
+    const named = await judge(await sign(key, Buffer.from(`{"alg":"ES256","kid":"k${n}"}`), payload));
+    assert.equal(named.verdict.refusal, undefined);
+  }
+});

@@ -9,11 +9,12 @@ import struct
 import sys
 
 ROOM = 1 << 22
+MOST_CANDIDATES = 4
 ANY = 2**64 - 1
 
 
 class Told(c.Structure):
-    _fields_ = [(name, c.c_size_t) for name in ("len", "input", "message", "place")]
+    _fields_ = [(name, c.c_size_t) for name in ("len", "input", "message", "place", "more")]
 
 
 class Use(c.Structure):
@@ -72,7 +73,7 @@ def session(now, longest, place, own, bundles, messages, token, yes, key_exp):
     status = lib.svid_validator_take(handle, c.c_uint64(0), *lent(messages), c.byref(told))
     said = words(status, told.input, told.message, told.place)
     told = Told()
-    said += told_text(lib.svid_validator_ask(handle, *lent(token), out, c.c_size_t(ROOM), c.byref(told)), told)
+    said += told_text(lib.svid_validator_ask(handle, *lent(token), c.c_size_t(MOST_CANDIDATES), out, c.c_size_t(ROOM), c.byref(told)), told)
     said += verdict(lib.svid_validator_judge, handle, now, yes, token)
     said += verdict(lib.svid_validator_check, handle, now, yes, token)
     used, key = Use(), (c.c_uint8 * 32)(*key_exp[:32])

@@ -33,6 +33,7 @@ _URL_SAFE = bytes.maketrans(b"-_", b"+/")
 _ROOM = 65_536
 _ROOM_SIZE = lib.size(_ROOM)
 _NONE = lib.size(0)
+_MOST = lib.size(lib.MOST_CANDIDATES)
 _ONE = lib.size(1)
 
 _Call = Callable[..., int]
@@ -108,8 +109,8 @@ class Handle:
         """Raises the refusals of a token that need no audience, time, signature and record."""
         size, room, told = lib.size(len(token)), self._room_at, self._told_at
         with self._lock:
-            status = _LONG_ASK(self._at, token, size, room, _ROOM_SIZE, told)
-            if status not in (lib.OK, lib.TOO_SHORT):
+            status = _LONG_ASK(self._at, token, size, _NONE, room, _ROOM_SIZE, told)
+            if status != lib.OK:
                 raise self._fault(status)
 
     def check(self, calls: Calls, now: int, token: bytes, verifies: Verifies) -> Accepted:
@@ -120,13 +121,13 @@ class Handle:
         ask, judge = calls[0] if len(token) < _LONG else calls[1]
         at, size, room, told = self._at, lib.size(len(token)), self._room_at, self._told_at
         with self._lock:
-            status = ask(at, token, size, room, _ROOM_SIZE, told)
+            status = ask(at, token, size, _MOST, room, _ROOM_SIZE, told)
             if status == lib.OK:
                 rows = self._view[: self._told.len].tobytes()
             elif status in REFUSALS:
                 rows = b""  # another reason may come before this one, and `now` is to be told
             else:
-                rows = self._rest(status, ask, token, size)
+                rows = self._rest(status, ask, token, size, _MOST)
         yes = _first_yes(rows, token, verifies) if rows else b""
         when, count, used = lib.moment(now), _ONE if yes else _NONE, self._used_at
         with self._lock:

@@ -46,6 +46,8 @@ BUNDLE_FAULTS = {
 """Why bundles are refused, by status."""
 
 ID_ROOM = 2048
+MOST_CANDIDATES = 4
+"""How many keys are tried for a token."""
 BATCH_HEAD_LEN = 17
 USE_LEN = 65
 USES_IN_A_BATCH = 65_536
@@ -61,11 +63,13 @@ class Told(ctypes.Structure):
         ("input", c_size_t),
         ("message", c_size_t),
         ("place", c_size_t),
+        ("more", c_size_t),
     ]
     len: int
     input: int
     message: int
     place: int
+    more: int
 
 
 class Terms(ctypes.Structure):
@@ -94,7 +98,7 @@ class Part(ctypes.Structure):
     done: int
 
 
-_MAJOR = 1
+_MAJOR = 2
 _LENT = [c_char_p, c_size_t]
 _OUT = [c_void_p, c_size_t]
 _TOLD = [c_void_p]
@@ -120,7 +124,7 @@ _CALLS_OF_A_CHECK = ["svid_validator_ask", "svid_validator_check", "svid_validat
 def _path() -> str:
     """The library that LIBSVID names, or the one in this package, or the system's."""
     beside = pathlib.Path(__file__).with_name("libsvid.so")
-    return os.environ.get("LIBSVID") or (str(beside) if beside.exists() else "libsvid.so.0")
+    return os.environ.get("LIBSVID") or (str(beside) if beside.exists() else "libsvid.so.2")
 
 
 size = c_size_t.from_param

@@ -26,6 +26,7 @@ from making import (
     private_key,
     program,
     question,
+    signed,
     token,
     unb64,
     validator,
@@ -136,6 +137,17 @@ def test_a_certificate_alone_is_no_key():
         assert verdict(checks, token()) == BAD_SIGNATURE
 
 
+def test_of_many_keys_the_first_are_tried():
+    keys = [private_key("ES256", which) for which in range(6)]
+    with validator(bundle(*(entry(key, f"k{n}") for n, key in enumerate(keys)))) as checks:
+        for n, key in enumerate(keys):
+            payload = json.dumps(claims(jti=f"no kid {n}")).encode()
+            no_kid = signed("ES256", key, b'{"alg":"ES256"}', payload)
+            assert verdict(checks, no_kid) == (ACCEPTED if n < 4 else BAD_SIGNATURE)
+            named = token(key=key, header={"kid": f"k{n}"}, jti=f"named {n}")
+            assert verdict(checks, named) == ACCEPTED
+
+
 def test_keys_of_one_name():
     keys = [private_key("ES256", which) for which in range(3)]
     with validator(bundle(*(entry(key, "k1") for key in keys))) as checks:
@@ -145,19 +157,18 @@ def test_keys_of_one_name():
 
 
 def test_a_token_without_the_name_of_a_key():
-    keys = [entry(private_key(alg, which), alg) for alg in ALGORITHMS for which in range(2)]
-    with validator(bundle(*keys)) as checks:
-        for alg in ALGORITHMS:
+    first = [entry(private_key(alg), alg) for alg in ("RS256", "ES256", "ES384", "ES512")]
+    for alg in ALGORITHMS:
+        with validator(bundle(*first, entry(private_key(alg, 1), "last"))) as checks:
             made = jwt.encode(claims(jti=alg), private_key(alg, 1), alg)
             assert verdict(checks, made) == ACCEPTED
-        assert verdict(checks, jwt.encode(claims(), private_key("ES256", 9), "ES256")) == (
-            BAD_SIGNATURE
-        )
+            stranger = jwt.encode(claims(), private_key("ES256", 9), "ES256")
+            assert verdict(checks, stranger) == BAD_SIGNATURE
 
 
 def test_many_keys_are_more_than_the_room():
     keys = [private_key("ES256", which) for which in range(3)]
-    entries = [entry(keys[it == 999], "k1", note="n" * it) for it in range(1000)]
+    entries = [entry(keys[it == 3], "k1", note=f"{it}" * 20_000) for it in range(4)]
     with validator(bundle(*entries)) as checks:
         assert verdict(checks, jwt.encode(claims(jti="1"), keys[1], "ES256")) == ACCEPTED
         assert verdict(checks, jwt.encode(claims(jti="2"), keys[2], "ES256")) == BAD_SIGNATURE

@@ -92,7 +92,7 @@ def test_a_source_distribution_has_the_library_too(tmp_path):
 
 def test_the_library_of_the_system(tmp_path):
     """Where the package has none, as in a checkout, and ./install put one there."""
-    (tmp_path / "libsvid.so.0").symlink_to(os.environ["LIBSVID"])
+    (tmp_path / "libsvid.so.2").symlink_to(os.environ["LIBSVID"])
     environment = {**os.environ, "LIBSVID": "", "LD_LIBRARY_PATH": str(tmp_path)}
     said = run(sys.executable, "-c", "import svid; print(svid.Validator.__name__)", env=environment)
     assert said == "Validator\n"

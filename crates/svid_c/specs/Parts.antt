@@ -1,5 +1,5 @@
 -- What writing a record piece by piece does.
-use Rattle.std.specs.Prelude.{◌≡◌, ◌≢◌, ◌==◌, ◌-◌, ◌/◌, ℕ, Bool, not, min, if◌then◌else◌, ◌<◌, ◌≤◌, List, length, Option, None, Some}
+use Rattle.std.specs.Prelude.{◌≡◌, ◌≢◌, ◌==◌, ◌-◌, ◌/◌, ℕ, not, min, if◌then◌else◌, ◌<◌, ◌≤◌, List, length, Option, None, Some}
 use Rattle.std.specs.List.{slice_get}
 use Rattle.svid_replay.specs.declared.token_use.Use.{Use}
 use Rattle.svid_wire.specs.BatchText.{batch_text}

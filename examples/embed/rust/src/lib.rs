@@ -15,6 +15,7 @@ pub struct Told {
     pub input: usize,
     pub message: usize,
     pub place: usize,
+    pub more: usize,
 }
 
 #[repr(C)]
@@ -208,7 +209,7 @@ extern "C" {
     ) -> u32;
     fn svid_validator_close(v: *mut Validator);
     fn svid_validator_bundles(v: *mut Validator, bundles: *const u8, len: usize, told: *mut Told) -> u32;
-    fn svid_validator_ask(v: *mut Validator, token: *const u8, token_len: usize, out: *mut u8, len: usize, told: *mut Told) -> u32;
+    fn svid_validator_ask(v: *mut Validator, token: *const u8, token_len: usize, most: usize, out: *mut u8, len: usize, told: *mut Told) -> u32;
     fn svid_validator_check(
         v: *mut Validator,
         now: u64,
@@ -226,6 +227,9 @@ extern "C" {
     fn svid_validator_take(v: *mut Validator, now: u64, messages: *const u8, len: usize, told: *mut Told) -> u32;
     fn svid_validator_parts(v: *mut Validator, part: *mut Part, out: *mut u8, len: usize, told: *mut Told) -> u32;
 }
+
+/// How many keys are tried for a token: SVID_MOST_CANDIDATES of the header.
+pub const MOST_CANDIDATES: usize = 4;
 
 /// A key that may have signed a token: the question to answer, the algorithm's name, and the key as JSON.
 pub struct Row {
@@ -267,8 +271,10 @@ impl Validator {
         done(unsafe { svid_validator_bundles(self, bundles.as_ptr(), bundles.len(), &mut told) }, told)
     }
 
+    /// The first `MOST_CANDIDATES` keys that may have signed a token.
     pub fn ask(&mut self, token: &[u8]) -> Result<Vec<Row>, Refused> {
-        let text = written(|out, len, told| unsafe { svid_validator_ask(self, token.as_ptr(), token.len(), out, len, told) })?;
+        let (at, len) = (token.as_ptr(), token.len());
+        let text = written(|out, room, told| unsafe { svid_validator_ask(self, at, len, MOST_CANDIDATES, out, room, told) })?;
         let (mut rows, mut rest) = (Vec::new(), &text[..]);
         let field = |rest: &mut &[u8]| {
             let (len, behind) = rest.split_at(4);

@@ -1,7 +1,5 @@
-use Rattle.std.proofs.Common.{refl, ap, Err, ◌∙◌}
-use Rattle.svid_check.specs.declared.withdraw_fault.WithdrawFault.TheVariants.{Expired, OutOfMemory}
-use Rattle.svid_c.specs.Live.{expired, no_memory, withdrawn}
-use Rattle.svid_c.proofs.LiveLemmas.{withdrawing_fault}
+use Rattle.std.proofs.Common.{refl}
+use Rattle.svid_c.specs.Live.{withdrawn}
 use Rattle.svid_c.proofs.withdraw.withdraw.Goals as goal
 
 pub returns-in-Ok-clause-does : goal.returns-in-Ok-clause-does
