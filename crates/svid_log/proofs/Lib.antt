@@ -1,0 +1,3 @@
+pub mod FirstsLemmas
+pub mod GroupsLemmas
+pub mod StepsLemmas

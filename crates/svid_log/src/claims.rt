@@ -1,0 +1,142 @@
+ghost use Rattle.std.specs.Prelude.{◌≡◌, ◌<◌, ◌≤◌, false, IfOk, OnErr};
+ghost use Rattle.svid_replay.specs.Buckets.{raised_to};
+ghost use Rattle.svid_replay.specs.Sets.{holds};
+ghost use Rattle.svid_replay.specs.Uses.{has_use_of, live, no_uses};
+ghost use Rattle.svid_log.specs.Steps.{beside_after, fate_at, fate_of, held_after, horizon, is_early, passing, put_beside, reached};
+
+use crate::Fate;
+use std::alloc::AllocError;
+use std::marker::Model;
+use svid_replay::{Record, Use, UseStore};
+
+/// The uses of a log that a member has read and that its record did not take, until they expire.
+///
+/// Contracts see it as the set of these uses.
+#[derive(Debug, Drop)]
+pub struct Claims<S: UseStore> {
+    store: S,
+}
+
+impl<S: UseStore> Model for Claims<S> {
+    ghost use Rattle.svid_replay.specs.Uses.{Uses, uses_code};
+    ghost use Rattle.svid_log.specs.Steps.{AreSound};
+
+    ghost Value = { Uses };
+
+    ghost coded = { uses_code };
+
+    ghost view = { λ c. S.content c.store };
+
+    ghost invariant = { λ c. AreSound (S.content c.store) };
+}
+
+// Whether the time of a use is past a record's moment and past the horizon.
+fn is_early<R: UseStore>(held: &Record<R>, far: u64, used: &Use) -> bool
+    ensures { result ≡ is_early held.now far used.now }
+{
+    used.at > held.moment() && used.at > far
+}
+
+// Raises a record to the time of a use, unless that is early; answers whether it is.
+fn pass<R: UseStore>(held: &mut Record<R>, far: u64, used: &Use) -> bool
+    ensures early { result ≡ is_early held.old far used.now }
+    ensures passed { held.new ≡ passing held.old far used.now }
+    ensures made { result ≡ false → used.now.at ≤ held.new.moment }
+{
+    let early = is_early(held, far, used);
+    if !early {
+        held.raise(used.at);
+    }
+    early
+}
+
+// What becomes of a use, by a record at its moment and the uses beside it.
+fn fate_of<R: UseStore, S: UseStore>(held: &Record<R>, beside: &S, early: bool, used: &Use) -> Fate
+    ensures fate { result ≡ fate_of held.now (S.content beside.now) early used.now }
+    ensures first { result ≡ Fate.First → (early ≡ false) × (held.now.moment < used.now.exp) }
+    ensures withdrawal { result ≡ Fate.Withdrawal → (early ≡ false) × (held.now.moment < used.now.exp) }
+{
+    if used.exp <= held.moment() || used.exp <= used.at {
+        return Fate::Expired;
+    }
+    if early {
+        return Fate::TooFarAhead;
+    }
+    if used.withdrawn {
+        return Fate::Withdrawal;
+    }
+    if held.is_withdrawn(&used.key) {
+        return Fate::Withdrawn;
+    }
+    if held.has(&used.key) || beside.has(&used.key) {
+        return Fate::Replayed;
+    }
+    Fate::First
+}
+
+impl<S: UseStore> Claims<S> {
+    /// No uses, in an empty store.
+    pub fn new(store: S) -> Claims<S>
+        requires { S.content store ≡ no_uses }
+        ensures { result ≡ no_uses }
+    {
+        Claims { store }
+    }
+
+    // Puts a use beside the record, unless it has expired or expires before it was made.
+    fn put(&mut self, moment: u64, used: Use) -> Result<(), AllocError>
+        ensures ok { IfOk result (λ _. self.new ≡ put_beside moment self.old used) }
+        ensures err { OnErr result (self.new ≡ self.old) }
+    {
+        if used.is_live(moment) && used.is_live(used.at) {
+            self.store.insert(used)?;
+        }
+        Ok(())
+    }
+
+    // Drops the uses that have expired.
+    fn drop_expired(&mut self, moment: u64)
+        ensures { self.new ≡ live self.old moment }
+    {
+        self.store.drop_expired(moment);
+        self.store.tidy();
+    }
+
+    /// Whether a use beside the record has this key and is live at a moment, in seconds. Those that have expired by then go.
+    pub fn has(&mut self, moment: u64, key: &[u8; 32]) -> bool
+        ensures has { result ≡ has_use_of (live self.old moment) key.now }
+        ensures left { self.new ≡ live self.old moment }
+    {
+        self.drop_expired(moment);
+        self.store.has(key)
+    }
+
+    /// Reads the next use of the log at a moment, in seconds: answers its fate, and keeps it, in the record or beside it.
+    ///
+    /// `ahead` is how many seconds its time may lie past `now`. Where memory is refused, the record and the uses beside it are
+    /// as they were, but at the moment of the call: the same use is to be read again.
+    pub fn read<R: UseStore>(
+        &mut self,
+        held: &mut Record<R>,
+        now: u64,
+        ahead: u64,
+        used: Use,
+    ) -> Result<Fate, AllocError>
+        ensures fate { IfOk result (λ fate. fate ≡ fate_at held.old self.old now (horizon now ahead) used) }
+        ensures held { IfOk result (λ fate. held.new ≡ held_after held.old self.old now (horizon now ahead) used) }
+        ensures beside { IfOk result (λ fate. self.new ≡ beside_after held.old self.old now (horizon now ahead) used) }
+        ensures refused_held { OnErr result (held.new ≡ reached held.old now (horizon now ahead) used) }
+        ensures refused_beside { OnErr result (self.new ≡ live self.old (reached held.old now (horizon now ahead) used).moment) }
+    {
+        held.raise(now);
+        let early = pass(held, now.saturating_add(ahead), &used);
+        self.drop_expired(held.moment());
+        let fate = fate_of(held, &self.store, early, &used);
+        match fate {
+            Fate::First | Fate::Withdrawal => held.add(used)?,
+            Fate::Withdrawn | Fate::Replayed | Fate::TooFarAhead => self.put(held.moment(), used)?,
+            Fate::Expired | Fate::Accepted => (),
+        }
+        Ok(fate)
+    }
+}

@@ -1,0 +1,31 @@
+//! Laws of a group that reads one log, carried by functions that compute nothing.
+
+ghost use Rattle.svid_log.specs.Once.{AcceptedIsFirst, AcceptedIsHeld, AcceptedIsUnrefused, AcceptedOnce, LaterInLogIsPast, OneUseOfAKey, OnlyClaimIsAccepted, OwnIsAccepted, PlaceIsAcceptedOnce};
+
+/// Whatever happens in a group, of all claims with one key and one expiry at most one is ever accepted, by one member, once; and
+/// of two accepted claims of one key the first in the log has expired at the moment of the member that accepts the other.
+pub fn groups_accept_once()
+    ensures once { AcceptedOnce }
+    ensures place { PlaceIsAcceptedOnce }
+    ensures later { LaterInLogIsPast }
+{}
+
+/// An accepted claim is live, all uses of its key in front of it in the log have expired, and nothing refused it. The record has
+/// it then.
+pub fn accepted_claims_are_first()
+    ensures first { AcceptedIsFirst }
+    ensures held { AcceptedIsHeld }
+    ensures unrefused { AcceptedIsUnrefused }
+{}
+
+/// A member accepts its own claim where all uses of the key in front of it in the log have expired, if its record does not refuse
+/// the key, or no use of the key was told outside of the log.
+pub fn own_claims_are_accepted()
+    ensures own { OwnIsAccepted }
+    ensures only { OnlyClaimIsAccepted }
+{}
+
+/// Of a key of which no use is told outside of the log, a member's record has one use at most, beside withdrawals.
+pub fn records_have_first_claims()
+    ensures { OneUseOfAKey }
+{}
