@@ -1,3 +1,4 @@
 pub mod FirstsLemmas
 pub mod GroupsLemmas
+pub mod RowsLemmas
 pub mod StepsLemmas

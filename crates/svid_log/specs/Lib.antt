@@ -1,3 +1,4 @@
 pub mod Groups
+pub mod Members
 pub mod Once
 pub mod Steps

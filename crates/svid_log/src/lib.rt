@@ -5,6 +5,13 @@
 mod claims;
 mod fate;
 pub mod laws;
+mod member;
+mod order;
+mod reading;
+mod rows;
 
 pub use claims::Claims;
 pub use fate::Fate;
+pub use member::Member;
+pub use order::Order;
+pub use reading::{Reading, Rest};

@@ -1,0 +1,202 @@
+ghost use Rattle.std.specs.Prelude.{◌≡◌, ◌+◌, ◌^◌, ◌<◌, ◌≤◌, drop, nat_lt, not};
+ghost use Rattle.svid_replay.specs.Uses.{has_use_of, live, no_uses};
+ghost use Rattle.svid_log.specs.Members.{HasRead, MemberState, advanced, arrived, read_again, standing};
+ghost use Rattle.svid_log.specs.Steps.{horizon};
+
+use crate::order::order_of;
+use crate::reading::rest_of;
+use crate::rows::Standing;
+use crate::{Claims, Fate, Order, Reading, Rest};
+use std::marker::Model;
+use svid_replay::{Record, Use, UseStore};
+
+/// A member of a group that reads one log, beside the record of its validator.
+///
+/// Contracts see it as the uses beside the record, and what [`Member::new`] says.
+#[derive(Drop)]
+pub struct Member<S: UseStore> {
+    claims: Claims<S>,
+    place: [u8; 16],
+    lasts: u64,
+    passed: u64,
+    begun: usize,
+    ready: u64,
+    deaf: u64,
+}
+
+impl<S: UseStore> Model for Member<S> {
+    ghost use Rattle.svid_log.specs.Members.{MemberState, member_code};
+
+    ghost Value = { MemberState };
+
+    ghost coded = { member_code };
+
+    ghost view = { λ m. record { beside = m.claims; place = m.place; lasts = m.lasts; passed = m.passed; begun = m.begun; ready = m.ready; deaf = m.deaf } };
+}
+
+// The uses of a value behind those that were read.
+fn behind(uses: &[Use], begun: usize) -> &[Use]
+    ensures { result.now ≡ drop begun uses.now }
+{
+    if begun >= uses.len() {
+        return &[];
+    }
+    uses.split_at(begun).1
+}
+
+impl<S: UseStore> Member<S> {
+    /// A member that begins to read a log, with an empty store for the uses beside its record.
+    ///
+    /// `place` is its validator's, and no other member's. `passed` is the number of the last value in front of the first one that
+    /// the log still has: 0 where it has all. `ready` is the number of the last value that an earlier life of the member may have
+    /// read, so that of the last one in the log when it begins: of these values it accepts nothing. Before the moment `deaf`, in
+    /// seconds, it accepts nothing either: by then all uses of the values up to `passed` have expired. Behind a gap in the log it
+    /// accepts nothing for `lasts` seconds: by then each use that was put into the log before has expired.
+    pub fn new(
+        store: S,
+        place: [u8; 16],
+        lasts: u64,
+        passed: u64,
+        ready: u64,
+        deaf: u64,
+    ) -> Member<S>
+        requires { S.content store ≡ no_uses }
+        ensures { result ≡ record { beside = no_uses; place = place; lasts = lasts; passed = passed; begun = 0; ready = ready; deaf = deaf } }
+    {
+        Member {
+            claims: Claims::new(store),
+            place,
+            lasts,
+            passed,
+            begun: 0,
+            ready,
+            deaf,
+        }
+    }
+
+    /// The number of the last value that the member has read whole.
+    pub fn passed(&self) -> u64
+        ensures { result ≡ self.now.passed }
+    {
+        self.passed
+    }
+
+    /// How many uses of the value behind that one the member has read.
+    pub fn begun(&self) -> usize
+        ensures { result ≡ self.now.begun }
+    {
+        self.begun
+    }
+
+    /// Whether the member has read all that earlier lives of it may have read. Until then it can accept nothing.
+    pub fn is_ready(&self) -> bool
+        ensures { result ≡ not (nat_lt self.now.passed self.now.ready) }
+    {
+        self.passed >= self.ready
+    }
+
+    /// The moment before which the member accepts nothing, in seconds, since it missed uses that may live until then.
+    pub fn deaf(&self) -> u64
+        ensures { result ≡ self.now.deaf }
+    {
+        self.deaf
+    }
+
+    /// Lets the member accept claims though it missed uses of the log that may still live. A token whose claim it missed may then
+    /// be accepted twice.
+    pub fn go_on(&mut self)
+        ensures { self.new ≡ record { beside = self.old.beside; place = self.old.place; lasts = self.old.lasts; passed = self.old.passed; begun = self.old.begun; ready = self.old.ready; deaf = 0 } }
+    {
+        self.deaf = 0;
+    }
+
+    /// Whether a use beside the record has this key and is live at a moment, in seconds. Those that have expired by then go.
+    pub fn has(&mut self, moment: u64, key: &[u8; 32]) -> bool
+        ensures has { result ≡ has_use_of (live self.old.beside moment) key.now }
+        ensures left { self.new ≡ record { beside = live self.old.beside moment; place = self.old.place; lasts = self.old.lasts; passed = self.old.passed; begun = self.old.begun; ready = self.old.ready; deaf = self.old.deaf } }
+    {
+        self.claims.has(moment, key)
+    }
+
+    // Stands in front of a value.
+    fn arrive(&mut self, moment: u64, position: u64)
+        requires { self.old.passed < position }
+        ensures { self.new ≡ arrived self.old moment position }
+    {
+        if position - 1 > self.passed {
+            self.passed = position - 1;
+            self.begun = 0;
+            self.deaf = self.deaf.max(moment.saturating_add(self.lasts));
+        }
+    }
+
+    // What decides the acceptances of a value.
+    fn standing(&self, position: u64) -> Standing
+        ensures { result ≡ standing self.now position }
+    {
+        Standing {
+            place: self.place,
+            fresh: position > self.ready,
+            deaf: self.deaf,
+        }
+    }
+
+    // Goes behind so many of the uses that were left of a value.
+    fn advance(&mut self, position: u64, count: usize, left: usize)
+        requires { count < left → self.old.begun + count < 2 ^ 64 }
+        ensures { self.new ≡ advanced self.old position count left self.old.beside }
+    {
+        if count < left {
+            self.begun += count;
+        } else {
+            self.passed = position;
+            self.begun = 0;
+        }
+    }
+
+    /// Reads the value with this number in the log at a moment, in seconds, and writes the fate of each of its uses.
+    ///
+    /// Values are counted from 1, and `uses` are all that the value has. The member goes on where it stopped in the value, and
+    /// reads as many uses as there is room for in `fates`; [`Reading::from`] and [`Reading::count`] say which. `ahead` is how many
+    /// seconds the time of a use may lie past `now`. A value that was read before changes nothing. Where values are missing
+    /// ([`Order::Gap`]), the member reads on, and accepts nothing until all that it missed has expired.
+    ///
+    /// Where memory is refused for a use ([`Rest::NoMemory`]), nothing but the record's moment moves for it: it is read by the
+    /// next call with the same value.
+    pub fn read<R: UseStore>(
+        &mut self,
+        held: &mut Record<R>,
+        now: u64,
+        ahead: u64,
+        position: u64,
+        uses: &[Use],
+        fates: &mut [Fate],
+    ) -> Reading
+        ensures again { position ≤ self.old.passed → (result ≡ read_again) × (self.new ≡ self.old) × (held.new ≡ held.old) × (fates.new ≡ fates.old) }
+        ensures read { self.old.passed < position → HasRead now (horizon now ahead) position self.old held.old uses.now fates.old result self.new held.new fates.new }
+    {
+        let order = order_of(self.passed, position);
+        if order == Order::Again {
+            return Reading {
+                order,
+                from: 0,
+                count: 0,
+                rest: Rest::Nothing,
+            };
+        }
+        self.arrive(held.moment().max(now), position);
+        let from = self.begun;
+        let left = behind(uses, from);
+        let standing = self.standing(position);
+        let count = self
+            .claims
+            .read_all(held, now, ahead, &standing, left, fates);
+        self.advance(position, count, left.len());
+        Reading {
+            order,
+            from,
+            count,
+            rest: rest_of(count, left.len(), fates.len()),
+        }
+    }
+}
