@@ -1,4 +1,6 @@
+pub mod CallsLemmas
 pub mod FirstsLemmas
 pub mod GroupsLemmas
+pub mod PlacesLemmas
 pub mod RowsLemmas
 pub mod StepsLemmas

@@ -1,3 +1,4 @@
+pub mod Calls
 pub mod Groups
 pub mod Members
 pub mod Once

@@ -1,5 +1,6 @@
 //! Laws of a group that reads one log, carried by functions that compute nothing.
 
+ghost use Rattle.svid_log.specs.Calls.{ReadsAreEvents};
 ghost use Rattle.svid_log.specs.Once.{AcceptedIsFirst, AcceptedIsHeld, AcceptedIsUnrefused, AcceptedOnce, LaterInLogIsPast, OneUseOfAKey, OnlyClaimIsAccepted, OwnIsAccepted, PlaceIsAcceptedOnce};
 
 /// Whatever happens in a group, of all claims with one key and one expiry at most one is ever accepted, by one member, once; and
@@ -28,4 +29,11 @@ pub fn own_claims_are_accepted()
 /// Of a key of which no use is told outside of the log, a member's record has one use at most, beside withdrawals.
 pub fn records_have_first_claims()
     ensures { OneUseOfAKey }
+{}
+
+/// What [`Member::read`](crate::Member::read) does with a value is what as many events of a group do, and a use that it accepts is
+/// accepted there: so the other laws hold of members. Where the member had missed values, the premise is that their uses expire
+/// by the moment until which it accepts nothing.
+pub fn reads_are_events()
+    ensures { ReadsAreEvents }
 {}
