@@ -1,6 +1,8 @@
+pub mod SavesLemmas
 pub mod CallsLemmas
 pub mod FirstsLemmas
 pub mod GroupsLemmas
 pub mod PlacesLemmas
 pub mod RowsLemmas
 pub mod StepsLemmas
+pub mod ValuesLemmas

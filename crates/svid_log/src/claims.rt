@@ -1,13 +1,14 @@
-ghost use Rattle.std.specs.Prelude.{◌≡◌, ◌<◌, ◌≤◌, false, IfOk, OnErr};
+ghost use Rattle.std.specs.Prelude.{◌≡◌, ◌∷◌, ◌<◌, ◌≤◌, [], false, IfOk, OnErr};
 ghost use Rattle.svid_replay.specs.Buckets.{raised_to};
 ghost use Rattle.svid_replay.specs.Sets.{holds};
 ghost use Rattle.svid_replay.specs.Uses.{has_use_of, live, no_uses};
-ghost use Rattle.svid_log.specs.Steps.{beside_after, fate_at, fate_of, held_after, horizon, is_early, passing, put_beside, reached};
+ghost use Rattle.svid_log.specs.Saves.{alone, put_all, saved_of};
+ghost use Rattle.svid_log.specs.Steps.{AreSound, IsSound, beside_after, fate_at, fate_of, held_after, horizon, is_early, passing, put_beside, reached};
 
 use crate::Fate;
-use std::alloc::AllocError;
+use std::alloc::{AllocError, Global};
 use std::marker::Model;
-use svid_replay::{Record, Use, UseStore};
+use svid_replay::{Batch, Record, Use, UseStore};
 
 /// The uses of a log that a member has read and that its record did not take, until they expire.
 ///
@@ -74,6 +75,30 @@ fn fate_of<R: UseStore, S: UseStore>(held: &Record<R>, beside: &S, early: bool, 
     Fate::First
 }
 
+// A batch of one use, of the moment at which that was made.
+fn alone(alloc: Global, used: Use) -> Result<Batch, AllocError>
+    requires { IsSound used }
+    ensures { IfOk result (λ batch. batch ≡ alone used) }
+{
+    let mut uses = Vec::new(alloc);
+    uses.push(used)?;
+    Ok(Batch::from_good(used.at, uses))
+}
+
+// The uses of a store, rising, each as a batch.
+fn save_all<S: UseStore>(alloc: Global, store: &S) -> Result<Vec<Batch>, AllocError>
+    requires { AreSound (S.content store.now) }
+    ensures { IfOk result (λ saved. saved.items ≡ saved_of (S.content store.now)) }
+{
+    let mut saved = Vec::new(alloc);
+    let mut after = None;
+    while let Some(used) = store.next_after(after) {
+        saved.push(alone(alloc, used)?)?;
+        after = Some(used);
+    }
+    Ok(saved)
+}
+
 impl<S: UseStore> Claims<S> {
     /// No uses, in an empty store.
     pub fn new(store: S) -> Claims<S>
@@ -81,6 +106,13 @@ impl<S: UseStore> Claims<S> {
         ensures { result ≡ no_uses }
     {
         Claims { store }
+    }
+
+    /// The uses, rising, each as a batch of the moment at which it was made.
+    pub fn save(&self, alloc: Global) -> Result<Vec<Batch>, AllocError>
+        ensures { IfOk result (λ saved. saved.items ≡ saved_of self.now) }
+    {
+        save_all(alloc, &self.store)
     }
 
     // Puts a use beside the record, unless it has expired or expires before it was made.
@@ -138,5 +170,19 @@ impl<S: UseStore> Claims<S> {
             Fate::Expired | Fate::Accepted => (),
         }
         Ok(fate)
+    }
+}
+
+impl<S: UseStore + Drop> Claims<S> {
+    /// These uses, but those that expire before they were made, in an empty store.
+    pub fn restore(store: S, uses: &[Use]) -> Result<Claims<S>, AllocError>
+        requires { S.content store ≡ no_uses }
+        ensures { IfOk result (λ claims. claims ≡ put_all no_uses uses.now) }
+    {
+        let mut claims = Claims::new(store);
+        for used in uses {
+            claims.put(used.at, *used)?;
+        }
+        Ok(claims)
     }
 }

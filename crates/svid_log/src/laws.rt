@@ -2,6 +2,8 @@
 
 ghost use Rattle.svid_log.specs.Calls.{ReadsAreEvents};
 ghost use Rattle.svid_log.specs.Once.{AcceptedIsFirst, AcceptedIsHeld, AcceptedIsUnrefused, AcceptedOnce, LaterInLogIsPast, OneUseOfAKey, OnlyClaimIsAccepted, OwnIsAccepted, PlaceIsAcceptedOnce};
+ghost use Rattle.svid_log.specs.Saves.{LooksAreEvents, NewAreEvents, RestartsAreEvents, SavesPutBack};
+ghost use Rattle.svid_log.specs.Values.{ValuesAreRead, ValuesHaveOneReading};
 
 /// Whatever happens in a group, of all claims with one key and one expiry at most one is ever accepted, by one member, once; and
 /// of two accepted claims of one key the first in the log has expired at the moment of the member that accepts the other.
@@ -36,4 +38,22 @@ pub fn records_have_first_claims()
 /// by the moment until which it accepts nothing.
 pub fn reads_are_events()
     ensures { ReadsAreEvents }
+{}
+
+/// A member that is new, that is restored from a save, or that is asked for a key is what the events of a group leave.
+pub fn lives_are_events()
+    ensures new { NewAreEvents }
+    ensures restart { RestartsAreEvents }
+    ensures look { LooksAreEvents }
+{}
+
+/// What is saved of the uses beside a record are batches; their text, one behind the other, is a value whose uses put them back.
+pub fn saves_put_back()
+    ensures { SavesPutBack }
+{}
+
+/// Every reader finds the same uses in the bytes of a value, so that a log of bytes is one log of uses for all.
+pub fn values_are_read_alike()
+    ensures uses { ValuesHaveOneReading }
+    ensures log { ValuesAreRead }
 {}

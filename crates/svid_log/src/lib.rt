@@ -5,13 +5,17 @@
 mod claims;
 mod fate;
 pub mod laws;
+mod mark;
 mod member;
 mod order;
 mod reading;
 mod rows;
+mod value;
 
 pub use claims::Claims;
 pub use fate::Fate;
+pub use mark::Mark;
 pub use member::Member;
 pub use order::Order;
 pub use reading::{Reading, Rest};
+pub use value::uses_of;

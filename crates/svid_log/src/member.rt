@@ -1,14 +1,16 @@
-ghost use Rattle.std.specs.Prelude.{◌≡◌, ◌+◌, ◌^◌, ◌<◌, ◌≤◌, drop, nat_lt, not};
+ghost use Rattle.std.specs.Prelude.{◌≡◌, ◌+◌, ◌^◌, ◌<◌, ◌≤◌, drop, nat_lt, not, IfOk};
 ghost use Rattle.svid_replay.specs.Uses.{has_use_of, live, no_uses};
 ghost use Rattle.svid_log.specs.Members.{HasRead, MemberState, advanced, arrived, read_again, standing};
+ghost use Rattle.svid_log.specs.Saves.{mark_of, restored, saved_of};
 ghost use Rattle.svid_log.specs.Steps.{horizon};
 
 use crate::order::order_of;
 use crate::reading::rest_of;
 use crate::rows::Standing;
-use crate::{Claims, Fate, Order, Reading, Rest};
+use crate::{Claims, Fate, Mark, Order, Reading, Rest};
+use std::alloc::{AllocError, Global};
 use std::marker::Model;
-use svid_replay::{Record, Use, UseStore};
+use svid_replay::{Batch, Record, Use, UseStore};
 
 /// A member of a group that reads one log, beside the record of its validator.
 ///
@@ -74,18 +76,22 @@ impl<S: UseStore> Member<S> {
         }
     }
 
-    /// The number of the last value that the member has read whole.
-    pub fn passed(&self) -> u64
-        ensures { result ≡ self.now.passed }
+    /// The uses beside the record, each as a batch, for a save. The record and [`Member::mark`] belong to it.
+    pub fn save(&self, alloc: Global) -> Result<Vec<Batch>, AllocError>
+        ensures { IfOk result (λ saved. saved.items ≡ saved_of self.now.beside) }
     {
-        self.passed
+        self.claims.save(alloc)
     }
 
-    /// How many uses of the value behind that one the member has read.
-    pub fn begun(&self) -> usize
-        ensures { result ≡ self.now.begun }
+    /// Where the member is in the log.
+    pub fn mark(&self) -> Mark
+        ensures { result ≡ mark_of self.now }
     {
-        self.begun
+        Mark {
+            passed: self.passed,
+            begun: self.begun,
+            deaf: self.deaf,
+        }
     }
 
     /// Whether the member has read all that earlier lives of it may have read. Until then it can accept nothing.
@@ -93,13 +99,6 @@ impl<S: UseStore> Member<S> {
         ensures { result ≡ not (nat_lt self.now.passed self.now.ready) }
     {
         self.passed >= self.ready
-    }
-
-    /// The moment before which the member accepts nothing, in seconds, since it missed uses that may live until then.
-    pub fn deaf(&self) -> u64
-        ensures { result ≡ self.now.deaf }
-    {
-        self.deaf
     }
 
     /// Lets the member accept claims though it missed uses of the log that may still live. A token whose claim it missed may then
@@ -198,5 +197,34 @@ impl<S: UseStore> Member<S> {
             count,
             rest: rest_of(count, left.len(), fates.len()),
         }
+    }
+}
+
+impl<S: UseStore + Drop> Member<S> {
+    /// A member that goes on where another one was: from a save of an earlier life.
+    ///
+    /// `mark`, and the uses of the batches that were saved, `beside`, are of one moment, and the record is of that moment or a later
+    /// one. The others are as in [`Member::new`].
+    pub fn restore(
+        store: S,
+        place: [u8; 16],
+        lasts: u64,
+        mark: Mark,
+        ready: u64,
+        beside: &[Use],
+    ) -> Result<Member<S>, AllocError>
+        requires { S.content store ≡ no_uses }
+        ensures { IfOk result (λ member. member ≡ restored place lasts mark ready beside.now) }
+    {
+        let claims = Claims::restore(store, beside)?;
+        Ok(Member {
+            claims,
+            place,
+            lasts,
+            passed: mark.passed,
+            begun: mark.begun,
+            ready,
+            deaf: mark.deaf,
+        })
     }
 }

@@ -1,0 +1,51 @@
+ghost use Rattle.std.specs.Prelude.{◌≡◌, ◌++◌, IfErr, IfOk, OnOk};
+ghost use Rattle.svid_wire.specs.Messages.{batches_of};
+ghost use Rattle.svid_log.specs.Values.{IsNoValue, IsValue, uses_in};
+
+use std::alloc::{AllocError, Global};
+use svid_replay::Use;
+use svid_wire::{Feed, Message, WireFault};
+
+// So many bytes of a value are read at a time: they end at most 241 messages, each of which takes about 8 KiB for a while.
+const PIECE: usize = 4096;
+
+// Appends the uses of the batches among messages, in their order.
+fn append_uses(uses: &mut Vec<Use>, messages: &[Message]) -> Result<(), AllocError>
+    ensures { OnOk result (uses.new.items ≡ uses.old.items ++ uses_in (batches_of messages.now)) }
+{
+    for message in messages {
+        match message {
+            Message::Batch(batch) => uses.extend_from_slice(batch.uses())?,
+            Message::Summary(_) => (),
+        }
+    }
+    Ok(())
+}
+
+/// The uses of a value of the log: those of its batches, in their order.
+///
+/// A value that is no row of messages has no uses, for every reader alike; the fault says what is wrong with it. The fault
+/// `OutOfMemory` says that memory was refused: then the value is to be read again. Beside the uses it takes the memory of the
+/// messages that end in 4,096 bytes.
+pub fn uses_of(alloc: Global, value: &[u8]) -> Result<Vec<Use>, WireFault>
+    ensures ok { IfOk result (λ uses. IsValue value.now uses.items) }
+    ensures fault { IfErr result (IsNoValue value.now) }
+{
+    let mut feed = Feed::new(alloc);
+    let mut messages = Vec::new(alloc);
+    let mut uses = Vec::new(alloc);
+    let mut rest = value;
+    while rest.len() > 0 {
+        let (piece, after) = rest.split_at(rest.len().min(PIECE));
+        messages.clear();
+        if let Err(fault) = feed.push(piece, &mut messages) {
+            return Err(fault);
+        }
+        append_uses(&mut uses, &messages)?;
+        rest = after;
+    }
+    match feed.finish() {
+        Ok(()) => Ok(uses),
+        Err(fault) => Err(fault),
+    }
+}
