@@ -142,12 +142,15 @@ stops_behind value rest piece after feed uses out fault r cut refused = by_stop 
     by_stop : StopsIn (r.held ++ piece) [] out fault → IsNoValue value fault
     by_stop s =
         let whole = Appended-more (r.front ++ piece) after s.rest [] (r.messages ++ out) (behind r.front piece r.held s.rest r.messages out r.came s.read) in
-        inl (r.messages ++ out, record {
-          rest = s.rest ++ after;
-          some = some_more s.rest after s.some;
-          read = subst (λ bytes. Appended bytes [] (r.messages ++ out) (s.rest ++ after)) (append_assoc r.front piece after ∙ (ap (λ x. r.front ++ x) (sym cut) ∙ sym r.parts)) whole;
-          why = refusal (s.rest ++ after) (IsFieldRefusal-append (s.rest ++ after) s.rest after fault refl s.why);
-        })
+        inl (
+          r.messages ++ out,
+          record {
+            rest = s.rest ++ after;
+            some = some_more s.rest after s.some;
+            read = subst (λ bytes. Appended bytes [] (r.messages ++ out) (s.rest ++ after)) (append_assoc r.front piece after ∙ (ap (λ x. r.front ++ x) (sym cut) ∙ sym r.parts)) whole;
+            why = refusal (s.rest ++ after) (IsFieldRefusal-append (s.rest ++ after) s.rest after fault refl s.why);
+          },
+        )
 
 -- the end of a value
 pub read_end : (value rest : List ℕ) (feed : Option (List ℕ)) (uses : List Use) (r : Result Unit WireFault) → IsReadTo value rest feed uses → rest ≡ [] → r ≡ end_of feed
@@ -160,9 +163,14 @@ read_end value rest feed uses result r none is =
 
     by_end : (held : List ℕ) → r.held ≡ held → IfOk (end_of (Some held)) (λ _. IsValue value uses) × IfErr (end_of (Some held)) (IsNoValue value)
     by_end [] e = (record { messages = r.messages; whole = subst (λ x. Splits x r.messages []) (sym whole) (subst (λ h. Splits r.front r.messages h) e (subst (λ ms. Splits r.front ms r.held) (sym r.came.grown) r.came.splits)); told = r.told }, tt)
-    by_end (b ∷ x) e =
-        (tt, inl (r.messages, subst (λ bytes. StopsAt bytes [] r.messages (record { place = length (b ∷ x); reason = Truncated })) (sym whole)
-        (ended (Some (b ∷ x)) [] r.messages r.front (subst (λ h. Appended r.front [] r.messages h) e r.came, subst IsHeld e r.unfinished))))
+    by_end (b ∷ x) e = (
+      tt,
+      inl (
+        r.messages,
+        subst (λ bytes. StopsAt bytes [] r.messages (record { place = length (b ∷ x); reason = Truncated })) (sym whole)
+            (ended (Some (b ∷ x)) [] r.messages r.front (subst (λ h. Appended r.front [] r.messages h) e r.came, subst IsHeld e r.unfinished)),
+      ),
+    )
 
 pub halves : (xs front back : List ℕ) (n : ℕ) → front ≡ take n xs → back ≡ drop n xs → xs ≡ front ++ back
 halves xs front back n one other = sym (take-append-drop n xs) ∙ (ap (λ ys. ys ++ drop n xs) (sym one) ∙ ap (λ ys. front ++ ys) (sym other))

@@ -18,4 +18,4 @@ pub use mark::Mark;
 pub use member::Member;
 pub use order::Order;
 pub use reading::{Reading, Rest};
-pub use value::uses_of;
+pub use value::Value;

@@ -1,10 +1,19 @@
 ghost use Rattle.std.specs.Prelude.{◌≡◌, ◌++◌, IfErr, IfOk, OnOk};
 ghost use Rattle.svid_wire.specs.Messages.{batches_of};
-ghost use Rattle.svid_log.specs.Values.{IsNoValue, IsValue, uses_in};
+ghost use Rattle.svid_log.specs.Values.{HasUses, IsNoValue, IsValue, uses_in};
 
 use std::alloc::{AllocError, Global};
 use svid_replay::Use;
-use svid_wire::{Feed, Message, WireFault};
+use svid_wire::{Feed, Message, Reason, WireFault};
+
+/// What stands in a value of the log: uses, those of its batches in their order.
+#[derive(Debug, Drop)]
+pub struct Value {
+    /// The uses: none where the bytes of the value are no row of messages.
+    pub uses: Vec<Use>,
+    /// Why the bytes are no row of messages, where they are none.
+    pub fault: Option<WireFault>,
+}
 
 // So many bytes of a value are read at a time: they end at most 241 messages, each of which takes about 8 KiB for a while.
 const PIECE: usize = 4096;
@@ -22,12 +31,8 @@ fn append_uses(uses: &mut Vec<Use>, messages: &[Message]) -> Result<(), AllocErr
     Ok(())
 }
 
-/// The uses of a value of the log: those of its batches, in their order.
-///
-/// A value that is no row of messages has no uses, for every reader alike; the fault says what is wrong with it. The fault
-/// `OutOfMemory` says that memory was refused: then the value is to be read again. Beside the uses it takes the memory of the
-/// messages that end in 4,096 bytes.
-pub fn uses_of(alloc: Global, value: &[u8]) -> Result<Vec<Use>, WireFault>
+// The uses of the batches of a value, in their order, or why its bytes are no messages. A piece of the value is read at a time.
+fn uses_of(alloc: Global, value: &[u8]) -> Result<Vec<Use>, WireFault>
     ensures ok { IfOk result (λ uses. IsValue value.now uses.items) }
     ensures fault { IfErr result (IsNoValue value.now) }
 {
@@ -47,5 +52,24 @@ pub fn uses_of(alloc: Global, value: &[u8]) -> Result<Vec<Use>, WireFault>
     match feed.finish() {
         Ok(()) => Ok(uses),
         Err(fault) => Err(fault),
+    }
+}
+
+impl Value {
+    /// Reads the bytes of a value.
+    ///
+    /// Bytes that are no row of messages have no uses, for every reader alike. Refused for want of memory alone: then the value is
+    /// to be read again. Beside the uses it takes the memory of the messages that end in 4,096 bytes.
+    pub fn read(alloc: Global, bytes: &[u8]) -> Result<Value, AllocError>
+        ensures { IfOk result (λ value. HasUses bytes.now value.uses.items value.fault) }
+    {
+        match uses_of(alloc, bytes) {
+            Ok(uses) => Ok(Value { uses, fault: None }),
+            Err(fault) if fault.reason == Reason::OutOfMemory => Err(AllocError),
+            Err(fault) => Ok(Value {
+                uses: Vec::new(alloc),
+                fault: Some(fault),
+            }),
+        }
     }
 }
