@@ -10,7 +10,7 @@ use Rattle.std.proofs.lemmas.List.Elements.{recursion_from_All}
 use Rattle.std.proofs.lemmas.Map.Views.{Contains-from_any}
 use Rattle.svid_replay.specs.declared.token_use.Use.{Use}
 use Rattle.svid_replay.specs.Buckets.{raised_to}
-use Rattle.svid_replay.specs.Records.{State, join, state_of}
+use Rattle.svid_replay.specs.Records.{IsRecord, State, join, state_of}
 use Rattle.svid_replay.specs.Sets.{holds, rising, with}
 use Rattle.svid_replay.specs.Twice.{has_key, withdraws}
 use Rattle.svid_replay.specs.Use.{IsUse, bytes_cmp, use_cmp}
@@ -20,7 +20,7 @@ use Rattle.svid_replay.proofs.ListLemmas.{any_in, found}
 use Rattle.svid_replay.proofs.RecordsLemmas.{holds-join, moment-join}
 use Rattle.svid_replay.proofs.SetsLemmas.{holds-rising}
 use Rattle.svid_replay.proofs.UseLemmas.{use_exact, use_total}
-use Rattle.svid_replay.proofs.UsesLemmas.{held_in_rising, holds-live, holds-uses_in, no_uses_hold_none, with_holds_one_more}
+use Rattle.svid_replay.proofs.UsesLemmas.{held_in_rising, holds-live, holds-uses_in, no_uses_hold_none, same_uses, with_holds_one_more}
 use Rattle.svid_log.specs.declared.fate.Fate.{Fate}
 use Rattle.svid_log.specs.declared.fate.Fate.TheVariants.{Accepted, First, Expired, TooFarAhead, Withdrawal, Withdrawn, Replayed}
 use Rattle.svid_log.specs.Steps.{AreSound, IsSound, beside_after, beside_by, counts, fate_at, fate_by, gains_by, held_after, is_early, passing, put_beside, reached}
@@ -299,3 +299,27 @@ gains_stay Replayed x c = refl
 
 pub held_stays : (x : State) (beside : Uses) (now far : ℕ) (c : Use) → (held_after x beside now far c).moment ≡ (reached x now far c).moment
 held_stays x beside now far c = gains_stay (fate_at x beside now far c) (reached x now far c) c
+
+-- a record that is raised to a moment that it has reached stays as it is
+pub raised_is_same : (x : State) (moment : ℕ) → IsRecord x → moment ≤ x.moment → raised_to x moment ≡ x
+raised_is_same x moment is le =
+    let b = state_of moment [] in
+    let same : max x.moment moment ≡ x.moment = omega arith in
+    ap (λ n. record { moment = n; uses = (join x b).uses }) (moment-join x b ∙ same)
+    ∙ ap (λ s. record { moment = x.moment; uses = s }) (same_uses (join x b).uses x.uses (λ u. held u (holds x.uses u) refl))
+  where
+    nothing : (b : Bool) → (b && false) ≡ false
+    nothing true = refl
+    nothing false = refl
+
+    held : (u : Use) (h : Bool) → holds x.uses u ≡ h → holds (join x (state_of moment [])).uses u ≡ holds x.uses u
+    held u true e =
+        let lt = (is.each u e).live in
+        let later : max x.moment moment < u.exp = omega arith in
+        holds-join x (state_of moment []) u ∙ (and_from (nat_lt (max x.moment moment) u.exp) (holds (state_of moment []).uses u || holds x.uses u) (lt-ltb (max x.moment moment) u.exp later) (or_right (holds (state_of moment []).uses u) (holds x.uses u) e) ∙ sym e)
+    held u false e =
+        holds-join x (state_of moment []) u ∙ (ap (λ h. nat_lt (max x.moment moment) u.exp && (holds (state_of moment []).uses u || h)) e
+        ∙ (ap (λ h. nat_lt (max x.moment moment) u.exp && (h || false)) (no_uses_hold_none u) ∙ (nothing (nat_lt (max x.moment moment) u.exp) ∙ sym e)))
+
+pub passing_is_same : (x : State) (far : ℕ) (c : Use) → IsRecord x → c.at ≤ x.moment → x ≡ passing x far c
+passing_is_same x far c is le = cond_both (is_early x far c) x (raised_to x c.at) (λ y. x ≡ y) (λ _. refl) (λ _. sym (raised_is_same x c.at is le))

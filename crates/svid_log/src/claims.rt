@@ -1,7 +1,7 @@
-ghost use Rattle.std.specs.Prelude.{◌≡◌, ◌∷◌, ◌<◌, ◌≤◌, [], false, IfOk, OnErr};
+ghost use Rattle.std.specs.Prelude.{◌≡◌, ◌∷◌, ◌<◌, ◌≤◌, [], false, IfOk, OnErr, if◌then◌else◌};
 ghost use Rattle.svid_replay.specs.Buckets.{raised_to};
 ghost use Rattle.svid_replay.specs.Sets.{holds};
-ghost use Rattle.svid_replay.specs.Uses.{has_use_of, live, no_uses};
+ghost use Rattle.svid_replay.specs.Uses.{has_use_of, has_withdrawal_of, live, no_uses};
 ghost use Rattle.svid_log.specs.Saves.{alone, put_all, saved_of};
 ghost use Rattle.svid_log.specs.Steps.{AreSound, IsSound, beside_after, fate_at, fate_of, held_after, horizon, is_early, passing, put_beside, reached};
 
@@ -31,24 +31,30 @@ impl<S: UseStore> Model for Claims<S> {
     ghost invariant = { λ c. AreSound (S.content c.store) };
 }
 
-// Whether the time of a use is past a record's moment and past the horizon.
-fn is_early<R: UseStore>(held: &Record<R>, far: u64, used: &Use) -> bool
-    ensures { result ≡ is_early held.now far used.now }
-{
-    used.at > held.moment() && used.at > far
-}
-
-// Raises a record to the time of a use, unless that is early; answers whether it is.
+// Raises a record to the time of a use, unless that is early: past the record's moment and past the horizon. Answers whether it is.
 fn pass<R: UseStore>(held: &mut Record<R>, far: u64, used: &Use) -> bool
     ensures early { result ≡ is_early held.old far used.now }
     ensures passed { held.new ≡ passing held.old far used.now }
     ensures made { result ≡ false → used.now.at ≤ held.new.moment }
 {
-    let early = is_early(held, far, used);
-    if !early {
-        held.raise(used.at);
+    if used.at <= held.moment() {
+        return false;
     }
-    early
+    if used.at > far {
+        return true;
+    }
+    held.raise(used.at);
+    false
+}
+
+// What becomes of a claim of a key of which the record has a use.
+fn used_before<R: UseStore>(held: &Record<R>, key: &[u8; 32]) -> Fate
+    ensures { result ≡ (if has_withdrawal_of held.now.uses key.now then Fate.Withdrawn else Fate.Replayed) }
+{
+    if held.is_withdrawn(key) {
+        return Fate::Withdrawn;
+    }
+    Fate::Replayed
 }
 
 // What becomes of a use, by a record at its moment and the uses beside it.
@@ -66,10 +72,10 @@ fn fate_of<R: UseStore, S: UseStore>(held: &Record<R>, beside: &S, early: bool, 
     if used.withdrawn {
         return Fate::Withdrawal;
     }
-    if held.is_withdrawn(&used.key) {
-        return Fate::Withdrawn;
+    if held.has(&used.key) {
+        return used_before(held, &used.key);
     }
-    if held.has(&used.key) || beside.has(&used.key) {
+    if beside.has(&used.key) {
         return Fate::Replayed;
     }
     Fate::First
