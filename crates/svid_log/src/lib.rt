@@ -10,6 +10,8 @@ mod member;
 mod order;
 mod reading;
 mod rows;
+#[cfg(test)]
+mod tests;
 mod value;
 
 pub use claims::Claims;
