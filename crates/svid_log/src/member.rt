@@ -53,7 +53,8 @@ impl<S: UseStore> Member<S> {
     /// the log still has: 0 where it has all. `ready` is the number of the last value that an earlier life of the member may have
     /// read, so that of the last one in the log when it begins: of these values it accepts nothing. Before the moment `deaf`, in
     /// seconds, it accepts nothing either: by then all uses of the values up to `passed` have expired. Behind a gap in the log it
-    /// accepts nothing for `lasts` seconds: by then each use that was put into the log before has expired.
+    /// accepts nothing for `lasts` seconds: by then each use that was put into the log before has expired. Another log is read by a
+    /// new member, with the same record.
     pub fn new(
         store: S,
         place: [u8; 16],
