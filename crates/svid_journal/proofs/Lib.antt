@@ -5,3 +5,4 @@ pub mod CrashLemmas
 pub mod HistoryLemmas
 pub mod PromisesLemmas
 pub mod TitlesLemmas
+pub mod DiskLemmas

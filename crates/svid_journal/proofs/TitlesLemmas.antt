@@ -1,10 +1,9 @@
 -- Two files have two titles.
-use Rattle.std.proofs.Common.{◌≡◌, ◌≢◌, ℕ, ◌+◌, ◌<◌, ◌^◌, List, [], ◌∷◌, ◌++◌, length, refl, sym, ◌∙◌, ap, arith}
+use Rattle.std.proofs.Common.{◌≡◌, ◌≢◌, ℕ, ◌<◌, ◌^◌, List, ◌∷◌, length, refl, sym, ◌∙◌, ap, arith}
 use Rattle.std.specs.Prelude.{codes}
 use Rattle.std.specs.Int.{to_be_bytes, w64}
 use Rattle.svid_journal.specs.declared.title.File.{File}
 use Rattle.svid_journal.specs.declared.title.File.TheVariants.{Journal, Snapshot}
-use Rattle.svid_journal.specs.declared.title.Title.{Title}
 use Rattle.svid_journal.specs.Titles.{kind_of, number_of, bytes_of, TitlesDiffer}
 use Rattle.svid_journal.proofs.Lists.{same_parts}
 use Rattle.svid_journal.proofs.FramesLemmas.{same_number}

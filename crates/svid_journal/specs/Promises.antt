@@ -4,7 +4,7 @@ use Rattle.std.specs.List.{AllByRecursion, list_any}
 use Rattle.svid_journal.specs.declared.step.Step.TheVariants.{Idle}
 use Rattle.svid_journal.specs.Frames.{tag_of, sealed, filler, frame_of, frames_of, IsPayload, IsReading}
 use Rattle.svid_journal.specs.Reading.{HasLater}
-use Rattle.svid_journal.specs.Disk.{Outcome, IsLeft}
+use Rattle.svid_journal.specs.Disk.{Outcome, IsOutcome, as_seen, IsLeft}
 use Rattle.svid_journal.specs.History.{Titles, titles_of, World, Event, history, fresh, IsRead, AreAllowed}
 use Rattle.svid_journal.specs.History.Event.{Begin, Answer, Piece, Put, Grow, Sync, Crash, Start}
 
@@ -86,6 +86,10 @@ IsNoStart (Start oldest newest read) = ⊥
 
 abbrev pub EndedAcknowledgesNothing : Type 0
 EndedAcknowledgesNothing = (t : Titles) (events : List Event) (w : World) → w.folder.ended ≡ true → AllByRecursion IsNoStart events → (history t events w).acknowledged ≡ w.acknowledged
+
+-- A crash may come at any time, and leave what is there for who reads it.
+abbrev pub CrashesMayCome : Type 0
+CrashesMayCome = (t : Titles) (events : List Event) → IsOutcome (history t events fresh).disk (as_seen (history t events fresh).disk)
 
 -- The premises can be met: a payload is appended and acknowledged, and a new journal and a snapshot that has it take the place of the old
 -- journal.

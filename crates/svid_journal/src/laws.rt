@@ -1,17 +1,18 @@
 //! What holds of a folder over every history, as contracts of functions without a body.
 
 ghost use Rattle.svid_journal.specs.Titles.{TitlesDiffer};
-ghost use Rattle.svid_journal.specs.Promises.{AcknowledgedIsRead, DamageIsSeen, EndedAcknowledgesNothing, ExampleIsAllowed, JournalsAreRead, NothingElseIsRead};
+ghost use Rattle.svid_journal.specs.Promises.{AcknowledgedIsRead, CrashesMayCome, DamageIsSeen, EndedAcknowledgesNothing, ExampleIsAllowed, JournalsAreRead, NothingElseIsRead};
 
 /// Over every history of appends, switches, failures, crashes and starts: a use that was acknowledged is read at the next start,
 /// whenever that is, and of a journal all that was acknowledged of it, in order; only what was appended is read, or two texts have one
-/// tag; damage is seen; and once a sync failed nothing is acknowledged until the next start.
+/// tag; damage is seen; and once a sync failed nothing is acknowledged until the next start. A crash may come at any time.
 pub fn histories_keep()
     ensures acknowledged { AcknowledgedIsRead }
     ensures in_order { JournalsAreRead }
     ensures nothing_else { NothingElseIsRead }
     ensures damage { DamageIsSeen }
     ensures ended { EndedAcknowledgesNothing }
+    ensures crashes { CrashesMayCome }
     ensures example { ExampleIsAllowed }
 {}
 
