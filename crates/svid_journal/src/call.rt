@@ -3,7 +3,7 @@
 pub enum Call {
     /// None is due.
     Nothing,
-    /// Make an empty journal of this number. A file that has its name is removed first.
+    /// Make an empty journal of this number, a new file: one that has its name is removed first.
     CreateJournal(u64),
     /// Sync the folder.
     SyncFolder,
@@ -13,6 +13,6 @@ pub enum Call {
     SyncSnapshot,
     /// Rename it over the snapshot.
     RenameSnapshot,
-    /// Remove the journal of this number.
+    /// Remove the journal of this number. One that is not there is removed: that is a success.
     RemoveJournal(u64),
 }

@@ -14,9 +14,9 @@ pub enum Next<'a> {
     Payload(&'a [u8]),
     /// The end: nothing was written here.
     End,
-    /// A write that was cut off. Nobody was told that it is on the disk.
+    /// A write that was cut off: nobody was told that it is on the disk.
     Tear,
-    /// Damage: what was synced here has changed.
+    /// Damage: what was synced here, at [`Reader::at`], has changed.
     Damage,
     /// A frame of a newer format, of this number.
     Newer(u8),
