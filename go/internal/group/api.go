@@ -32,8 +32,10 @@ type stored struct {
 	Time  time.Time
 }
 
-// call asks the API, and reads the answer into out.
-func (g *Group) call(ctx context.Context, what string, in, out any) error {
+// ask asks the API, waits so long, and reads the answer into out.
+func (g *Group) ask(ctx context.Context, wait time.Duration, what string, in, out any) error {
+	ctx, cancel := context.WithTimeout(ctx, wait)
+	defer cancel()
 	var request []byte
 	if in != nil {
 		var err error
@@ -55,18 +57,16 @@ func (g *Group) call(ctx context.Context, what string, in, out any) error {
 	return json.Unmarshal(m.Data, out)
 }
 
-// info asks for the bucket's stream as it is, and waits so long. The error is nats.ErrStreamNotFound where there is none.
+// info asks for the bucket's stream as it is. The error is nats.ErrStreamNotFound where there is none.
 func (g *Group) info(ctx context.Context, wait time.Duration) (info streamInfo, err error) {
-	ctx, cancel := context.WithTimeout(ctx, wait)
-	defer cancel()
-	err = g.call(ctx, "STREAM.INFO."+g.stream, nil, &info)
+	err = g.ask(ctx, wait, "STREAM.INFO."+g.stream, nil, &info)
 	return info, err
 }
 
 // get asks for a stored value: by {"seq": place}, or by {"last_by_subj": subject}. The error is nats.ErrMsgNotFound where
 // there is none.
-func (g *Group) get(ctx context.Context, by map[string]any) (stored, error) {
+func (g *Group) get(ctx context.Context, wait time.Duration, by map[string]any) (stored, error) {
 	var answer struct{ Message stored }
-	err := g.call(ctx, "STREAM.MSG.GET."+g.stream, by, &answer)
+	err := g.ask(ctx, wait, "STREAM.MSG.GET."+g.stream, by, &answer)
 	return answer.Message, err
 }

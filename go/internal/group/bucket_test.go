@@ -86,7 +86,7 @@ func TestJoinRefusesABucketThatForgets(t *testing.T) {
 	} {
 		c := due(name)
 		row.change(c)
-		if err := a.call(patience(t), "STREAM.CREATE.KV_"+name, c, new(struct{})); err != nil {
+		if err := a.ask(patience(t), attemptWait, "STREAM.CREATE.KV_"+name, c, new(struct{})); err != nil {
 			t.Fatal(name, err)
 		}
 		o := options(1, s.URL)
@@ -96,11 +96,11 @@ func TestJoinRefusesABucketThatForgets(t *testing.T) {
 		wantJoin(t, o, row.want...)
 	}
 	sealed := due("sealed")
-	if err := a.call(patience(t), "STREAM.CREATE.KV_sealed", sealed, new(struct{})); err != nil {
+	if err := a.ask(patience(t), attemptWait, "STREAM.CREATE.KV_sealed", sealed, new(struct{})); err != nil {
 		t.Fatal(err)
 	}
 	sealed["sealed"] = true
-	if err := a.call(patience(t), "STREAM.UPDATE.KV_sealed", sealed, new(struct{})); err != nil {
+	if err := a.ask(patience(t), attemptWait, "STREAM.UPDATE.KV_sealed", sealed, new(struct{})); err != nil {
 		t.Fatal(err)
 	}
 	o := options(1, s.URL)

@@ -21,7 +21,6 @@ var silence = silenceWait
 
 var (
 	errNoValue = errors.New("no value came in time")
-	errFound   = errors.New("the broker was away")
 	errLost    = errors.New("values were lost on their way")
 	errSilent  = fmt.Errorf("the broker said nothing for %v", silenceWait)
 )
@@ -41,11 +40,15 @@ type feed struct {
 	heard    time.Time // when something came last
 }
 
-// feedFrom lets the broker send values. It waits so long for the broker's answer.
-func (g *Group) feedFrom(place uint64, wait time.Duration) (*feed, error) {
-	f := &feed{group: g, messages: make(chan *nats.Msg, mostAtOnce), done: make(chan struct{}), heard: time.Now()}
+// feedFrom lets the broker send values. It waits so long for the broker's answer; isSlow says that it took longer.
+func (g *Group) feedFrom(place uint64, wait time.Duration) (f *feed, isSlow bool, err error) {
+	// The one server that makes feeds says nothing while the others elect it. To ask it first costs less than to wait for
+	// the answer to a request that nobody got.
+	if err := g.ask(g.life, attemptWait, "INFO", nil, new(struct{})); err != nil {
+		return nil, false, err
+	}
+	f = &feed{group: g, messages: make(chan *nats.Msg, mostAtOnce), done: make(chan struct{}), heard: time.Now()}
 	inbox := g.conn.NewInbox()
-	var err error
 	f.inbox, err = g.conn.Subscribe(inbox, func(m *nats.Msg) {
 		select {
 		case f.messages <- m:
@@ -53,10 +56,8 @@ func (g *Group) feedFrom(place uint64, wait time.Duration) (*feed, error) {
 		}
 	})
 	if err != nil {
-		return nil, err
+		return nil, false, err
 	}
-	ctx, cancel := context.WithTimeout(g.life, wait)
-	defer cancel()
 	// No subject is named: the broker would look at each one of the bucket to count those that fit, and take a minute
 	// for a million.
 	request := map[string]any{"stream_name": g.stream, "config": nats.ConsumerConfig{
@@ -64,12 +65,12 @@ func (g *Group) feedFrom(place uint64, wait time.Duration) (*feed, error) {
 		AckPolicy: nats.AckNonePolicy, MaxDeliver: 1, Heartbeat: heartbeat, FlowControl: true, Replicas: 1, MemoryStorage: true,
 	}}
 	var made struct{ Name string }
-	if err := g.call(ctx, "CONSUMER.CREATE."+g.stream, request, &made); err != nil {
+	if err := g.ask(g.life, wait, "CONSUMER.CREATE."+g.stream, request, &made); err != nil {
 		f.close()
-		return nil, err
+		return nil, errors.Is(err, context.DeadlineExceeded), err
 	}
 	f.consumer = made.Name
-	return f, nil
+	return f, false, nil
 }
 
 // close ends the feed. The broker forgets it after some seconds in which nobody listens: a member that could let it forget
@@ -97,8 +98,6 @@ func (f *feed) next(wait time.Duration) (m *nats.Msg, about *nats.MsgMetadata, e
 			about, err = f.read(m)
 		case <-timer.C:
 			err = errNoValue
-		case <-f.group.found:
-			err = errFound
 		case <-f.group.life.Done():
 			err = f.group.life.Err()
 		}
@@ -143,14 +142,12 @@ func (f *feed) control(m *nats.Msg) error {
 
 // allCame says whether the broker has sent all values that it has, and all of them were read.
 func (f *feed) allCame() bool {
-	ctx, cancel := context.WithTimeout(f.group.life, attemptWait)
-	defer cancel()
 	var info struct {
 		Pending   uint64 `json:"num_pending"`
 		Delivered struct {
 			Number uint64 `json:"consumer_seq"`
 		}
 	}
-	err := f.group.call(ctx, "CONSUMER.INFO."+f.group.stream+"."+f.consumer, nil, &info)
+	err := f.group.ask(f.group.life, attemptWait, "CONSUMER.INFO."+f.group.stream+"."+f.consumer, nil, &info)
 	return err == nil && info.Pending == 0 && info.Delivered.Number == f.number
 }

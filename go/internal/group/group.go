@@ -108,9 +108,8 @@ type Group struct {
 	subject string // what its keys' subjects begin with
 	conn    *nats.Conn
 	js      nats.JetStreamContext
-	member  string        // this member's name in keys
-	secret  [32]byte      // what the tags of its keys are made from
-	found   chan struct{} // holds one if the broker was away, and is there again
+	member  string   // this member's name in keys
+	secret  [32]byte // what the tags of its keys are made from
 
 	stored atomic.Uint64 // the place of the last own value that the broker has stored, as far as it has said so
 
@@ -143,7 +142,7 @@ func Join(ctx context.Context, o Options, s Sink) (*Group, error) {
 		return nil, fmt.Errorf("group: no random bytes for the name of a member: %w", err)
 	}
 	g := &Group{options: o, stream: "KV_" + o.Name, subject: "$KV." + o.Name + ".", member: hex.EncodeToString(member[:]),
-		sink: s, ready: make(chan struct{}), found: make(chan struct{}, 1)}
+		sink: s, ready: make(chan struct{})}
 	if _, err := rand.Read(g.secret[:]); err != nil {
 		return nil, fmt.Errorf("group: no random bytes for the keys of values: %w", err)
 	}
@@ -197,13 +196,7 @@ func (g *Group) connect(ctx context.Context) error {
 		nats.PingInterval(pingEvery),
 		nats.MaxPingsOutstanding(2),
 		nats.DisconnectErrHandler(func(_ *nats.Conn, err error) { g.log("broker lost", "why", err) }),
-		nats.ReconnectHandler(func(nc *nats.Conn) {
-			g.log("broker found", "server", nc.ConnectedUrlRedacted())
-			select {
-			case g.found <- struct{}{}:
-			default:
-			}
-		}),
+		nats.ReconnectHandler(func(nc *nats.Conn) { g.log("broker found", "server", nc.ConnectedUrlRedacted()) }),
 		nats.ErrorHandler(func(_ *nats.Conn, _ *nats.Subscription, err error) {
 			held, ok := g.faults.speak(time.Now())
 			if ok || err.Error() != g.fault { // The client calls this in one goroutine.
@@ -285,7 +278,7 @@ func (g *Group) Put(ctx context.Context, kind Kind, number uint64, message []byt
 			g.isStored(ack.Sequence)
 			return true, nil
 		case errors.Is(err, nats.ErrKeyExists): // An earlier attempt may have stored it, and its answer was lost.
-			is, err := g.get(attempt, map[string]any{"last_by_subj": subject})
+			is, err := g.get(attempt, attemptWait, map[string]any{"last_by_subj": subject})
 			if err != nil {
 				return false, err
 			}
@@ -302,9 +295,7 @@ func (g *Group) Put(ctx context.Context, kind Kind, number uint64, message []byt
 // Stored returns when the broker stored a value that this member has put, by the broker's clock.
 func (g *Group) Stored(ctx context.Context, kind Kind, number uint64) (at time.Time, err error) {
 	err = persist(ctx, "group: look for a stored value", func() (bool, error) {
-		attempt, cancel := context.WithTimeout(ctx, attemptWait)
-		defer cancel()
-		is, err := g.get(attempt, map[string]any{"last_by_subj": g.subject + g.keyOf(kind, number)})
+		is, err := g.get(ctx, attemptWait, map[string]any{"last_by_subj": g.subject + g.keyOf(kind, number)})
 		at = is.Time
 		return err == nil, err
 	})

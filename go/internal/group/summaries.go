@@ -44,7 +44,7 @@ func (g *Group) Summaries(every time.Duration, summary func() ([]byte, error), a
 		case <-g.life.Done():
 		}
 		for g.life.Err() == nil {
-			if err := g.ask(subject, summary); err != nil && g.life.Err() == nil {
+			if err := g.repair(subject, summary); err != nil && g.life.Err() == nil {
 				g.log("a summary has no answer", "why", err)
 			}
 			pause(g.life, every/2+time.Duration(rand.Int63n(int64(every)+1))) // Members do not ask all at once.
@@ -52,8 +52,8 @@ func (g *Group) Summaries(every time.Duration, summary func() ([]byte, error), a
 	}()
 }
 
-// ask sends a summary to one other member, and takes its answer. It is no error that no other member is there.
-func (g *Group) ask(subject string, summary func() ([]byte, error)) error {
+// repair sends a summary to one other member, and takes its answer. It is no error that no other member is there.
+func (g *Group) repair(subject string, summary func() ([]byte, error)) error {
 	text, err := summary()
 	if err != nil {
 		return err

@@ -59,9 +59,6 @@ func (g *Group) watch(b bucket) {
 		if g.life.Err() != nil {
 			return
 		}
-		if errors.Is(err, errFound) {
-			continue
-		}
 		if rest *= 2; rest > mostAnewWait {
 			rest = mostAnewWait
 		}
@@ -100,26 +97,23 @@ func pause(ctx context.Context, d time.Duration) {
 // read reads values behind the last one until something is wrong.
 func (r *reader) read() error {
 	r.catchUp()
-	g := r.group
-	select {
-	case <-g.found: // Reading begins now in any case.
-	default:
-	}
-	f, err := g.feedFrom(r.seen+1, r.wait)
+	f, isSlow, err := r.group.feedFrom(r.seen+1, r.wait)
 	if errors.Is(err, nats.ErrStreamNotFound) {
 		return r.reopen()
 	}
-	if err == nil {
-		defer f.close()
-		err = r.isSame()
-	}
-	if err != nil {
+	if isSlow {
 		if r.wait *= 2; r.wait > mostReadWait {
 			r.wait = mostReadWait
 		}
+	}
+	if err != nil {
 		return err
 	}
+	defer f.close()
 	r.wait, r.last = readWait, time.Now()
+	if err := r.isSame(); err != nil {
+		return err
+	}
 	for {
 		m, about, err := f.next(r.patience())
 		if errors.Is(err, errNoValue) {
@@ -192,7 +186,7 @@ func (r *reader) missing(to uint64) {
 // passed over, so all is read again then.
 func (r *reader) isSame() error {
 	g := r.group
-	info, err := g.info(g.life, r.wait)
+	info, err := g.info(g.life, readWait)
 	if err != nil {
 		return err
 	}
@@ -204,9 +198,7 @@ func (r *reader) isSame() error {
 	if r.stamp.IsZero() {
 		return nil
 	}
-	ctx, cancel := context.WithTimeout(g.life, r.wait)
-	defer cancel()
-	m, err := g.get(ctx, map[string]any{"seq": r.seen})
+	m, err := g.get(g.life, readWait, map[string]any{"seq": r.seen})
 	switch {
 	case errors.Is(err, nats.ErrMsgNotFound): // It has expired, or someone removed it. Nothing else took its place.
 		return nil
