@@ -5,12 +5,27 @@ import (
 	"errors"
 	"reflect"
 	"runtime"
+	"sync"
 	"testing"
 	"time"
+
+	"svid.example/go/internal/issuer"
 )
 
 // The race detector does not see what the C library writes. So these tests hold a lock, or all handles, and want each call to
 // wait for it.
+
+var (
+	ofLocks     *issuer.Issuer
+	ofLocksOnce sync.Once
+)
+
+// issuerOfLocks is one issuer for all of these tests.
+func issuerOfLocks(t *testing.T) *issuer.Issuer {
+	t.Helper()
+	ofLocksOnce.Do(func() { ofLocks = newIssuer(t, "example.org") })
+	return ofLocks
+}
 
 // inside runs a call. By its name the calls that wait are found among all goroutines.
 //
@@ -87,7 +102,7 @@ func openValidator(t *testing.T, bundles []byte) *Validator {
 
 func TestEachCallOfAValidatorHoldsItsLock(t *testing.T) {
 	const now = 1_767_225_600
-	one := newIssuer(t, "example.org")
+	one := issuerOfLocks(t)
 	v, k := openValidator(t, one.Bundles()), openKeyring(t, string(one.Bundles()))
 	token := one.Token("ES256", map[string]any{"sub": "spiffe://example.org/web", "aud": "ledger", "exp": now + 300, "jti": "a"})
 	yes, err := k.Verify(token)
@@ -154,7 +169,7 @@ func TestALongCallKeepsTheLock(t *testing.T) {
 }
 
 func TestEachCallOfAKeyringHoldsItsLock(t *testing.T) {
-	one := newIssuer(t, "example.org")
+	one := issuerOfLocks(t)
 	k := openKeyring(t, string(one.Bundles()))
 	token := func(jti string) string {
 		return one.Token("ES256", map[string]any{"sub": "spiffe://example.org/web", "aud": "ledger", "exp": 2_000_000_000, "jti": jti})
@@ -191,7 +206,7 @@ func TestEachCallOfAKeyringHoldsItsLock(t *testing.T) {
 
 // A handle of the library serves one call at a time, and is there for the next one afterwards.
 func TestEachHandleServesOneCall(t *testing.T) {
-	one := newIssuer(t, "example.org")
+	one := issuerOfLocks(t)
 	k := openKeyring(t, string(one.Bundles()))
 	var all []*asker
 	for range make([]struct{}, cap(k.askers)) {
@@ -213,7 +228,7 @@ func TestEachHandleServesOneCall(t *testing.T) {
 
 // The keys and plans of bundles have a lock of their own.
 func TestTheKeysOfBundlesHaveALock(t *testing.T) {
-	one := newIssuer(t, "example.org")
+	one := issuerOfLocks(t)
 	k := openKeyring(t, string(one.Bundles()))
 	token := one.Token("ES256", map[string]any{"sub": "spiffe://example.org/web", "aud": "ledger", "exp": 2_000_000_000, "jti": "a"})
 	s, _ := cutToken(token)
@@ -243,7 +258,7 @@ func TestTheKeysOfBundlesHaveALock(t *testing.T) {
 
 // The handles of bundles that were replaced are closed, and those of a keyring that is closed.
 func TestOldBundlesAreFreed(t *testing.T) {
-	one := newIssuer(t, "example.org")
+	one := issuerOfLocks(t)
 	k := openKeyring(t, string(one.Bundles()))
 	for i, replace := range []func(){
 		func() {
