@@ -63,8 +63,8 @@ func (g *Group) info(ctx context.Context, wait time.Duration) (info streamInfo, 
 	return info, err
 }
 
-// get asks for a stored value: by {"seq": place}, or by {"last_by_subj": subject}. The error is nats.ErrMsgNotFound where
-// there is none.
+// get asks for a stored value: by {"seq": place}, by {"last_by_subj": subject}, or, from a place on, by {"seq": place,
+// "next_by_subj": subject}. The error is nats.ErrMsgNotFound where there is none.
 func (g *Group) get(ctx context.Context, wait time.Duration, by map[string]any) (stored, error) {
 	var answer struct{ Message stored }
 	err := g.ask(ctx, wait, "STREAM.MSG.GET."+g.stream, by, &answer)

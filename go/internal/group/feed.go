@@ -139,15 +139,3 @@ func (f *feed) control(m *nats.Msg) error {
 	}
 	return nil
 }
-
-// allCame says whether the broker has sent all values that it has, and all of them were read.
-func (f *feed) allCame() bool {
-	var info struct {
-		Pending   uint64 `json:"num_pending"`
-		Delivered struct {
-			Number uint64 `json:"consumer_seq"`
-		}
-	}
-	err := f.group.ask(f.group.life, attemptWait, "CONSUMER.INFO."+f.group.stream+"."+f.consumer, nil, &info)
-	return err == nil && info.Pending == 0 && info.Delivered.Number == f.number
-}

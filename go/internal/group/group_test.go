@@ -988,19 +988,35 @@ func TestValuesBeforeALossAreTaken(t *testing.T) {
 	}
 }
 
-// A place that lies behind the last one is one of another bucket: all is read again.
-func TestAPlaceThatWasReadBefore(t *testing.T) {
-	s := &sink{}
-	g := &Group{stream: "KV_test", sink: s, ready: make(chan struct{}), life: context.Background()}
-	f := &feed{group: g, consumer: "c", messages: make(chan *nats.Msg, 9)}
-	f.messages <- delivered(1, 5, 1)
-	r := reader{group: g, bucket: bucket{first: 1, last: 9, created: time.Now()}, seen: 5}
-	m, about, err := f.next(time.Second)
-	if err == nil {
-		err = r.values(f, m, about)
-	}
-	if err != errAnother || len(s.order) != 0 || r.seen != 0 || !r.gap {
-		t.Errorf("%v, %d values, seen %d", err, len(s.order), r.seen)
+// A server that is behind the others sends values again that were read: these are passed over. Where the last one that was
+// read is another one at its place, or was not read, it is another bucket: all is read again.
+func TestPlacesThatWereReadBefore(t *testing.T) {
+	at := time.Unix(0, 1700000000000000000)
+	for name, row := range map[string]struct {
+		stamp time.Time
+		want  error
+		order int
+		seen  uint64
+		gap   bool
+	}{
+		"a server behind":    {at, nil, 1, 6, false},
+		"another last value": {at.Add(1), errAnother, 0, 0, true},
+		"gone, not read":     {time.Time{}, errAnother, 0, 0, true},
+	} {
+		s := &sink{}
+		g := &Group{stream: "KV_test", sink: s, ready: make(chan struct{}), life: context.Background()}
+		f := &feed{group: g, consumer: "c", messages: make(chan *nats.Msg, 9)}
+		for n := 1; n < 4; n++ {
+			f.messages <- delivered(n, uint64(3+n), uint64(n))
+		}
+		r := reader{group: g, bucket: bucket{first: 1, last: 9, created: time.Now()}, seen: 5, stamp: row.stamp}
+		m, about, err := f.next(time.Second)
+		if err == nil {
+			err = r.values(f, m, about)
+		}
+		if err != row.want || len(s.order) != row.order || r.seen != row.seen || r.gap != row.gap {
+			t.Errorf("%s: %v, %d values, seen %d, gap %v", name, err, len(s.order), r.seen, r.gap)
+		}
 	}
 }
 

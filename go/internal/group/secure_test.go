@@ -166,7 +166,7 @@ func TestTheServersOfDeploy(t *testing.T) {
 	}
 	for _, forbidden := range []string{"$JS.API.STREAM.DELETE.KV_svid", "$JS.API.STREAM.PURGE.KV_svid", "$JS.API.STREAM.MSG.DELETE.KV_svid",
 		"$JS.API.STREAM.UPDATE.KV_svid", "$JS.API.STREAM.RESTORE.KV_svid", "$JS.API.STREAM.CREATE.KV_other",
-		"$JS.API.CONSUMER.DELETE.KV_svid.x", "$JS.API.CONSUMER.DURABLE.CREATE.KV_svid.x", "$KV.other.a", "svid.other.summary"} {
+		"$JS.API.CONSUMER.DELETE.KV_svid.x", "$JS.API.CONSUMER.INFO.KV_svid.x", "$JS.API.CONSUMER.DURABLE.CREATE.KV_svid.x", "$KV.other.a", "svid.other.summary"} {
 		if err := a.conn.Publish(forbidden, nil); err != nil {
 			t.Fatal(err)
 		}

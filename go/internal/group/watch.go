@@ -140,6 +140,10 @@ func (r *reader) values(f *feed, m *nats.Msg, about *nats.MsgMetadata) error {
 	var wrong error
 	for size := 0; wrong == nil; {
 		place := about.Sequence.Stream
+		if r.wasRead(place, about.Timestamp) {
+			m, about, wrong = f.next(0)
+			continue
+		}
 		if place <= r.seen {
 			wrong = errAnother
 			r.begin(r.bucket)
@@ -166,6 +170,12 @@ func (r *reader) values(f *feed, m *nats.Msg, about *nats.MsgMetadata) error {
 		return nil
 	}
 	return wrong
+}
+
+// wasRead says whether a value is one that was read before. A server that is behind the others sends those, before it comes
+// to the first one that is asked for. The value that was read last shows that it is the same bucket (isSame).
+func (r *reader) wasRead(place uint64, stamp time.Time) bool {
+	return !r.stamp.IsZero() && (place < r.seen || place == r.seen && stamp.Equal(r.stamp))
 }
 
 // missing notes that values behind the last one, up to this place, were gone before they were read.
@@ -283,7 +293,7 @@ func (r *reader) idle(f *feed) error {
 		r.missing(info.State.Last)
 		r.catchUp()
 		return nil
-	case info.State.Last > r.seen && f.allCame(): // Someone removed the last values.
+	case info.State.Last > r.seen && r.isLast(): // Someone removed the last values.
 		r.missing(info.State.Last)
 		r.catchUp()
 		return nil
@@ -297,6 +307,13 @@ func (r *reader) idle(f *feed) error {
 		r.group.stored.Store(r.seen)
 	}
 	return nil
+}
+
+// isLast says whether the bucket has no value behind the last one that was read. The bucket's leader knows it: the server that
+// feeds this reader may be behind.
+func (r *reader) isLast() bool {
+	_, err := r.group.get(r.group.life, attemptWait, map[string]any{"seq": r.seen + 1, "next_by_subj": r.group.subject + ">"})
+	return errors.Is(err, nats.ErrMsgNotFound)
 }
 
 // reopen makes the bucket anew where someone removed it.
