@@ -942,6 +942,7 @@ func TestServersWithoutALeaderAreNotSlow(t *testing.T) {
 	servers[1].Kill()
 	servers[2].Kill()
 	natstest.Await(t, "the server that is left", func() bool { return a.Connected() && a.conn.ConnectedUrl() == servers[0].URL })
+	natstest.Await(t, "the end of its time as a leader", func() bool { return !servers[0].Answers() })
 	if _, isSlow, err := a.feedFrom(1, readWait); err == nil || isSlow {
 		t.Errorf("%v, slow: %v", err, isSlow)
 	}
