@@ -98,6 +98,7 @@ func notify(state string) {
 		return
 	}
 	if c, err := net.Dial("unixgram", name); err == nil {
+		_ = c.SetDeadline(time.Now().Add(time.Second)) // Nobody waits for who does not read it.
 		_, _ = c.Write([]byte(state))
 		c.Close()
 	}

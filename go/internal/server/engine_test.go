@@ -52,6 +52,47 @@ func TestNothingIsJudgedWhileTheRecordIsRead(t *testing.T) {
 	if _, uses, err := svid.Uses(saved(t, e)); err != nil || len(uses) != 1 {
 		t.Errorf("the record has %d uses, %v", len(uses), err)
 	}
+
+	// The clock jumps ahead behind the last message.
+	now := uint64(moment)
+	far := engine(t, Options{Mode: Once, Step: 600, Now: func() uint64 { now += 1000; return now }})
+	if err := far.Load(messages); err != svid.ErrJump || far.loaded.Load() {
+		t.Errorf("a clock that jumps: %v", err)
+	}
+}
+
+// Bundles that are replaced at the same time leave the validator and the keyring with the same ones.
+func TestBundlesThatAreReplacedAtOnce(t *testing.T) {
+	e := ready(t, engine(t, Options{Mode: Reuse}))
+	other, err := issuer.New("example.org")
+	if err != nil {
+		t.Fatal(err)
+	}
+	sets := []json.RawMessage{example.JWKSet(), other.JWKSet()}
+	claims := map[string]any{"sub": "spiffe://example.org/web", "aud": "ledger", "exp": moment + 300}
+	tokens := []string{example.Token("ES256", claims), other.Token("ES256", claims)}
+	for round := 0; round < 100; round++ {
+		var all sync.WaitGroup
+		for _, set := range sets {
+			all.Add(1)
+			go func(set json.RawMessage) {
+				defer all.Done()
+				if err := e.SetBundles(map[string]json.RawMessage{"example.org": set}); err != nil {
+					t.Error(err)
+				}
+			}(set)
+		}
+		all.Wait()
+		for i, one := range tokens {
+			want := error(svid.BadSignature)
+			if bytes.Contains(*e.bundles.Load(), sets[i]) {
+				want = nil
+			}
+			if err := check(e, one); err != want {
+				t.Fatalf("round %d: token %d: %v, want %v", round, i, err, want)
+			}
+		}
+	}
 }
 
 // A withdrawal names any token that has not expired, also one that lives for longer than tokens may, and one that was used.
@@ -73,7 +114,7 @@ func TestAnyTokenCanBeWithdrawn(t *testing.T) {
 		token  string
 		status int
 	}{
-		"used": {used, 200}, "long-lived": {long, 200}, "expired": {example.Token("ES256", claims(moment)), 422},
+		"no token": {"a.b.c", 422}, "used": {used, 200}, "long-lived": {long, 200}, "expired": {example.Token("ES256", claims(moment)), 422},
 		"not signed": {long[:len(long)-8] + "AAAAAAAA", 422},
 	} {
 		w := httptest.NewRecorder()
