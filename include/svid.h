@@ -251,8 +251,7 @@ uint32_t svid_validator_judge(svid_validator *v, uint64_t now, const svid_questi
 
 /* Judges again a token that this validator has accepted, or judged so: `key` and `exp` are those of `used`. While the bundles stay, the
  * status is what svid_validator_judge would answer for that token and the same `yes`: SVID_OK, or SVID_EXPIRED, SVID_WITHDRAWN or
- * SVID_REPLAYED. It reads no token, so it takes a fraction of the time. It first advances the record to `now`, and adds nothing. SVID_JUMP.
- * (Since version 1.1.) */
+ * SVID_REPLAYED. It reads no token, so it takes a fraction of the time. It first advances the record to `now`, and adds nothing. SVID_JUMP. */
 uint32_t svid_validator_judge_again(svid_validator *v, uint64_t now, const svid_key *key, uint64_t exp, svid_told *told);
 
 /* Withdraws the token with this key, which expires at `exp`: it is refused as SVID_WITHDRAWN from now on, also by the validators that are told of

@@ -209,7 +209,15 @@ extern "C" {
     ) -> u32;
     fn svid_validator_close(v: *mut Validator);
     fn svid_validator_bundles(v: *mut Validator, bundles: *const u8, len: usize, told: *mut Told) -> u32;
-    fn svid_validator_ask(v: *mut Validator, token: *const u8, token_len: usize, most: usize, out: *mut u8, len: usize, told: *mut Told) -> u32;
+    fn svid_validator_ask(
+        v: *mut Validator,
+        token: *const u8,
+        token_len: usize,
+        most: usize,
+        out: *mut u8,
+        len: usize,
+        told: *mut Told,
+    ) -> u32;
     fn svid_validator_check(
         v: *mut Validator,
         now: u64,
