@@ -196,7 +196,7 @@ class NoKey(Refused):
 
 
 class BadSignature(Refused):
-    """No key that fits made the signature."""
+    """No key among the first 4 that fit made the signature."""
 
 
 class Withdrawn(Refused):
