@@ -15,7 +15,7 @@ impl Sink for KeptSink {
 
     ghost told = { λ _. None };
 
-    ghost stops = { λ s. PieceSink.stops s.sink };
+    ghost stops = { λ s. ⟦<PieceSink as Sink>⟧.stops s.sink };
 
     fn put(&mut self, piece: &[u8]) -> Result<usize, Stopped> {
         self.sink.put(piece)
