@@ -105,17 +105,9 @@ func TestAPipeInThePlaceOfAFile(t *testing.T) {
 	} {
 		p := prepare(t, nil, row.args...)
 		p.launch()
-		ended := make(chan error, 1)
-		go func() { ended <- p.run.Wait() }()
-		select {
-		case err := <-ended:
-			if status := p.run.ProcessState.ExitCode(); status != 2 || !strings.Contains(p.log.String(), row.want) {
-				t.Errorf("%q: %v, %s", row.args, err, p.log)
-			}
-		case <-time.After(patience):
-			t.Errorf("%q: svidd does not end: %s", row.args, p.log)
-			_ = p.run.Process.Kill()
-			<-ended
+		p.exitsWith(2)
+		if !strings.Contains(p.log.String(), row.want) {
+			t.Errorf("%q: %s", row.args, p.log)
 		}
 	}
 }

@@ -33,12 +33,18 @@ func piped(t *testing.T, args ...string) (p *process, reader *os.File) {
 // exits wants the process to end by itself, with a status of 0.
 func (p *process) exits() {
 	p.t.Helper()
+	p.exitsWith(0)
+}
+
+// exitsWith wants the process to end by itself, with a status.
+func (p *process) exitsWith(status int) {
+	p.t.Helper()
 	ended := make(chan error, 1)
 	go func() { ended <- p.run.Wait() }()
 	select {
 	case err := <-ended:
-		if err != nil {
-			p.t.Errorf("svidd: %v\n%s", err, p.log)
+		if got := p.run.ProcessState.ExitCode(); got != status {
+			p.t.Errorf("svidd ends with %d (%v), want %d\n%s", got, err, status, p.log)
 		}
 	case <-time.After(patience):
 		p.t.Errorf("svidd does not end within %v\n%s", patience, p.log)

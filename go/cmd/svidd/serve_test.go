@@ -10,6 +10,7 @@ import (
 	"time"
 
 	"svid.example/go/internal/issuer"
+	"svid.example/go/svid"
 )
 
 // One sidecar from its start to its end, as a user meets it.
@@ -143,6 +144,31 @@ func TestASecondProcessDoesNotShareAStateFolder(t *testing.T) {
 		t.Errorf("second process: %d %q", status, err)
 	}
 	p.end()
+}
+
+// A record that can't be taken ends the start: without it, tokens that were used could be accepted.
+func TestAStateFolderThatCantBeTaken(t *testing.T) {
+	future := svid.Use{Key: svid.TokenKey{1}, Expires: svid.Now() + 7200, At: svid.Now() + 3600}.Batch()
+	for _, row := range []struct {
+		name    string
+		content []byte
+		want    string
+	}{
+		{"journal.1", future, "set the clock right"},
+		{"snapshot", []byte("garbage"), "snapshot is damaged at byte 0"},
+		{"place", []byte("here\n"), "is not 32 hexadecimal digits"},
+	} {
+		state := t.TempDir()
+		if err := os.WriteFile(filepath.Join(state, row.name), row.content, 0o600); err != nil {
+			t.Fatal(err)
+		}
+		p := prepare(t, nil, bundleOption(bundleFile(t, example)), "--state", state)
+		p.launch()
+		p.exitsWith(2)
+		if !strings.Contains(p.log.String(), row.want) || len(p.events("end")) != 1 {
+			t.Errorf("%s: %s", row.name, p.log)
+		}
+	}
 }
 
 func TestWhatIsWrongWithTheOptionsIsSaidAtOnce(t *testing.T) {
