@@ -51,15 +51,16 @@ func waiting() (n int) {
 	return n
 }
 
-// wantWait wants each of the calls to wait until free is called, and to return behind that.
+// wantWait wants each of the calls to wait until free is called, and to return behind that. Other calls may wait before.
 func wantWait(t *testing.T, what string, free func(), calls map[string]func()) {
 	t.Helper()
+	before := waiting()
 	done := make(chan string, len(calls))
 	for name, call := range calls {
 		go inside(call, done, name)
 	}
 	returned := 0
-	for end := time.Now().Add(20 * time.Second); returned+waiting() < len(calls); time.Sleep(time.Millisecond) {
+	for end := time.Now().Add(20 * time.Second); returned+waiting()-before < len(calls); time.Sleep(time.Millisecond) {
 		select {
 		case name := <-done:
 			returned++
@@ -212,9 +213,10 @@ func TestEachHandleServesOneCall(t *testing.T) {
 	for range make([]struct{}, cap(k.askers)) {
 		all = append(all, <-k.askers)
 	}
+	askers := k.askers
 	free := func() {
 		for _, a := range all {
-			k.askers <- a
+			askers <- a
 		}
 	}
 	wantWait(t, "all handles are in use", free, map[string]func(){
@@ -223,6 +225,22 @@ func TestEachHandleServesOneCall(t *testing.T) {
 	})
 	if len(k.askers) != cap(k.askers) {
 		t.Errorf("%d handles of %d are left", len(k.askers), cap(k.askers))
+	}
+
+	// The bundles stay until it has its answer: their handles are closed behind it.
+	for i := range all {
+		all[i] = <-k.askers
+	}
+	done := make(chan string, 1)
+	go inside(func() { _, _ = k.Candidates("a.b.c") }, done, "Candidates")
+	for waiting() < 1 {
+		time.Sleep(time.Millisecond)
+	}
+	wantWait(t, "a call asks of the bundles", free, map[string]func(){"SetBundles": func() { _ = k.SetBundles(one.Bundles()) }})
+	select {
+	case <-done:
+	case <-time.After(20 * time.Second):
+		t.Fatal("Candidates does not return")
 	}
 }
 
