@@ -93,6 +93,33 @@ func TestTheAgentIsAway(t *testing.T) {
 	o.await(t, "a word of it", o.says("bundle source is well again source "+agent.Address))
 }
 
+// A bundle grows old where the agent gives a bad one in its place, and all do while the agent is away.
+func TestBundlesOfAnAgentGrowOld(t *testing.T) {
+	agent := agenttest.Start(t)
+	agent.Give(t, map[string]string{"spiffe://a": bare, "spiffe://b": bare})
+	w, o := watch(t, nil, WorkloadAPI(agent.Address))
+	o.await(t, "the bundles", o.calledTimes(1))
+	agent.Give(t, map[string]string{"spiffe://a": bare, "spiffe://b": "x"})
+	o.await(t, "the bad one", o.says("source b of"))
+	wantOld := func(a, b bool) {
+		t.Helper()
+		w.mu.Lock()
+		for _, held := range w.held {
+			held.good = time.Now().Add(-time.Hour)
+		}
+		w.mu.Unlock()
+		for domain, want := range map[string]bool{"a": a, "b": b} {
+			if age, ok := w.Age(domain); !ok || (age >= time.Hour) != want {
+				t.Errorf("%s is %v old", domain, age)
+			}
+		}
+	}
+	wantOld(false, true)
+	agent.Kill(t)
+	o.await(t, "the end of the stream", o.says("bundle not read; the last good one stays source "+agent.Address))
+	wantOld(true, true)
+}
+
 // An agent that says nothing is told of, and asked again.
 func TestASilentAgent(t *testing.T) {
 	agent := agenttest.Start(t)
