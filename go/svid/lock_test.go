@@ -261,9 +261,9 @@ func TestTheKeysOfBundlesHaveALock(t *testing.T) {
 	text := []byte(candidates[0].Key.JSON())
 	changing := map[string]func(){
 		"a new key":  func() { keys.get([]byte("{}")) },
-		"a new plan": func() { keys.keep(&s, candidates, 0, signature) },
+		"a new plan": func() { own := s; keys.keep(&own, candidates, 0, signature) },
 	}
-	all := map[string]func(){"a known key": func() { keys.get(text) }, "a plan": func() { k.planOf(&s) }}
+	all := map[string]func(){"a known key": func() { keys.get(text) }, "a plan": func() { own := s; k.planOf(&own) }}
 	for name, call := range changing {
 		all[name] = call
 	}
