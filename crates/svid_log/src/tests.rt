@@ -149,3 +149,85 @@ fn goes_on_from_a_save(rt: HostRuntime) {
     assert_eq!(rt; fates[0], Fate::Replayed);
     assert_eq!(rt; fates[1], Fate::Accepted);
 }
+
+// Sizes that no allocator can give, by which the library of ./test that refuses allocations is commanded. No allocator gives so
+// much, so without that library nothing is refused.
+const ARM: usize = 4_611_686_018_427_387_904;
+
+const ASK: usize = 6_917_529_027_641_081_856;
+
+fn refuse(alloc: Global, nth: usize)
+    requires { nth < 4294967296 }
+{
+    let _ = Vec::<u8>::with_capacity(alloc, ARM + nth);
+}
+
+fn was_refused(alloc: Global) -> bool {
+    Vec::<u8>::with_capacity(alloc, ASK).is_ok()
+}
+
+// A use that memory is refused for is read by the next call, whether the record or the store beside it was to take it.
+#[test]
+fn reads_again_what_memory_is_refused_for(rt: HostRuntime) {
+    let alloc = rt.alloc();
+    let uses = [claim(1, OWN, 100), claim(1, OTHER, 100)];
+    for nth in 1..100usize {
+        let mut held = Record::new(SortedUses::new(alloc));
+        let mut member = member(alloc, 0);
+        let mut fates = [Fate::Expired; 2];
+        refuse(alloc, nth);
+        let first = member.read(&mut held, 100, 30, 1, &uses, &mut fates);
+        let refused = was_refused(alloc);
+        refuse(alloc, 0);
+        if !refused {
+            assert_eq!(rt; first.rest, Rest::Nothing);
+            break;
+        }
+        assert_eq!(rt; first.rest, Rest::NoMemory);
+        let second = member.read(&mut held, 100, 30, 1, &uses, &mut fates);
+        assert_eq!(rt; (second.from, second.rest), (first.count, Rest::Nothing));
+        assert_eq!(rt; (held.len(), member.mark().passed), (1, 1));
+    }
+}
+
+// A save, its reading and a restart from it answer that memory was refused, and leave the member as it was.
+#[test]
+fn saves_again_what_memory_is_refused_for(rt: HostRuntime) {
+    let alloc = rt.alloc();
+    let mut held = Record::new(SortedUses::new(alloc));
+    let mut first = member(alloc, 0);
+    let mut fates = [Fate::Expired; 1];
+    first.read(&mut held, 100, 30, 1, &[claim(2, OTHER, 150)], &mut fates);
+    let mut sink = MemSink::new(alloc, 4096, None);
+    for batch in &first.save(alloc).expect(&rt, "memory") {
+        write_batch(batch, &mut sink).expect(&rt, "memory");
+    }
+    let beside = [claim(2, OTHER, 150)];
+    for nth in 1..100usize {
+        refuse(alloc, nth);
+        let saved = first.save(alloc).is_err();
+        let was_saving = was_refused(alloc);
+        refuse(alloc, nth);
+        let read = Value::read(alloc, sink.bytes()).is_err();
+        let was_reading = was_refused(alloc);
+        refuse(alloc, nth);
+        let restored = Member::restore(
+            SortedUses::new(alloc),
+            OWN,
+            300,
+            first.mark(),
+            1,
+            &beside,
+        ).is_err();
+        let was_restoring = was_refused(alloc);
+        refuse(alloc, 0);
+        assert_eq!(rt;
+            (saved, read, restored),
+            (was_saving, was_reading, was_restoring)
+        );
+        if !was_saving && !was_reading && !was_restoring {
+            break;
+        }
+    }
+    assert_eq!(rt; first.save(alloc).expect(&rt, "memory").len(), 1);
+}
