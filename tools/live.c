@@ -8,6 +8,7 @@
  *   live stack      each call of svid.h on a painted stack, which tells how much of it the call needs */
 #define _GNU_SOURCE
 #include "svid.h"
+#include <malloc.h>
 #include <pthread.h>
 #include <stdio.h>
 #include <stdlib.h>
@@ -19,7 +20,8 @@
 /* The stack that a call may take: svid.h says so. */
 #define STACK_MOST 122880
 
-static long asked, standing, refused_at;
+/* How many allocations were asked for; how many blocks stand, and with how many bytes. */
+static long asked, standing, held, refused_at;
 
 #ifdef WRAPPED
 void *__real_malloc(size_t size);
@@ -29,14 +31,21 @@ static int is_refused(void) { asked++; return refused_at && asked == refused_at;
 void *__wrap_malloc(size_t size) {
     void *new = is_refused() ? NULL : __real_malloc(size);
     standing += new != NULL;
+    held += (long)malloc_usable_size(new);
     return new;
 }
 void *__wrap_realloc(void *old, size_t size) {
+    long before = (long)malloc_usable_size(old);
     void *new = is_refused() ? NULL : __real_realloc(old, size);
     standing += new != NULL && old == NULL;
+    if (new) held += (long)malloc_usable_size(new) - before;
     return new;
 }
-void __wrap_free(void *old) { standing -= old != NULL; __real_free(old); }
+void __wrap_free(void *old) {
+    standing -= old != NULL;
+    held -= (long)malloc_usable_size(old);
+    __real_free(old);
+}
 #endif
 
 static const char *at = "";
@@ -343,11 +352,33 @@ static void judged_again(void) {
     }
 }
 
-/* The memory of uses that have expired is given back by the 64 calls behind that, each time anew. (No contract says so.) The 256 stores keep a
- * block each: the list of their runs. */
+enum { WAVE = 1024, HEAD = 17, USE = 65 };
+
+/* Takes a wave of uses, four for each of the 256 stores. Those of each store that stay expire ten seconds behind the others. */
+static void take_wave(svid_validator *v, uint64_t now, int stay) {
+    static uint8_t batch[HEAD + WAVE * USE];
+    svid_told told;
+    int i = 0;
+    memset(batch, 0, sizeof batch);
+    memcpy(batch, "JSR\2\1", 5);
+    for (int k = 0; k < 8; k++) batch[5 + k] = (uint8_t)(now >> (56 - 8 * k));
+    batch[15] = WAVE >> 8, batch[16] = WAVE & 255;
+    for (int later = 0; later < 2; later++) {
+        for (int key = 0; key < WAVE; key++) {
+            if ((key % 4 < stay) != later) continue;
+            uint8_t *use = batch + HEAD + i++ * USE;
+            for (int k = 0; k < 8; k++) use[k] = (uint8_t)((now + 50 + (later ? 10 : 0)) >> (56 - 8 * k)), use[56 + k] = batch[5 + k];
+            use[8] = (uint8_t)(key / 4), use[9] = (uint8_t)(key % 4);
+        }
+    }
+    answered = svid_validator_take(v, now, batch, sizeof batch, &told);
+    holds(answered == SVID_OK, "the uses are not taken");
+}
+
+/* The memory of uses that have expired is given back by the 64 calls behind that, each time anew, also where other uses of a store are left. (No
+ * contract says so.) The 256 stores keep a block each: the list of their runs. */
 static void given_back(void) {
-    enum { USES = 1024, HEAD = 17, USE = 65 };
-    static uint8_t batch[HEAD + USES * USE];
+    enum { IN_MEMORY = 72 };
     svid_validator v;
     svid_told told;
     at = "the memory of what has expired";
@@ -355,23 +386,18 @@ static void given_back(void) {
     long before = standing;
     uint64_t now = NOW;
     for (int wave = 0; wave < 3; wave++, now += 100) {
-        memset(batch, 0, sizeof batch);
-        memcpy(batch, "JSR\2\1", 5);
-        for (int k = 0; k < 8; k++) batch[5 + k] = (uint8_t)(now >> (56 - 8 * k));
-        batch[15] = USES >> 8, batch[16] = USES & 255;
-        for (int i = 0; i < USES; i++) {
-            uint8_t *use = batch + HEAD + i * USE;
-            for (int k = 0; k < 8; k++) use[k] = (uint8_t)((now + 50) >> (56 - 8 * k)), use[56 + k] = batch[5 + k];
-            use[8] = (uint8_t)(i / 4), use[9] = (uint8_t)(i % 4);
-        }
-        answered = svid_validator_take(&v, now, batch, sizeof batch, &told);
-        holds(answered == SVID_OK && standing - before > 2 * 256, "the uses are not taken");
+        take_wave(&v, now, 0);
+        holds(standing - before > 2 * 256, "the uses are not taken");
         for (int calls = 0; calls < 64; calls++) {
             holds(standing - before > 256, "it is given back before all stores had their turn");
             holds(svid_validator_tick(&v, now + 50, &told) == SVID_OK, "a tick");
         }
         holds(standing - before <= 256, "it is kept");
     }
+    take_wave(&v, now, 1);
+    long whole = held;
+    for (int calls = 0; calls < 64; calls++) holds(svid_validator_tick(&v, now + 50, &told) == SVID_OK, "a tick");
+    holds(whole - held >= WAVE / 4 * 3 * IN_MEMORY, "it is kept where other uses are left");
     svid_validator_close(&v);
 }
 
