@@ -5,7 +5,7 @@ import (
 	"crypto/ecdsa"
 	"crypto/elliptic"
 	"crypto/rsa"
-	_ "crypto/sha256" // SHA-256 of the algorithms
+	_ "crypto/sha256" // SHA-256 of the algorithms, for Go's own verifiers
 	_ "crypto/sha512" // SHA-384 and SHA-512
 	"encoding/base64"
 	"encoding/json"
@@ -26,24 +26,25 @@ var ErrSignature = errors.New("svid: the key did not make this signature")
 // ErrKey: the key can't be used, or not with the token's algorithm.
 var ErrKey = errors.New("svid: unusable key")
 
-// An algorithm verifies a signature over a digest (RFC 7518, section 3.1).
+// An algorithm says how a signature is made (RFC 7518, section 3.1).
 type algorithm struct {
-	name   string
-	hash   crypto.Hash
-	curve  elliptic.Curve // of ES256 to ES512: the only curve that the algorithm allows
-	verify func(a *algorithm, key crypto.PublicKey, digest, signature []byte) bool
+	place int // in algorithms
+	name  string
+	hash  crypto.Hash
+	curve elliptic.Curve // of ES256 to ES512: the only curve that the algorithm allows
+	pss   bool           // RSASSA-PSS, with a salt of exactly the hash's length (RFC 7518, section 3.5)
 }
 
 var algorithms = []algorithm{
-	{"RS256", crypto.SHA256, nil, verifyPKCS1},
-	{"RS384", crypto.SHA384, nil, verifyPKCS1},
-	{"RS512", crypto.SHA512, nil, verifyPKCS1},
-	{"ES256", crypto.SHA256, elliptic.P256(), verifyECDSA},
-	{"ES384", crypto.SHA384, elliptic.P384(), verifyECDSA},
-	{"ES512", crypto.SHA512, elliptic.P521(), verifyECDSA},
-	{"PS256", crypto.SHA256, nil, verifyPSS},
-	{"PS384", crypto.SHA384, nil, verifyPSS},
-	{"PS512", crypto.SHA512, nil, verifyPSS},
+	{0, "RS256", crypto.SHA256, nil, false},
+	{1, "RS384", crypto.SHA384, nil, false},
+	{2, "RS512", crypto.SHA512, nil, false},
+	{3, "ES256", crypto.SHA256, elliptic.P256(), false},
+	{4, "ES384", crypto.SHA384, elliptic.P384(), false},
+	{5, "ES512", crypto.SHA512, elliptic.P521(), false},
+	{6, "PS256", crypto.SHA256, nil, true},
+	{7, "PS384", crypto.SHA384, nil, true},
+	{8, "PS512", crypto.SHA512, nil, true},
 }
 
 func findAlgorithm[T string | []byte](name T) *algorithm {
@@ -63,38 +64,21 @@ func algorithmName(name []byte) string {
 	return string(name)
 }
 
-// rsaKey is the key, if it is of RSA and the signature is below its modulus (RFC 8017, section 5.2.2), as Go 1.19 does not
-// check. (That the signature has the modulus's length, each of Go's two verifiers checks.)
-func rsaKey(key crypto.PublicKey, signature []byte) (*rsa.PublicKey, bool) {
-	k, ok := key.(*rsa.PublicKey)
-	return k, ok && new(big.Int).SetBytes(signature).Cmp(k.N) < 0
-}
-
-func verifyPKCS1(a *algorithm, key crypto.PublicKey, digest, signature []byte) bool {
-	k, ok := rsaKey(key, signature)
-	return ok && rsa.VerifyPKCS1v15(k, a.hash, digest, signature) == nil
-}
-
-// verifyPSS wants a salt of exactly the hash's length (RFC 7518, section 3.5).
-func verifyPSS(a *algorithm, key crypto.PublicKey, digest, signature []byte) bool {
-	k, ok := rsaKey(key, signature)
-	return ok && rsa.VerifyPSS(k, a.hash, digest, signature, &rsa.PSSOptions{SaltLength: a.hash.Size()}) == nil
-}
-
-// verifyECDSA wants the algorithm's own curve, and a signature of r and s, each
-// with the whole length of the curve's order (RFC 7518, section 3.4).
-func verifyECDSA(a *algorithm, key crypto.PublicKey, digest, signature []byte) bool {
-	k, ok := key.(*ecdsa.PublicKey)
-	if !ok || k.Curve != a.curve {
-		return false
+// signatureLen is how many bytes a signature of the algorithm has that this key made: as many as the modulus (RFC 8017, 8.1.2
+// and 8.2.2), or r and s, each with the whole length of the curve's order (RFC 7518, section 3.4). It is 0 for a key of
+// another type or curve.
+func signatureLen(a *algorithm, key crypto.PublicKey) int {
+	switch k := key.(type) {
+	case *rsa.PublicKey:
+		if a.curve == nil {
+			return k.Size()
+		}
+	case *ecdsa.PublicKey:
+		if a.curve != nil && k.Curve == a.curve {
+			return 2 * fieldLen(k.Curve)
+		}
 	}
-	half := fieldLen(k.Curve)
-	if len(signature) != 2*half {
-		return false
-	}
-	r := new(big.Int).SetBytes(signature[:half])
-	s := new(big.Int).SetBytes(signature[half:])
-	return ecdsa.Verify(k, digest, r, s)
+	return 0
 }
 
 // fieldLen is how many bytes a coordinate of the curve has.
@@ -105,6 +89,7 @@ type Key struct {
 	text      string
 	algorithm string // the JWK's alg: the only one that it may be used with, or "" for any
 	public    crypto.PublicKey
+	handle    *handle // what verifies
 	fault     error
 }
 
@@ -132,6 +117,9 @@ func parseKey(jwk []byte) *Key {
 	k.public, k.fault = parsePublic(members)
 	if _, ok := members["alg"]; ok && k.fault == nil {
 		k.algorithm, k.fault = parseAlgorithm(members)
+	}
+	if k.fault == nil {
+		k.fault = k.hold()
 	}
 	return k
 }
@@ -270,9 +258,7 @@ func (k *Key) Verify(name, signed string, signature []byte) error {
 	if k.algorithm != "" && k.algorithm != name {
 		return fmt.Errorf("%w: the key is for %s, and the token says %s", ErrKey, k.algorithm, name)
 	}
-	hash := a.hash.New()
-	hash.Write([]byte(signed))
-	if !a.verify(a, k.public, hash.Sum(nil), signature) {
+	if due := signatureLen(a, k.public); due == 0 || len(signature) != due || !k.made(a, signed, signature) {
 		return ErrSignature
 	}
 	return nil

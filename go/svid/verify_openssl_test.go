@@ -1,0 +1,94 @@
+//go:build cgo && openssl
+
+package svid
+
+import (
+	"runtime"
+	"testing"
+	"time"
+
+	"svid.example/go/internal/issuer"
+)
+
+// keptSeats is how many seats a key keeps.
+func keptSeats(k *Key) (kept int) {
+	for _, seats := range k.handle.seats {
+		for i := range seats {
+			if seats[i].key != nil {
+				kept++
+			}
+		}
+	}
+	return kept
+}
+
+// OpenSSL's memory of a key is given back with the key, and what it keeps to verify by it with it.
+func TestKeysOfOpenSSLAreFreed(t *testing.T) {
+	one, err := issuer.New("example.org")
+	if err != nil {
+		t.Fatal(err)
+	}
+	before := openHandles.Load()
+	keyring, err := NewKeyring(one.Bundles())
+	if err != nil {
+		t.Fatal(err)
+	}
+	for _, algorithm := range []string{"RS256", "PS384", "ES256", "ES512"} {
+		token := one.Token(algorithm, map[string]any{"sub": "spiffe://example.org/web", "aud": "ledger", "exp": 2_000_000_000})
+		if yes, err := keyring.Verify(token); err != nil || len(yes) != 1 {
+			t.Fatalf("%s: %v %v", algorithm, yes, err)
+		}
+	}
+	if openHandles.Load() == before {
+		t.Fatal("OpenSSL holds no key")
+	}
+	keyring.Close()
+	keyring = nil
+	for end := time.Now().Add(30 * time.Second); openHandles.Load() != before; {
+		if time.Now().After(end) {
+			t.Fatalf("OpenSSL holds %d keys of a keyring that is gone", openHandles.Load()-before)
+		}
+		runtime.GC()
+	}
+}
+
+// A key keeps what it verified by once it made a signature, and not for a stranger's.
+func TestAStrangersTokenKeepsNoSeat(t *testing.T) {
+	one, err := issuer.New("example.org")
+	if err != nil {
+		t.Fatal(err)
+	}
+	keyring, err := NewKeyring(one.Bundles())
+	if err != nil {
+		t.Fatal(err)
+	}
+	defer keyring.Close()
+	token := one.Token("ES256", map[string]any{"sub": "spiffe://example.org/web", "aud": "ledger", "exp": 2_000_000_000})
+	candidates, err := keyring.Candidates(token)
+	if err != nil || len(candidates) == 0 {
+		t.Fatal(candidates, err)
+	}
+	s, _ := cutToken(token)
+	good, err := s.signatureBytes()
+	if err != nil {
+		t.Fatal(err)
+	}
+	key, bad := candidates[0].Key, append([]byte(nil), good...)
+	bad[0] ^= 1
+	for i := 0; i < 2*cap(slots); i++ {
+		if err := key.Verify("ES256", s.signed, bad); err != ErrSignature {
+			t.Fatal(err)
+		}
+	}
+	if n := keptSeats(key); n != 0 {
+		t.Errorf("a stranger's token left %d seats", n)
+	}
+	for i := 0; i < 2*cap(slots); i++ {
+		if err := key.Verify("ES256", s.signed, good); err != nil {
+			t.Fatal(err)
+		}
+	}
+	if n := keptSeats(key); n == 0 || n > cap(slots) {
+		t.Errorf("%d seats are kept of %d", n, cap(slots))
+	}
+}
