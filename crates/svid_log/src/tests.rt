@@ -1,4 +1,6 @@
 // The cases that a group must come through, as values and the fates that are due.
+ghost use Rattle.std.specs.Prelude.{◌<◌};
+
 use crate::{Fate, Member, Order, Reading, Rest, Value};
 use std::alloc::Global;
 use std::process::Abort;
