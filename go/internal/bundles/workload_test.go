@@ -3,6 +3,7 @@ package bundles
 import (
 	"encoding/json"
 	"errors"
+	"runtime"
 	"strings"
 	"testing"
 	"time"
@@ -103,14 +104,19 @@ func TestBundlesOfAnAgentGrowOld(t *testing.T) {
 	o.await(t, "the bad one", o.says("source b of"))
 	wantOld := func(a, b bool) {
 		t.Helper()
-		w.mu.Lock()
-		for _, held := range w.held {
-			held.good = time.Now().Add(-time.Hour)
+		old := func(domain string) bool {
+			w.mu.Lock()
+			for _, held := range w.held {
+				held.good = time.Now().Add(-time.Hour)
+			}
+			w.mu.Unlock()
+			age, ok := w.Age(domain)
+			return ok && age >= time.Hour
 		}
-		w.mu.Unlock()
-		for domain, want := range map[string]bool{"a": a, "b": b} {
-			if age, ok := w.Age(domain); !ok || (age >= time.Hour) != want {
-				t.Errorf("%s is %v old", domain, age)
+		// (the log hears of a change before the ages do)
+		for end := time.Now().Add(20 * time.Second); old("a") != a || old("b") != b; runtime.Gosched() {
+			if time.Now().After(end) {
+				t.Fatalf("a is old: %v, b is old: %v", old("a"), old("b"))
 			}
 		}
 	}
