@@ -152,7 +152,7 @@ func TestSystemdUnit(t *testing.T) {
 		said := make([]byte, 100)
 		_ = notified.SetReadDeadline(time.Now().Add(patience))
 		if n, err := notified.Read(said); err != nil || string(said[:n]) != want {
-			t.Errorf("systemd hears %q, %v, and not %s", said[:n], err, want)
+			t.Errorf("systemd hears %q, %v, and not %s\n%s", said[:n], err, want, p.log)
 		}
 	}
 }

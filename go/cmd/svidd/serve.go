@@ -28,6 +28,8 @@ const (
 	requestWait = time.Minute
 	// idleWait is how long a connection may stay idle.
 	idleWait = 2 * time.Minute
+	// startWait is how long a step of the start may still take once a signal says to end.
+	startWait = time.Second
 	// endWait is how long the record's last snapshot, and what waits for the group, may take once no request is under way.
 	endWait = 20 * time.Second
 	// logWait is how long the end of the process waits for standard error to take the last lines.
@@ -103,7 +105,7 @@ type sidecar struct {
 
 // run serves until a signal ends it, or something fails that it can't go on
 // without.
-func (s *sidecar) run(signals <-chan os.Signal) error {
+func (s *sidecar) run(signals chan os.Signal) error {
 	ctx, cancel := context.WithCancel(context.Background())
 	defer cancel()
 	if goOn, err := s.begin(signals, func() error { return s.open(ctx) }); !goOn {
@@ -144,9 +146,10 @@ func (s *sidecar) run(signals <-chan os.Signal) error {
 	return failure
 }
 
-// begin takes a step of the start. It goes on unless that fails, or a signal says to end meanwhile: the step may hang, as a
-// disk does. (Nothing is lost then, since no token was accepted yet.)
-func (s *sidecar) begin(signals <-chan os.Signal, step func() error) (goOn bool, err error) {
+// begin takes a step of the start. It goes on unless that fails, or a signal says to end meanwhile and the step does not end
+// soon: it may hang, as a disk does. (Nothing is lost then, since no token was accepted yet.) Behind a step that ends, tokens may
+// have been accepted: so the signal comes again then, to who serves.
+func (s *sidecar) begin(signals chan os.Signal, step func() error) (goOn bool, err error) {
 	done := make(chan error, 1)
 	go func() { done <- step() }()
 	for {
@@ -154,11 +157,19 @@ func (s *sidecar) begin(signals <-chan os.Signal, step func() error) (goOn bool,
 		case err := <-done:
 			return err == nil, err
 		case sig := <-signals:
-			s.log.Event("signal", "name", sig.String())
-			if sig != syscall.SIGHUP {
+			if sig == syscall.SIGHUP {
+				s.log.Event("signal", "name", sig.String())
+				s.reload()
+				continue
+			}
+			select {
+			case err := <-done:
+				go func() { signals <- sig }()
+				return err == nil, err
+			case <-time.After(startWait):
+				s.log.Event("signal", "name", sig.String())
 				return false, nil
 			}
-			s.reload()
 		}
 	}
 }
