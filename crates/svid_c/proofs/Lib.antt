@@ -3,5 +3,6 @@ pub mod CheckedLemmas
 pub mod InputsLemmas
 pub mod JoinedLemmas
 pub mod LiveLemmas
+pub mod LogLemmas
 pub mod NamesLemmas
 pub mod OfferLemmas

@@ -4,6 +4,7 @@ pub mod Handle
 pub mod Inputs
 pub mod Joined
 pub mod Live
+pub mod Log
 pub mod Nobody
 pub mod Offers
 pub mod Own
