@@ -62,6 +62,29 @@ pub struct Part {
     pub place: [u8; 16],
 }
 
+#[repr(C)]
+#[derive(Default, Debug, Clone, Copy, PartialEq)]
+pub struct Mark {
+    pub passed: u64,
+    pub begun: usize,
+    pub deaf: u64,
+}
+
+#[repr(C)]
+#[derive(Default, Debug, Clone, Copy, PartialEq)]
+pub struct Fate {
+    pub used: Use,
+    pub fate: u64,
+}
+
+#[repr(C)]
+#[derive(Default, Debug, Clone, Copy, PartialEq)]
+pub struct Reading {
+    pub order: u64,
+    pub from: usize,
+    pub count: usize,
+}
+
 type One = unsafe extern "C" fn(*const u8, usize, u64, *mut u8, usize, *mut Told) -> u32;
 type Two = unsafe extern "C" fn(*const u8, usize, *const u8, usize, u64, *mut u8, usize, *mut Told) -> u32;
 
