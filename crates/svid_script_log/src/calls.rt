@@ -15,11 +15,11 @@ fn claims_call(
     match word(words, 0) {
         "fates" => say::fates(out),
         "value" => values::value(out, env, logs, words),
-        "claims" => claims::claims(env, logs, words),
-        "claims.restore" => claims::restore(env, logs, words),
-        "claims.save" => claims::save(out, env, logs, words),
-        "claims.has" => claims::has(out, logs, words),
-        "claims.read" => claims::read(out, env, logs, words),
+        "beside" => claims::claims(env, logs, words),
+        "beside.restore" => claims::restore(env, logs, words),
+        "beside.save" => claims::save(out, env, logs, words),
+        "beside.has" => claims::has(out, logs, words),
+        "beside.read" => claims::read(out, env, logs, words),
         _ => member_call(out, env, logs, words),
     }
 }

@@ -13,14 +13,14 @@ use svid_script_base::stop::Stop;
 use svid_script_base::use_words::one_use;
 use svid_script_base::words::{key, number, word};
 
-/// `claims NAME`
+/// `beside NAME`
 pub fn claims(env: &Env, logs: &mut Logs, words: &[&str]) -> Result<(), Stop> {
     logs.claims.make_room(word(words, 1))?;
     let made = Claims::new(RunUses::new(env.alloc));
     logs.claims.put(word(words, 1), made)
 }
 
-/// `claims.restore NAME USES`
+/// `beside.restore NAME USES`
 pub fn restore(env: &Env, logs: &mut Logs, words: &[&str]) -> Result<(), Stop> {
     let uses = uses_at(env.alloc, logs, words, 2)?;
     logs.claims.make_room(word(words, 1))?;
@@ -28,13 +28,13 @@ pub fn restore(env: &Env, logs: &mut Logs, words: &[&str]) -> Result<(), Stop> {
     logs.claims.put(word(words, 1), made)
 }
 
-/// `claims.save NAME`
+/// `beside.save NAME`
 pub fn save(out: &mut Out<'_>, env: &Env, logs: &Logs, words: &[&str]) -> Result<(), Stop> {
     let saved = logs.claims.get(word(words, 1))?.save(env.alloc)?;
     say_batches(out, &saved)
 }
 
-/// `claims.has NAME N KEY`
+/// `beside.has NAME N KEY`
 pub fn has(out: &mut Out<'_>, logs: &mut Logs, words: &[&str]) -> Result<(), Stop> {
     let moment = number(word(words, 2))?;
     let key = key(word(words, 3))?;
@@ -65,7 +65,7 @@ fn read_by<R: UseStore>(
     claims.read(held, asked.now, asked.ahead, asked.used)
 }
 
-/// `claims.read NAME RECORD NOW AHEAD USE`
+/// `beside.read NAME RECORD NOW AHEAD USE`
 pub fn read(
     out: &mut Out<'_>,
     env: &mut Env,

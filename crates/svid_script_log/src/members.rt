@@ -13,27 +13,26 @@ use svid_script_base::stop::Stop;
 use svid_script_base::words::{key, number, place, word};
 use svid_script_checks::{AnyValidator, AnyVerifier, Validators};
 
-// Where a member begins, but for its place: `LASTS PASSED BEGUN DEAF READY`.
+// How long a use lives in the log, and what earlier lives may have read: `LASTS READY`.
 #[derive(Clone, Copy)]
-struct Begin {
+struct Terms {
     lasts: u64,
-    mark: Mark,
     ready: u64,
 }
 
-fn mark_in(words: &[&str]) -> Result<Mark, Stop> {
-    Ok(Mark {
-        passed: number(word(words, 4))?,
-        begun: number(word(words, 5))? as usize,
-        deaf: number(word(words, 6))?,
+fn terms_in(words: &[&str]) -> Result<Terms, Stop> {
+    Ok(Terms {
+        lasts: number(word(words, 3))?,
+        ready: number(word(words, 4))?,
     })
 }
 
-fn begin_in(words: &[&str]) -> Result<Begin, Stop> {
-    Ok(Begin {
-        lasts: number(word(words, 3))?,
-        mark: mark_in(words)?,
-        ready: number(word(words, 7))?,
+// `PASSED BEGUN DEAF`, as `member.mark` prints them.
+fn mark_in(words: &[&str]) -> Result<Mark, Stop> {
+    Ok(Mark {
+        passed: number(word(words, 5))?,
+        begun: number(word(words, 6))? as usize,
+        deaf: number(word(words, 7))?,
     })
 }
 
@@ -41,20 +40,23 @@ fn keep(env: &Env, logs: &mut Logs, name: &str, member: Member<RunUses>) -> Resu
     logs.members.put(name, Reader::new(env.alloc, member))
 }
 
-/// `member NAME PLACE LASTS PASSED 0 DEAF READY`
+/// `member NAME PLACE LASTS READY PASSED DEAF`
 pub fn new(env: &Env, logs: &mut Logs, words: &[&str]) -> Result<(), Stop> {
     let place = place(word(words, 2))?;
-    let Begin { lasts, mark, ready } = begin_in(words)?;
+    let Terms { lasts, ready } = terms_in(words)?;
+    let passed = number(word(words, 5))?;
+    let deaf = number(word(words, 6))?;
     logs.members.make_room(word(words, 1))?;
     let store = RunUses::new(env.alloc);
-    let made = Member::new(store, place, lasts, mark.passed, ready, mark.deaf);
+    let made = Member::new(store, place, lasts, passed, ready, deaf);
     keep(env, logs, word(words, 1), made)
 }
 
-/// `member.restore NAME PLACE LASTS PASSED BEGUN DEAF READY USES`
+/// `member.restore NAME PLACE LASTS READY PASSED BEGUN DEAF USES`
 pub fn restore(env: &Env, logs: &mut Logs, words: &[&str]) -> Result<(), Stop> {
     let place = place(word(words, 2))?;
-    let Begin { lasts, mark, ready } = begin_in(words)?;
+    let Terms { lasts, ready } = terms_in(words)?;
+    let mark = mark_in(words)?;
     let uses = uses_at(env.alloc, logs, words, 8)?;
     logs.members.make_room(word(words, 1))?;
     let store = RunUses::new(env.alloc);
@@ -65,25 +67,27 @@ pub fn restore(env: &Env, logs: &mut Logs, words: &[&str]) -> Result<(), Stop> {
 fn member_of<S: UseStore>(
     validator: &Validator<AnyVerifier, S>,
     store: RunUses,
-    begin: Begin,
+    terms: Terms,
+    mark: Mark,
     beside: &[Use],
 ) -> Result<Member<RunUses>, AllocError> {
-    validator.member(store, begin.lasts, begin.mark, begin.ready, beside)
+    validator.member(store, terms.lasts, mark, terms.ready, beside)
 }
 
-/// `validator.member MEMBER VALIDATOR LASTS PASSED BEGUN DEAF READY USES`
+/// `validator.member MEMBER VALIDATOR LASTS READY PASSED BEGUN DEAF USES`
 pub fn of_validator(
     env: &Env,
     logs: &mut Logs,
     validators: &Validators,
     words: &[&str],
 ) -> Result<(), Stop> {
-    let begin = begin_in(words)?;
+    let terms = terms_in(words)?;
+    let mark = mark_in(words)?;
     let uses = uses_at(env.alloc, logs, words, 8)?;
     logs.members.make_room(word(words, 1))?;
     let validator = validators.get(word(words, 2))?;
     let store = RunUses::new(env.alloc);
-    let made = over_any!(AnyValidator, validator, v => member_of(v, store, begin, &uses))?;
+    let made = over_any!(AnyValidator, validator, v => member_of(v, store, terms, mark, &uses))?;
     keep(env, logs, word(words, 1), made)
 }
 
