@@ -1,4 +1,5 @@
 pub mod AsBox
+pub mod AsTrustBox
 pub mod CheckedLemmas
 pub mod InputsLemmas
 pub mod JoinedLemmas
