@@ -6,3 +6,4 @@ pub mod JoinedLemmas
 pub mod LiveLemmas
 pub mod NamesLemmas
 pub mod OfferLemmas
+pub mod TrustLemmas

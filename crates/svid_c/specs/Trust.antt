@@ -40,11 +40,15 @@ pub data OpensBundles (text : List ℕ) (status : ℕ) (told : SvidTold) (old ne
   opened : old ≡ None → HasRead text new → status ≡ 0 → told ≡ told_length 0 → OpensBundles text status told old new
   unopened : (why : ToolFault) → old ≡ None → new ≡ None → AreNoBundles text why → status ≡ fault_number why → told ≡ told_fault why → OpensBundles text status told old new
 
--- A call that reads what a handle holds, which stays as it was: where that is closed, this is told, and all else is as it was too; or the
--- call does what it is for.
-pub data Reads (IsAsBefore : Type 0) (Does : List Bundle → Type 0) (status : ℕ) (told : SvidTold) (old new : Option Trust) : Type 0 where
-  none_read : trusted old ≡ None → new ≡ old → status ≡ 5 → told ≡ told_length 0 → IsAsBefore → Reads IsAsBefore Does status told old new
-  reads : (bundles : List Bundle) → trusted old ≡ Some bundles → new ≡ old → Does bundles → Reads IsAsBefore Does status told old new
+-- what a call does with what is held: it does what it is for; or nothing is held, this is told, and all is as it was
+pub data ReadsHeld (IsAsBefore : Type 0) (Does : List Bundle → Type 0) (status : ℕ) (told : SvidTold) (held : Option (List Bundle)) : Type 0 where
+  none_read : held ≡ None → status ≡ 5 → told ≡ told_length 0 → IsAsBefore → ReadsHeld IsAsBefore Does status told held
+  reads : (bundles : List Bundle) → held ≡ Some bundles → Does bundles → ReadsHeld IsAsBefore Does status told held
+
+-- a call that reads what a handle holds, which stays as it was
+pub record Reads (IsAsBefore : Type 0) (Does : List Bundle → Type 0) (status : ℕ) (told : SvidTold) (old new : Option Trust) : Type 0 where
+  pub stays : new ≡ old
+  pub does : ReadsHeld IsAsBefore Does status told (trusted old)
 
 -- the row of a candidate: the algorithm's name, and the key
 abbrev pub key_row : Alg → KeyData → List ℕ

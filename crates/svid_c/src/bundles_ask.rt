@@ -1,12 +1,12 @@
 ghost use Rattle.std.specs.Prelude.{◌≡◌, ◌++◌, IfOk, OnOk, length, nat_lt, take};
 ghost use Rattle.std.specs.List.{flat_map};
 ghost use Rattle.svid_keys.specs.Candidates.{candidates_left};
-ghost use Rattle.svid_check.specs.Said.{said_in};
-ghost use Rattle.svid_c.specs.Trust.{ListsKeys, Reads, key_row};
+ghost use Rattle.svid_c.specs.Trust.{ListsKeys, Reads, ReadsHeld, key_row};
 
 use crate::bundles::SvidBundles;
 use crate::offer::{push_field, put_rows, refuse_token};
 use crate::told::SvidTold;
+use crate::trust::Trust;
 use crate::validator::only;
 use std::alloc::{AllocError, Global};
 use svid_check::Reading;
@@ -69,6 +69,23 @@ fn list(
     }
 }
 
+// The same of the bundles that are held.
+fn list_held(
+    alloc: Global,
+    trust: &Trust,
+    token: &[u8],
+    most: usize,
+    out: &mut [u8],
+    told: &mut SvidTold,
+) -> u32
+    ensures { ReadsHeld (out.new ≡ out.old) (ListsKeys token.now most result told.new out.old out.new) result told.new trust.now.bundles }
+{
+    let Some(bundles) = &trust.bundles else {
+        return only(5, told);
+    };
+    list(alloc, bundles, token, most, out, told)
+}
+
 /// Puts a row for each key that may have signed the token first into `out`, for the first `most` of these keys in the order of their
 /// bundle: the algorithm's name and the key as JSON, each after its length in four bytes, the greatest first. The rows count from 0, and
 /// [`svid_bundles_question`](crate::bundles_question::svid_bundles_question) takes the number of one. It hashes nothing.
@@ -90,10 +107,7 @@ pub extern "C" fn svid_bundles_ask(
     let Some(trust) = b.take(alloc) else {
         return only(5, told);
     };
-    let status = match &trust.bundles {
-        Some(bundles) => list(alloc, bundles, token, most, out, told),
-        None => only(5, told),
-    };
+    let status = list_held(alloc, &trust, token, most, out, told);
     b.put(trust);
     status
 }

@@ -1,11 +1,12 @@
 ghost use Rattle.std.specs.Prelude.{◌≡◌, option_map};
 ghost use Rattle.std.specs.List.{slice_get};
 ghost use Rattle.svid_keys.specs.Candidates.{candidates_left};
-ghost use Rattle.svid_c.specs.Trust.{AsksOne, Reads};
+ghost use Rattle.svid_c.specs.Trust.{AsksOne, Reads, ReadsHeld};
 
 use crate::bundles::SvidBundles;
 use crate::offer::refuse_token;
 use crate::told::SvidTold;
+use crate::trust::Trust;
 use crate::validator::only;
 use std::alloc::Global;
 use svid_check::Reading;
@@ -61,6 +62,23 @@ fn ask_one(
     only(0, told)
 }
 
+// The same of the bundles that are held.
+fn ask_held(
+    alloc: Global,
+    trust: &Trust,
+    token: &[u8],
+    number: usize,
+    asked: &mut SvidQuestion,
+    told: &mut SvidTold,
+) -> u32
+    ensures { ReadsHeld (asked.new ≡ asked.old) (AsksOne token.now number result told.new asked.old asked.new) result told.new trust.now.bundles }
+{
+    let Some(bundles) = &trust.bundles else {
+        return only(5, told);
+    };
+    ask_one(alloc, bundles, token, number, asked, told)
+}
+
 /// The question whether one of the keys that may have signed the token did: that of the row with this number, counted from 0, of
 /// [`svid_bundles_ask`](crate::bundles_ask::svid_bundles_ask). It hashes this one.
 ///
@@ -80,10 +98,7 @@ pub extern "C" fn svid_bundles_question(
     let Some(trust) = b.take(alloc) else {
         return only(5, told);
     };
-    let status = match &trust.bundles {
-        Some(bundles) => ask_one(alloc, bundles, token, number, asked, told),
-        None => only(5, told),
-    };
+    let status = ask_held(alloc, &trust, token, number, asked, told);
     b.put(trust);
     status
 }
