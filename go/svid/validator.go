@@ -2,7 +2,7 @@ package svid
 
 /*
 #cgo CFLAGS: -I${SRCDIR}/../../include
-#cgo linux,amd64 LDFLAGS: /tmp/bm/bundles.a
+#cgo linux,amd64 LDFLAGS: ${SRCDIR}/../../dist/x86_64/libsvid.a
 #cgo linux,arm64 LDFLAGS: ${SRCDIR}/../../dist/aarch64/libsvid.a
 #include "svid.h"
 
