@@ -22,7 +22,7 @@
  * Limits: messages, bundles and a table of questions have at most SVID_INPUT_MOST bytes each, and a token at most 65,536. Your own audiences
  * and the questions that you answer have no limit.
  *
- * Stack, as measured: no call takes more than 120 KiB, hostile tokens among them. So a thread of musl, which has 128 KiB unless you ask for
+ * Stack, as measured: no call takes more than 124 KiB, hostile tokens and bundles among them. So a thread of musl, which has 128 KiB unless you ask for
  * more, can make every call. Reports and answers take the most; a check takes up to 66 KiB.
  *
  * Memory comes from malloc. If malloc returns NULL, the status is SVID_NO_MEMORY. No call keeps anything, except that a validator keeps its

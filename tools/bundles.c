@@ -19,7 +19,7 @@
 
 #define NOW UINT64_C(1767225600)
 /* The stack that a call may take: svid.h says so. */
-#define STACK_MOST 122880
+#define STACK_MOST 126976
 
 /* How many allocations were asked for, how often memory was given back, and how many blocks stand. */
 static long asked, freed, standing, refused_at;

@@ -2,8 +2,13 @@ use Rattle.std.proofs.Common.{◌≡◌, ℕ, List, Option, Some, sym, subst}
 use Rattle.svid_keys.specs.Bundles.{Bundle}
 use Rattle.svid_c.specs.Live.{Kept}
 use Rattle.svid_c.specs.Trust.{Exchanges, ExchangesHeld, ReadsHeld, trusted}
+use Rattle.svid_c.specs.declared.bundles_question.SvidQuestion.{SvidQuestion}
 use Rattle.svid_c.specs.declared.told.SvidTold.{SvidTold}
 use Rattle.svid_c.specs.declared.trust.Trust.{Trust}
+
+-- a question of these bytes, as C sees it
+abbrev pub question_told : List ℕ → SvidQuestion
+question_told bytes = record { bytes = bytes }
 
 -- an exchange with what was taken out of a handle, and is put back, is one with what the handle holds
 pub held_exchanges : (status : ℕ) (told : SvidTold) (old new : Option Trust) (a b : Trust) (x y : Kept)
