@@ -22,11 +22,12 @@
  * Limits: messages, bundles and a table of questions have at most SVID_INPUT_MOST bytes each, and a token at most 65,536. Your own audiences
  * and the questions that you answer have no limit.
  *
- * Stack, as measured: no call takes more than 124 KiB, hostile tokens and bundles among them. So a thread of musl, which has 128 KiB unless you ask for
- * more, can make every call. Reports and answers take the most; a check takes up to 66 KiB.
+ * Stack, as measured: no call takes more than 124 KiB, hostile tokens and bundles among them. So a thread of musl, which has 128 KiB unless
+ * you ask for more, can make every call. Bundles take the most; a check takes up to 66 KiB.
  *
  * Memory comes from malloc. If malloc returns NULL, the status is SVID_NO_MEMORY. No call keeps anything, except that a validator keeps its
- * own record and bundles until you close it, and a `svid_bundles` its bundles. Stateless calls share nothing, so threads may make them at the same time. */
+ * own record and bundles until you close it, and a `svid_bundles` its bundles. Stateless calls share nothing, so threads may make them at
+ * the same time. */
 #ifndef SVID_H
 #define SVID_H
 #include <stddef.h>
@@ -334,9 +335,9 @@ void svid_bundles_close(svid_bundles *b);
 uint32_t svid_bundles_ask(svid_bundles *b, const uint8_t *token, size_t token_len, size_t most,
                           uint8_t *out, size_t out_len, svid_told *told);
 
-/* Writes the question of the row with this number to `asked`: it hashes the token once. The question is that of svid_validator_ask. SVID_TOO_LONG
- * to SVID_JTI, SVID_UNKNOWN_DOMAIN and SVID_NO_KEY if the token is refused already. SVID_NO_KEY also if fewer keys may have signed the token:
- * there are rows 0 and 1 of two keys. Unless the status is SVID_OK, `asked` stays as it was. */
+/* Writes the question of the row with this number to `asked`: it hashes the token once. The question is that of svid_validator_ask.
+ * SVID_TOO_LONG to SVID_JTI, SVID_UNKNOWN_DOMAIN and SVID_NO_KEY if the token is refused already. SVID_NO_KEY also if there is no such row:
+ * `number` is less than the number of keys that may have signed the token. Unless the status is SVID_OK, `asked` stays as it was. */
 uint32_t svid_bundles_question(svid_bundles *b, const uint8_t *token, size_t token_len, size_t number,
                                svid_question *asked, svid_told *told);
 

@@ -1,5 +1,5 @@
 -- What the calls on trust bundles that C keeps do.
-use Rattle.std.specs.Prelude.{◌≡◌, ℕ, ◌≤◌, nat_lt, List, ◌++◌, length, take, Option, None, Some, Ok, Err}
+use Rattle.std.specs.Prelude.{◌≡◌, ℕ, nat_lt, List, ◌++◌, length, take, Option, None, Some, Ok, Err}
 use Rattle.std.specs.List.{flat_map, slice_get}
 use Rattle.svid_token.specs.Alg.{name_of}
 use Rattle.svid_token.specs.Rows.{Refuses}

@@ -1,4 +1,4 @@
-use Rattle.svid_c.specs.Trust.{opened, unopened}
+use Rattle.svid_c.specs.Trust.{unopened}
 use Rattle.std.proofs.Common.{refl}
 use Rattle.svid_c.proofs.bundles_open.open.Goals as goal
 
