@@ -22,11 +22,12 @@
  * Limits: messages, bundles and a table of questions have at most SVID_INPUT_MOST bytes each, and a token at most 65,536. Your own audiences
  * and the questions that you answer have no limit.
  *
- * Stack, as measured: no call takes more than 120 KiB, hostile tokens among them. So a thread of musl, which has 128 KiB unless you ask for
- * more, can make every call. Reports and answers take the most; a check takes up to 66 KiB.
+ * Stack, as measured: no call takes more than 124 KiB, hostile tokens and bundles among them. So a thread of musl, which has 128 KiB unless
+ * you ask for more, can make every call. Bundles take the most; a check takes up to 66 KiB.
  *
  * Memory comes from malloc. If malloc returns NULL, the status is SVID_NO_MEMORY. No call keeps anything, except that a validator keeps its
- * own record and bundles until you close it. Stateless calls share nothing, so threads may make them at the same time. */
+ * own record and bundles until you close it, and a `svid_bundles` its bundles. Stateless calls share nothing, so threads may make them at
+ * the same time. */
 #ifndef SVID_H
 #define SVID_H
 #include <stddef.h>
@@ -56,9 +57,9 @@ enum svid_status {
                                 67,108,864 bytes is bad; told: input */
     SVID_NOT_SUMMARY = 4,    /* the first input is messages, but not one summary; nothing is told beside it */
 
-    /* what a call on a validator that you keep answers beside these */
-    SVID_CLOSED = 5,         /* the validator is closed; nothing happened */
-    SVID_IS_OPEN = 6,        /* svid_validator_open: the validator is open already, and stays as it was */
+    /* what a call on a validator or on bundles that you keep answers beside these */
+    SVID_CLOSED = 5,         /* the validator is closed, or the bundles are; nothing happened */
+    SVID_IS_OPEN = 6,        /* svid_validator_open, svid_bundles_open: the handle is open already, and stays as it was */
     SVID_GONE = 7,           /* svid_validator_withdraw: the token has expired, so that there is nothing to withdraw */
     SVID_TOO_FAR = 8,        /* a message's moment is more than `ahead` seconds past `now`; it was not taken */
     SVID_JUMP = 9,           /* `now` is more than `step` seconds past the record's moment; nothing happened */
@@ -138,7 +139,7 @@ typedef struct {
                         4 of svid_check, and 1 of any other call. SVID_TOO_MUCH also: 1 for bundles, 2 for a table of questions */
     size_t message;  /* which of its messages, counted from 1 */
     size_t place;
-    size_t more;     /* of svid_validator_ask: 1 if more keys may have signed the token than it lists */
+    size_t more;     /* of svid_validator_ask and svid_bundles_ask: 1 if more keys may have signed the token than it lists */
 } svid_told;
 
 /* What a check is told, beside its inputs. */
@@ -212,7 +213,8 @@ uint32_t svid_validator_open_by_lengths(svid_validator *v, const svid_terms *ter
 void svid_validator_close(svid_validator *v);
 
 /* Replaces the trust bundles. The record stays, so a token that was accepted before is still SVID_REPLAYED. If the new bundles are
- * refused (SVID_TOO_MUCH, SVID_BUNDLES_NOT_OBJECT to SVID_BUNDLES_KEYS), the old ones stay. */
+ * refused (SVID_TOO_MUCH, SVID_BUNDLES_NOT_OBJECT to SVID_BUNDLES_KEYS), the old ones stay. The call takes five microseconds for each key;
+ * svid_validator_renew_by takes none of that under the validator's lock. */
 uint32_t svid_validator_bundles(svid_validator *v, const uint8_t *bundles, size_t bundles_len, svid_told *told);
 
 /* Lists the keys that may have signed the token, the first `most` of them in the order of their bundle, and writes a row for each:
@@ -301,6 +303,48 @@ uint32_t svid_validator_summary(svid_validator *v, uint8_t *out, size_t out_len,
  * summary's moment. SVID_NOT_SUMMARY; SVID_TOO_FAR; SVID_TOO_MUCH and SVID_MAGIC to SVID_TRUNCATED; SVID_JUMP. */
 uint32_t svid_validator_answer(svid_validator *v, uint64_t now, const uint8_t *summary, size_t summary_len,
                                uint8_t *out, size_t out_len, svid_told *told);
+
+/* ---- Trust bundles that you keep ----
+ *
+ * A `svid_bundles` reads trust bundles once, and lists the keys that may have signed a token. It keeps no record, and shares nothing with a
+ * validator: so threads list keys, and read new bundles, while the validator's lock is free for checks. The rules for a `svid_validator` hold
+ * for it too: it begins as SVID_BUNDLES_CLOSED, only the calls write it, give it to one call at a time, and do not copy it while it is open.
+ *
+ * To check a token:
+ *   1. svid_bundles_ask lists the first keys that may have signed it.
+ *   2. Your crypto library verifies the signature with each of these keys, until one of them made it.
+ *   3. svid_bundles_question gives the question of that key: the token is hashed once.
+ *   4. svid_validator_check gets that question, and accepts or refuses the token.
+ *
+ * To renew the bundles of a validator without holding up its checks: open a `svid_bundles`, exchange by svid_validator_renew_by, and close
+ * it. Only the exchange needs the validator's lock, and its time does not depend on the bundles. */
+typedef struct { uint64_t word; void *held; } svid_bundles;
+#define SVID_BUNDLES_CLOSED { 0, NULL }
+
+/* Opens a closed handle: reads trust bundles, as for svid_validator_open. SVID_IS_OPEN: the handle stays as it was. SVID_TOO_MUCH and
+ * SVID_BUNDLES_NOT_OBJECT to SVID_BUNDLES_KEYS: the handle stays closed. */
+uint32_t svid_bundles_open(svid_bundles *b, const uint8_t *bundles, size_t bundles_len, svid_told *told);
+
+/* Closes a handle, and frees all that it holds. Does nothing to a closed one. */
+void svid_bundles_close(svid_bundles *b);
+
+/* Lists the keys that may have signed the token as svid_validator_ask does, but without their questions: it hashes nothing. Each row is
+ *     the algorithm's name  its length in 4 bytes, the greatest first, and then the name, as "ES256"
+ *     the key               its length in 4 bytes, the greatest first, and then the key as JSON (RFC 7517)
+ * The rows are numbered from 0. `most`, `told->more` and what it answers are as for svid_validator_ask. */
+uint32_t svid_bundles_ask(svid_bundles *b, const uint8_t *token, size_t token_len, size_t most,
+                          uint8_t *out, size_t out_len, svid_told *told);
+
+/* Writes the question of the row with this number to `asked`: it hashes the token once. The question is that of svid_validator_ask.
+ * SVID_TOO_LONG to SVID_JTI, SVID_UNKNOWN_DOMAIN and SVID_NO_KEY if the token is refused already. SVID_NO_KEY also if there is no such row:
+ * `number` is less than the number of keys that may have signed the token. Unless the status is SVID_OK, `asked` stays as it was. */
+uint32_t svid_bundles_question(svid_bundles *b, const uint8_t *token, size_t token_len, size_t number,
+                               svid_question *asked, svid_told *told);
+
+/* Exchanges the trust bundles of a validator for those of an open handle, in a time that does not depend on them: it reads nothing, allocates
+ * nothing and frees nothing. The handle then holds the bundles that the validator had. The record stays, as for svid_validator_bundles. Wants
+ * the lock of both. SVID_CLOSED if one of them is closed: then nothing happened. */
+uint32_t svid_validator_renew_by(svid_validator *v, svid_bundles *b, svid_told *told);
 
 /* ---- Stateless calls ---- */
 

@@ -1,4 +1,5 @@
 pub mod AsBox
+pub mod AsTrustBox
 pub mod CheckedLemmas
 pub mod InputsLemmas
 pub mod JoinedLemmas
@@ -6,3 +7,4 @@ pub mod LiveLemmas
 pub mod LogLemmas
 pub mod NamesLemmas
 pub mod OfferLemmas
+pub mod TrustLemmas

@@ -11,4 +11,6 @@ pub mod Own
 pub mod Parts
 pub mod Questions
 pub mod Status
+pub mod Trust
+pub mod TrustHandle
 pub mod Written

@@ -8,6 +8,10 @@
 
 mod answer;
 mod answered;
+mod bundles;
+mod bundles_ask;
+mod bundles_open;
+mod bundles_question;
 mod check;
 mod handle;
 mod id;
@@ -28,12 +32,15 @@ mod parts;
 mod questions;
 mod refusal;
 mod renew;
+mod renew_by;
 mod reply;
 mod report;
 mod summary;
 mod take;
 mod tell;
 mod told;
+mod trust;
+mod trust_handle;
 mod validator;
 mod version;
 mod withdraw;
