@@ -2,7 +2,7 @@ use Rattle.std.proofs.Common.{refl, ap, ◌∙◌}
 use Rattle.svid_journal.specs.declared.fault.Fault.TheVariants.{Unfit}
 use Rattle.svid_journal.specs.Folder.{words_of}
 use Rattle.svid_c.specs.Journal.{moves, of_folder, of_none, unmoved}
-use Rattle.svid_c.proofs.journal_landed.svid_journal_synced.Goals as goal
+use Rattle.svid_c.proofs.journal_unwritten.svid_journal_unwritten.Goals as goal
 
 pub returns-in_default : goal.returns-in_default
 returns-in_default c = unmoved Unfit (of_none c.in_default.ensures.none refl) refl refl

@@ -3,7 +3,7 @@ use Rattle.svid_journal.specs.declared.fault.Fault.TheVariants.{Unfit}
 use Rattle.svid_journal.specs.Folder.{words_of}
 use Rattle.svid_c.specs.Journal.{frames, of_folder, of_none, unframed}
 use Rattle.svid_c.specs.Status.{told_length}
-use Rattle.svid_c.proofs.journal_put.svid_journal_piece.Goals as goal
+use Rattle.svid_c.proofs.journal_piece.svid_journal_piece.Goals as goal
 
 pub returns-in_default : goal.returns-in_default
 returns-in_default c = unframed Unfit (of_none c.in_default.ensures.none refl) c.only.ensures.status c.only.ensures.told refl refl
