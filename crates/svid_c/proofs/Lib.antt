@@ -3,6 +3,7 @@ pub mod AsTrustBox
 pub mod CheckedLemmas
 pub mod InputsLemmas
 pub mod JoinedLemmas
+mod JournalLemmas
 pub mod LiveLemmas
 pub mod LogLemmas
 pub mod NamesLemmas
