@@ -1,0 +1,4 @@
+pub mod ChangesLemmas
+pub mod OnceLemmas
+pub mod ReadersLemmas
+pub mod StandsLemmas
