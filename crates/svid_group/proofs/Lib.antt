@@ -2,3 +2,4 @@ pub mod ChangesLemmas
 pub mod OnceLemmas
 pub mod ReadersLemmas
 pub mod StandsLemmas
+pub mod ToldLemmas

@@ -1,6 +1,7 @@
 //! Laws of a group that reads a log, carried by functions that compute nothing.
 
 ghost use Rattle.svid_group.specs.Once.{AcceptedIsFirst, AcceptedIsHeld, AcceptedIsUnrefused, AcceptedOnce, LaterInLogIsPast, OneUseOfAKey, OnlyClaimIsAccepted, OwnIsAccepted, PlaceIsAcceptedOnce};
+ghost use Rattle.svid_group.specs.Told.{AcceptedIsRefused, ChainsTell, ChecksAreVerdicts, EqualTellings, RecordsAreTold, ReportsAreExact, ReportsAreWhole, RestartsAbsorb, SendsTellAll, ToldIsRefused, WithMemoryVerdicts, WithdrawnAreRefused};
 
 /// Whatever happens in a group, of all claims with one key and one expiry at most one is ever accepted, by one validator, once; and
 /// of two accepted claims of one key the first in the log has expired at the moment of the validator that accepts the other.
@@ -28,4 +29,39 @@ pub fn own_claims_are_accepted()
 /// Of a key of which no event outside of the log adds a use to a record, each record has one use at most, beside withdrawals.
 pub fn records_have_first_claims()
     ensures { OneUseOfAKey }
+{}
+
+/// Each validator's record is what it was told, by the log and outside of it: the greatest moment, and the uses that are live at
+/// it. Each check is answered by the verdict for that, acceptance or refusal, or by want of memory, and by nothing but the verdict
+/// where no memory is refused. Validators that were told the same have the same record.
+pub fn records_are_told()
+    ensures records { RecordsAreTold }
+    ensures checks { ChecksAreVerdicts }
+    ensures verdicts { WithMemoryVerdicts }
+    ensures equal { EqualTellings }
+{}
+
+/// A validator that was told a use accepts no token of its key and its expiry, at any moment: so it is with a claim of the log that
+/// its record gained, with an acceptance, and with whatever came along a chain of records taken whole. A check accepts no token of
+/// whose key a withdrawal was told that is live.
+///
+/// That each use that was told was accepted by a check does not hold where there is a log: a claim may be told whose request was
+/// never answered. Of the uses that the log tells, [`accepted_claims_are_first`] and [`records_have_first_claims`] speak.
+pub fn told_tokens_are_refused()
+    ensures told { ToldIsRefused }
+    ensures accepted { AcceptedIsRefused }
+    ensures withdrawn { WithdrawnAreRefused }
+    ensures whole { SendsTellAll }
+    ensures chains { ChainsTell }
+{}
+
+/// A report lists the keys of which two different uses were told that are live, with all of them, and no withdrawal.
+pub fn reports_are_exact()
+    ensures exact { ReportsAreExact }
+    ensures whole { ReportsAreWhole }
+{}
+
+/// A new record that absorbs all parts of a saved record is that record.
+pub fn restarts_absorb()
+    ensures { RestartsAbsorb }
 {}
