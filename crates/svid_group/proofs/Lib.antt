@@ -3,3 +3,4 @@ pub mod OnceLemmas
 pub mod ReadersLemmas
 pub mod StandsLemmas
 pub mod ToldLemmas
+pub mod VerdictsLemmas

@@ -17,6 +17,7 @@ use Rattle.svid_replay.proofs.UsesLemmas.{holds-live}
 use Rattle.svid_check.specs.Changes.{gains}
 use Rattle.svid_check.specs.Runs.{Terms}
 use Rattle.svid_check.specs.Saves.{IsLater}
+use Rattle.svid_check.specs.Setting.{Renewal}
 use Rattle.svid_check.specs.World as check
 use Rattle.svid_check.specs.World.{Answer, Check, Member, OldSend, Piece, Renew, Restart, Save, Saved, Send, Sum, Take, Tick, Withdraw, ticked}
 use Rattle.svid_check.specs.Told.{record_of}
@@ -29,7 +30,7 @@ use Rattle.svid_log.specs.Once.{TellsNoUseOf}
 use Rattle.svid_log.specs.Steps.{fate_at, gains_by, is_early, reached}
 use Rattle.svid_group.specs.Once.{AddNoUseOf, AddsNoUseOf}
 use Rattle.svid_group.specs.World.{Anew, Aside, Call, Event, Look, Miss, Put, Read, World, anew, as_readers, as_terms, aside_of, asides_after, gain_by, happen, happens, miss, passed, put, put_aside, put_back, read_next, reader, reader_at, saved_after, saves_of, start, told_by}
-use Rattle.svid_group.proofs.ChangesLemmas.{Changes, event_changes, saves_then, who}
+use Rattle.svid_group.proofs.ChangesLemmas.{Changes, event_changes, renewal_then, who}
 use Rattle.svid_group.proofs.StandsLemmas.{IsWhole, happens_whole, is_whole}
 
 -- What a record gained is joined to it.
@@ -168,10 +169,10 @@ module _ (group : ℕ → Terms) where
     pub silent : (key : List ℕ) → AddsNoUseOf group key w e → AllByRecursion (TellsNoUseOf key) events
 
   -- an event that is one validator's tells what its record gained
-  tells : (w : World) (v : ℕ) (after : check.World) → Changes w.group v w.group.saves after → IsTold (after.members v) → IsLater (w.group.members v).held (after.members v).held
+  tells : (w : World) (v : ℕ) (given : Option Renewal) (after : check.World) → Changes w.group v w.group.saves given after → IsTold (after.members v) → IsLater (w.group.members v).held (after.members v).held
       → as_readers (record { group = after; log = w.log; asides = w.asides; saved = w.saved })
       ≡ log.happens (as_terms group) (as_readers w) (log.Tell v (news (w.group.members v).held (after.members v).held))
-  tells w v after c is later =
+  tells w v given after c is later =
       let old = w.group.members v in
       let new = after.members v in
       let told : log.Reader = log.told (reader_at w v) (news old.held new.held) in
@@ -209,7 +210,7 @@ module _ (group : ℕ → Terms) where
       let v = who e in
       record {
         events = log.Tell v (news (w.group.members v).held (after.members v).held) ∷ [];
-        leads = tells w v after (event_changes group w.group e) (((happens_whole group w (Call e) h).sound.members v).is_told) (events_leave_later group w.group v e tt);
+        leads = tells w v (renewal_then w.group e) after (event_changes group w.group e) (((happens_whole group w (Call e) h).sound.members v).is_told) (events_leave_later group w.group v e tt);
         silent = λ key adds. (λ u held same. silent_news (w.group.members v).held (after.members v).held key (adds v) u held same, tt);
       }
   simulates w (Put u) h = record { events = log.Put u ∷ []; leads = refl; silent = λ key adds. (tt, tt) }

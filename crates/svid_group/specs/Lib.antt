@@ -1,3 +1,4 @@
 pub mod Once
 pub mod Told
+pub mod Verdicts
 pub mod World

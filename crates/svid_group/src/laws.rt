@@ -2,6 +2,7 @@
 
 ghost use Rattle.svid_group.specs.Once.{AcceptedIsFirst, AcceptedIsHeld, AcceptedIsUnrefused, AcceptedOnce, LaterInLogIsPast, OneUseOfAKey, OnlyClaimIsAccepted, OwnIsAccepted, PlaceIsAcceptedOnce};
 ghost use Rattle.svid_group.specs.Told.{AcceptedIsRefused, ChainsTell, ChecksAreVerdicts, EqualTellings, RecordsAreTold, ReportsAreExact, ReportsAreWhole, RestartsAbsorb, SendsTellAll, ToldIsRefused, WithMemoryVerdicts, WithdrawnAreRefused};
+ghost use Rattle.svid_group.specs.Verdicts.{ClaimsAreVerdicts, InputIsAcceptedOnce, JudgedAreVerdicts, RenewedAreVerdicts};
 
 /// Whatever happens in a group, of all claims with one key and one expiry at most one is ever accepted, by one validator, once; and
 /// of two accepted claims of one key the first in the log has expired at the moment of the validator that accepts the other.
@@ -64,4 +65,18 @@ pub fn reports_are_exact()
 /// A new record that absorbs all parts of a saved record is that record.
 pub fn restarts_absorb()
     ensures { RestartsAbsorb }
+{}
+
+/// A token whose claim is accepted is one that the definition accepts, at the moment and by the uses at which the claim is judged: if
+/// it was judged to be accepted at a moment that is no greater, and the setting is the same. So it is where its validator judged it,
+/// and went on without a restart, a beginning anew or a renewal. Behind a renewal, one more judgment in front of the read serves.
+pub fn accepted_claims_are_verdicts()
+    ensures claims { ClaimsAreVerdicts }
+    ensures judged { JudgedAreVerdicts }
+    ensures renewed { RenewedAreVerdicts }
+{}
+
+/// Of one signing input a group accepts one claim at most, whoever made the claims, and however its tokens were judged.
+pub fn inputs_are_accepted_once()
+    ensures { InputIsAcceptedOnce }
 {}
