@@ -1,4 +1,5 @@
 pub mod ChangesLemmas
+pub mod HistoryLemmas
 pub mod OnceLemmas
 pub mod ReadersLemmas
 pub mod StandsLemmas

@@ -89,22 +89,25 @@ accepted_is_first group events v now c =
 
 -- what an acceptance leaves of its validator
 accepted_leaves : (group : ℕ → Terms) (w : World) (v now : ℕ) (c : Use) → Accepts group w v now c
-    → (happens group w (Read v now false)).group.members v ≡ check.gained (passed (check.far group v now) (w.group.members v) now c) (Some c)
+    → (happens group w (Read v now false)).group.members v ≡ told_by (check.far group v now) (w.group.members v) (w.asides v) now false c
 accepted_leaves group w v now c a =
     let far = check.far group v now in
     let x = w.group.members v in
-    ap (λ (o : Option Use). (read_next far w v now false o).group.members v) a.next
-    ∙ (cond-true (v == v) (told_by far x (w.asides v) now false c) x (eq-eqb v v refl)
-    ∙ ap (λ (fate : Fate). check.gained (passed far x now c) (gain_by fate c)) a.first)
+    ap (λ (o : Option Use). (read_next far w v now false o).group.members v) a.next ∙ cond-true (v == v) (told_by far x (w.asides v) now false c) x (eq-eqb v v refl)
+
+-- the validator was told the claim
+pub told_now_has : (group : ℕ → Terms) (w : World) (v now : ℕ) (c : Use) → Accepts group w v now c → IsTrue (holds (told_by (check.far group v now) (w.group.members v) (w.asides v) now false c).told.uses c)
+told_now_has group w v now c a =
+    let y = passed (check.far group v now) (w.group.members v) now c in
+    subst (λ (fate : Fate). IsTrue (holds (check.gained y (gain_by fate c)).told.uses c)) (sym a.first)
+    (with_holds_one_more y.told.uses c c ∙ or_left (eq_by_cmp use_cmp c c) (holds y.told.uses c) (ap is_eq (tied_itself use_total c)))
 
 pub accepted_is_held : AcceptedIsHeld
-accepted_is_held group w v now c a =
-    let y = passed (check.far group v now) (w.group.members v) now c in (
-      subst (λ (z : log.World). IsTrue (holds (z.members v).held.uses c)) (sym (read_readers (check.far group v now) w v now false (slice_get w.log (w.asides v).read)))
-          (groups.accepted_is_held (as_terms group) (as_readers w) v now c a),
-      subst (λ (x : Member). IsTrue (holds x.told.uses c)) (sym (accepted_leaves group w v now c a))
-          (with_holds_one_more y.told.uses c c ∙ or_left (eq_by_cmp use_cmp c c) (holds y.told.uses c) (ap is_eq (tied_itself use_total c))),
-    )
+accepted_is_held group w v now c a = (
+  subst (λ (z : log.World). IsTrue (holds (z.members v).held.uses c)) (sym (read_readers (check.far group v now) w v now false (slice_get w.log (w.asides v).read)))
+      (groups.accepted_is_held (as_terms group) (as_readers w) v now c a),
+  subst (λ (x : Member). IsTrue (holds x.told.uses c)) (sym (accepted_leaves group w v now c a)) (told_now_has group w v now c a),
+)
 
 pub accepted_is_unrefused : AcceptedIsUnrefused
 accepted_is_unrefused group w v now c a = groups.accepted_is_unrefused (as_terms group) (as_readers w) v now c a

@@ -1,3 +1,4 @@
+pub mod History
 pub mod Once
 pub mod Told
 pub mod Verdicts

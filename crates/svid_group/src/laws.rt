@@ -1,5 +1,6 @@
 //! Laws of a group that reads a log, carried by functions that compute nothing.
 
+ghost use Rattle.svid_group.specs.History.{EveryKindHappens, OwnClaimIsAccepted};
 ghost use Rattle.svid_group.specs.Once.{AcceptedIsFirst, AcceptedIsHeld, AcceptedIsUnrefused, AcceptedOnce, LaterInLogIsPast, OneUseOfAKey, OnlyClaimIsAccepted, OwnIsAccepted, PlaceIsAcceptedOnce};
 ghost use Rattle.svid_group.specs.Told.{AcceptedIsRefused, ChainsTell, ChecksAreVerdicts, EqualTellings, RecordsAreTold, ReportsAreExact, ReportsAreWhole, RestartsAbsorb, SendsTellAll, ToldIsRefused, WithMemoryVerdicts, WithdrawnAreRefused};
 ghost use Rattle.svid_group.specs.Verdicts.{ClaimsAreVerdicts, InputIsAcceptedOnce, JudgedAreVerdicts, RenewedAreVerdicts};
@@ -79,4 +80,12 @@ pub fn accepted_claims_are_verdicts()
 /// Of one signing input a group accepts one claim at most, whoever made the claims, and however its tokens were judged.
 pub fn inputs_are_accepted_once()
     ensures { InputIsAcceptedOnce }
+{}
+
+/// In any group, a new validator that judges a token to be accepted accepts the token's claim, where that is the first use of the log.
+/// And in one history each kind of event happens, is to be seen, and a claim is accepted: so the laws of a group with a log speak of
+/// something.
+pub fn every_kind_happens()
+    ensures own { OwnClaimIsAccepted }
+    ensures all { EveryKindHappens }
 {}
