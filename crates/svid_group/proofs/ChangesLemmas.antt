@@ -10,7 +10,7 @@ use Rattle.svid_replay.specs.Uses.{Uses}
 use Rattle.svid_check.specs.Runs.{Terms}
 use Rattle.svid_check.specs.Saves.{piece_of}
 use Rattle.svid_check.specs.Setting.{Renewal}
-use Rattle.svid_check.specs.World.{Answer, Answered, Check, Content, Entry, Event, Made, Member, OldSend, Piece, Pieced, Posting, Renew, Restart, Save, Saved, Send, Sent, Sum, Summed, Take, Tick, Took, Withdraw, World, answer_at, answer_content, answer_posting, answer_summary, checked, far, front, happens, has_withdrawal, joined, logged, old_parts_of, parts_in, post, put, restart, start, take_part, take_posting, ticked, took, with_renewal, withdrawal_at, withdrew}
+use Rattle.svid_check.specs.World.{Answer, Answered, Check, Content, Entry, Event, Made, Member, OldSend, Piece, Pieced, Posting, Renew, Restart, Save, Saved, Send, Sent, Sum, Summed, Take, Tick, Took, Withdraw, World, answer_at, answer_content, answer_posting, answer_summary, checked, far, front, happens, has_withdrawal, joined, logged, old_parts_of, parts_in, post, put, restart, take_part, take_posting, ticked, took, with_renewal, withdrawal_at, withdrew}
 use Rattle.svid_check.proofs.PlacesLemmas.{put_own}
 
 -- whose event it is

@@ -1,19 +1,15 @@
 -- A history in which each kind of event happens.
-use Rattle.std.proofs.Common.{◌≡◌, ◌≢◌, ◌<◌, ◌≤◌, ◌+◌, ℕ, max, Bool, true, false, not, nat_lt, ◌&&◌, ◌||◌, List, [], ◌∷◌, ◌++◌, map, Option, Some, None, refl, sym, ap, ◌∙◌, subst, inl, inr, arith}
+use Rattle.std.proofs.Common.{◌≡◌, ◌≢◌, ◌<◌, ◌≤◌, ◌+◌, ℕ, max, true, false, not, nat_lt, ◌&&◌, ◌||◌, List, [], ◌∷◌, map, Option, Some, None, refl, sym, ap, ◌∙◌, subst, inl, inr, arith}
 use Rattle.std.specs.Prelude.{◌==◌, IsTrue, drop, slice_get}
 use Rattle.std.specs.List.{AllByRecursion}
-use Rattle.std.specs.Ordering.{eq_by_cmp, is_eq}
-use Rattle.std.proofs.lemmas.Bool.{and_left, and_parts, cond-false, cond-true, cond_both, le-ltb, ne_eqb, or_cases, or_left, true≢false}
-use Rattle.std.proofs.lemmas.Cmp.{tied_itself}
+use Rattle.std.proofs.lemmas.Bool.{and_left, and_parts, cond-false, cond-true, cond_both, le-ltb, ne_eqb, or_cases, true≢false}
 use Rattle.svid_replay.specs.declared.token_use.Use.{Use}
 use Rattle.svid_replay.specs.Buckets.{raised_to}
 use Rattle.svid_replay.specs.Records.{State, state_of}
 use Rattle.svid_replay.specs.Sets.{holds}
-use Rattle.svid_replay.specs.Use.{use_cmp}
 use Rattle.svid_replay.specs.Uses.{has_use_of, has_withdrawal_of, live, no_uses}
 use Rattle.svid_replay.proofs.RecordsLemmas.{holds-join, moment-join}
-use Rattle.svid_replay.proofs.UseLemmas.{use_total}
-use Rattle.svid_replay.proofs.UsesLemmas.{no_uses_hold_none, with_holds_one_more}
+use Rattle.svid_replay.proofs.UsesLemmas.{no_uses_hold_none}
 use Rattle.svid_check.specs.declared.accepted.Accepted.{Accepted}
 use Rattle.svid_check.specs.Forgetful.{AcceptsNew}
 use Rattle.svid_check.specs.History as check_history
@@ -31,8 +27,8 @@ use Rattle.svid_log.specs.Groups as log
 use Rattle.svid_log.specs.Steps.{counts, fate_at, is_early, reached}
 use Rattle.svid_log.proofs.GroupsLemmas.{none_of_key}
 use Rattle.svid_log.proofs.StepsLemmas.{counts_from, first_from, live_is_held, unused_is_not_withdrawn}
-use Rattle.svid_group.specs.History.{AllHappened, EveryKindHappens, OwnClaimIsAccepted, behind, in_front, judge_and_put}
-use Rattle.svid_group.specs.World.{Accepts, Anew, Aside, Call, Event, Look, Miss, Put, Read, World, aside_of, asides_after, happen, happens, passed, put, put_aside, put_back, read_next, reader, reader_at, start, told_by}
+use Rattle.svid_group.specs.History.{AllHappened, EveryKindHappens, OwnClaimIsAccepted, behind, judge_and_put}
+use Rattle.svid_group.specs.World.{Accepts, Anew, Aside, Call, Event, Look, Miss, Read, World, aside_of, asides_after, happen, happens, put, put_aside, put_back, read_next, reader, reader_at, start, told_by}
 use Rattle.svid_group.proofs.ChangesLemmas.{event_changes, who}
 use Rattle.svid_group.proofs.OnceLemmas.{told_now_has}
 

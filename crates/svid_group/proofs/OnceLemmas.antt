@@ -1,5 +1,5 @@
 -- The laws of a log hold in a group with all other events.
-use Rattle.std.proofs.Common.{◌≡◌, ◌≢◌, ℕ, ◌<◌, ◌≤◌, Bool, true, false, List, [], ◌∷◌, Option, Some, None, refl, sym, ap, ◌∙◌, subst}
+use Rattle.std.proofs.Common.{◌≡◌, ◌≢◌, ℕ, ◌<◌, ◌≤◌, false, List, [], Option, refl, sym, ap, ◌∙◌, subst}
 use Rattle.std.specs.Prelude.{◌==◌, IsTrue, slice_get}
 use Rattle.std.specs.Ordering.{eq_by_cmp, is_eq}
 use Rattle.std.proofs.lemmas.Bool.{cond-true, eq-eqb, or_left}
@@ -16,13 +16,12 @@ use Rattle.svid_check.specs.World.{Member}
 use Rattle.svid_log.specs.declared.fate.Fate.{Fate}
 use Rattle.svid_log.specs.Groups as log
 use Rattle.svid_log.specs.Once.{AllGone, IsOwnClaim}
-use Rattle.svid_log.specs.Steps.{fate_at}
 use Rattle.svid_log.proofs.FirstsLemmas as firsts
 use Rattle.svid_log.proofs.GroupsLemmas as groups
 use Rattle.svid_group.specs.Once.{AcceptedIsFirst, AcceptedIsHeld, AcceptedIsUnrefused, AcceptedOnce, LaterInLogIsPast, OneUseOfAKey, OnlyClaimIsAccepted, OwnIsAccepted, PlaceIsAcceptedOnce}
-use Rattle.svid_group.specs.World.{Accepts, Event, Read, World, as_readers, as_terms, gain_by, happen, happens, passed, read_next, reader_at, start, told_by}
+use Rattle.svid_group.specs.World.{Accepts, Event, Read, World, as_readers, as_terms, gain_by, happen, happens, passed, read_next, start, told_by}
 use Rattle.svid_group.proofs.ReadersLemmas.{Leads, leads_to, read_readers}
-use Rattle.svid_group.proofs.StandsLemmas.{goes_on_whole, happens_whole, is_whole}
+use Rattle.svid_group.proofs.StandsLemmas.{happens_whole, is_whole}
 
 -- what is so of the readers of each history is so of the group
 module _ (group : ℕ → Terms) (events : List Event) where

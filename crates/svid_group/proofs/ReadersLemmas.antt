@@ -1,15 +1,13 @@
 -- What happens in a group that reads a log is, of its readers, what a list of events of svid_log's groups leaves.
 use mathlib.Core.Path.{fun_ext}
-use Rattle.std.proofs.Common.{◌≡◌, ◌≢◌, ◌⊎◌, inl, inr, ◌<◌, ◌≤◌, ℕ, zero, suc, max, Bool, true, false, not, nat_lt, ◌&&◌, ◌||◌, List, [], ◌∷◌, ◌++◌, length, drop, Option, Some, None, refl, sym, ap, ◌∙◌, subst, arith, if◌then◌else◌}
+use Rattle.std.proofs.Common.{◌≡◌, inl, inr, ℕ, zero, suc, max, Bool, true, false, not, nat_lt, ◌&&◌, ◌||◌, List, [], ◌∷◌, ◌++◌, length, drop, Option, Some, None, refl, sym, ap, ◌∙◌, subst, arith, if◌then◌else◌}
 use Rattle.std.specs.Prelude.{◌==◌, IsTrue, slice_get}
 use Rattle.std.specs.List.{AllByRecursion}
-use Rattle.std.proofs.lemmas.Bool.{and_parts, cases_eq, cond-false, cond-true, cond_both, eq-eqb, false≢true, lt-ltb, ltb-true, ne_eqb, not-true, true≢false}
+use Rattle.std.proofs.lemmas.Bool.{and_parts, cases_eq, cond-false, cond-true, eq-eqb, false≢true, ltb-true, ne_eqb, not-true, true≢false}
 use Rattle.std.proofs.lemmas.Option.{none-some}
 use Rattle.svid_replay.specs.declared.token_use.Use.{Use}
-use Rattle.svid_replay.specs.Buckets.{raised_to}
 use Rattle.svid_replay.specs.Records.{State, join}
 use Rattle.svid_replay.specs.Sets.{holds, keep}
-use Rattle.svid_replay.specs.Uses.{Uses}
 use Rattle.svid_replay.proofs.RecordsLemmas.{is_join}
 use Rattle.svid_replay.proofs.SetsLemmas.{holds-keep}
 use Rattle.svid_replay.proofs.UseLemmas.{use_exact, use_total}
@@ -20,7 +18,6 @@ use Rattle.svid_check.specs.Saves.{IsLater}
 use Rattle.svid_check.specs.Setting.{Renewal}
 use Rattle.svid_check.specs.World as check
 use Rattle.svid_check.specs.World.{Answer, Check, Member, OldSend, Piece, Renew, Restart, Save, Saved, Send, Sum, Take, Tick, Withdraw, ticked}
-use Rattle.svid_check.specs.Told.{record_of}
 use Rattle.svid_check.proofs.MembersLemmas.{IsTold}
 use Rattle.svid_check.proofs.SaveEventsLemmas.{events_leave_later}
 use Rattle.svid_log.specs.declared.fate.Fate.{Fate}
@@ -29,9 +26,9 @@ use Rattle.svid_log.specs.Groups as log
 use Rattle.svid_log.specs.Once.{TellsNoUseOf}
 use Rattle.svid_log.specs.Steps.{fate_at, gains_by, is_early, reached}
 use Rattle.svid_group.specs.Once.{AddNoUseOf, AddsNoUseOf}
-use Rattle.svid_group.specs.World.{Anew, Aside, Call, Event, Look, Miss, Put, Read, World, anew, as_readers, as_terms, aside_of, asides_after, gain_by, happen, happens, miss, passed, put, put_aside, put_back, read_next, reader, reader_at, saved_after, saves_of, start, told_by}
+use Rattle.svid_group.specs.World.{Anew, Aside, Call, Event, Look, Miss, Put, Read, World, as_readers, as_terms, aside_of, gain_by, happen, happens, passed, put, put_aside, put_back, read_next, reader, reader_at, saves_of, told_by}
 use Rattle.svid_group.proofs.ChangesLemmas.{Changes, event_changes, renewal_then, who}
-use Rattle.svid_group.proofs.StandsLemmas.{IsWhole, happens_whole, is_whole}
+use Rattle.svid_group.proofs.StandsLemmas.{IsWhole, happens_whole}
 
 -- What a record gained is joined to it.
 

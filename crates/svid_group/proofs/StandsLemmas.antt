@@ -1,10 +1,8 @@
 -- Whatever happens in a group that reads a log, each record is what its validator was told.
-use Rattle.std.proofs.Common.{◌≡◌, ℕ, suc, Bool, true, false, List, [], ◌∷◌, ◌++◌, length, Option, Some, None, refl, sym, ap, ◌∙◌, subst, arith}
-use Rattle.std.specs.Prelude.{◌==◌, IsTrue, drop, slice_get}
-use Rattle.std.specs.List.{Contains}
+use Rattle.std.proofs.Common.{◌≡◌, ℕ, suc, Bool, true, false, List, [], ◌∷◌, ◌++◌, length, Option, Some, None, refl, sym, ap, ◌∙◌}
+use Rattle.std.specs.Prelude.{◌==◌, drop, slice_get}
 use Rattle.std.proofs.lemmas.Bool.{cond_both}
 use Rattle.svid_replay.specs.declared.token_use.Use.{Use}
-use Rattle.svid_replay.specs.Sets.{holds}
 use Rattle.svid_replay.specs.Uses.{Uses}
 use Rattle.svid_replay.proofs.ListLemmas.{has_none}
 use Rattle.svid_check.specs.Headline.{IsWithin}
@@ -13,10 +11,10 @@ use Rattle.svid_check.specs.Setting.{Renewal}
 use Rattle.svid_check.specs.World as check
 use Rattle.svid_check.specs.World.{Entry, Made, Member, Posting, Save, Saved, Took, gained, ticked}
 use Rattle.svid_check.proofs.MembersLemmas.{gained_told, told_before}
-use Rattle.svid_check.proofs.SoundLemmas.{Arrived, Means, Sound, Stands, goes_on_sound, is_sound, stands_ticked}
+use Rattle.svid_check.proofs.SoundLemmas.{Means, Sound, Stands, goes_on_sound, is_sound, stands_ticked}
 use Rattle.svid_log.specs.Groups as log
 use Rattle.svid_log.specs.Steps.{fate_at, is_early}
-use Rattle.svid_group.specs.World.{Anew, Aside, Call, Event, Look, Miss, Put, Read, World, anew, aside_of, asides_after, gain_by, happen, happens, miss, passed, put, read_next, reader, reader_at, saved_after, start, told_by}
+use Rattle.svid_group.specs.World.{Anew, Aside, Call, Event, Look, Miss, Put, Read, World, aside_of, gain_by, happen, happens, passed, put, read_next, reader_at, saved_after, start, told_by}
 use Rattle.svid_group.proofs.ChangesLemmas.{event_changes, saves_then}
 
 means_more : (pool : List Posting) (s t : Uses) (e : Entry) → IsWithin s t → Means pool s e → Means pool t e

@@ -1,5 +1,5 @@
 -- The laws of records and verdicts hold in a group that reads a log.
-use Rattle.std.proofs.Common.{◌≡◌, ◌≢◌, ◌↔◌, ◌<◌, ℕ, nat_lt, Bool, not, List, [], ◌∷◌, map, Contains, IsTrue, true, false, ◌&&◌, Some, refl, sym, ap, ◌∙◌, subst, inl, inr}
+use Rattle.std.proofs.Common.{◌≡◌, ◌↔◌, ◌<◌, ℕ, nat_lt, Bool, not, List, [], ◌∷◌, map, Contains, IsTrue, true, ◌&&◌, Some, sym, ap, ◌∙◌, subst}
 use Rattle.std.specs.FinMap.{nat_cmp-IsAntisymmetric, slice_cmp-IsAntisymmetric}
 use Rattle.std.specs.Ordering.{is_eq}
 use Rattle.std.proofs.lemmas.Bool.{and_parts, lt-ltb, ltb-true, not-true}

@@ -1,5 +1,5 @@
 -- A claim that is accepted is that of a token which the definition accepts.
-use Rattle.std.proofs.Common.{◌≡◌, ◌≢◌, ◌<◌, ◌≤◌, ℕ, Bool, true, false, not, nat_lt, List, [], ◌∷◌, Option, Some, None, refl, sym, ap, ◌∙◌, subst, inl, inr, arith}
+use Rattle.std.proofs.Common.{◌≡◌, ◌<◌, ◌≤◌, ℕ, Bool, true, false, not, nat_lt, List, [], ◌∷◌, Option, Some, None, refl, sym, ap, ◌∙◌, subst, inl, inr, arith}
 use Rattle.std.specs.Prelude.{◌==◌, Result, Ok, Err, drop, slice_get}
 use Rattle.std.specs.List.{AllByRecursion}
 use Rattle.std.proofs.lemmas.Bool.{cases_eq, cond_both, eqb-true, lt-ltb}
@@ -9,7 +9,7 @@ use Rattle.svid_token.specs.declared.refusal.Refusal.TheVariants.{Expired, Repla
 use Rattle.svid_replay.specs.declared.token_use.Use.{Use}
 use Rattle.svid_replay.specs.Buckets.{raised_to}
 use Rattle.svid_replay.specs.Records.{State}
-use Rattle.svid_replay.specs.Uses.{Uses, has_use_of, has_withdrawal_of}
+use Rattle.svid_replay.specs.Uses.{has_use_of, has_withdrawal_of}
 use Rattle.svid_check.specs.declared.accepted.Accepted.{Accepted}
 use Rattle.svid_check.specs.Runs.{Terms}
 use Rattle.svid_check.specs.Saves.{IsLater}
@@ -24,8 +24,8 @@ use Rattle.svid_check.proofs.PlacesLemmas.{put_own}
 use Rattle.svid_check.proofs.SaveEventsLemmas.{events_leave_later}
 use Rattle.svid_log.specs.Groups as log
 use Rattle.svid_log.specs.Steps.{fate_at, is_early, reached}
-use Rattle.svid_group.specs.Verdicts.{ClaimsAreVerdicts, GoesOn, InputIsAcceptedOnce, IsClaimOf, JudgedAreVerdicts, RenewedAreVerdicts}
-use Rattle.svid_group.specs.World.{Accepts, Anew, Aside, Call, Event, Look, Miss, Put, Read, World, aside_of, gain_by, happen, happens, judges, passed, put, read_next, reader_at, told_by}
+use Rattle.svid_group.specs.Verdicts.{ClaimsAreVerdicts, GoesOn, InputIsAcceptedOnce, JudgedAreVerdicts, RenewedAreVerdicts}
+use Rattle.svid_group.specs.World.{Anew, Aside, Call, Event, Look, Miss, Put, Read, World, aside_of, gain_by, happen, happens, judges, passed, put, read_next, reader_at, told_by}
 use Rattle.svid_group.proofs.ChangesLemmas.{event_changes, renewal_then, who}
 use Rattle.svid_group.proofs.OnceLemmas.{accepted_is_unrefused, accepted_once}
 
