@@ -26,7 +26,7 @@ use Rattle.svid_log.specs.Groups as log
 use Rattle.svid_log.specs.Once.{TellsNoUseOf}
 use Rattle.svid_log.specs.Steps.{fate_at, gains_by, is_early, reached}
 use Rattle.svid_group.specs.Once.{AddNoUseOf, AddsNoUseOf}
-use Rattle.svid_group.specs.World.{Anew, Aside, Call, Event, Look, Miss, Put, Read, World, as_readers, as_terms, aside_of, gain_by, happen, happens, passed, put, put_aside, put_back, read_next, reader, reader_at, saves_of, told_by}
+use Rattle.svid_group.specs.World.{Anew, Aside, Call, Event, Look, Miss, Put, Read, World, anew, as_readers, as_terms, aside_of, gain_by, happen, happens, miss, passed, put, put_aside, put_back, read_next, reader, reader_at, saves_of, told_by}
 use Rattle.svid_group.proofs.ChangesLemmas.{Changes, event_changes, renewal_then, who}
 use Rattle.svid_group.proofs.StandsLemmas.{IsWhole, happens_whole}
 
@@ -144,6 +144,18 @@ either_readers : (b : Bool) (x y : World) (r s : log.World) → as_readers x ≡
 either_readers true x y r s one other = one
 either_readers false x y r s one other = other
 
+anew_readers : (w : World) (v front until : ℕ) → as_readers (anew w v front until) ≡ log.anew (as_readers w) v front until
+anew_readers w v front until =
+    let r = log.begins (reader_at w v) (log.reader_behind front until) in
+    let x = check.with_renewal check.new_member (w.group.members v).renewal in
+    either_readers (log.is_gone until front w.log) (put w v x (aside_of r)) w (log.put (as_readers w) v r) (as_readers w) (put_reads w v x r refl) refl
+
+pub miss_readers : (w : World) (v more until : ℕ) → as_readers (miss w v more until) ≡ log.miss (as_readers w) v more until
+miss_readers w v more until =
+    let r = log.missed (reader_at w v) more until in
+    let x = w.group.members v in
+    either_readers (log.is_gone until more (drop (w.asides v).read w.log)) (put w v x (aside_of r)) w (log.put (as_readers w) v r) (as_readers w) (put_reads w v x r refl) refl
+
 -- a restart puts back both
 restart_by : (b : Bool) (w : World) (v : ℕ) (x : Member) (a : Aside)
     → as_readers (record { group = if b then check.put w.group v x else w.group; log = w.log; asides = if b then put_aside w.asides v a else w.asides; saved = w.saved })
@@ -221,22 +233,8 @@ module _ (group : ℕ → Terms) where
     leads = put_reads w v (w.group.members v) (log.looked (reader_at w v)) refl;
     silent = λ key adds. (tt, tt);
   }
-  simulates w (Anew v front until) h =
-      let r = log.begins (reader_at w v) (log.reader_behind front until) in
-      let x = check.with_renewal check.new_member (w.group.members v).renewal in
-      record {
-        events = log.Anew v front until ∷ [];
-        leads = either_readers (log.is_gone until front w.log) (put w v x (aside_of r)) w (log.put (as_readers w) v r) (as_readers w) (put_reads w v x r refl) refl;
-        silent = λ key adds. (tt, tt);
-      }
-  simulates w (Miss v more until) h =
-      let r = log.missed (reader_at w v) more until in
-      let x = w.group.members v in
-      record {
-        events = log.Miss v more until ∷ [];
-        leads = either_readers (log.is_gone until more (drop (w.asides v).read w.log)) (put w v x (aside_of r)) w (log.put (as_readers w) v r) (as_readers w) (put_reads w v x r refl) refl;
-        silent = λ key adds. (tt, tt);
-      }
+  simulates w (Anew v front until) h = record { events = log.Anew v front until ∷ []; leads = anew_readers w v front until; silent = λ key adds. (tt, tt) }
+  simulates w (Miss v more until) h = record { events = log.Miss v more until ∷ []; leads = miss_readers w v more until; silent = λ key adds. (tt, tt) }
 
   append_happen : (z : log.World) (events more : List log.Event) → log.happen (as_terms group) z (events ++ more) ≡ log.happen (as_terms group) (log.happen (as_terms group) z events) more
   append_happen z [] more = refl

@@ -1,39 +1,29 @@
 -- The laws of records and verdicts hold in a group that reads a log.
-use Rattle.std.proofs.Common.{◌≡◌, ◌↔◌, ◌<◌, ℕ, nat_lt, Bool, not, List, [], ◌∷◌, map, Contains, IsTrue, true, ◌&&◌, Some, sym, ap, ◌∙◌, subst}
-use Rattle.std.specs.FinMap.{nat_cmp-IsAntisymmetric, slice_cmp-IsAntisymmetric}
-use Rattle.std.specs.Ordering.{is_eq}
-use Rattle.std.proofs.lemmas.Bool.{and_parts, lt-ltb, ltb-true, not-true}
-use Rattle.std.proofs.lemmas.Cmp.{nat_list_cmp_total, tied_itself}
-use Rattle.std.proofs.lemmas.List.Elements.{All-contains}
-use Rattle.std.proofs.lemmas.List.Kept.{IsStrictlySortedBy-filter}
-use Rattle.std.proofs.lemmas.Option.{same_Some}
+use Rattle.std.proofs.Common.{◌≡◌, ◌<◌, ℕ, zero, suc, List, [], ◌∷◌, length, IsTrue, Option, Some, refl, sym, ap, ◌∙◌, subst, arith}
+use Rattle.std.specs.Prelude.{◌==◌, slice_get}
+use Rattle.std.proofs.lemmas.Bool.{cond-true, eq-eqb}
+use Rattle.std.proofs.lemmas.Option.{none-some, same_Some}
 use Rattle.svid_token.specs.Rows.{Answers}
 use Rattle.svid_replay.specs.declared.token_use.Use.{Use}
-use Rattle.svid_replay.specs.declared.twice.Twice.{Twice}
 use Rattle.svid_replay.specs.Buckets.{raised_to}
 use Rattle.svid_replay.specs.Records.{State}
-use Rattle.svid_replay.specs.Sets.{holds, rising}
-use Rattle.svid_replay.specs.Twice.{IsTwice, has_key, used, uses_of}
-use Rattle.svid_replay.specs.Use.{bytes_cmp, use_cmp}
-use Rattle.svid_replay.proofs.ListLemmas.{in_kept, kept_in}
-use Rattle.svid_replay.proofs.SetsLemmas.{rising_rises}
-use Rattle.svid_replay.proofs.TestsLemmas.{equal}
-use Rattle.svid_replay.proofs.TwiceLemmas.{is_twice}
-use Rattle.svid_replay.proofs.UsesLemmas.{holds-live, rising_has_held}
-use Rattle.svid_check.specs.Headline.{IsLiveUse, IsSend, IsUsedTwice, WentAlong, report_of}
+use Rattle.svid_replay.specs.Sets.{holds}
+use Rattle.svid_check.specs.Headline.{IsSend, WentAlong}
 use Rattle.svid_check.specs.Runs.{Terms}
 use Rattle.svid_check.specs.Told.{record_of}
 use Rattle.svid_check.specs.Verdict.{verdict}
 use Rattle.svid_check.specs.World as check
-use Rattle.svid_check.specs.World.{Member, Posting, answer_at, setting_at, ticked}
+use Rattle.svid_check.specs.World.{Member, Posting, Restart, Saved, answer_at, setting_at, ticked}
 use Rattle.svid_check.proofs.AnswersLemmas.{accepted_is, answers_verdict, with_memory}
 use Rattle.svid_check.proofs.LawfulLemmas.{fresh, said_is_of_its_input}
+use Rattle.svid_check.proofs.PlacesLemmas.{put_own}
 use Rattle.svid_check.proofs.RestartsLemmas.{restart_absorbs}
 use Rattle.svid_check.proofs.RunsLemmas.{told_now}
 use Rattle.svid_check.proofs.SendsLemmas.{send_told, told_is_held, told_refuses}
 use Rattle.svid_check.proofs.SoundLemmas.{Sound}
-use Rattle.svid_group.specs.Told.{AcceptedIsRefused, ChainsTell, ChecksAreVerdicts, EqualTellings, RecordsAreTold, ReportsAreExact, ReportsAreWhole, RestartsAbsorb, SendsTellAll, ToldIsRefused, WithMemoryVerdicts, WithdrawnAreRefused, group_after}
-use Rattle.svid_group.specs.World.{Event}
+use Rattle.svid_log.specs.Groups.{begins}
+use Rattle.svid_group.specs.Told.{AcceptanceGoesAlong, AcceptedIsRefused, ChainsTell, ChecksAreVerdicts, EqualTellings, RecordsAreTold, RestartsAbsorb, RestartsPutBack, SendsTellAll, ToldIsRefused, WithMemoryVerdicts, WithdrawnAreRefused, group_after}
+use Rattle.svid_group.specs.World.{Aside, Call, Event, World, aside_of, happen, happens, put_aside, put_back, reader, reader_at, start}
 use Rattle.svid_group.proofs.StandsLemmas.{is_whole}
 
 is_sound : (group : ℕ → Terms) (events : List Event) → Sound (group_after group events)
@@ -85,6 +75,10 @@ pub accepted_is_refused : AcceptedIsRefused
 accepted_is_refused group events v moment s uses token input u accepts is h =
     told_is_refused group events v input u h (λ again t same says. said_is_of_its_input s moment uses token again u t accepts (is ∙ sym same) says)
 
+pub acceptance_goes_along : AcceptanceGoesAlong
+acceptance_goes_along group events v k moment q chain s uses token input u accepts is send taken along =
+    accepted_is_refused group events v moment s uses token input u accepts is (chains_tell group events v k q u chain send taken along)
+
 pub withdrawn_are_refused : WithdrawnAreRefused
 withdrawn_are_refused group events v now token refused accepted u h gone lives e same =
     let w = group_after group events in
@@ -98,62 +92,31 @@ withdrawn_are_refused group events v now token refused accepted u h gone lives e
 pub restarts_absorb : RestartsAbsorb
 restarts_absorb group events k s at = restart_absorbs s.was ((is_sound group events).saves k s at).is_told
 
--- Reports.
+pub restarts_put_back : RestartsPutBack
+restarts_put_back group events v k s at own =
+    let w = happen group start events in
+    let z = happens group w (Call (Restart v k)) in
+    let a = beside_save w.group.saves w.saved k s (is_whole group events).beside at in
+    let back = begins (reader_at w v) (reader s.was a.0) in
+    let x = check.with_renewal s.was (w.group.members v).renewal in
+    let is : z.group.members v ≡ x = ap (λ (o : Option Saved). (check.restart w.group v o).members v) at ∙ restarted w v s own in
+    let beside : z.asides v ≡ aside_of back =
+    ap (λ (o : Option Saved). put_back w v o (slice_get w.saved k) v) at
+    ∙ (ap (λ (o : Option Aside). put_back w v (Some s) o v) a.1 ∙ put_back_is w v s a.0 own) in
+    (a.0, a.1, ap (λ (m : Member). reader m (z.asides v)) is ∙ ap (reader x) beside, ap (λ (m : Member). m.told) is, ap (λ (m : Member). m.log) is, ap (λ (m : Member). m.renewal) is)
+  where
+    beside_save : (saves : List Saved) (asides : List Aside) (i : ℕ) (r : Saved) → length asides ≡ length saves → slice_get saves i ≡ Some r → (a : Aside) × (slice_get asides i ≡ Some a)
+    beside_save [] asides i r same there = absurd (none-some r there)
+    beside_save (q ∷ saves) [] i r same there = absurd (omega (arith, same))
+    beside_save (q ∷ saves) (a ∷ asides) zero r same there = (a, refl)
+    beside_save (q ∷ saves) (a ∷ asides) (suc i) r same there = beside_save saves asides i r (omega (arith, same)) there
 
--- the test of what is no withdrawal
-abbrev is_use : Use → Bool
-is_use u = not u.withdrawn
+    restarted : (w : World) (n : ℕ) (r : Saved) → r.owner ≡ n → (check.restart w.group n (Some r)).members n ≡ check.with_renewal r.was (w.group.members n).renewal
+    restarted w n r mine =
+        let x = check.with_renewal r.was (w.group.members n).renewal in
+        ap (λ (after : check.World). after.members n) (cond-true (r.owner == n) (check.put w.group n x) w.group (eq-eqb r.owner n mine)) ∙ put_own w.group n x
 
-own_key : (key : List ℕ) (u : Use) → u.key ≡ key → has_key key u ≡ true
-own_key key u e = ap (λ k. is_eq (bytes_cmp key k)) e ∙ ap is_eq (tied_itself nat_list_cmp_total key)
-
-key_is : (key : List ℕ) (u : Use) → has_key key u ≡ true → u.key ≡ key
-key_is key u e = sym (slice_cmp-IsAntisymmetric nat_cmp-IsAntisymmetric key u.key (equal (bytes_cmp key u.key) e))
-
-module _ (x : Member) (told : x.held ≡ record_of x.told) where
-  abbrev us : List Use
-  us = used (rising x.held.uses)
-
-  held_live : (key : List ℕ) (u : Use) → Contains us u → u.key ≡ key → IsLiveUse x.told key u
-  held_live key u has same =
-      let kept = kept_in is_use (rising x.held.uses) u has in
-      let held = (rising_has_held x.held.uses u).1 kept.0 in
-      let parts = and_parts (nat_lt x.told.greatest u.exp) (holds x.told.uses u) (sym (holds-live x.told.uses x.told.greatest u) ∙ (sym (ap (λ (a : State). holds a.uses u) told) ∙ held)) in
-      (parts.1, ltb-true x.told.greatest u.exp parts.0, same, not-true u.withdrawn kept.1)
-
-  live_held : (key : List ℕ) (u : Use) → IsLiveUse x.told key u → Contains us u
-  live_held key u is =
-      in_kept is_use (rising x.held.uses) u ((rising_has_held x.held.uses u).0
-      (ap (λ (a : State). holds a.uses u) told ∙ (holds-live x.told.uses x.told.greatest u ∙ (ap (λ b. b && holds x.told.uses u) (lt-ltb x.told.greatest u.exp is.1) ∙ is.0)))) (ap not is.3)
-
-  listing : IsTwice us (report_of x)
-  listing = is_twice us (IsStrictlySortedBy-filter use_cmp is_use (rising x.held.uses) (rising_rises use_cmp x.held.uses))
-
-  report_is_exact : (key : List ℕ) → Contains (map (λ t. t.key) (report_of x)) key ↔ IsUsedTwice x.told key
-  report_is_exact key = (
-    λ has.
-        let two = (listing.exactly key).0 has in
-        record { one = two.one; other = two.other; differ = two.differ; first = held_live key two.one two.one_in two.one_key; second = held_live key two.other two.other_in two.other_key },
-    λ two. (listing.exactly key).1 (record {
-      one = two.one;
-      other = two.other;
-      differ = two.differ;
-      one_in = live_held key two.one two.first;
-      other_in = live_held key two.other two.second;
-      one_key = two.first.2;
-      other_key = two.second.2;
-    }),
-  )
-
-  report_is_whole : (t : Twice) (u : Use) → Contains (report_of x) t → Contains t.uses u ↔ IsLiveUse x.told t.key u
-  report_is_whole t u listed =
-      let all : t.uses ≡ uses_of t.key us = All-contains (λ (r : Twice). r.uses ≡ uses_of r.key us) (report_of x) t listing.whole listed in (
-        λ has. let kept = kept_in (has_key t.key) us u (subst (λ vs. Contains vs u) all has) in held_live t.key u kept.0 (key_is t.key u kept.1),
-        λ is. subst (λ vs. Contains vs u) (sym all) (in_kept (has_key t.key) us u (live_held t.key u is) (own_key t.key u is.2)),
-      )
-
-pub reports_are_exact : ReportsAreExact
-reports_are_exact group events v key = report_is_exact ((group_after group events).members v) (records_are_told group events v) key
-
-pub reports_are_whole : ReportsAreWhole
-reports_are_whole group events v t u listed = report_is_whole ((group_after group events).members v) (records_are_told group events v) t u listed
+    put_back_is : (w : World) (n : ℕ) (r : Saved) (a : Aside) → r.owner ≡ n → put_back w n (Some r) (Some a) n ≡ aside_of (begins (reader_at w n) (reader r.was a))
+    put_back_is w n r a mine =
+        let b = aside_of (begins (reader_at w n) (reader r.was a)) in
+        ap (λ (f : ℕ → Aside). f n) (cond-true (r.owner == n) (put_aside w.asides n b) w.asides (eq-eqb r.owner n mine)) ∙ cond-true (n == n) b (w.asides n) (eq-eqb n n refl)

@@ -18,7 +18,8 @@ use Rattle.svid_check.specs.Told.{record_of, tell_now}
 use Rattle.svid_check.specs.Verdict.{verdict}
 use Rattle.svid_check.specs.World as check
 use Rattle.svid_check.specs.World.{Member, Posting, Restart, Saved, answer_at, setting_at}
-use Rattle.svid_group.specs.World.{Event, happen, start}
+use Rattle.svid_log.specs.Groups.{begins}
+use Rattle.svid_group.specs.World.{Aside, Call, Event, happen, happens, reader, reader_at, start}
 
 -- the validators after a list of events, with their postings and saves
 abbrev pub group_after : (ℕ → Terms) → List Event → check.World
@@ -72,6 +73,12 @@ AcceptedIsRefused = (group : ℕ → Terms) (events : List Event) (v moment : �
     → let x = (group_after group events).members v in
     verdicts.Accepts s moment uses token u → input_of token ≡ Some input → IsTrue (holds x.told.uses u) → IsRefusedBy x input
 
+-- and so an acceptance goes along every chain of sends taken whole: at its end no token of the signing input is accepted
+abbrev pub AcceptanceGoesAlong : Type 0
+AcceptanceGoesAlong = (group : ℕ → Terms) (events : List Event) (v k moment : ℕ) (q : Posting) (chain : List ℕ) (s : Setting) (uses : Uses) (token input : List ℕ) (u : Use)
+    → let w = group_after group events in
+    verdicts.Accepts s moment uses token u → input_of token ≡ Some input → IsSend w k q → HasTaken (w.members v).log k q → WentAlong w u k chain → IsRefusedBy (w.members v) input
+
 -- a check accepts no token of whose key a withdrawal was told that is live, by the log or outside of it
 abbrev pub WithdrawnAreRefused : Type 0
 WithdrawnAreRefused = (group : ℕ → Terms) (events : List Event) (v now : ℕ) (token : List ℕ) (refused : Bool) (accepted : Accepted) (u : Use)
@@ -91,7 +98,25 @@ ReportsAreWhole = (group : ℕ → Terms) (events : List Event) (v : ℕ) (t : T
     → let x = (group_after group events).members v in
     Contains (report_of x) t → Contains t.uses u ↔ IsLiveUse x.told t.key u
 
+-- one signing input that was accepted at two places is reported wherever both uses were told, until it expires
+abbrev pub TwoPlacesAreReported : Type 0
+TwoPlacesAreReported = (group : ℕ → Terms) (events : List Event) (v : ℕ) (s other : Setting) (moment later : ℕ) (uses others : Uses) (token again : List ℕ) (a b : Use)
+    → let x = (group_after group events).members v in
+    verdicts.Accepts s moment uses token a → verdicts.Accepts other later others again b → input_of token ≡ input_of again → a.place ≢ b.place
+    → IsTrue (holds x.told.uses a) → IsTrue (holds x.told.uses b) → x.told.greatest < a.exp
+    → (listed : Twice) × Contains (report_of x) listed × (listed.key ≡ a.key) × Contains listed.uses a × Contains listed.uses b
+
 -- a new record that absorbs all parts of a saved record is that record
 abbrev pub RestartsAbsorb : Type 0
 RestartsAbsorb = (group : ℕ → Terms) (events : List Event) (k : ℕ) (s : Saved)
     → slice_get (group_after group events).saves k ≡ Some s → join_all (state_of 0 []) (parts_of s.was.held) ≡ s.was.held
+
+-- so a restart may absorb them: the validator begins as it was saved, with what stood beside its record, and may have read more of the log than it knows; what it had been told is that of the save, and its setting that of now
+abbrev pub RestartsPutBack : Type 0
+RestartsPutBack = (group : ℕ → Terms) (events : List Event) (v k : ℕ) (s : Saved)
+    → let w = happen group start events in
+    let z = happens group w (Call (Restart v k)) in
+    let x = z.group.members v in
+    slice_get w.group.saves k ≡ Some s → s.owner ≡ v
+    → (a : Aside) × (slice_get w.saved k ≡ Some a) × (reader_at z v ≡ begins (reader_at w v) (reader s.was a))
+    × (x.told ≡ s.was.told) × (x.log ≡ s.was.log) × (x.renewal ≡ (w.group.members v).renewal)

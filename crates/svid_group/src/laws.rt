@@ -2,7 +2,8 @@
 
 ghost use Rattle.svid_group.specs.History.{EveryKindHappens, OwnClaimIsAccepted};
 ghost use Rattle.svid_group.specs.Once.{AcceptedIsFirst, AcceptedIsHeld, AcceptedIsUnrefused, AcceptedOnce, LaterInLogIsPast, OneUseOfAKey, OnlyClaimIsAccepted, OwnIsAccepted, PlaceIsAcceptedOnce};
-ghost use Rattle.svid_group.specs.Told.{AcceptedIsRefused, ChainsTell, ChecksAreVerdicts, EqualTellings, RecordsAreTold, ReportsAreExact, ReportsAreWhole, RestartsAbsorb, SendsTellAll, ToldIsRefused, WithMemoryVerdicts, WithdrawnAreRefused};
+ghost use Rattle.svid_group.specs.Reads.{ReadsAreEvents};
+ghost use Rattle.svid_group.specs.Told.{AcceptanceGoesAlong, AcceptedIsRefused, ChainsTell, ChecksAreVerdicts, EqualTellings, RecordsAreTold, ReportsAreExact, ReportsAreWhole, RestartsAbsorb, RestartsPutBack, SendsTellAll, ToldIsRefused, TwoPlacesAreReported, WithMemoryVerdicts, WithdrawnAreRefused};
 ghost use Rattle.svid_group.specs.Verdicts.{ClaimsAreVerdicts, InputIsAcceptedOnce, JudgedAreVerdicts, RenewedAreVerdicts};
 
 /// Whatever happens in a group, of all claims with one key and one expiry at most one is ever accepted, by one validator, once; and
@@ -55,17 +56,30 @@ pub fn told_tokens_are_refused()
     ensures withdrawn { WithdrawnAreRefused }
     ensures whole { SendsTellAll }
     ensures chains { ChainsTell }
+    ensures along { AcceptanceGoesAlong }
 {}
 
-/// A report lists the keys of which two different uses were told that are live, with all of them, and no withdrawal.
+/// A report lists the keys of which two different uses were told that are live, with all of them, and no withdrawal; and one
+/// signing input that was accepted at two places is reported wherever both uses were told, until it expires.
 pub fn reports_are_exact()
     ensures exact { ReportsAreExact }
     ensures whole { ReportsAreWhole }
+    ensures places { TwoPlacesAreReported }
 {}
 
-/// A new record that absorbs all parts of a saved record is that record.
+/// A new record that absorbs all parts of a saved record is that record. A restart puts back that record, what had been told, and
+/// what stood beside the record: the validator reads the log on from there, and accepts nothing until it is behind all that it may
+/// have read before.
 pub fn restarts_absorb()
-    ensures { RestartsAbsorb }
+    ensures parts { RestartsAbsorb }
+    ensures put_back { RestartsPutBack }
+{}
+
+/// What a call of svid_log's `Member::read` does with the record of a validator of a group is what as many events leave, gaps and
+/// refused memory included; what it accepts is accepted in the group, and in a value that no earlier life has read that is exact.
+/// Each other call of a validator is an event `Call`, by the laws of svid_check, which speak of any group.
+pub fn reads_are_events()
+    ensures { ReadsAreEvents }
 {}
 
 /// A token whose claim is accepted is one that the definition accepts, at the moment and by the uses at which the claim is judged: if
