@@ -53,7 +53,9 @@ fn begin_to_read(
     let store = RunUses::new(alloc);
     let begun = match value.fault {
         Some(fault) => return reason_number(fault.reason),
-        None => live.validator.member(store, lasts, mark_in(mark), ready, &value.uses),
+        None => live
+            .validator
+            .member(store, lasts, mark_in(mark), ready, &value.uses),
     };
     match begun {
         Ok(member) => {
