@@ -1,9 +1,11 @@
 /* svid.h: check JWT-SVIDs and share the record of used tokens, from C. Link with libsvid.a (or -lsvid) and the C library.
  *
- * There are two ways to use it:
+ * There are two ways to check tokens:
  * - A service keeps a `svid_validator`: open it once, check tokens, renew its bundles, exchange messages with other validators, and
  *   close it. See "A validator that you keep" below.
- * - The other calls are stateless. They read all inputs anew each time, so use them for records of up to a few thousand uses.
+ * - The other calls on records are stateless. They read all inputs anew each time, so use them for records of up to a few thousand uses.
+ *
+ * To keep a record over restarts and crashes, see "A state folder".
  *
  * Words: a *record* is what a validator remembers: the time that it has seen (its *moment*) and the *uses* of tokens that have not yet
  * expired. A *message* tells a record or a part of it to other validators (docs/FORMATS.md). All times are whole seconds since 1970.
@@ -22,11 +24,12 @@
  * Limits: messages, bundles and a table of questions have at most SVID_INPUT_MOST bytes each, and a token at most 65,536. Your own audiences
  * and the questions that you answer have no limit.
  *
- * Stack, as measured: no call takes more than 120 KiB, hostile tokens among them. So a thread of musl, which has 128 KiB unless you ask for
- * more, can make every call. Reports and answers take the most; a check takes up to 66 KiB.
+ * Stack, as measured: no call takes more than 124 KiB, hostile tokens and bundles among them. So a thread of musl, which has 128 KiB unless
+ * you ask for more, can make every call. Bundles take the most; a check takes up to 66 KiB.
  *
  * Memory comes from malloc. If malloc returns NULL, the status is SVID_NO_MEMORY. No call keeps anything, except that a validator keeps its
- * own record and bundles until you close it. Stateless calls share nothing, so threads may make them at the same time. */
+ * own record and bundles until you close it, and a `svid_bundles` its bundles. Stateless calls share nothing, so threads may make them at
+ * the same time. */
 #ifndef SVID_H
 #define SVID_H
 #include <stddef.h>
@@ -45,6 +48,8 @@ extern "C" {
 #define SVID_SUMMARY_LEN 8205        /* the length of each summary */
 #define SVID_BATCH_OF_LEN 82         /* the length of a batch of one use */
 #define SVID_INPUT_MOST 67108864     /* the most bytes that an input of messages may have */
+#define SVID_PAYLOAD_MOST 16777215   /* the most bytes that a payload of a state folder's file has */
+#define SVID_FRAME_MORE 63           /* a frame has at most so many bytes more than its payload */
 #define SVID_MOST_CANDIDATES 4       /* how many keys svidd, the Go library and the Python package try for a token: give svid_validator_ask
                                         the same, so that all answer the same (docs/FORMATS.md, "Candidates") */
 
@@ -56,9 +61,9 @@ enum svid_status {
                                 67,108,864 bytes is bad; told: input */
     SVID_NOT_SUMMARY = 4,    /* the first input is messages, but not one summary; nothing is told beside it */
 
-    /* what a call on a validator that you keep answers beside these */
-    SVID_CLOSED = 5,         /* the validator is closed; nothing happened */
-    SVID_IS_OPEN = 6,        /* svid_validator_open: the validator is open already, and stays as it was */
+    /* what a call on a validator or on bundles that you keep answers beside these */
+    SVID_CLOSED = 5,         /* the validator is closed, or the bundles are; nothing happened */
+    SVID_IS_OPEN = 6,        /* svid_validator_open, svid_bundles_open: the handle is open already, and stays as it was */
     SVID_GONE = 7,           /* svid_validator_withdraw: the token has expired, so that there is nothing to withdraw */
     SVID_TOO_FAR = 8,        /* a message's moment is more than `ahead` seconds past `now`; it was not taken */
     SVID_JUMP = 9,           /* `now` is more than `step` seconds past the record's moment; nothing happened */
@@ -93,6 +98,25 @@ enum svid_status {
                                 line, counted from 1 */
     SVID_OWN_NOT_UTF8 = 35,  /* an audience of the validator's own is not UTF-8 */
     SVID_OWN_LENGTHS = 36,   /* the lengths of the audiences do not add up to the length of `own` */
+
+    /* why a state folder takes no call; nothing happened */
+    SVID_FOLDER_UNFIT = 41,       /* the numbers are not those of a folder; of svid_journal_read: the reader's do not fit the bytes */
+    SVID_FOLDER_ENDED = 42,       /* a sync failed: nobody knows what the disk holds until the next start */
+    SVID_FOLDER_NOT_GROWING = 43, /* no journal grows yet */
+    SVID_FOLDER_BUSY = 44,        /* a call is due already */
+    SVID_FOLDER_NOTHING_DUE = 45, /* no call is due */
+    SVID_FOLDER_FLYING = 46,      /* a frame was handed out, and is not synced yet */
+    SVID_FOLDER_NOT_FLYING = 47,  /* no frame was handed out */
+    SVID_FOLDER_NOT_WRITING = 48, /* no snapshot is being written */
+    SVID_FOLDER_NO_MARK = 49,     /* the snapshot has no mark at its end */
+    SVID_FOLDER_TOO_LONG = 50,    /* the payload has more than SVID_PAYLOAD_MOST bytes */
+    SVID_FOLDER_FULL = 51,        /* a number of the folder has come to its end */
+
+    /* where reading a file ends; the place is reader->at */
+    SVID_FILE_END = 52,           /* the end: nothing was written here */
+    SVID_FILE_TEAR = 53,          /* a write was cut off: nobody was told that it is on the disk. Only a journal has one */
+    SVID_FILE_DAMAGE = 54,        /* what was synced here has changed */
+    SVID_FILE_NEWER = 55,         /* a frame of a newer format stands here; frame->format is its number */
 
     /* why a token is refused: the first that holds, in this order */
     SVID_TOO_LONG = 101,
@@ -140,8 +164,8 @@ typedef struct {
                         4 of svid_check, and 1 of any other call. SVID_TOO_MUCH also: 1 for bundles, 2 for a table of questions */
     size_t message;  /* which of its messages, counted from 1 */
     size_t place;
-    size_t more;     /* of svid_validator_ask: 1 if more keys may have signed the token than it lists; of svid_validator_mark: 1 if the
-                        validator accepts claims */
+    size_t more;     /* of svid_validator_ask and svid_bundles_ask: 1 if more keys may have signed the token than it lists; of
+                        svid_validator_mark: 1 if the validator accepts claims */
 } svid_told;
 
 /* What a check is told, beside its inputs. */
@@ -215,7 +239,8 @@ uint32_t svid_validator_open_by_lengths(svid_validator *v, const svid_terms *ter
 void svid_validator_close(svid_validator *v);
 
 /* Replaces the trust bundles. The record stays, so a token that was accepted before is still SVID_REPLAYED. If the new bundles are
- * refused (SVID_TOO_MUCH, SVID_BUNDLES_NOT_OBJECT to SVID_BUNDLES_KEYS), the old ones stay. */
+ * refused (SVID_TOO_MUCH, SVID_BUNDLES_NOT_OBJECT to SVID_BUNDLES_KEYS), the old ones stay. The call takes five microseconds for each key;
+ * svid_validator_renew_by takes none of that under the validator's lock. */
 uint32_t svid_validator_bundles(svid_validator *v, const uint8_t *bundles, size_t bundles_len, svid_told *told);
 
 /* Lists the keys that may have signed the token, the first `most` of them in the order of their bundle, and writes a row for each:
@@ -398,6 +423,175 @@ uint32_t svid_validator_go_on(svid_validator *v, svid_told *told);
  * record of the same moment. SVID_NO_LOG. */
 uint32_t svid_validator_beside(svid_validator *v, uint8_t *out, size_t out_len, svid_told *told);
 
+/* ---- Trust bundles that you keep ----
+ *
+ * A `svid_bundles` reads trust bundles once, and lists the keys that may have signed a token. It keeps no record, and shares nothing with a
+ * validator: so threads list keys, and read new bundles, while the validator's lock is free for checks. The rules for a `svid_validator` hold
+ * for it too: it begins as SVID_BUNDLES_CLOSED, only the calls write it, give it to one call at a time, and do not copy it while it is open.
+ *
+ * To check a token:
+ *   1. svid_bundles_ask lists the first keys that may have signed it.
+ *   2. Your crypto library verifies the signature with each of these keys, until one of them made it.
+ *   3. svid_bundles_question gives the question of that key: the token is hashed once.
+ *   4. svid_validator_check gets that question, and accepts or refuses the token.
+ *
+ * To renew the bundles of a validator without holding up its checks: open a `svid_bundles`, exchange by svid_validator_renew_by, and close
+ * it. Only the exchange needs the validator's lock, and its time does not depend on the bundles. */
+typedef struct { uint64_t word; void *held; } svid_bundles;
+#define SVID_BUNDLES_CLOSED { 0, NULL }
+
+/* Opens a closed handle: reads trust bundles, as for svid_validator_open. SVID_IS_OPEN: the handle stays as it was. SVID_TOO_MUCH and
+ * SVID_BUNDLES_NOT_OBJECT to SVID_BUNDLES_KEYS: the handle stays closed. */
+uint32_t svid_bundles_open(svid_bundles *b, const uint8_t *bundles, size_t bundles_len, svid_told *told);
+
+/* Closes a handle, and frees all that it holds. Does nothing to a closed one. */
+void svid_bundles_close(svid_bundles *b);
+
+/* Lists the keys that may have signed the token as svid_validator_ask does, but without their questions: it hashes nothing. Each row is
+ *     the algorithm's name  its length in 4 bytes, the greatest first, and then the name, as "ES256"
+ *     the key               its length in 4 bytes, the greatest first, and then the key as JSON (RFC 7517)
+ * The rows are numbered from 0. `most`, `told->more` and what it answers are as for svid_validator_ask. */
+uint32_t svid_bundles_ask(svid_bundles *b, const uint8_t *token, size_t token_len, size_t most,
+                          uint8_t *out, size_t out_len, svid_told *told);
+
+/* Writes the question of the row with this number to `asked`: it hashes the token once. The question is that of svid_validator_ask.
+ * SVID_TOO_LONG to SVID_JTI, SVID_UNKNOWN_DOMAIN and SVID_NO_KEY if the token is refused already. SVID_NO_KEY also if there is no such row:
+ * `number` is less than the number of keys that may have signed the token. Unless the status is SVID_OK, `asked` stays as it was. */
+uint32_t svid_bundles_question(svid_bundles *b, const uint8_t *token, size_t token_len, size_t number,
+                               svid_question *asked, svid_told *told);
+
+/* Exchanges the trust bundles of a validator for those of an open handle, in a time that does not depend on them: it reads nothing, allocates
+ * nothing and frees nothing. The handle then holds the bundles that the validator had. The record stays, as for svid_validator_bundles. Wants
+ * the lock of both. SVID_CLOSED if one of them is closed: then nothing happened. */
+uint32_t svid_validator_renew_by(svid_validator *v, svid_bundles *b, svid_told *told);
+
+/* ---- A state folder ----
+ *
+ * A state folder keeps a record over restarts and crashes. It has a snapshot and journals (docs/FORMATS.md, "The state folder"). You open,
+ * write, sync, rename and remove the files. These calls say which of that is due, make the bytes, and read them back. They take no memory.
+ *
+ * A `svid_folder` is eight numbers in your memory. Only these calls write it; you may read and copy it. Each call checks it, and answers
+ * SVID_FOLDER_UNFIT if the numbers are not those of a folder. There is nothing to close. Give it to one call at a time. Unless the status
+ * is SVID_OK, it stays as it was, and so does each output but `told`.
+ *
+ * A file is a row of frames, one for each *payload*: any bytes, at most SVID_PAYLOAD_MOST. A frame seals its payload with its number and
+ * with the file that it is in. So a frame of another file, of another folder or at another place is not taken for this one's. An empty payload
+ * is a *mark*: it carries nothing, but makes damage of the frame before it visible.
+ *
+ * At a start:
+ *   1. Read the snapshot, and then each journal by rising number, with svid_journal_read.
+ *   2. Call svid_journal_open with the smallest and the greatest number of the journals that are there, or with 1 and 0.
+ *   3. Make the calls of the system that are due: svid_journal_due says which, and svid_journal_answer is told how it went, until
+ *      SVID_CALL_NOTHING is due. Then the journal `newest` grows, and is empty. A start writes to no journal that it found.
+ *
+ * To append:
+ *   1. svid_journal_put writes the frame of a payload into your room. Requests that share a sync share a payload.
+ *   2. Write it at byte `end` of the journal `newest`, and sync the file (fdatasync).
+ *   3. svid_journal_synced if both succeeded: only now may you acknowledge what the payload says. svid_journal_unwritten if the write failed:
+ *      the next frame goes to the same place. svid_journal_failed if the sync failed: this ends the folder until the next start.
+ * Append a mark (an empty payload) behind a burst and before you close the folder; nobody waits for it.
+ *
+ * To replace the snapshot: svid_journal_begin, and then the calls that are due, as at a start. While SVID_CALL_WRITE_SNAPSHOT is due, write
+ * the pieces of svid_journal_piece one behind the other, an empty one last, and then answer. The snapshot must have each use that the record
+ * had when the new journal began to grow, which is when SVID_CALL_WRITE_SNAPSHOT becomes due: svid_validator_parts, first called then, writes
+ * that. You may append at any time in between; the next frame goes where `newest` and `end` say. */
+typedef struct {
+    uint64_t step;      /* what is due */
+    uint64_t oldest;    /* no journal of a smaller number is there */
+    uint64_t newest;    /* the journal that grows; at a start, the greatest number that was found */
+    uint64_t ended;     /* 1 after a sync that failed */
+    uint64_t count;     /* how many frames of the journal that grows are synced */
+    uint64_t end;       /* how many bytes they take: the next frame goes there */
+    uint64_t flying;    /* how many bytes the frame takes that was handed out and is not synced, or 0 */
+    uint64_t pieces;    /* how many pieces of a snapshot were handed out */
+} svid_folder;
+
+/* 16 bytes that tell a state folder from each other one. Take random ones when you make the folder, and keep them in it. */
+typedef struct {
+    uint8_t bytes[16];
+} svid_place;
+
+/* A call of the system that is due: a number of enum svid_call, and for two of them the number of the journal; else 0. */
+typedef struct {
+    uint64_t call;
+    uint64_t journal;
+} svid_due;
+
+enum svid_call {
+    SVID_CALL_NOTHING = 0,          /* none is due */
+    SVID_CALL_CREATE_JOURNAL = 1,   /* make an empty journal of this number, a new file: remove one that has its name, then open with O_EXCL */
+    SVID_CALL_SYNC_FOLDER = 2,      /* fsync the folder */
+    SVID_CALL_WRITE_SNAPSHOT = 3,   /* make a file beside the snapshot, and write the pieces to it */
+    SVID_CALL_SYNC_SNAPSHOT = 4,    /* sync that file */
+    SVID_CALL_RENAME_SNAPSHOT = 5,  /* rename it over the snapshot */
+    SVID_CALL_REMOVE_JOURNAL = 6    /* remove the journal of this number; if it is not there, that is a success */
+};
+
+/* How far a file is read. Begin with SVID_READER_FIRST; only svid_journal_read writes it. */
+typedef struct {
+    uint64_t count;     /* how many frames were read */
+    uint64_t at;        /* how many bytes they take: the place of the next one */
+    uint64_t marked;    /* 1 if the last of them is a mark, and else 0 */
+} svid_reader;
+#define SVID_READER_FIRST { 0, 0, 0 }
+
+/* What svid_journal_read found. */
+typedef struct {
+    size_t payload;     /* where in the bytes the payload begins */
+    size_t len;         /* how many bytes it has; 0 for a mark */
+    uint64_t format;    /* 1, or of SVID_FILE_NEWER the number of that format */
+} svid_frame;
+
+/* A start, in a folder that was read: no journal has a number below `oldest` or above `newest`. Without journals these are 1 and 0. `f`
+ * may be uninitialised. SVID_FOLDER_FULL if `newest` is 2^62 - 1 or more; SVID_FOLDER_UNFIT if `oldest` is greater than `newest` + 1. */
+uint32_t svid_journal_open(svid_folder *f, uint64_t oldest, uint64_t newest);
+
+/* Begins a new journal and a new snapshot. SVID_FOLDER_ENDED; SVID_FOLDER_BUSY while a call is due; SVID_FOLDER_FULL. */
+uint32_t svid_journal_begin(svid_folder *f);
+
+/* Says which call of the system is due. Changes nothing. SVID_FOLDER_ENDED. */
+uint32_t svid_journal_due(const svid_folder *f, svid_due *due);
+
+/* Tells that the call that was due succeeded (`ok` is not 0) or failed (`ok` is 0).
+ *
+ * A sync of the folder that fails ends the folder until the next start, and so does a start that gets no further. Any other call that fails
+ * ends the switch alone, and svid_journal_begin begins it anew. SVID_FOLDER_ENDED; SVID_FOLDER_NOTHING_DUE; SVID_FOLDER_FLYING if the next
+ * journal would grow while a frame is not synced: answer again once it is; SVID_FOLDER_NO_MARK if a snapshot would end without a mark. */
+uint32_t svid_journal_answer(svid_folder *f, uint32_t ok);
+
+/* Writes the frame of a payload into `out`. `told->len` is its length: write so many bytes at byte `f->end` of the journal `f->newest`. An
+ * empty payload is a mark. SVID_FOLDER_ENDED, SVID_FOLDER_NOT_GROWING, SVID_FOLDER_FLYING, SVID_FOLDER_TOO_LONG, SVID_FOLDER_FULL; SVID_TOO_SHORT
+ * if `out` has too little room, and `told->len` says how much the frame needs: `payload_len` + SVID_FRAME_MORE always do. */
+uint32_t svid_journal_put(svid_folder *f, const svid_place *place, const uint8_t *payload, size_t payload_len,
+                          uint8_t *out, size_t out_len, svid_told *told);
+
+/* Tells that the frame was written and synced: it is acknowledged, and the next one goes behind it. SVID_FOLDER_ENDED;
+ * SVID_FOLDER_NOT_FLYING. */
+uint32_t svid_journal_synced(svid_folder *f);
+
+/* Tells that the write of the frame failed. Nothing ends: the next frame goes to the same place. SVID_FOLDER_ENDED;
+ * SVID_FOLDER_NOT_FLYING. */
+uint32_t svid_journal_unwritten(svid_folder *f);
+
+/* Tells that a sync of the journal that grows failed. Nothing is acknowledged any more until the next start. SVID_FOLDER_ENDED. */
+uint32_t svid_journal_failed(svid_folder *f);
+
+/* Writes the frame of the next piece of a snapshot into `out`; `told->len` is its length. Write it behind the pieces before it. An empty payload
+ * is the mark that ends the snapshot: behind it answer SVID_CALL_WRITE_SNAPSHOT. SVID_FOLDER_ENDED, SVID_FOLDER_NOT_WRITING,
+ * SVID_FOLDER_TOO_LONG, SVID_FOLDER_FULL; SVID_TOO_SHORT as of svid_journal_put. */
+uint32_t svid_journal_piece(svid_folder *f, const svid_place *place, const uint8_t *payload, size_t payload_len,
+                            uint8_t *out, size_t out_len, svid_told *told);
+
+/* Reads the next frame of a file of the folder `place`: of the journal of this number, or of the snapshot if `journal` is 0. `bytes` are
+ * those of the whole file.
+ *
+ * SVID_OK: `frame` says where in `bytes` the payload stands, and the reader goes on behind it. Else the reader stays as it was, and the status
+ * says why there is no frame at byte `reader->at`: SVID_FILE_END, SVID_FILE_TEAR, SVID_FILE_DAMAGE, SVID_FILE_NEWER, or SVID_FOLDER_UNFIT if
+ * the reader's numbers do not fit the bytes. Of SVID_FILE_NEWER `frame->format` is the number of that format; `payload` and `len` are then 0.
+ * A snapshot that ends without a mark is damaged. */
+uint32_t svid_journal_read(const svid_place *place, uint64_t journal, const uint8_t *bytes, size_t bytes_len,
+                           svid_reader *reader, svid_frame *frame);
+
 /* ---- Stateless calls ---- */
 
 /* The version of the library: SVID_VERSION of the header that it was built with. */
@@ -487,6 +681,21 @@ static inline const char *svid_strstatus(uint32_t status) {
     case SVID_TABLE_LINE: return "SVID_TABLE_LINE";
     case SVID_OWN_NOT_UTF8: return "SVID_OWN_NOT_UTF8";
     case SVID_OWN_LENGTHS: return "SVID_OWN_LENGTHS";
+    case SVID_FOLDER_UNFIT: return "SVID_FOLDER_UNFIT";
+    case SVID_FOLDER_ENDED: return "SVID_FOLDER_ENDED";
+    case SVID_FOLDER_NOT_GROWING: return "SVID_FOLDER_NOT_GROWING";
+    case SVID_FOLDER_BUSY: return "SVID_FOLDER_BUSY";
+    case SVID_FOLDER_NOTHING_DUE: return "SVID_FOLDER_NOTHING_DUE";
+    case SVID_FOLDER_FLYING: return "SVID_FOLDER_FLYING";
+    case SVID_FOLDER_NOT_FLYING: return "SVID_FOLDER_NOT_FLYING";
+    case SVID_FOLDER_NOT_WRITING: return "SVID_FOLDER_NOT_WRITING";
+    case SVID_FOLDER_NO_MARK: return "SVID_FOLDER_NO_MARK";
+    case SVID_FOLDER_TOO_LONG: return "SVID_FOLDER_TOO_LONG";
+    case SVID_FOLDER_FULL: return "SVID_FOLDER_FULL";
+    case SVID_FILE_END: return "SVID_FILE_END";
+    case SVID_FILE_TEAR: return "SVID_FILE_TEAR";
+    case SVID_FILE_DAMAGE: return "SVID_FILE_DAMAGE";
+    case SVID_FILE_NEWER: return "SVID_FILE_NEWER";
     case SVID_TOO_LONG: return "SVID_TOO_LONG";
     case SVID_NOT_THREE_PARTS: return "SVID_NOT_THREE_PARTS";
     case SVID_HEADER_SPELLING: return "SVID_HEADER_SPELLING";

@@ -18,7 +18,7 @@
 
 #define NOW UINT64_C(1767225600)
 /* The stack that a call may take: svid.h says so. */
-#define STACK_MOST 122880
+#define STACK_MOST 126976
 
 /* How many allocations were asked for; how many blocks stand, and with how many bytes. */
 static long asked, standing, held, refused_at;

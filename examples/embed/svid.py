@@ -50,6 +50,26 @@ class Reading(c.Structure):
     _fields_ = [("order", c.c_uint64), ("from", c.c_size_t), ("count", c.c_size_t)]
 
 
+class Folder(c.Structure):
+    _fields_ = [("step", c.c_uint64), ("oldest", c.c_uint64), ("newest", c.c_uint64), ("ended", c.c_uint64), ("count", c.c_uint64), ("end", c.c_uint64), ("flying", c.c_uint64), ("pieces", c.c_uint64)]
+
+
+class Place(c.Structure):
+    _fields_ = [("bytes", c.c_uint8 * 16)]
+
+
+class Due(c.Structure):
+    _fields_ = [("call", c.c_uint64), ("journal", c.c_uint64)]
+
+
+class Reader(c.Structure):
+    _fields_ = [("count", c.c_uint64), ("at", c.c_uint64), ("marked", c.c_uint64)]
+
+
+class Frame(c.Structure):
+    _fields_ = [("payload", c.c_size_t), ("len", c.c_size_t), ("format", c.c_uint64)]
+
+
 class Refused(Exception):
     """Why a call gave up: its status, and what it told."""
 

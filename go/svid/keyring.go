@@ -3,16 +3,19 @@ package svid
 /*
 #include "svid.h"
 
-static uint32_t ask(svid_validator *v, _GoString_ token, uint8_t *out, size_t out_len, svid_told *told) {
-    return svid_validator_ask(v, (const uint8_t *)_GoStringPtr(token), _GoStringLen(token), SVID_MOST_CANDIDATES, out, out_len, told);
+static uint32_t ask(svid_bundles *b, _GoString_ token, uint8_t *out, size_t out_len, svid_told *told) {
+    return svid_bundles_ask(b, (const uint8_t *)_GoStringPtr(token), _GoStringLen(token), SVID_MOST_CANDIDATES, out, out_len, told);
+}
+static uint32_t question(svid_bundles *b, _GoString_ token, size_t number, svid_question *asked, svid_told *told) {
+    return svid_bundles_question(b, (const uint8_t *)_GoStringPtr(token), _GoStringLen(token), number, asked, told);
 }
 */
 import "C"
 
 import (
 	"encoding/binary"
-	"runtime"
 	"sync"
+	"unsafe"
 )
 
 // A Question asks whether one key made the signature of one token. It is a
@@ -28,7 +31,7 @@ type Candidate struct {
 }
 
 // A Keyring has trust bundles, finds the keys that may have signed a token, and
-// verifies signatures. It shares no lock with a Validator, and its methods may
+// verifies signatures. It shares no lock with a Validator (Renew takes that of both), and its methods may
 // be called by many goroutines at once. Each key is parsed once.
 type Keyring struct {
 	mu     sync.RWMutex // held for reading while an asker of bundles is in use
@@ -36,11 +39,12 @@ type Keyring struct {
 	keys   *keyCache
 }
 
-// An asker is a handle of the library that only lists candidate keys. There is
-// one for each processor, since a handle serves one call at a time.
+// An asker is a handle of trust bundles, which lists candidate keys. There is one
+// for each processor, since a handle serves one call at a time.
 type asker struct {
-	handle C.svid_validator
+	handle C.svid_bundles
 	told   C.svid_told
+	asked  C.svid_question
 	rows   []byte
 }
 
@@ -55,11 +59,10 @@ func NewKeyring(bundles []byte) (*Keyring, error) {
 }
 
 func openAskers(bundles []byte) (chan *asker, error) {
-	askers := make(chan *asker, runtime.GOMAXPROCS(0))
+	askers := make(chan *asker, handles(bundles))
 	for len(askers) < cap(askers) {
 		a := &asker{rows: make([]byte, 4096)}
-		terms := C.svid_terms{}
-		status := C.svid_validator_open(&a.handle, &terms, nil, 0, start(bundles), C.size_t(len(bundles)), &a.told)
+		status := C.svid_bundles_open(&a.handle, start(bundles), C.size_t(len(bundles)), &a.told)
 		if err := failure(status, &a.told); err != nil {
 			closeAskers(askers)
 			return nil, err
@@ -73,23 +76,30 @@ func openAskers(bundles []byte) (chan *asker, error) {
 func closeAskers(askers chan *asker) {
 	for n := len(askers); n > 0; n-- {
 		a := <-askers
-		C.svid_validator_close(&a.handle)
+		C.svid_bundles_close(&a.handle)
 		askers <- a
 	}
 }
 
-// SetBundles replaces the trust bundles. Give the Validator the same. On an
-// error the old bundles stay.
+// SetBundles replaces the trust bundles, which are read before the lock is taken.
+// On an error the old bundles stay. A service that has a Validator too calls its
+// Renew.
 func (k *Keyring) SetBundles(bundles []byte) error {
 	askers, err := openAskers(bundles)
 	if err != nil {
 		return err
 	}
 	k.mu.Lock()
-	defer k.mu.Unlock()
-	closeAskers(k.askers)
-	k.askers, k.keys = askers, newKeyCache()
+	old := k.replace(askers)
+	k.mu.Unlock()
+	closeAskers(old)
 	return nil
+}
+
+// replace puts other handles in the place of the old ones, none of which is in use then. The caller holds the lock.
+func (k *Keyring) replace(askers chan *asker) (old chan *asker) {
+	old, k.askers, k.keys = k.askers, askers, newKeyCache()
+	return old
 }
 
 // Close frees what the library holds. Later calls answer ErrClosed.
@@ -112,31 +122,65 @@ const MaxCandidates = C.SVID_MOST_CANDIDATES
 // error is a Refusal, TooLong to Jti, UnknownDomain or NoKey, if the token is
 // rejected whatever its signature is.
 func (k *Keyring) Candidates(token string) ([]Candidate, error) {
-	candidates, _, err := k.candidates(token)
+	k.mu.RLock()
+	defer k.mu.RUnlock()
+	a := <-k.askers
+	defer func() { k.askers <- a }()
+	candidates, err := a.candidates(token, k.keys)
+	for i := range candidates {
+		if candidates[i].Question, err = a.question(token, i); err != nil {
+			return nil, err
+		}
+	}
 	return candidates, err
 }
 
-// candidates returns also the cache of the bundles that the candidates are of.
+// candidates returns the candidates without their questions, and the cache of the bundles that they are of.
 func (k *Keyring) candidates(token string) ([]Candidate, *keyCache, error) {
 	k.mu.RLock()
 	defer k.mu.RUnlock()
 	a := <-k.askers
 	defer func() { k.askers <- a }()
+	candidates, err := a.candidates(token, k.keys)
+	return candidates, k.keys, err
+}
+
+// question returns the question of the candidate with this number, unless the bundles are no more those of keys.
+func (k *Keyring) question(token string, number int, keys *keyCache) (asked Question, same bool, err error) {
+	k.mu.RLock()
+	defer k.mu.RUnlock()
+	if k.keys != keys {
+		return asked, false, nil
+	}
+	a := <-k.askers
+	defer func() { k.askers <- a }()
+	asked, err = a.question(token, number)
+	return asked, true, err
+}
+
+// candidates returns the candidates without their questions.
+func (a *asker) candidates(token string, keys *keyCache) ([]Candidate, error) {
 	rows, err := a.ask(token)
 	if err != nil {
-		return nil, nil, err
+		return nil, err
 	}
 	var candidates []Candidate
 	for len(rows) > 0 {
-		var c Candidate
-		rows = rows[copy(c.Question[:], rows):]
 		var name, key []byte
 		name, rows = field(rows)
 		key, rows = field(rows)
-		c.Algorithm, c.Key = algorithmName(name), k.keys.get(key)
-		candidates = append(candidates, c)
+		candidates = append(candidates, Candidate{Algorithm: algorithmName(name), Key: keys.get(key)})
 	}
-	return candidates, k.keys, nil
+	return candidates, nil
+}
+
+// question returns the question of the candidate with this number.
+func (a *asker) question(token string, number int) (Question, error) {
+	status := C.question(&a.handle, token, C.size_t(number), &a.asked, &a.told)
+	if err := failure(status, &a.told); err != nil {
+		return Question{}, err
+	}
+	return *(*Question)(unsafe.Pointer(&a.asked)), nil
 }
 
 // ask returns the library's rows about the token. They are good until the next ask.
@@ -173,21 +217,36 @@ func (k *Keyring) Verify(token string) ([]Question, error) {
 			return p.verify(&s)
 		}
 	}
+	for {
+		yes, same, err := k.tried(token, &s)
+		if same || err != nil {
+			return yes, err
+		}
+	}
+}
+
+// tried verifies the signature with each candidate. It is to be called again if the bundles were replaced meanwhile.
+func (k *Keyring) tried(token string, s *parts) (yes []Question, same bool, err error) {
 	candidates, keys, err := k.candidates(token)
 	if err != nil {
-		return nil, err
+		return nil, true, err
 	}
 	signature, err := s.signatureBytes()
 	if err != nil {
-		return nil, err
+		return nil, true, err
 	}
-	for i, c := range candidates {
-		if c.Key.Verify(c.Algorithm, s.signed, signature) == nil {
-			keys.keep(&s, candidates, i, signature)
-			return []Question{c.Question}, nil
+	for i := range candidates {
+		c := &candidates[i]
+		if c.Key.Verify(c.Algorithm, s.signed, signature) != nil {
+			continue
 		}
+		if c.Question, same, err = k.question(token, i, keys); !same || err != nil {
+			return nil, same, err
+		}
+		keys.keep(s, candidates, i, signature)
+		return []Question{c.Question}, true, nil
 	}
-	return nil, nil
+	return nil, true, nil
 }
 
 // A keyCache has each key of the bundles parsed once, by its JSON text: a kid is

@@ -16,8 +16,9 @@ from typing import Union
 
 from . import _library as lib
 from ._bundles import Bundles, Path, Source
-from ._handle import CHECK, JUDGE, Calls, Handle, decoded, fault
+from ._handle import CHECK, JUDGE, Calls, Handle, fault
 from ._signatures import Verifier, Verifies
+from ._trust import decoded
 from .errors import Error, NoKey, UnknownDomain
 from .records import Accepted, Report, Use
 

@@ -112,7 +112,7 @@ pub data ReadsValue (now position : ℕ) (value : List ℕ) (status : ℕ) (told
       → status ≡ value_number fault rest.Nothing → told ≡ told_value fault → reading ≡ nothing_read → new_out ≡ old_out → new ≡ old
       → ReadsValue now position value status told reading old_out new_out old new
   is_read : (m n : MemberState) (uses : List Use) (fault : Option WireFault) (room written : List Fate) (r : Reading) (y : State)
-      → old.member ≡ Some m → m.passed < position → HasUses value uses fault → length room ≡ min (length old_out) (length uses)
+      → old.member ≡ Some m → m.passed < position → HasUses value uses fault → length room ≡ min (length uses) (length old_out)
       → HasRead now (horizon now old.validator.ahead) position m old.validator.state uses room r n y written
       → status ≡ value_number fault r.rest → told ≡ told_value fault → reading ≡ reading_seen r
       → new_out ≡ fates_seen (take r.count (drop r.from uses)) written ++ drop r.count old_out

@@ -1,10 +1,9 @@
-ghost use Rattle.std.specs.Prelude.{◌≡◌, None, Some, length};
+ghost use Rattle.std.specs.Prelude.{◌≡◌, IfOk};
 ghost use Rattle.std.specs.List.{flat_map};
 ghost use Rattle.svid_wire.specs.BatchText.{batch_text};
 ghost use Rattle.svid_log.specs.Saves.{saved_of};
 ghost use Rattle.svid_c.specs.Live.{HandleCalls};
 ghost use Rattle.svid_c.specs.Log.{BeginsToRead, WritesBeside, told_value};
-ghost use Rattle.svid_c.specs.Status.{reason_number};
 
 use crate::live::Live;
 use crate::log_mark::{SvidMark, mark_in};
@@ -14,7 +13,7 @@ use crate::validator::{SvidValidator, only};
 use crate::writing::put;
 use std::alloc::{AllocError, Global};
 use svid_log::{Member, Value};
-use svid_replay::{RunUses, Use, UseStore};
+use svid_replay::{RunUses, UseStore};
 use svid_wire::{MemSink, WireFault};
 
 // Tells why bytes are no row of messages.
@@ -46,18 +45,19 @@ fn begin_to_read(
 ) -> u32
     ensures { BeginsToRead mark.now ready lasts beside.now result told.new live.old live.new }
 {
-    let Ok(Value { uses, fault }) = Value::read(alloc, beside) else {
-        return only(2, told);
+    let value = match Value::read(alloc, beside) {
+        Ok(value) => value,
+        Err(_) => return only(2, told),
     };
-    *told = told_value(fault);
-    if let Some(fault) = fault {
-        return reason_number(fault.reason);
-    }
+    *told = told_value(value.fault);
     let store = RunUses::new(alloc);
-    match live
-        .validator
-        .member(store, lasts, mark_in(mark), ready, &uses)
-    {
+    let begun = match value.fault {
+        Some(fault) => return reason_number(fault.reason),
+        None => live
+            .validator
+            .member(store, lasts, mark_in(mark), ready, &value.uses),
+    };
+    match begun {
         Ok(member) => {
             live.member = Some(member);
             0

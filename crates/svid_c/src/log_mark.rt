@@ -51,7 +51,7 @@ fn is_accepting<S: UseStore>(member: &Member<S>, moment: u64) -> bool
     member.is_ready() && moment >= member.mark().deaf
 }
 
-fn mark(live: &Live, mark: &mut SvidMark, told: &mut SvidTold) -> u32
+fn tell_mark(live: &Live, mark: &mut SvidMark, told: &mut SvidTold) -> u32
     ensures { Marks result told.new mark.old mark.new live.now live.now }
 {
     let Some(member) = &live.member else {
@@ -78,15 +78,15 @@ fn go_on(live: &mut Live, told: &mut SvidTold) -> u32
 pub extern "C" fn svid_validator_mark(
     alloc: Global,
     v: &mut SvidValidator,
-    place: &mut SvidMark,
+    mark: &mut SvidMark,
     told: &mut SvidTold,
 ) -> u32
-    ensures { HandleCalls (place.new ≡ place.old) (Marks result told.new place.old place.new) result told.new v.old.handle.live v.new.handle.live }
+    ensures { HandleCalls (mark.new ≡ mark.old) (Marks result told.new mark.old mark.new) result told.new v.old.handle.live v.new.handle.live }
 {
     let Some(live) = v.take(alloc) else {
         return only(5, told);
     };
-    let status = mark(&live, place, told);
+    let status = tell_mark(&live, mark, told);
     v.put(live);
     status
 }

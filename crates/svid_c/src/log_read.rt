@@ -1,4 +1,4 @@
-ghost use Rattle.std.specs.Prelude.{◌≡◌, ◌≤◌, ◌++◌, None, Some, IfOk, drop, length, min, nat_lt, ◌&&◌, take};
+ghost use Rattle.std.specs.Prelude.{◌≡◌, ◌≢◌, ◌≤◌, ◌++◌, IfOk, drop, false, length, take, true};
 ghost use Rattle.svid_log.specs.declared.order.Order.TheVariants.{Gap};
 ghost use Rattle.svid_log.specs.Members.{order_of};
 ghost use Rattle.svid_c.specs.Live.{HandleCallsAt};
@@ -10,8 +10,8 @@ use crate::log::told_value;
 use crate::told::{SvidTold, reason_number};
 use crate::validator::{SvidValidator, only};
 use std::alloc::{AllocError, Global};
-use svid_log::{Fate, Member, Order, Reading, Rest, Value};
-use svid_replay::{Use, UseStore};
+use svid_log::{Fate, Order, Reading, Rest, Value};
+use svid_replay::Use;
 use svid_wire::WireFault;
 
 /// A use of a value of a log, and what becomes of it.
@@ -122,13 +122,23 @@ fn room_for(alloc: Global, count: usize) -> Result<Vec<Fate>, AllocError>
     [Fate::Expired].repeat(alloc, count)
 }
 
-// Whether values are missing in front of one.
-fn is_behind_gap<S: UseStore>(member: &Member<S>, position: u64) -> bool
-    ensures yes { result ≡ true → order_of member.now.passed position ≡ Gap }
-    ensures no { result ≡ false → order_of member.now.passed position ≢ Gap }
+// Whether values are missing in front of one, by the position of the last one that was read whole.
+fn is_behind_gap(passed: u64, position: u64) -> bool
+    ensures yes { result ≡ true → order_of passed position ≡ Gap }
+    ensures no { result ≡ false → order_of passed position ≢ Gap }
 {
-    let passed = member.mark().passed;
     position > passed && position - 1 > passed
+}
+
+// So many of the uses of a value, from one of them on.
+fn part(uses: &[Use], from: usize, count: usize) -> &[Use]
+    requires { count ≤ length (drop from uses.now) }
+    ensures { result.now ≡ take count (drop from uses.now) }
+{
+    if from >= uses.len() {
+        return &[];
+    }
+    uses.split_at(from).1.split_at(count).0
 }
 
 // Reads a value, with no time for it where that is 0.
@@ -148,22 +158,30 @@ fn read_value(
     let Some(member) = &mut live.member else {
         return only(19, told);
     };
-    if now == 0 && is_behind_gap(member, position) {
+    let passed = member.mark().passed;
+    if now == 0 && is_behind_gap(passed, position) {
         return only(9, told);
     }
-    let Ok(Value { uses, fault }) = Value::read(alloc, value) else {
-        return only(2, told);
+    let value = match Value::read(alloc, value) {
+        Ok(value) => value,
+        Err(_) => return only(2, told),
     };
-    let Ok(mut fates) = room_for(alloc, uses.len().min(out.len())) else {
-        return only(2, told);
+    if position <= passed {
+        *told = told_value(value.fault);
+        return value_number(value.fault, Rest::Nothing);
+    }
+    let mut fates = match room_for(alloc, value.uses.len().min(out.len())) {
+        Ok(fates) => fates,
+        Err(_) => return only(2, told),
     };
+    let room: &mut [Fate] = &mut fates;
     let read = live
         .validator
-        .read_log(member, now, position, &uses, &mut fates);
-    put_fates(&uses[read.from..][..read.count], &fates, out);
+        .read_log(member, now, position, &value.uses, room);
+    put_fates(part(&value.uses, read.from, read.count), room, out);
     *reading = reading_seen(&read);
-    *told = told_value(fault);
-    value_number(fault, read.rest)
+    *told = told_value(value.fault);
+    value_number(value.fault, read.rest)
 }
 
 /// Reads the value of the log at `position` at the moment `now`, in seconds, and writes each of its uses, with what becomes of it, into `out`: from

@@ -11,6 +11,7 @@ use svid_script_base::stop::Stop;
 use svid_script_base::streams;
 use svid_script_base::words::{number, word, words_of};
 use svid_script_checks::Validators;
+use svid_script_journal::Folders;
 use svid_script_log::Logs;
 use svid_script_tokens::Trust;
 
@@ -21,6 +22,7 @@ struct Values {
     trust: Trust,
     validators: Validators,
     logs: Logs,
+    folders: Folders,
 }
 
 /// The values of a script, and which allocation of each line is refused.
@@ -123,12 +125,23 @@ fn script_call(out: &mut Out<'_>, values: &mut Values, words: &[&str]) -> Result
     }
 }
 
+// The calls on state folders and their files.
+fn folder_call(out: &mut Out<'_>, values: &mut Values, words: &[&str]) -> Result<(), Stop> {
+    let Values { env, folders, .. } = values;
+    svid_script_journal::call(out, env, folders, words)
+}
+
 fn check_call(out: &mut Out<'_>, values: &mut Values, words: &[&str]) -> Result<(), Stop> {
+    match folder_call(out, values, words) {
+        Err(Stop::NoCall) => {}
+        answer => return answer,
+    }
     let Values {
         env,
         trust,
         validators,
         logs,
+        ..
     } = values;
     match svid_script_checks::call(out, env, trust, validators, words) {
         Err(Stop::NoCall) => {}
@@ -194,6 +207,7 @@ impl Script {
                 trust: Trust::new(alloc),
                 validators: Validators::new(alloc),
                 logs: Logs::new(alloc),
+                folders: Folders::new(alloc),
             },
             nth: 0,
         }

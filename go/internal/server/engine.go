@@ -163,16 +163,7 @@ func (e *Engine) SetBundles(domains map[string]json.RawMessage) error {
 	if len(domains) == 0 {
 		e.bundles.Store(nil) // No token can be accepted from here on, and it is not the tokens' fault.
 	}
-	// The validator first: a key that only the keyring has would be asked for,
-	// and its answer not be believed.
-	if err := e.validator.SetBundles(bundles); err != nil {
-		e.bundles.Store(old)
-		return err
-	}
-	if err := e.keyring.SetBundles(bundles); err != nil {
-		if old != nil {
-			_ = e.validator.SetBundles(*old) // if that fails too, keys that both have still work
-		}
+	if err := e.validator.Renew(e.keyring, bundles); err != nil {
 		e.bundles.Store(old)
 		return err
 	}
