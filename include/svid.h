@@ -67,6 +67,7 @@ enum svid_status {
     SVID_GONE = 7,           /* svid_validator_withdraw: the token has expired, so that there is nothing to withdraw */
     SVID_TOO_FAR = 8,        /* a message's moment is more than `ahead` seconds past `now`; it was not taken */
     SVID_JUMP = 9,           /* `now` is more than `step` seconds past the record's moment; nothing happened */
+    SVID_HAS_LOG = 10,       /* svid_validator_check: the validator reads a log, which decides about its tokens; nothing happened */
 
     /* why an input is no row of messages; told: input, message, place */
     SVID_MAGIC = 11,         /* the first four bytes are those of no version */
@@ -77,6 +78,7 @@ enum svid_status {
     SVID_USE_FUTURE = 16,    /* a use was made after its batch's moment */
     SVID_USE_ORDER = 17,     /* a use is not greater than the one before it */
     SVID_TRUNCATED = 18,     /* the bytes end before the message does */
+    SVID_NO_LOG = 19,        /* the validator reads no log; nothing happened */
 
     /* why a text is no SPIFFE ID; svid_id: place, for 24 and 26 to 28; else 0 */
     SVID_ID_TOO_LONG = 21,   /* more than 2,048 bytes */
@@ -162,7 +164,8 @@ typedef struct {
                         4 of svid_check, and 1 of any other call. SVID_TOO_MUCH also: 1 for bundles, 2 for a table of questions */
     size_t message;  /* which of its messages, counted from 1 */
     size_t place;
-    size_t more;     /* of svid_validator_ask and svid_bundles_ask: 1 if more keys may have signed the token than it lists */
+    size_t more;     /* of svid_validator_ask and svid_bundles_ask: 1 if more keys may have signed the token than it lists; of
+                        svid_validator_mark: 1 if the validator accepts claims */
 } svid_told;
 
 /* What a check is told, beside its inputs. */
@@ -253,7 +256,8 @@ uint32_t svid_validator_bundles(svid_validator *v, const uint8_t *bundles, size_
 uint32_t svid_validator_ask(svid_validator *v, const uint8_t *token, size_t token_len, size_t most,
                             uint8_t *out, size_t out_len, svid_told *told);
 
-/* Checks a token at the time `now`. `yes` are `yes_len` questions of this token whose answer is yes, in any order.
+/* Checks a token at the time `now`. `yes` are `yes_len` questions of this token whose answer is yes, in any order. SVID_HAS_LOG if the
+ * validator reads a log: it accepts a token by svid_validator_read alone.
  *
  * First the call advances the record to `now`; it judges the token at the record's moment, which may be later. If it accepts the token, the
  * status is SVID_OK: the record has gained the use, `used` is that use, and `out` has the SPIFFE ID of the subject. If it refuses the token,
@@ -269,7 +273,10 @@ uint32_t svid_validator_check(svid_validator *v, uint64_t now, const svid_questi
                               svid_use *used, svid_told *told);
 
 /* Answers what svid_validator_check would answer, but the record gains no use: a later check may still accept the token. `used` is the
- * use that a check would add. */
+ * use that a check would add.
+ *
+ * If the validator reads a log, `used` is the claim to put into the log (svid_batch_of), and a token with a claim beside the record is
+ * SVID_REPLAYED too. */
 uint32_t svid_validator_judge(svid_validator *v, uint64_t now, const svid_question *yes, size_t yes_len,
                               const uint8_t *token, size_t token_len, uint8_t *out, size_t out_len,
                               svid_use *used, svid_told *told);
@@ -326,6 +333,95 @@ uint32_t svid_validator_summary(svid_validator *v, uint8_t *out, size_t out_len,
  * summary's moment. SVID_NOT_SUMMARY; SVID_TOO_FAR; SVID_TOO_MUCH and SVID_MAGIC to SVID_TRUNCATED; SVID_JUMP. */
 uint32_t svid_validator_answer(svid_validator *v, uint64_t now, const uint8_t *summary, size_t summary_len,
                                uint8_t *out, size_t out_len, svid_told *told);
+
+/* ---- A validator that reads a group's log ----
+ *
+ * Validators that read one log accept a token once in the whole group. A *log* is a list of values in one order, the same for all; a *value*
+ * is a row of messages. A *claim* is a use in a value: it says that the validator of that place wants to accept the token. Of the claims of a
+ * token that have not expired, the first in the log counts. The validators of a group have different places.
+ *
+ * To check a token:
+ *   1. svid_validator_judge refuses the token, or tells its claim in `used`.
+ *   2. Put svid_batch_of(used) at the end of the log, as a value or as a part of one.
+ *   3. Read the values in their order with svid_validator_read. It tells what becomes of the claim: accept the token if that is
+ *      SVID_FATE_ACCEPTED. Accept it once for each claim that you put: an earlier claim with the same bytes may stand in the log too. */
+
+/* What becomes of a use that stands in a log. The other names are those of a status with the same number. */
+enum svid_fates {
+    SVID_FATE_ACCEPTED = 0,      /* the first claim of its token, and this validator's own: it accepts the token. The record has the use */
+    SVID_FATE_FIRST = 1,         /* the first claim of its token, which this validator does not accept: it is of another place, or stands at
+                                    `ready` or in front of it, or the validator is deaf. The record has the use */
+    SVID_FATE_WITHDRAWAL = 2,    /* a withdrawal. The record has it */
+    SVID_FATE_TOO_FAR_AHEAD = 8, /* it was made more than `ahead` seconds past `now`. It counts as a claim, and nobody that sees it as early
+                                    accepts it */
+    SVID_FATE_EXPIRED = 118,     /* it has expired */
+    SVID_FATE_WITHDRAWN = 124,   /* the token was withdrawn */
+    SVID_FATE_REPLAYED = 125     /* the record has a use of the token, or a claim in front of it in the log has its key */
+};
+
+/* How a value follows on those that were read. */
+enum svid_orders {
+    SVID_ORDER_AGAIN = 0,  /* it was read before; nothing happened */
+    SVID_ORDER_NEXT = 1,
+    SVID_ORDER_GAP = 2     /* values in front of it are missing: the validator is deaf for `lasts` seconds */
+};
+
+/* Where a validator is in a log. At the start `begun` and `deaf` are 0, and `passed` is the position of the last value in front of the first
+ * one that the log still has: 0 if it has all. If it has not, uses of the values up to there may live: then `deaf` is the moment by which they
+ * have all expired. */
+typedef struct {
+    uint64_t passed;    /* the position of the last value that was read to its end */
+    size_t begun;       /* how many uses of the value behind that one were read */
+    uint64_t deaf;      /* the moment before which the validator accepts nothing, in seconds */
+} svid_mark;
+
+/* A use of a value, and what becomes of it. */
+typedef struct {
+    svid_use used;
+    uint64_t fate;      /* one of svid_fates */
+} svid_fate;
+
+/* What svid_validator_read did. */
+typedef struct {
+    uint64_t order;     /* one of svid_orders */
+    size_t from;        /* the number of the first use of the value that the call read, counted from 0 */
+    size_t count;       /* how many uses it read, and wrote to `out` */
+} svid_reading;
+
+/* Lets the validator read a log from `mark` on. `ready` is the position of the last value that an earlier life of it may have read, so that of the
+ * last value in the log at the start: the validator accepts nothing up to there. `lasts` is how many seconds a use may live once it is in
+ * the log: the longest life of a token, and twice what two clocks may differ. `beside` is what svid_validator_beside wrote at that mark, or no
+ * bytes. The record stays as it is: take one that was saved at that mark or later by svid_validator_take. A validator that reads a log already
+ * begins anew.
+ *
+ * SVID_MAGIC to SVID_TRUNCATED, with `place` told and not `message`; SVID_NO_MEMORY. Then nothing happened. */
+uint32_t svid_validator_log(svid_validator *v, const svid_mark *mark, uint64_t ready, uint64_t lasts,
+                            const uint8_t *beside, size_t beside_len, svid_told *told);
+
+/* Reads the value at `position` of the log, with all its bytes. Positions are counted from 1, without gaps. The validator goes on where it
+ * stopped in the value, and writes each use that it reads to `out`, with its fate. `out` has room for `out_len` entries.
+ *
+ * SVID_OK: the value is read to its end, or was before. SVID_TOO_SHORT: `out` is full, and uses are left. SVID_NO_MEMORY: uses are left, too.
+ * After these two, call again with the same value: the validator goes on. SVID_MAGIC to SVID_TRUNCATED, with `place` told and not `message`: the
+ * value is no row of messages, so it has no uses, for every validator alike, and it is read to its end. SVID_NO_LOG.
+ *
+ * The call first advances the record to `now`, and to the time of each use that is not too far ahead. SVID_JUMP: call again with `now` 0, which
+ * advances nothing. SVID_JUMP also if values are missing in front of this one and `now` is 0: a gap wants a clock. `reading` is always written.
+ * `out` stays as it was behind the first `reading->count` entries. */
+uint32_t svid_validator_read(svid_validator *v, uint64_t now, uint64_t position, const uint8_t *value, size_t value_len,
+                             svid_fate *out, size_t out_len, svid_reading *reading, svid_told *told);
+
+/* Tells where the validator is in its log. `told->more` is 1 if it accepts claims: it has read up to `ready`, and its record's moment has
+ * reached `deaf`; else 0. SVID_NO_LOG: `mark` stays as it was. */
+uint32_t svid_validator_mark(svid_validator *v, svid_mark *mark, svid_told *told);
+
+/* Ends the time in which the validator is deaf, by setting `deaf` to 0. It may then accept a token whose claim it missed, so for a second
+ * time. SVID_NO_LOG. */
+uint32_t svid_validator_go_on(svid_validator *v, svid_told *told);
+
+/* Writes the claims beside the record as messages: those of the log that count, and that the record has not. Save them with the mark and the
+ * record of the same moment. SVID_NO_LOG. */
+uint32_t svid_validator_beside(svid_validator *v, uint8_t *out, size_t out_len, svid_told *told);
 
 /* ---- Trust bundles that you keep ----
  *
@@ -561,6 +657,7 @@ static inline const char *svid_strstatus(uint32_t status) {
     case SVID_GONE: return "SVID_GONE";
     case SVID_TOO_FAR: return "SVID_TOO_FAR";
     case SVID_JUMP: return "SVID_JUMP";
+    case SVID_HAS_LOG: return "SVID_HAS_LOG";
     case SVID_MAGIC: return "SVID_MAGIC";
     case SVID_KIND: return "SVID_KIND";
     case SVID_COUNT: return "SVID_COUNT";
@@ -569,6 +666,7 @@ static inline const char *svid_strstatus(uint32_t status) {
     case SVID_USE_FUTURE: return "SVID_USE_FUTURE";
     case SVID_USE_ORDER: return "SVID_USE_ORDER";
     case SVID_TRUNCATED: return "SVID_TRUNCATED";
+    case SVID_NO_LOG: return "SVID_NO_LOG";
     case SVID_ID_TOO_LONG: return "SVID_ID_TOO_LONG";
     case SVID_ID_SCHEME: return "SVID_ID_SCHEME";
     case SVID_ID_DOMAIN_EMPTY: return "SVID_ID_DOMAIN_EMPTY";

@@ -12,6 +12,7 @@ use svid_script_base::streams;
 use svid_script_base::words::{number, word, words_of};
 use svid_script_checks::Validators;
 use svid_script_journal::Folders;
+use svid_script_log::Logs;
 use svid_script_tokens::Trust;
 
 // All values that a script has named.
@@ -20,6 +21,7 @@ struct Values {
     env: Env,
     trust: Trust,
     validators: Validators,
+    logs: Logs,
     folders: Folders,
 }
 
@@ -138,9 +140,14 @@ fn check_call(out: &mut Out<'_>, values: &mut Values, words: &[&str]) -> Result<
         env,
         trust,
         validators,
+        logs,
         ..
     } = values;
     match svid_script_checks::call(out, env, trust, validators, words) {
+        Err(Stop::NoCall) => {}
+        answer => return answer,
+    }
+    match svid_script_log::call(out, env, validators, logs, words) {
         Err(Stop::NoCall) => svid_script_engines::call(out, env, trust, words),
         answer => answer,
     }
@@ -199,6 +206,7 @@ impl Script {
                 env: Env::new(alloc),
                 trust: Trust::new(alloc),
                 validators: Validators::new(alloc),
+                logs: Logs::new(alloc),
                 folders: Folders::new(alloc),
             },
             nth: 0,

@@ -64,6 +64,29 @@ pub struct Part {
 
 #[repr(C)]
 #[derive(Default, Debug, Clone, Copy, PartialEq)]
+pub struct Mark {
+    pub passed: u64,
+    pub begun: usize,
+    pub deaf: u64,
+}
+
+#[repr(C)]
+#[derive(Default, Debug, Clone, Copy, PartialEq)]
+pub struct Fate {
+    pub used: Use,
+    pub fate: u64,
+}
+
+#[repr(C)]
+#[derive(Default, Debug, Clone, Copy, PartialEq)]
+pub struct Reading {
+    pub order: u64,
+    pub from: usize,
+    pub count: usize,
+}
+
+#[repr(C)]
+#[derive(Default, Debug, Clone, Copy, PartialEq)]
 pub struct Folder {
     pub step: u64,
     pub oldest: u64,
