@@ -77,7 +77,8 @@ pub fn restarts_absorb()
 
 /// What a call of svid_log's `Member::read` does with the record of a validator of a group is what as many events leave, gaps and
 /// refused memory included; what it accepts is accepted in the group, and in a value that no earlier life has read that is exact.
-/// Each other call of a validator is an event `Call`, by the laws of svid_check, which speak of any group.
+/// Other calls of a validator are events `Call`, by `calls_are_events` of svid_check, whose clauses speak of any group but for saves,
+/// of which [`restarts_absorb`] speaks.
 pub fn reads_are_events()
     ensures { ReadsAreEvents }
 {}
