@@ -66,12 +66,7 @@ fn read_by<R: UseStore>(
 }
 
 /// `beside.read NAME RECORD NOW AHEAD USE`
-pub fn read(
-    out: &mut Out<'_>,
-    env: &mut Env,
-    logs: &mut Logs,
-    words: &[&str],
-) -> Result<(), Stop> {
+pub fn read(out: &mut Out<'_>, env: &mut Env, logs: &mut Logs, words: &[&str]) -> Result<(), Stop> {
     let asked = asked_in(words)?;
     let claims = logs.claims.get_mut(word(words, 1))?;
     let record = env.records.get_mut(word(words, 2))?;

@@ -4,7 +4,12 @@ use svid_script_base::out::Out;
 use svid_script_base::stop::Stop;
 
 /// How a call of the log went on, and where it began.
-pub fn say_reading(out: &mut Out<'_>, reading: &Reading, from: usize, count: usize) -> Result<(), Stop> {
+pub fn say_reading(
+    out: &mut Out<'_>,
+    reading: &Reading,
+    from: usize,
+    count: usize,
+) -> Result<(), Stop> {
     let order = reading.order;
     let rest = reading.rest;
     Ok(writeln!(out, "= {order:?} {from} {count} {rest:?}")?)

@@ -19,12 +19,7 @@ fn say_value(out: &mut Out<'_>, value: &Value) -> Result<(), Stop> {
 }
 
 /// `value NAME BYTES`
-pub fn value(
-    out: &mut Out<'_>,
-    env: &Env,
-    logs: &mut Logs,
-    words: &[&str],
-) -> Result<(), Stop> {
+pub fn value(out: &mut Out<'_>, env: &Env, logs: &mut Logs, words: &[&str]) -> Result<(), Stop> {
     let given = bytes(env, word(words, 2))?;
     logs.values.make_room(word(words, 1))?;
     let made = Value::read(env.alloc, &given)?;
