@@ -3,7 +3,9 @@ pub mod Checked
 pub mod Handle
 pub mod Inputs
 pub mod Joined
+pub mod Journal
 pub mod Live
+pub mod Log
 pub mod Nobody
 pub mod Offers
 pub mod Own

@@ -1,5 +1,5 @@
 ghost use Rattle.std.specs.Prelude.{◌≡◌};
-ghost use Rattle.svid_c.specs.Live.{Calls};
+ghost use Rattle.svid_c.specs.Live.{Calls, IsRest};
 ghost use Rattle.svid_c.specs.Trust.{Exchanges, ExchangesHeld, trusted};
 
 use crate::bundles::SvidBundles;
@@ -12,7 +12,7 @@ use std::alloc::Global;
 // Exchanges the bundles of a validator for those that are held.
 fn exchange(live: &mut Live, trust: &mut Trust, told: &mut SvidTold) -> u32
     ensures does { Exchanges result told.new trust.old.bundles trust.new.bundles live.old.validator live.new.validator }
-    ensures step { live.new.step ≡ live.old.step }
+    ensures rest { IsRest live.old live.new }
 {
     match trust.bundles.take() {
         Some(bundles) => {
@@ -27,7 +27,7 @@ fn exchange(live: &mut Live, trust: &mut Trust, told: &mut SvidTold) -> u32
 // Exchanges the bundles of a validator for those of a handle.
 fn exchange_held(alloc: Global, live: &mut Live, b: &mut SvidBundles, told: &mut SvidTold) -> u32
     ensures does { ExchangesHeld result told.new b.old.handle.trust b.new.handle.trust live.old.validator live.new.validator }
-    ensures step { live.new.step ≡ live.old.step }
+    ensures rest { IsRest live.old live.new }
 {
     let Some(mut trust) = b.take(alloc) else {
         return only(5, told);

@@ -91,7 +91,7 @@ fn bundles_place(fault: BundleFault) -> usize
     }
 }
 
-fn reason_number(reason: Reason) -> u32
+pub(crate) fn reason_number(reason: Reason) -> u32
     ensures { result ≡ reason_number reason }
 {
     match reason {

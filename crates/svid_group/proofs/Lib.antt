@@ -1,0 +1,9 @@
+pub mod ChangesLemmas
+pub mod HistoryLemmas
+pub mod OnceLemmas
+pub mod ReadersLemmas
+pub mod ReadsLemmas
+pub mod ReportsLemmas
+pub mod StandsLemmas
+pub mod ToldLemmas
+pub mod VerdictsLemmas
