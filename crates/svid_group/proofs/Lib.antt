@@ -1,6 +1,9 @@
 pub mod ChangesLemmas
 pub mod HistoryLemmas
+pub mod LaterLemmas
+pub mod MadeLemmas
 pub mod OnceLemmas
+pub mod RangesLemmas
 pub mod ReadersLemmas
 pub mod ReadsLemmas
 pub mod ReportsLemmas
