@@ -7,6 +7,7 @@ pub mod RangesLemmas
 pub mod ReadersLemmas
 pub mod ReadsLemmas
 pub mod ReportsLemmas
+pub mod SendsLemmas
 pub mod StandsLemmas
 pub mod ToldLemmas
 pub mod VerdictsLemmas

@@ -12,7 +12,7 @@ use Rattle.svid_replay.specs.Summary.{SummaryData}
 use Rattle.svid_replay.specs.Use.{IsUse}
 use Rattle.svid_replay.specs.Uses.{Uses, live}
 use Rattle.svid_check.specs.declared.accepted.Accepted.{Accepted}
-use Rattle.svid_check.specs.Headline.{HasPlaces, HasTaken, IsClash, IsEventInRange as IsCallInRange, IsLiveUse, IsRefusedBy, IsSend, IsUseOf, IsUsedTwice, IsWithin, WentAlong, report_of}
+use Rattle.svid_check.specs.Headline.{HasPlaces, HasTaken, IsClash, IsEventInRange as IsCallInRange, IsLiveUse, IsRefusedBy, IsSend, IsUseOf, IsUsedTwice, IsWithin, TakesOnly as IsTakeOnly, WentAlong, report_of}
 use Rattle.svid_check.specs.Lawful.{input_of}
 use Rattle.svid_check.specs.Lawful as verdicts
 use Rattle.svid_check.specs.Runs.{IsAnswered, Terms}
@@ -69,6 +69,21 @@ EqualTellings = (group other : ℕ → Terms) (events others : List Event) (v w 
     → let x = (group_after group events).members v in
     let y = (group_after other others).members w in
     x.told ≡ y.told → x.held ≡ y.held
+
+-- the event is another validator's, or validator v takes a part of posting k, or looks at what stands beside its record, or misses uses
+abbrev pub TakesOnly : ℕ → ℕ → Event → Type 0
+TakesOnly v k (Call event) = IsTakeOnly v k event
+TakesOnly v k (Read n now refused) = n ≢ v
+TakesOnly v k (Anew n front until) = n ≢ v
+TakesOnly v k _ = Unit {0}
+
+-- a validator that was told no use that the sender had not been told at a send, and that takes it whole with no other event of its own between, was then told just the uses that the sender had been told
+abbrev pub SendsMakeEqual : Type 0
+SendsMakeEqual = (group : ℕ → Terms) (events takes : List Event) (v k : ℕ) (q : Posting)
+    → let before = happen group start events in
+    let after = happen group before takes in
+    IsSend before.group k q → IsWithin (before.group.members v).told.uses q.was.told.uses → AllByRecursion (TakesOnly v k) takes → HasTaken (after.group.members v).log k q
+    → (after.group.members v).told.uses ≡ q.was.told.uses
 
 -- a validator that took a send whole was told all uses that its sender had been told by then, those of the log too
 abbrev pub SendsTellAll : Type 0
