@@ -467,7 +467,7 @@ uint32_t svid_validator_renew_by(svid_validator *v, svid_bundles *b, svid_told *
 
 /* ---- A state folder ----
  *
- * A state folder keeps a record over restarts and crashes. It has a snapshot and journals (docs/FORMATS.md, "The state folder"). You open,
+ * A state folder keeps a record over restarts and crashes. It has a snapshot and journals (docs/FORMATS.md, "State folder"). You open,
  * write, sync, rename and remove the files. These calls say which of that is due, make the bytes, and read them back. They take no memory.
  *
  * A `svid_folder` is eight numbers in your memory. Only these calls write it; you may read and copy it. Each call checks it, and answers

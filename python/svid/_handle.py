@@ -12,7 +12,7 @@ from typing import Any
 
 from . import _library as lib
 from ._signatures import Verifies
-from ._trust import Trust
+from ._trust import Trust, first
 from .errors import (
     REFUSALS,
     BadBundles,
@@ -26,6 +26,8 @@ from .errors import (
 from .records import Accepted, Use
 
 _USE = struct.Struct("=QQ32s16s")
+_ROW = struct.Struct(">32s4x5sI")  # a question, the algorithm, the length of the key
+_MOST = lib.size(lib.MOST_CANDIDATES)
 _LONG = 8192  # a token of so many bytes may take some milliseconds to read: other threads go on
 _ROOM = 65_536
 _ROOM_SIZE = lib.size(_ROOM)
@@ -36,7 +38,7 @@ _Call = Callable[..., int]
 Calls = tuple[_Call, _Call]
 """How to judge a short token, and how a long one."""
 
-_ASK: _Call = lib.library.svid_validator_ask
+_ASK: _Call = lib.quick.svid_validator_ask
 CHECK: Calls = (lib.quick.svid_validator_check, lib.library.svid_validator_check)
 JUDGE: Calls = (lib.quick.svid_validator_judge, lib.library.svid_validator_judge)
 
@@ -117,36 +119,62 @@ class Handle:
         """Raises the refusals of a token that need no audience, time, signature and record."""
         size, room, told = lib.size(len(token)), self._room_at, self._told_at
         with self._lock:
-            status = _ASK(self._at, token, size, _NONE, room, _ROOM_SIZE, told)
+            ask = lib.library.svid_validator_ask
+            status = ask(self._at, token, size, _NONE, room, _ROOM_SIZE, told)
             if status != lib.OK:
                 raise self._fault(status)
 
     def check(self, calls: Calls, now: int, token: bytes, verifies: Verifies) -> Accepted:
         """Judges a token by CHECK or JUDGE. Raises Refused.
 
-        The lock is free while the keys are listed, and while a signature is verified.
+        The lock is free while a signature is verified, and while a long token is read.
         """
-        judge = calls[0] if len(token) < _LONG else calls[1]
+        is_long = len(token) >= _LONG
+        judge = calls[is_long]
         at, size, room, told = self._at, lib.size(len(token)), self._room_at, self._told_at
         when, used = lib.moment(now), self._used_at
         while True:
-            trust = self._trust
-            status, yes = trust.answer(token, verifies)
-            # (Another reason may come before a refusal, and `now` is to be told.)
-            if status != lib.OK and status not in REFUSALS:
-                if trust is not self._trust:
-                    continue
-                raise fault(status, trust.told)
+            trust, yes = (self._long if is_long else self._short)(token, size, verifies)
             count = _ONE if yes else _NONE
             with self._lock:
                 if yes and trust is not self._trust:
-                    continue  # It may be of a key that is not there any more.
+                    continue  # The question may be of a key that is not there any more.
                 status = judge(at, when, yes, count, token, size, room, _ROOM_SIZE, used, told)
                 if status != lib.OK:
                     raise self._fault(status)
                 subject = self._room[: self._told.len].decode()
                 expires, moment, key, place = _USE.unpack(self._used)
             return Accepted(subject, Use(expires, key, place, moment))
+
+    def _short(self, token: bytes, size: Any, verifies: Verifies) -> tuple[Trust, bytes]:
+        """The question that a token's signature answers, or nothing, and the bundles it is of.
+
+        The questions of all keys that are tried cost less than another call would.
+        """
+        with self._lock:
+            trust, lent = self._trust, (token, size, _MOST)
+            status = _ASK(self._at, *lent, self._room_at, _ROOM_SIZE, self._told_at)
+            if status == lib.OK:
+                rows = self._view[: self._told.len].tobytes()
+            elif status in REFUSALS:
+                return (
+                    trust,
+                    b"",
+                )  # another reason may come before this one, and `now` is to be told
+            else:
+                rows = self._rest(status, _ASK, *lent)
+        found = first(_ROW, rows, token, verifies)
+        return trust, rows[found[1] : found[1] + 32] if found else b""
+
+    def _long(self, token: bytes, size: Any, verifies: Verifies) -> tuple[Trust, bytes]:
+        """The same of a long token, without the lock. It is hashed for the key that verified it."""
+        while True:
+            trust = self._trust
+            status, yes = trust.answer(token, size, verifies)
+            if status == lib.OK or status in REFUSALS:
+                return trust, yes
+            if trust is self._trust:
+                raise fault(status, trust.told)
 
     def withdraw(self, now: int, key: bytes, expires: int) -> Use:
         """Withdraws the token with this key of 32 bytes. Raises Gone."""

@@ -7,24 +7,17 @@ import ctypes
 import struct
 import threading
 import weakref
-from collections.abc import Callable
 from typing import Any
 
 from . import _library as lib
 from ._signatures import Verifies
 
 _ROW = struct.Struct(">4x5sI")  # the algorithm, and the length of the key
-_ROW_SIZE = _ROW.size
-_LONG = 8192  # a token of so many bytes may take some milliseconds to read: other threads go on
 _URL_SAFE = bytes.maketrans(b"-_", b"+/")
 _ROOM = 65_536
 _ROOM_SIZE = lib.size(_ROOM)
 _MOST = lib.size(lib.MOST_CANDIDATES)
 _NUMBERS = [lib.size(number) for number in range(lib.MOST_CANDIDATES)]
-
-_Call = Callable[..., int]
-_QUICK: tuple[_Call, _Call] = (lib.quick.svid_bundles_ask, lib.quick.svid_bundles_question)
-_THREADED: tuple[_Call, _Call] = (lib.library.svid_bundles_ask, lib.library.svid_bundles_question)
 
 
 class Trust:
@@ -61,48 +54,51 @@ class Trust:
         self._freeing.detach()
         self._lock = lock
 
-    def answer(self, token: bytes, verifies: Verifies) -> tuple[int, bytes]:
+    def answer(self, token: bytes, size: Any, verifies: Verifies) -> tuple[int, bytes]:
         """The status of listing the keys that may have signed the token, and the question of the
-        first of them that did, if there is one.
+        first of them that did, if there is one. The token is hashed for that one alone.
 
-        The lock is free while a signature is verified.
+        The lock is free while a signature is verified. Other threads run in the meantime.
         """
-        ask, ask_one = _QUICK if len(token) < _LONG else _THREADED
-        size, told = lib.size(len(token)), self._told_at
+        library, told = lib.library, self._told_at
         with self._lock:
-            status = ask(self.at, token, size, _MOST, self._room_at, _ROOM_SIZE, told)
+            lent = (self.at, token, size, _MOST)
+            status = library.svid_bundles_ask(*lent, self._room_at, _ROOM_SIZE, told)
+            rows = self._view[: self.told.len] if status == lib.OK else b""
             if status == lib.TOO_SHORT:
-                room = bytearray(self.told.len)
-                length = lib.size(len(room))
-                status = ask(self.at, token, size, _MOST, lib.address(room), length, told)
-                rows = bytes(room)
-            elif status == lib.OK:
-                rows = self._view[: self.told.len].tobytes()
-        if status != lib.OK:
-            return status, b""
-        number = _first(rows, token, verifies)
-        if number is None:
+                rows = bytearray(self.told.len)
+                long = (lib.address(rows), lib.size(len(rows)))
+                status = library.svid_bundles_ask(*lent, *long, told)
+            rows = bytes(rows)
+        found = first(_ROW, rows, token, verifies) if rows else None
+        if not found:
             return status, b""
         with self._lock:
-            status = ask_one(self.at, token, size, _NUMBERS[number], self._asked_at, told)
-            return status, bytes(self._asked) if status == lib.OK else b""
+            lent = (self.at, token, size, lib.size(found[0]))
+            status = library.svid_bundles_question(*lent, self._asked_at, told)
+            return status, bytes(self._asked)
 
 
 def _close(words: ctypes.Array[ctypes.c_uint64]) -> None:
     lib.library.svid_bundles_close(lib.address(words))
 
 
-def _first(rows: bytes, token: bytes, verifies: Verifies) -> int | None:
-    """The number of the first row whose key made the token's signature."""
+def first(
+    form: struct.Struct, rows: bytes, token: bytes, verifies: Verifies
+) -> tuple[int, int] | None:
+    """The number of the first row whose key made the token's signature, and where it begins.
+
+    A row has this form, of which the algorithm and the length of the key are the last, and the key.
+    """
     signed, _, signature = token.rpartition(b".")
     signature = decoded(signature)
-    at = number = 0
-    while at < len(rows):
-        alg, size = _ROW.unpack_from(rows, at)
-        at += _ROW_SIZE + size
-        if verifies(alg.decode(), rows[at - size : at], signed, signature):
-            return number
-        number += 1
+    begins = number = 0
+    while begins < len(rows):
+        *_, alg, size = form.unpack_from(rows, begins)
+        ends = begins + form.size + size
+        if verifies(alg.decode(), rows[ends - size : ends], signed, signature):
+            return number, begins
+        number, begins = number + 1, ends
     return None
 
 

@@ -213,7 +213,8 @@ print(resource.getrusage(resource.RUSAGE_SELF).ru_maxrss - before)
     assert ran.returncode == 0 and int(ran.stdout) < 100_000_000 // 1024
 
 
-def test_a_key_that_goes_while_a_signature_is_verified():
+@pytest.mark.parametrize("pad", ["", "a" * 10_000])
+def test_a_key_that_goes_while_a_signature_is_verified(pad):
     asked = []
 
     def verifies(alg, key, signed, signature):
@@ -223,17 +224,17 @@ def test_a_key_that_goes_while_a_signature_is_verified():
         return True
 
     with validator(verifies=verifies) as checks:
-        assert verdict(checks, token()) == "refused NoKey"
+        assert verdict(checks, token(pad=pad)) == "refused NoKey"
         assert len(asked) == 1
         # The question of a key that stays is asked again of the bundles that there are now.
         asked.clear()
-        made = token(header={"kid": "k2"}, jti="2")
+        made = token(header={"kid": "k2"}, jti="2", pad=pad)
         assert verdict(checks, made) == ACCEPTED
         assert len(asked) == 2
 
 
 def test_threads_check_while_bundles_are_renewed():
-    texts = [token(jti=str(it)) for it in range(200)]
+    texts = [token(jti=str(it), pad="a" * 10_000 * (it % 2)) for it in range(200)]
     said = []
     with validator() as checks:
         both = [bundle(entry(KEY, "k1")), bundle(entry(KEY, "k1"), entry(KEY, "k2"))]

@@ -71,9 +71,9 @@ pub data Refuses (due : Folder → Option Fault) (numbers : SvidFolder) (e : Fau
   of_folder : (f : Folder) → AreOf numbers f → due f ≡ Some e → Refuses due numbers e
 
 -- A start: there is a fault, and nothing happened; or the numbers are those of the folder that is opened.
-pub data Opens (due : Option Fault) (opened : Folder) (status : ℕ) (old new : SvidFolder) : Type 0 where
-  unopened : (e : Fault) → due ≡ Some e → status ≡ folder_number e → new ≡ old → Opens due opened status old new
-  opens : due ≡ None → status ≡ 0 → AreOf new opened → Opens due opened status old new
+pub data Starts (due : Option Fault) (opened : Folder) (status : ℕ) (old new : SvidFolder) : Type 0 where
+  unstarted : (e : Fault) → due ≡ Some e → status ≡ folder_number e → new ≡ old → Starts due opened status old new
+  starts : due ≡ None → status ≡ 0 → AreOf new opened → Starts due opened status old new
 
 -- A call is not taken, and nothing happened; or the folder moves on.
 pub data Moves (due : Folder → Option Fault) (after : Folder → Folder) (status : ℕ) (old new : SvidFolder) : Type 0 where

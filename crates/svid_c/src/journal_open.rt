@@ -1,5 +1,5 @@
 ghost use Rattle.svid_journal.specs.Folder.{open_fault, opened};
-ghost use Rattle.svid_c.specs.Journal.{Opens};
+ghost use Rattle.svid_c.specs.Journal.{Starts};
 
 use crate::journal::{SvidFolder, folder_number};
 use svid_journal::Folder;
@@ -9,7 +9,7 @@ use svid_journal::Folder;
 /// `oldest` is greater than the number behind `newest`. Then `f` stays as it was.
 #[unsafe(no_mangle)]
 pub extern "C" fn svid_journal_open(f: &mut SvidFolder, oldest: u64, newest: u64) -> u32
-    ensures { Opens (open_fault oldest newest) (opened oldest newest) result f.old f.new }
+    ensures { Starts (open_fault oldest newest) (opened oldest newest) result f.old f.new }
 {
     match Folder::open(oldest, newest) {
         Ok(folder) => {

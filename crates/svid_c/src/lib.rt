@@ -3,7 +3,7 @@
 //! Each answers a status: 0 where it did what it is for, and else a number that tells why not. What else it
 //! answers stands in a structure that the caller lends, and text in room that the caller lends: where that is
 //! too short, the call says how long it must be and leaves it as it was. Nothing that was allocated outlives a
-//! call, but for what a validator holds that C keeps: that is given back when it is closed.
+//! call, but for what a validator or trust bundles hold that C keeps: that is given back when they are closed.
 #![tactic(auto)]
 
 mod answer;

@@ -66,22 +66,28 @@ fn tells_what_stands_in_a_file(rt: HostRuntime) -> Result<(), Fail> {
     Ok(())
 }
 
+// A room in front of a place, and from there on.
+fn parted(room: &[u8], at: usize) -> (&[u8], &[u8]) {
+    room.split_at(room.len().min(at))
+}
+
 #[test]
 fn hands_out_frames(rt: HostRuntime) -> Result<(), Fail> {
     let mut folder = Folder::open(1, 2)?;
     folder.answer(true)?;
     folder.answer(true)?;
-    let mut room = [9; 70];
+    let mut small = [9; 63];
     assert_eq!(rt;
-        folder.put(&mut room[..63], FOLDER, b"hi"),
+        folder.put(&mut small, FOLDER, b"hi"),
         Err(Fault::TooShort(64))
     );
-    assert_eq!(rt; folder.put(&mut room, FOLDER, b"hi")?, 64);
-    assert_eq!(rt; &room[..64], &FILE[..64]);
-    assert_eq!(rt; &room[64..], [9; 6].as_slice());
+    let mut memory = [9; 70];
+    let room: &mut [u8] = &mut memory;
+    assert_eq!(rt; folder.put(room, FOLDER, b"hi")?, 64);
+    assert_eq!(rt; parted(room, 64), (&FILE[..64], [9; 6].as_slice()));
     folder.synced()?;
-    assert_eq!(rt; folder.put(&mut room, FOLDER, b"")?, 32);
-    assert_eq!(rt; &room[..32], &FILE[64..]);
+    assert_eq!(rt; folder.put(room, FOLDER, b"")?, 32);
+    assert_eq!(rt; parted(room, 32).0, &FILE[64..]);
     folder.synced()?;
     assert_eq!(rt; (folder.count, folder.end), (2, 96));
     Ok(())
@@ -101,9 +107,11 @@ fn makes_a_snapshot_and_removes_old_journals(rt: HostRuntime) -> Result<(), Fail
         folder.answer(true)?;
     }
     calls.push(folder.due()?)?;
-    let mut out = [0; 96];
-    folder.piece(&mut out, FOLDER, b"hi")?;
-    folder.piece(&mut out[64..], FOLDER, b"")?;
+    let mut memory = [0; 96];
+    let out: &mut [u8] = &mut memory;
+    let (first, mark) = out.split_at_mut(64);
+    folder.piece(first, FOLDER, b"hi")?;
+    folder.piece(mark, FOLDER, b"")?;
     folder.answer(true)?;
     for _ in 0..6 {
         calls.push(folder.due()?)?;
@@ -128,7 +136,7 @@ fn makes_a_snapshot_and_removes_old_journals(rt: HostRuntime) -> Result<(), Fail
         ]
         .as_slice()
     );
-    assert_eq!(rt; stop(&SNAPSHOT, &out, 2), (96, Next::End));
+    assert_eq!(rt; stop(&SNAPSHOT, out, 2), (96, Next::End));
     assert_eq!(rt; Words::of(&folder).folder(), Some(folder));
     Ok(())
 }
