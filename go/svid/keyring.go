@@ -11,6 +11,7 @@ import "C"
 
 import (
 	"encoding/binary"
+	"errors"
 	"runtime"
 	"sync"
 )
@@ -31,9 +32,20 @@ type Candidate struct {
 // verifies signatures. It shares no lock with a Validator, and its methods may
 // be called by many goroutines at once. Each key is parsed once.
 type Keyring struct {
-	mu     sync.RWMutex // held for reading while an asker of bundles is in use
-	askers chan *asker
-	keys   *keyCache
+	rsaBits int          // at most so many has an RSA key
+	mu      sync.RWMutex // held for reading while an asker of bundles is in use
+	askers  chan *asker
+	keys    *keyCache
+}
+
+// KeyringOptions say which keys a keyring has.
+type KeyringOptions struct {
+	// Bundles are the trust bundles: a JSON object from trust domain names to JWK
+	// sets, as JoinBundles makes it.
+	Bundles []byte
+	// RSABits is how many bits an RSA key may have, from 2,048 to 16,384. A longer key
+	// verifies nothing. It bounds what a token of a stranger costs. 0 is UsualRSABits.
+	RSABits int
 }
 
 // An asker is a handle of the library that only lists candidate keys. There is
@@ -47,11 +59,22 @@ type asker struct {
 // NewKeyring returns a keyring of trust bundles: a JSON object from trust domain
 // names to JWK sets. Errors: ErrBundles, a *BundleError, ErrNoMemory.
 func NewKeyring(bundles []byte) (*Keyring, error) {
-	askers, err := openAskers(bundles)
+	return OpenKeyring(KeyringOptions{Bundles: bundles})
+}
+
+// OpenKeyring is NewKeyring with options. Its errors are those, and ErrRSABits.
+func OpenKeyring(o KeyringOptions) (*Keyring, error) {
+	if o.RSABits == 0 {
+		o.RSABits = UsualRSABits
+	}
+	if o.RSABits < leastRSABits || o.RSABits > mostRSABits {
+		return nil, ErrRSABits
+	}
+	askers, err := openAskers(o.Bundles)
 	if err != nil {
 		return nil, err
 	}
-	return &Keyring{askers: askers, keys: newKeyCache()}, nil
+	return &Keyring{rsaBits: o.RSABits, askers: askers, keys: newKeyCache(o.RSABits)}, nil
 }
 
 func openAskers(bundles []byte) (chan *asker, error) {
@@ -88,7 +111,7 @@ func (k *Keyring) SetBundles(bundles []byte) error {
 	k.mu.Lock()
 	defer k.mu.Unlock()
 	closeAskers(k.askers)
-	k.askers, k.keys = askers, newKeyCache()
+	k.askers, k.keys = askers, newKeyCache(k.rsaBits)
 	return nil
 }
 
@@ -97,7 +120,7 @@ func (k *Keyring) Close() {
 	k.mu.Lock()
 	defer k.mu.Unlock()
 	closeAskers(k.askers)
-	k.keys = newKeyCache() // whose plans would answer without the library
+	k.keys = newKeyCache(k.rsaBits) // whose plans would answer without the library
 }
 
 // MaxCandidates is how many keys are tried for a token. A token that names no kid,
@@ -164,7 +187,7 @@ func field(rows []byte) (text, rest []byte) {
 // it, and returns that key's question for Validator.Check. It returns no question
 // and no error if none of them made the signature: the validator then rejects the
 // token as BadSignature, or for what comes before that. The error is that of
-// Candidates. A token with a good signature may get its question though Candidates
+// Candidates, or ErrNoMemory. A token with a good signature may get its question though Candidates
 // would reject it: the validator rejects it too.
 func (k *Keyring) Verify(token string) ([]Question, error) {
 	s, whole := cutToken(token)
@@ -181,26 +204,40 @@ func (k *Keyring) Verify(token string) ([]Question, error) {
 	if err != nil {
 		return nil, err
 	}
+	i, err := findMaker(candidates, &signing{text: s.signed, signature: signature})
+	if err != nil || i < 0 {
+		return nil, err
+	}
+	keys.keep(&s, candidates, i, signature)
+	return []Question{candidates[i].Question}, nil
+}
+
+// findMaker is the place of the first candidate that made the signature, or -1. ErrNoMemory: no candidate is known to have
+// made it, and one may have.
+func findMaker(candidates []Candidate, s *signing) (place int, err error) {
 	for i, c := range candidates {
-		if c.Key.Verify(c.Algorithm, s.signed, signature) == nil {
-			keys.keep(&s, candidates, i, signature)
-			return []Question{c.Question}, nil
+		switch verdict := c.Key.verify(c.Algorithm, s); {
+		case verdict == nil:
+			return i, nil
+		case errors.Is(verdict, ErrNoMemory):
+			err = verdict
 		}
 	}
-	return nil, nil
+	return -1, err
 }
 
 // A keyCache has each key of the bundles parsed once, by its JSON text: a kid is
 // not unique. It holds no more keys than the bundles do. plans are by header and
 // trust domain.
 type keyCache struct {
-	mu    sync.RWMutex
-	keys  map[string]*Key
-	plans map[planName]*plan
+	rsaBits int // at most so many has an RSA key
+	mu      sync.RWMutex
+	keys    map[string]*Key
+	plans   map[planName]*plan
 }
 
-func newKeyCache() *keyCache {
-	return &keyCache{keys: make(map[string]*Key), plans: make(map[planName]*plan)}
+func newKeyCache(rsaBits int) *keyCache {
+	return &keyCache{rsaBits: rsaBits, keys: make(map[string]*Key), plans: make(map[planName]*plan)}
 }
 
 func (c *keyCache) get(text []byte) *Key {
@@ -210,7 +247,10 @@ func (c *keyCache) get(text []byte) *Key {
 	if key != nil {
 		return key
 	}
-	key = parseKey(text)
+	key = parseKey(text, c.rsaBits)
+	if errors.Is(key.fault, ErrNoMemory) {
+		return key // The next token may find memory.
+	}
 	c.mu.Lock()
 	defer c.mu.Unlock()
 	c.keys[key.text] = key

@@ -46,7 +46,7 @@ func signing(t *testing.T, algorithm string, number int) (signed string, signatu
 	return token[:end], unBase64(t, token[end+1:])
 }
 
-func unBase64(t *testing.T, text string) []byte {
+func unBase64(t testing.TB, text string) []byte {
 	t.Helper()
 	bytes, err := base64.RawURLEncoding.DecodeString(text)
 	if err != nil {
@@ -127,6 +127,24 @@ func TestAnECSignatureHasOneForm(t *testing.T) {
 				})
 			}
 		}
+	}
+}
+
+// Whatever bytes a stranger sends as a signature, it is a bad one, and nothing else.
+func TestAnyBytesAreABadSignature(t *testing.T) {
+	for _, algorithm := range issuer.Algorithms {
+		key, _ := exampleKey(t, algorithm)
+		signed, good := signing(t, algorithm, 0)
+		others := map[string][]byte{"ones": bytes.Repeat([]byte{0xff}, len(good)), "a one": append(make([]byte, len(good)-1), 1)}
+		for i := 0; i < 30; i++ {
+			bytes := make([]byte, len(good))
+			if _, err := rand.Read(bytes); err != nil {
+				t.Fatal(err)
+			}
+			bytes[0] >>= i % 9 // (below the modulus, or the order, and above)
+			others[fmt.Sprintf("%x", bytes)] = bytes
+		}
+		wantVerify(t, key, algorithm, signed, good, others)
 	}
 }
 
