@@ -35,6 +35,21 @@ typedef struct {
     digest of;
 } verdict;
 
+// Lets OpenSSL load what it keeps for all keys. Where memory is refused to that, OpenSSL 3.0 may crash, so it is done at the
+// start of the process.
+static void begin(void) {
+    static const char *const types[] = { "RSA", "EC" }, *const hashes[] = { "SHA256", "SHA384", "SHA512" };
+    for (size_t i = 0; i < sizeof types / sizeof *types; i++) {
+        EVP_PKEY_CTX *making = EVP_PKEY_CTX_new_from_name(NULL, types[i], NULL);
+        if (making != NULL) EVP_PKEY_fromdata_init(making);
+        EVP_PKEY_CTX_free(making);
+    }
+    for (size_t i = 0; i < sizeof hashes / sizeof *hashes; i++) EVP_MD_free(EVP_MD_fetch(NULL, hashes[i], NULL));
+    EVP_SIGNATURE_free(EVP_SIGNATURE_fetch(NULL, "RSA", NULL));
+    EVP_SIGNATURE_free(EVP_SIGNATURE_fetch(NULL, "ECDSA", NULL));
+    ERR_clear_error();
+}
+
 // The key, which is known to be a good one: so NULL is for want of memory.
 static EVP_PKEY *make_key(const char *type, OSSL_PARAM *params) {
     EVP_PKEY *key = NULL;
@@ -100,15 +115,19 @@ static int has_queue(void) {
     return has;
 }
 
-// NO or NO_MEMORY, by what the queue has of a signature that was not verified. Empties it. The first error of a bad signature,
-// if there is one, says what is bad, in a code of its part of OpenSSL. All else has to do with memory: a code that all parts
-// have, also one that says no more than that something below failed, and what BN_CTX_get says.
+// Whether want of memory is what an error of the queue means. The errors of a bad signature, if there are any, begin with a code
+// of RSA's or EC's own part of OpenSSL. One that all parts have, in front, says no more than that something below failed.
+static int is_memory(unsigned long error, int in_front) {
+    int lib = ERR_GET_LIB(error), reason = ERR_GET_REASON(error);
+    return reason == ERR_R_MALLOC_FAILURE || (in_front && (ERR_GET_RFLAGS(error) & ERR_RFLAG_COMMON)) ||
+        (lib == ERR_LIB_BN && reason == BN_R_TOO_MANY_TEMPORARY_VARIABLES) || (lib == ERR_LIB_EVP && reason == EVP_R_INITIALIZATION_ERROR);
+}
+
+// NO or NO_MEMORY, by what the queue has of a signature that was not verified. Empties it.
 static int why(void) {
-    unsigned long error = ERR_peek_error();
-    int is = error != 0 && (ERR_GET_RFLAGS(error) & ERR_RFLAG_COMMON) ? NO_MEMORY : NO;
-    while ((error = ERR_get_error()) != 0)
-        if (ERR_GET_REASON(error) == ERR_R_MALLOC_FAILURE ||
-            (ERR_GET_LIB(error) == ERR_LIB_BN && ERR_GET_REASON(error) == BN_R_TOO_MANY_TEMPORARY_VARIABLES)) is = NO_MEMORY;
+    int is = NO, in_front = 1;
+    for (unsigned long error; (error = ERR_get_error()) != 0; in_front = 0)
+        if (is_memory(error, in_front)) is = NO_MEMORY;
     return is;
 }
 
@@ -155,6 +174,7 @@ import (
 var slots = make(chan int, runtime.GOMAXPROCS(0))
 
 func init() {
+	C.begin()
 	for i := 0; i < cap(slots); i++ {
 		slots <- i
 	}
