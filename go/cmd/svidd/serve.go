@@ -204,7 +204,7 @@ func (s *sidecar) open(ctx context.Context) error {
 		}
 	}
 	s.engine, err = server.NewEngine(server.Options{
-		Mode: server.Mode(s.replay), Audiences: s.audiences, Domains: domains, Longest: s.longest.value, Ahead: s.ahead.value,
+		Mode: server.Mode(s.replay), Audiences: s.audiences, Domains: domains, RSABits: s.rsaBits, Longest: s.longest.value, Ahead: s.ahead.value,
 		Step: clockStep, Jumped: func() { s.fail(errClock) }, Place: place, Journal: kept, Grouped: len(s.servers()) > 0, Wait: s.wait, Log: s.log,
 	})
 	if err != nil {
