@@ -64,17 +64,25 @@ func NewKeyring(bundles []byte) (*Keyring, error) {
 
 // OpenKeyring is NewKeyring with options. Its errors are those, and ErrRSABits.
 func OpenKeyring(o KeyringOptions) (*Keyring, error) {
-	if o.RSABits == 0 {
-		o.RSABits = UsualRSABits
-	}
-	if o.RSABits < leastRSABits || o.RSABits > mostRSABits {
-		return nil, ErrRSABits
+	bits, err := o.rsaBits()
+	if err != nil {
+		return nil, err
 	}
 	askers, err := openAskers(o.Bundles)
 	if err != nil {
 		return nil, err
 	}
-	return &Keyring{rsaBits: o.RSABits, askers: askers, keys: newKeyCache(o.RSABits)}, nil
+	return &Keyring{rsaBits: bits, askers: askers, keys: newKeyCache(bits)}, nil
+}
+
+func (o KeyringOptions) rsaBits() (int, error) {
+	switch {
+	case o.RSABits == 0:
+		return UsualRSABits, nil
+	case o.RSABits < leastRSABits || o.RSABits > mostRSABits:
+		return 0, ErrRSABits
+	}
+	return o.RSABits, nil
 }
 
 func openAskers(bundles []byte) (chan *asker, error) {

@@ -108,8 +108,16 @@ type Key struct {
 // reason: an RSA key of fewer than 2,048 or more than UsualRSABits bits, a curve that
 // no algorithm has, a point off its curve, a coordinate of another length than the
 // curve's, an alg that is there and is no name of an algorithm.
-func ParseKey(jwk []byte) (*Key, error) {
-	k := parseKey(jwk, UsualRSABits)
+func ParseKey(jwk []byte) (*Key, error) { return KeyringOptions{}.ParseKey(jwk) }
+
+// ParseKey is the function ParseKey, with the bound of these options. It may answer
+// ErrRSABits too.
+func (o KeyringOptions) ParseKey(jwk []byte) (*Key, error) {
+	bits, err := o.rsaBits()
+	if err != nil {
+		return nil, err
+	}
+	k := parseKey(jwk, bits)
 	if k.fault != nil {
 		return nil, k.fault
 	}

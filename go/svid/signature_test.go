@@ -14,6 +14,7 @@ import (
 	"errors"
 	"fmt"
 	"math/big"
+	"regexp"
 	"strings"
 	"testing"
 
@@ -153,6 +154,7 @@ func TestAnRSAKeyHasABound(t *testing.T) {
 	}
 	four, token4 := long(4096)
 	five, token5 := long(5120)
+	jwk5 := regexp.MustCompile(`\{"e":[^}]*\}`).Find(five)
 	sixteen, token16 := long(16384)
 	for _, row := range []struct {
 		bundles []byte
@@ -185,6 +187,14 @@ func TestAnRSAKeyHasABound(t *testing.T) {
 	for _, bits := range []int{-1, 1, 2047, 16385} {
 		if k, err := svid.OpenKeyring(svid.KeyringOptions{Bundles: four, RSABits: bits}); err != svid.ErrRSABits || k != nil {
 			t.Errorf("at most %d bits: %v", bits, err)
+		}
+		if key, err := (svid.KeyringOptions{RSABits: bits}).ParseKey(jwk5); err != svid.ErrRSABits || key != nil {
+			t.Errorf("a key of at most %d bits: %v", bits, err)
+		}
+	}
+	for bits, want := range map[int]error{0: svid.ErrKey, 5119: svid.ErrKey, 5120: nil} {
+		if _, err := (svid.KeyringOptions{RSABits: bits}).ParseKey(jwk5); !errors.Is(err, want) {
+			t.Errorf("a key of 5,120 bits, and at most %d are due: %v", bits, err)
 		}
 	}
 }
