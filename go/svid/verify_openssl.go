@@ -6,6 +6,9 @@ package svid
 #if !__has_include(<openssl/evp.h>)
 #error "svid verifies signatures by OpenSSL: install its headers (Debian: libssl-dev), or build with -tags gocrypto"
 #endif
+// (The macros of OpenSSL would put the folder of the build into the program.)
+#define OPENSSL_FILE "verify_openssl.go"
+#define OPENSSL_LINE 0
 #include <openssl/bn.h>
 #include <openssl/core_names.h>
 #include <openssl/ecdsa.h>
