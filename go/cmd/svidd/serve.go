@@ -3,6 +3,7 @@ package main
 import (
 	"context"
 	"encoding/json"
+	"errors"
 	"flag"
 	"fmt"
 	"os"
@@ -185,13 +186,10 @@ func (s *sidecar) open(ctx context.Context) error {
 		if s.journal, err = journal.Open(s.state); err != nil {
 			return err
 		}
-		if cut := s.journal.Cut(); cut > 0 {
-			s.log.Event("journal cut", "bytes", cut, "why", "a crash left them of a write that nobody was answered for")
+		for _, f := range s.journal.Torn() {
+			s.log.Event("journal torn", "file", f.Name, "at", f.At, "bytes", f.Rest, "why", "a crash left them of a write that nobody was answered for")
 		}
-		kept = s.journal
-		if place, err = s.journal.Place(); err != nil {
-			return err
-		}
+		kept, place = s.journal, s.journal.Place()
 	}
 	specs, err := s.specs()
 	if err != nil {
@@ -260,7 +258,16 @@ func (s *sidecar) load() error {
 	}
 	err := s.engine.Load(s.journal.Messages())
 	debug.FreeOSMemory() // of the messages, which may be as large as the record
-	return err
+	wants, must := s.journal.WantsSnapshot()
+	if err != nil || !wants {
+		return err
+	}
+	err = s.journal.Snapshot(s.engine.Save)
+	if err == nil || must || errors.Is(err, svid.ErrFolderEnded) {
+		return err
+	}
+	s.log.Error("snapshot", err)
+	return nil
 }
 
 // checkBundle is the validator's own judgment of one bundle.
