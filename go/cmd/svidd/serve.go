@@ -186,9 +186,6 @@ func (s *sidecar) open(ctx context.Context) error {
 		if s.journal, err = journal.Open(s.state); err != nil {
 			return err
 		}
-		for _, f := range s.journal.Torn() {
-			s.log.Event("journal torn", "file", f.Name, "at", f.At, "bytes", f.Rest, "why", "a crash left them of a write that nobody was answered for")
-		}
 		kept, place = s.journal, s.journal.Place()
 	}
 	specs, err := s.specs()
@@ -256,18 +253,24 @@ func (s *sidecar) load() error {
 	if s.journal == nil {
 		return s.engine.Load(nil)
 	}
-	err := s.engine.Load(s.journal.Messages())
-	debug.FreeOSMemory() // of the messages, which may be as large as the record
-	wants, must := s.journal.WantsSnapshot()
-	if err != nil || !wants {
+	err := s.journal.Load(s.engine.Feed)
+	debug.FreeOSMemory() // of the files, which may be as large as the record
+	if err != nil {
 		return err
 	}
-	err = s.journal.Snapshot(s.engine.Save)
-	if err == nil || must || errors.Is(err, svid.ErrFolderEnded) {
-		return err
+	for _, f := range s.journal.Torn() {
+		s.log.Event("journal torn", "file", f.Name, "at", f.At, "bytes", f.Rest, "why", "a crash left them of a write that nobody was answered for")
 	}
-	s.log.Error("snapshot", err)
-	return nil
+	if wants, must := s.journal.WantsSnapshot(); wants {
+		err := s.journal.Snapshot(s.engine.Save)
+		if must && err != nil || errors.Is(err, svid.ErrFolderEnded) {
+			return err
+		}
+		if err != nil {
+			s.log.Error("snapshot", err)
+		}
+	}
+	return s.engine.Load(nil)
 }
 
 // checkBundle is the validator's own judgment of one bundle.

@@ -38,7 +38,7 @@ func Check(dir string) (*Report, error) {
 func check(sys system, dir string) (*Report, error) {
 	var before *contents
 	for try := 1; ; try++ {
-		found, err := readAll(sys)
+		found, err := readAll(sys, nil)
 		if try < mostTries && errors.Is(err, os.ErrNotExist) {
 			continue // A journal went behind the listing: a snapshot has taken its place.
 		}

@@ -71,7 +71,7 @@ func TestAFolderOfANewerFormat(t *testing.T) {
 	} {
 		dir := laid(t, map[string][]byte{placeName: []byte(place.String() + "\n"), name: content})
 		want := name + " has format 2, and this svidd reads format 1: start the svidd that wrote it, or a later one"
-		if _, err := Open(dir); err == nil || !strings.HasSuffix(err.Error(), want) {
+		if _, err := load(Open(dir)); err == nil || !strings.HasSuffix(err.Error(), want) {
 			t.Errorf("%v, want %q", err, want)
 		}
 		if got := readFile(t, dir, name); !bytes.Equal(got, content) {
@@ -88,7 +88,7 @@ func TestAFolderOfANewerFormat(t *testing.T) {
 func thousand(t *testing.T) (d *disk, place svid.Place) {
 	t.Helper()
 	d = newDisk()
-	j, err := begin(d, "disk")
+	j, err := begin(d)
 	if err != nil {
 		t.Fatal(err)
 	}
@@ -142,7 +142,7 @@ func TestEachChangedBitIsNamed(t *testing.T) {
 			f := &File{Name: row.name}
 			number, _ := numberOf(row.name)
 			f.number = number
-			if err := f.read(content, svid.NewFileReader(found.Place, number)); err != nil {
+			if err := f.read(content, svid.NewFileReader(found.Place, number), nil); err != nil {
 				t.Fatal(err)
 			}
 			frame := at / 128 * 128
@@ -171,7 +171,7 @@ func TestEachChangedBitIsNamed(t *testing.T) {
 	file.seen = append([]byte(nil), file.seen...)
 	file.seen[1000] ^= 4
 	before := d.text()
-	if _, err := begin(d, "disk"); err == nil || !strings.Contains(err.Error(), "disk/journal.3 is damaged at byte 896") || !errors.Is(err, svid.ErrDamaged) {
+	if _, err := begin(d); err == nil || !strings.Contains(err.Error(), "disk/journal.3 is damaged at byte 896") || !errors.Is(err, svid.ErrDamaged) {
 		t.Error(err)
 	}
 	if d.text() != before {
@@ -187,7 +187,7 @@ func TestEachChangedBitOfThePlaceIsNamed(t *testing.T) {
 	for bit := 0; bit < 8*32; bit++ {
 		d.others[placeName] = append([]byte(nil), text...)
 		d.others[placeName][bit/8] ^= 1 << (bit % 8)
-		_, err := begin(d, "disk")
+		_, err := begin(d)
 		switch {
 		case err == nil:
 			if d.others[placeName][bit/8]|0x20 != text[bit/8] { // (a digit in capitals is the same)
@@ -248,7 +248,7 @@ func TestFilesThatArePutBack(t *testing.T) {
 		}
 		row.change(f)
 		dir := laid(t, f)
-		j, err := Open(dir)
+		j, err := load(Open(dir))
 		if row.refused != "" {
 			if err == nil || !strings.Contains(err.Error(), row.refused) {
 				t.Errorf("%s: %v, want %q", row.what, err, row.refused)
@@ -259,7 +259,7 @@ func TestFilesThatArePutBack(t *testing.T) {
 			t.Errorf("%s: %v", row.what, err)
 			continue
 		}
-		if got := j.Messages(); !bytes.Equal(got, row.want) {
+		if got := j.messages; !bytes.Equal(got, row.want) {
 			t.Errorf("%s: %d bytes of messages, want %d", row.what, len(got), len(row.want))
 		}
 		switch torn := j.Torn(); {

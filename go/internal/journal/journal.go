@@ -39,6 +39,9 @@ import (
 // ErrClosed is what a call returns after Close.
 var ErrClosed = errors.New("journal: closed")
 
+// errUnread is what a call returns before Load.
+var errUnread = errors.New("journal: the folder is not read yet")
+
 // errOld is what Append returns before the first snapshot of a folder of an older version: such a folder is read in another way.
 var errOld = errors.New("journal: an older version wrote the folder: take a snapshot first")
 
@@ -57,6 +60,7 @@ const (
 // A Journal is an open state folder. Its methods may be called from many goroutines at once.
 type Journal struct {
 	sys   system
+	dir   string
 	held  []io.Closer // the lock and the folder
 	place svid.Place
 	torn  []*File
@@ -80,9 +84,9 @@ type Journal struct {
 
 	size     atomic.Int64 // for who does not wait for a write
 	older    int64        // how many bytes of frames older journals have, as a start found them
-	snapshot sync.Mutex   // held over a snapshot; guards next
+	snapshot sync.Mutex   // held over a snapshot; guards next and upgrades
 	next     file         // the journal that is to grow
-	messages []byte
+	upgrades bool         // the file frames is there
 }
 
 // A commit is the batches that one write takes to the disk.
@@ -92,10 +96,9 @@ type commit struct {
 	err   error
 }
 
-// Open locks the folder dir, which it makes where its parent is there, reads what it holds, and begins a new journal.
+// Open locks the folder dir, which it makes where its parent is there. Load reads it.
 //
-// The error wraps ErrHeld, and names the holder, where another process has the folder. Damage is an error that names the
-// file and the place: no crash leaves such a file. So is a file of a newer format.
+// The error wraps ErrHeld, and names the holder, where another process has the folder.
 func Open(dir string) (*Journal, error) {
 	f, err := openFolder(dir)
 	if err != nil {
@@ -106,7 +109,7 @@ func Open(dir string) (*Journal, error) {
 		f.Close()
 		return nil, err
 	}
-	j, err := begin(f, f.dir)
+	j, err := openBy(f, f.dir)
 	if err != nil {
 		lock.Close()
 		f.Close()
@@ -116,26 +119,65 @@ func Open(dir string) (*Journal, error) {
 	return j, nil
 }
 
-// begin reads the folder and begins its next journal.
-func begin(sys system, dir string) (*Journal, error) {
+// openBy opens a folder by these calls of the system.
+func openBy(sys system, dir string) (*Journal, error) {
 	if err := removeUnfinished(sys); err != nil {
 		return nil, err
 	}
-	found, err := readAll(sys)
-	if err == nil {
-		err = found.fault(dir)
-	}
-	if err == nil && !found.placed {
-		found.place, err = makePlace(sys)
-	}
-	if err == nil && found.old && found.fromFrames == 0 {
-		err = keepText(sys, framesName, strconv.FormatUint(found.newest+1, 10))
+	place, err := readPlace(sys)
+	if errors.Is(err, os.ErrNotExist) {
+		var found *contents
+		if found, err = readAll(sys, nil); err == nil {
+			err = found.fault(dir)
+		}
+		if err == nil {
+			place, err = makePlace(sys)
+		}
 	}
 	if err != nil {
 		return nil, err
 	}
-	j := &Journal{sys: sys, place: found.place, old: found.old, marked: true, quiet: quiet, growth: growth}
+	return &Journal{sys: sys, dir: dir, place: place, broken: errUnread, marked: true, quiet: quiet, growth: growth}, nil
+}
+
+// Load reads the folder, gives all that it holds to take, whole messages at a time, and begins a new journal. Only the first call
+// does. It reads while take is under way, so take may have messages of a folder that can't be read to its end. Its error ends
+// the reading.
+//
+// Damage is an error that names the file and the place: no crash leaves such a file. So is a file of a newer format.
+func (j *Journal) Load(take func(messages []byte) error) error {
+	j.snapshot.Lock()
+	defer j.snapshot.Unlock()
+	if j.state() != errUnread {
+		return j.state()
+	}
+	err := j.load(take)
+	j.write.Lock()
+	defer j.write.Unlock()
+	if j.broken == errUnread {
+		j.broken = err
+	}
+	return err
+}
+
+// state is why nothing can be appended, or nil.
+func (j *Journal) state() error {
+	j.write.Lock()
+	defer j.write.Unlock()
+	return j.broken
+}
+
+func (j *Journal) load(take func(messages []byte) error) error {
+	found, err := j.read(take)
+	if err != nil {
+		return err
+	}
+	j.write.Lock()
+	j.old = found.old
+	j.write.Unlock()
+	j.upgrades = found.old || found.fromFrames > 0
 	j.wants = !found.hasSnapshot || found.journals >= manyJournals || found.old
+	empty := true
 	for _, f := range found.files {
 		if f.Torn() {
 			j.torn = append(j.torn, f)
@@ -143,47 +185,69 @@ func begin(sys system, dir string) (*Journal, error) {
 		if f.number > 0 {
 			j.older += f.At
 		}
-		if j.messages == nil {
-			j.messages = f.Messages
-		} else {
-			j.messages = append(j.messages, f.Messages...)
+		empty = empty && f.At == 0
+	}
+	j.size.Store(j.older)
+	if found.old && found.fromFrames == 0 {
+		if err := keepText(j.sys, framesName, strconv.FormatUint(found.newest+1, 10)); err != nil {
+			return err
+		}
+	}
+	if j.core, err = svid.OpenFolder(j.place, found.oldest, found.newest); err != nil {
+		return fmt.Errorf("journal: %s: %w", j.dir, err)
+	}
+	err = j.makeCalls(nil)
+	if err == nil && !found.hasSnapshot && empty {
+		err = j.replace(func(io.Writer) error { return nil })
+		j.wants = false
+	}
+	return err
+}
+
+// read reads all files, while take takes what they hold.
+func (j *Journal) read(take func(messages []byte) error) (found *contents, err error) {
+	pieces, stop := make(chan []byte, 4), make(chan struct{})
+	go func() {
+		defer close(pieces)
+		found, err = readAll(j.sys, func(piece []byte) {
+			select {
+			case pieces <- piece:
+			case <-stop:
+			}
+		})
+	}()
+	var fault error
+	for piece := range pieces {
+		if fault != nil {
+			continue
+		}
+		if fault = take(piece); fault != nil {
+			close(stop)
+		}
+	}
+	if err == nil {
+		err = found.fault(j.dir)
+	}
+	if err != nil {
+		return nil, err
+	}
+	for _, f := range found.files {
+		if fault == nil && len(f.Messages) > 0 {
+			fault = take(f.Messages)
 		}
 		f.Messages, f.content = nil, nil
 	}
-	j.size.Store(j.older)
-	if j.core, err = svid.OpenFolder(j.place, found.oldest, found.newest); err != nil {
-		return nil, fmt.Errorf("journal: %s: %w", dir, err)
-	}
-	err = j.makeCalls(nil)
-	if err == nil && !found.hasSnapshot && len(j.messages) == 0 {
-		err = j.Snapshot(func(io.Writer) error { return nil })
-		j.wants = false
-	}
-	if err != nil {
-		j.Close()
-		return nil, err
-	}
-	return j, nil
+	return found, fault
 }
 
-// Messages returns the batches that Open found in the snapshot and the journals, one after the other, for the
-// validator to take at its start. The journal keeps no copy: a second call returns nil.
-func (j *Journal) Messages() []byte {
-	j.snapshot.Lock()
-	defer j.snapshot.Unlock()
-	found := j.messages
-	j.messages = nil
-	return found
-}
-
-// Torn returns the journals in which Open found what a crash left of a write that no Append had answered. They are worth a
+// Torn returns the journals in which Load found what a crash left of a write that no Append had answered. They are worth a
 // line in the log.
 func (j *Journal) Torn() []*File { return j.torn }
 
 // Place returns the validator's place, which the first Open of the folder made at random.
 func (j *Journal) Place() svid.Place { return j.place }
 
-// WantsSnapshot says whether Open found that a snapshot is due: the folder has none, or the journals of many starts, or an older
+// WantsSnapshot says whether Load found that a snapshot is due: the folder has none, or the journals of many starts, or an older
 // version wrote it. In that last case it must be: Append fails until a Snapshot has replaced the old files.
 func (j *Journal) WantsSnapshot() (wants, must bool) {
 	j.write.Lock()
@@ -338,7 +402,7 @@ func (e *ended) Is(target error) bool { return target == svid.ErrFolderEnded }
 
 // end lets every later Append and Snapshot fail, since the disk does not say what it holds. The caller holds write.
 func (j *Journal) end(why error) error {
-	if j.broken == nil {
+	if j.broken == nil || j.broken == errUnread {
 		j.broken = &ended{why}
 	}
 	return j.broken
@@ -354,12 +418,14 @@ func (j *Journal) end(why error) error {
 func (j *Journal) Snapshot(write func(io.Writer) error) error {
 	j.snapshot.Lock()
 	defer j.snapshot.Unlock()
-	j.write.Lock()
-	err := j.broken
-	j.write.Unlock()
-	if err != nil {
+	if err := j.state(); err != nil {
 		return err
 	}
+	return j.replace(write)
+}
+
+// replace replaces the snapshot. The caller holds snapshot.
+func (j *Journal) replace(write func(io.Writer) error) error {
 	if err := j.core.Begin(); err != nil {
 		return fmt.Errorf("journal: snapshot: %w", err)
 	}
@@ -369,7 +435,9 @@ func (j *Journal) Snapshot(write func(io.Writer) error) error {
 	j.write.Lock()
 	defer j.write.Unlock()
 	j.old = false
-	_ = j.sys.remove(framesName) // Mostly it is not there. It says nothing any more, so it may stay.
+	if j.upgrades {
+		j.upgrades = j.sys.remove(framesName) != nil // (It says nothing any more, so it may stay.)
+	}
 	return nil
 }
 

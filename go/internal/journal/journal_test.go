@@ -39,9 +39,32 @@ func batches(first, last uint64) []byte {
 	return b
 }
 
-func mustOpen(t *testing.T, dir string) *Journal {
+// An opened folder, and the messages that it held.
+type opened struct {
+	*Journal
+	messages []byte
+}
+
+// load reads a folder that was opened, and closes it where that fails.
+func load(j *Journal, err error) (*opened, error) {
+	if err != nil {
+		return nil, err
+	}
+	o := &opened{Journal: j}
+	err = j.Load(func(messages []byte) error {
+		o.messages = append(o.messages, messages...)
+		return nil
+	})
+	if err != nil {
+		j.Close()
+		return nil, err
+	}
+	return o, nil
+}
+
+func mustOpen(t *testing.T, dir string) *opened {
 	t.Helper()
-	j, err := Open(dir)
+	j, err := load(Open(dir))
 	if err != nil {
 		t.Fatal(err)
 	}
@@ -49,8 +72,8 @@ func mustOpen(t *testing.T, dir string) *Journal {
 	return j
 }
 
-// openWith opens a folder by other calls of the system.
-func openWith(dir string, wrap func(system) system) (*Journal, error) {
+// openWith opens a folder by other calls of the system, and reads it.
+func openWith(dir string, wrap func(system) system) (*opened, error) {
 	f, err := openFolder(dir)
 	if err != nil {
 		return nil, err
@@ -59,15 +82,18 @@ func openWith(dir string, wrap func(system) system) (*Journal, error) {
 	if err != nil {
 		return nil, err
 	}
-	j, err := begin(wrap(f), dir)
+	j, err := openBy(wrap(f), dir)
 	if err != nil {
 		f.Close()
 		lock.Close()
 		return nil, err
 	}
 	j.held = []io.Closer{f, lock}
-	return j, nil
+	return load(j, nil)
 }
+
+// begin opens a folder of a model of a disk, and reads it.
+func begin(d *disk) (*opened, error) { return load(openBy(d, "disk")) }
 
 // A watched system asks before each call that changes something, and lets it fail with what it is answered.
 type watched struct {
@@ -135,7 +161,7 @@ func (f *watchedFile) datasync() error {
 }
 
 // mustWatch opens a folder whose calls are watched. No mark comes by itself.
-func mustWatch(t *testing.T, dir string, before func(call, name string) error) *Journal {
+func mustWatch(t *testing.T, dir string, before func(call, name string) error) *opened {
 	t.Helper()
 	j, err := openWith(dir, func(s system) system { return &watched{s, before} })
 	if err != nil {
@@ -170,14 +196,14 @@ func (f *fuse) before(call, name string) error {
 
 func (f *fuse) from(at int) { f.mu.Lock(); f.at, f.n, f.set = at, 0, true; f.mu.Unlock() }
 
-func mustAppend(t *testing.T, j *Journal, b []byte) {
+func mustAppend(t *testing.T, j *opened, b []byte) {
 	t.Helper()
 	if err := j.Append(context.Background(), b); err != nil {
 		t.Fatal(err)
 	}
 }
 
-func mustClose(t *testing.T, j *Journal) {
+func mustClose(t *testing.T, j *opened) {
 	t.Helper()
 	if err := j.Close(); err != nil {
 		t.Fatal(err)
@@ -192,10 +218,10 @@ func writes(b []byte) func(io.Writer) error {
 	}
 }
 
-func wantMessages(t *testing.T, j *Journal, want []byte) {
+func wantMessages(t *testing.T, j *opened, want []byte) {
 	t.Helper()
-	if got := j.Messages(); !bytes.Equal(got, want) {
-		t.Fatalf("%d bytes of messages, want %d", len(got), len(want))
+	if !bytes.Equal(j.messages, want) {
+		t.Fatalf("%d bytes of messages, want %d", len(j.messages), len(want))
 	}
 }
 
@@ -225,7 +251,9 @@ func TestKeepsWhatWasAppended(t *testing.T) {
 	mustClose(t, j)
 	j = mustOpen(t, dir)
 	wantMessages(t, j, batches(0, 10))
-	wantMessages(t, j, nil) // They are handed over once.
+	if err := j.Load(func([]byte) error { t.Error("it is read twice"); return nil }); err != nil {
+		t.Fatal(err)
+	}
 	if got := names(t, dir); got != "journal.2 journal.3 lock place snapshot" {
 		t.Fatal(got)
 	}
@@ -325,7 +353,7 @@ func TestEachFailedCallOfASnapshotLosesNothing(t *testing.T) {
 		if err := j.Close(); err != nil {
 			t.Error(err)
 		}
-		found := mustOpen(t, dir).Messages()
+		found := mustOpen(t, dir).messages
 		for i := 0; i < len(acknowledged); i += 82 {
 			if !bytes.Contains(found, acknowledged[i:i+82]) {
 				t.Errorf("%s fails, and batch %d is lost", failed, i/82)
@@ -422,7 +450,7 @@ func TestATornTailIsNotRead(t *testing.T) {
 		*d.journal(2) = journalOnDisk{atRest(content), settled(true)}
 		before := d.journal(2).file.String()
 		for i := 0; i < 2; i++ { // (and again, behind a kill)
-			j, err := begin(d, "disk")
+			j, err := begin(d)
 			if err != nil {
 				t.Fatal(err)
 			}
@@ -533,7 +561,7 @@ func TestAPipeInTheFolder(t *testing.T) {
 		}
 		result := make(chan error)
 		go func() {
-			j, err := Open(dir)
+			j, err := load(Open(dir))
 			if err == nil {
 				j.Close()
 			}
@@ -653,7 +681,7 @@ func TestManyCallersShareOneSync(t *testing.T) {
 		t.Errorf("%d syncs for 1 caller and then %d at once, want 2", syncs, callers)
 	}
 	mustClose(t, j)
-	if got := len(mustOpen(t, dir).Messages()); got != (callers+2)*82 {
+	if got := len(mustOpen(t, dir).messages); got != (callers+2)*82 {
 		t.Errorf("%d bytes", got)
 	}
 	found, err := Check(dir)
@@ -686,7 +714,7 @@ func TestFailedSyncIsTheEnd(t *testing.T) {
 }
 
 // hang opens a folder in which each fdatasync waits until it is let go. begun hears of each one.
-func hang(t *testing.T, dir string) (j *Journal, begun <-chan bool, let func()) {
+func hang(t *testing.T, dir string) (j *opened, begun <-chan bool, let func()) {
 	begins, ahead, hangs := make(chan bool, 100), make(chan struct{}), false
 	j = mustWatch(t, dir, func(call, _ string) error {
 		if call == "fdatasync" && hangs {
@@ -739,7 +767,7 @@ func TestADiskThatHangs(t *testing.T) {
 	}
 	mustAppend(t, j, batch(1002))
 	mustClose(t, j)
-	found := mustOpen(t, dir).Messages()
+	found := mustOpen(t, dir).messages
 	for _, n := range []uint64{1000, 0, 1, 2, 2000, 1001, 1002} {
 		if bytes.Count(found, batch(n)) == 0 {
 			t.Errorf("batch %d is not there", n)
@@ -821,13 +849,13 @@ func child(role, dir string) *exec.Cmd {
 // appender appends from several goroutines, takes one snapshot after another, and prints a letter and the number of a
 // batch once the batch was appended.
 func appender(dir string) int {
-	j, err := Open(dir)
+	j, err := load(Open(dir))
 	if err != nil {
 		fmt.Fprintln(os.Stderr, err)
 		return 1
 	}
 	var mu sync.Mutex
-	record := j.Messages() // As the validator does, it holds a batch before the journal does.
+	record := j.messages // As the validator does, it holds a batch before the journal does.
 	next := uint64(len(record) / 82)
 	take := func() uint64 {
 		mu.Lock()
@@ -916,13 +944,13 @@ func TestKilledAtAnyMoment(t *testing.T) {
 
 func wantAll(t *testing.T, dir string, acknowledged map[uint64]bool) {
 	t.Helper()
-	j, err := Open(dir)
+	j, err := load(Open(dir))
 	if err != nil {
 		t.Fatal(err)
 	}
 	defer j.Close()
 	found := map[uint64]bool{}
-	for m := j.Messages(); len(m) > 0; m = m[82:] {
+	for m := j.messages; len(m) > 0; m = m[82:] {
 		found[binary.BigEndian.Uint64(m[25:])] = true
 	}
 	for n := range acknowledged {
@@ -934,7 +962,7 @@ func wantAll(t *testing.T, dir string, acknowledged map[uint64]bool) {
 
 // fullDisk appends until the file may not grow any more, then lets it grow and appends again.
 func fullDisk(dir string) int {
-	j, err := Open(dir)
+	j, err := load(Open(dir))
 	if err != nil {
 		fmt.Fprintln(os.Stderr, err)
 		return 1
@@ -973,7 +1001,7 @@ func TestFullDiskTakesNothingHalf(t *testing.T) {
 }
 
 func BenchmarkAppend(b *testing.B) {
-	j, err := Open(b.TempDir())
+	j, err := load(Open(b.TempDir()))
 	if err != nil {
 		b.Fatal(err)
 	}
@@ -1170,7 +1198,7 @@ func TestNoFileStaysOpen(t *testing.T) {
 		if err := os.WriteFile(filepath.Join(dir, snapshotName), []byte("no batch"), 0o600); err != nil {
 			t.Fatal(err)
 		}
-		if _, err := Open(dir); err == nil {
+		if _, err := load(Open(dir)); err == nil {
 			t.Fatal("a damaged snapshot")
 		}
 		if err := os.WriteFile(filepath.Join(dir, snapshotName), good, 0o600); err != nil {
@@ -1219,8 +1247,8 @@ func TestAllMethodsAtOnce(t *testing.T) {
 			"place": func(uint64) {
 				places <- j.Place()
 			},
-			"size":     func(uint64) { j.Size(); j.Torn() },
-			"messages": func(uint64) { j.Messages() },
+			"size": func(uint64) { j.Size(); j.Torn() },
+			"load": func(uint64) { j.Load(func([]byte) error { return io.EOF }) },
 		} {
 			all.Add(1)
 			go func(g uint64, what string, do func(uint64)) {
@@ -1239,7 +1267,7 @@ func TestAllMethodsAtOnce(t *testing.T) {
 		}
 	}
 	mustClose(t, j)
-	found := mustOpen(t, dir).Messages()
+	found := mustOpen(t, dir).messages
 	for n := uint64(1); n <= 2*each; n++ {
 		if !bytes.Contains(found, batch(n)) {
 			t.Errorf("batch %d is lost", n)

@@ -29,7 +29,7 @@ type history struct {
 	t            *testing.T
 	r            *rand.Rand
 	disk         *disk
-	j            *Journal
+	j            *opened
 	record       map[uint64]bool // what the process has in memory
 	acknowledged map[uint64]bool
 	appended     map[uint64]bool
@@ -61,7 +61,7 @@ func (h *history) before(call, name string, length int) (int, error) {
 func (h *history) life(calls, faults int) (lost bool) {
 	h.disk.before = h.before
 	h.calls, h.faults, h.lost = calls, faults, false
-	j, err := begin(h.disk, "disk")
+	j, err := begin(h.disk)
 	h.did = append(h.did, fmt.Sprintf("start: %v", err))
 	if err != nil {
 		if damaged := new(damage); errors.As(err, &damaged) || calls < 0 && faults == 0 {
@@ -89,9 +89,9 @@ func (h *history) life(calls, faults int) (lost bool) {
 }
 
 // take gives a new record what a start found: all that was acknowledged, and nothing that was not appended.
-func (h *history) take(j *Journal) {
+func (h *history) take(j *opened) {
 	h.record = map[uint64]bool{}
-	for m := j.Messages(); len(m) > 0; m = m[82:] {
+	for m := j.messages; len(m) > 0; m = m[82:] {
 		n := binary.BigEndian.Uint64(m[25:])
 		if !h.appended[n] || string(m[:82]) != string(batch(n)) {
 			h.fail("batch %d was not appended", n)
@@ -106,7 +106,7 @@ func (h *history) take(j *Journal) {
 }
 
 // step is something that a process does.
-func (h *history) step(j *Journal) {
+func (h *history) step(j *opened) {
 	switch h.r.Intn(8) {
 	case 0, 1:
 		_ = h.snapshot(j)
@@ -121,7 +121,7 @@ func (h *history) step(j *Journal) {
 }
 
 // snapshot writes the record in pieces. Something may be appended meanwhile.
-func (h *history) snapshot(j *Journal) error {
+func (h *history) snapshot(j *opened) error {
 	err := j.Snapshot(func(w io.Writer) error {
 		var all []uint64
 		for n := range h.record {
@@ -149,7 +149,7 @@ func (h *history) snapshot(j *Journal) error {
 }
 
 // append appends some batches at once. The record has them before.
-func (h *history) append(j *Journal) {
+func (h *history) append(j *opened) {
 	var bytes []byte
 	var some []uint64
 	for i := h.r.Intn(3); i >= 0; i-- {

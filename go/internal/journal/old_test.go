@@ -123,9 +123,9 @@ func TestAnOldFolderIsReplaced(t *testing.T) {
 }
 
 // wantUses wants the batches from 0 up to before the last, each at least once, and no others.
-func wantUses(t *testing.T, j *Journal, last uint64) {
+func wantUses(t *testing.T, j *opened, last uint64) {
 	t.Helper()
-	found := j.Messages()
+	found := j.messages
 	for n := uint64(0); n < last; n++ {
 		if !bytes.Contains(found, batch(n)) {
 			t.Errorf("batch %d is lost", n)
@@ -154,7 +154,7 @@ func TestDamageOfAnOldFolder(t *testing.T) {
 		files[row.file][row.at] ^= 0x80
 		dir := laid(t, files)
 		before := names(t, dir)
-		if _, err := Open(dir); err == nil || !strings.Contains(err.Error(), row.says) || !errors.Is(err, svid.ErrDamaged) {
+		if _, err := load(Open(dir)); err == nil || !strings.Contains(err.Error(), row.says) || !errors.Is(err, svid.ErrDamaged) {
 			t.Errorf("%s, %s: %v", row.folder, row.file, err)
 		}
 		if got := names(t, dir); got != before {

@@ -57,11 +57,17 @@ type contents struct {
 	hasSnapshot    bool
 	old            bool   // an older version wrote the files
 	fromFrames     uint64 // the first journal that it did not write, or 0
+
+	give func(messages []byte)
 }
 
-// readAll reads the place, the snapshot and the journals, in this order.
-func readAll(sys system) (*contents, error) {
-	c := &contents{oldest: 1}
+// pieceOfMessages is how many bytes of messages readAll gives away at once, where payloads are shorter.
+const pieceOfMessages = 1 << 20
+
+// readAll reads the place, the snapshot and the journals, in this order. Where give is not nil, it is given the messages of
+// frames, as they are read, and no file keeps them.
+func readAll(sys system, give func(messages []byte)) (*contents, error) {
+	c := &contents{oldest: 1, give: give}
 	place, err := readPlace(sys)
 	if err != nil && !errors.Is(err, os.ErrNotExist) {
 		return nil, err
@@ -96,16 +102,16 @@ func (c *contents) add(sys system, name string, number uint64) error {
 		return fmt.Errorf("journal: %w", err)
 	}
 	f := &File{Name: sys.path(name), Length: len(content), number: number}
-	if err := f.read(content, svid.NewFileReader(c.place, number)); err != nil {
+	if err := f.read(content, svid.NewFileReader(c.place, number), c.give); err != nil {
 		return fmt.Errorf("journal: %s: %w", f.Name, err)
 	}
 	c.files = append(c.files, f)
 	return nil
 }
 
-// read reads the frames of the file. It keeps the payloads in the place of the frames.
-func (f *File) read(content []byte, reader *svid.FileReader) error {
-	length := 0
+// read reads the frames of the file. It keeps the payloads in the place of the frames, or gives them away, many at once.
+func (f *File) read(content []byte, reader *svid.FileReader, give func(messages []byte)) error {
+	given, length := 0, 0
 	for f.Fault == nil {
 		var payload []byte
 		if payload, f.Fault = reader.Next(content); f.Fault != nil {
@@ -117,6 +123,10 @@ func (f *File) read(content []byte, reader *svid.FileReader) error {
 			f.Frames++
 		}
 		length += copy(content[length:], payload)
+		if give != nil && length-given >= pieceOfMessages {
+			give(content[given:length:length])
+			given = length
+		}
 	}
 	if errors.Is(f.Fault, svid.ErrFolderOrder) {
 		return f.Fault
@@ -124,9 +134,14 @@ func (f *File) read(content []byte, reader *svid.FileReader) error {
 	if f.Fault == io.EOF {
 		f.Fault = nil
 	}
-	f.Messages, f.At, f.Rest = content[:length:length], reader.At(), len(bytes.TrimRight(content[reader.At():], "\x00"))
-	if !f.hasFrames() {
+	f.At, f.Rest = reader.At(), len(bytes.TrimRight(content[reader.At():], "\x00"))
+	switch {
+	case !f.hasFrames():
 		f.content = content
+	case give == nil:
+		f.Messages = content[:length:length]
+	case given < length:
+		give(content[given:length:length])
 	}
 	return nil
 }
