@@ -57,7 +57,7 @@ const (
 )
 
 // A Folder says which call of the system is due in a state folder, and makes the frames that its files consist of. It reads
-// and writes no file itself: docs/FORMATS.md ("The state folder") has the files. Its methods may be called by many goroutines
+// and writes no file itself: docs/FORMATS.md ("State folder") has the files. Its methods may be called by many goroutines
 // at once.
 type Folder struct {
 	mu     sync.Mutex

@@ -41,11 +41,12 @@ func checkState(args []string, std stdio) int {
 	}
 	if found.Fault != nil {
 		_ = fail(std, found.Fault)
-		if !found.IsDamaged() {
+		if !errors.Is(found.Fault, svid.ErrDamaged) {
 			return exitFailed
 		}
+		damaged = true
 	}
-	if damaged || found.IsDamaged() {
+	if damaged {
 		return exitDamaged
 	}
 	return exitYes
@@ -57,7 +58,7 @@ func writeState(std stdio, found *journal.Report) (damaged bool, err error) {
 	if !found.Placed {
 		place = "is missing"
 	}
-	if _, err := fmt.Fprintf(std.out, "place %s\n", place); err != nil {
+	if _, err := fmt.Fprintf(std.out, "place %s\n", place); err != nil || !found.Placed && found.Fault != nil {
 		return false, err
 	}
 	for _, f := range found.Files {

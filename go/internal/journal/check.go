@@ -12,18 +12,9 @@ type Report struct {
 	Place  svid.Place
 	Placed bool    // the folder has a place
 	Files  []*File // the snapshot, if there is one, and the journals by rising number
-	// Fault is why a start would refuse the folder: the first damage, a newer format, or a place that is missing.
+	// Fault is why a start would refuse the folder: the first damage (svid.ErrDamaged), a newer format (*svid.FormatError), or a
+	// place that is missing.
 	Fault error
-}
-
-// IsDamaged says whether a file of the folder is damaged.
-func (r *Report) IsDamaged() bool {
-	for _, f := range r.Files {
-		if errors.Is(f.Fault, svid.ErrDamaged) {
-			return true
-		}
-	}
-	return false
 }
 
 // mostTries is how often a folder is read whose files go meanwhile.
@@ -47,7 +38,7 @@ func check(sys system, dir string) (*Report, error) {
 		}
 		r := &Report{Place: found.place, Placed: found.placed, Files: found.files, Fault: found.fault(dir)}
 		// A file that grows while it is read can look damaged. Damage stays where it is.
-		if try == mostTries || !r.IsDamaged() || before != nil && sameFaults(before, found) {
+		if try == mostTries || !errors.Is(r.Fault, svid.ErrDamaged) || before != nil && sameFaults(before, found) {
 			return r, nil
 		}
 		before = found

@@ -78,7 +78,7 @@ func TestAFolderOfANewerFormat(t *testing.T) {
 			t.Errorf("%s was changed", name)
 		}
 		found, err := Check(dir)
-		if err != nil || found.IsDamaged() || found.Fault == nil || !strings.HasSuffix(found.Fault.Error(), want) {
+		if err != nil || errors.Is(found.Fault, svid.ErrDamaged) || found.Fault == nil || !strings.HasSuffix(found.Fault.Error(), want) {
 			t.Errorf("%v %v", found, err)
 		}
 	}
@@ -351,8 +351,8 @@ func TestCheckReadsTwiceWhatLooksDamaged(t *testing.T) {
 			return 0, nil
 		}
 		found, err := check(d, "disk")
-		if err != nil || found.IsDamaged() != row.damaged || reads != 2 {
-			t.Errorf("%v: damaged %v behind %d reads (%v)", row, found.IsDamaged(), reads, err)
+		if err != nil || errors.Is(found.Fault, svid.ErrDamaged) != row.damaged || reads != 2 {
+			t.Errorf("%v: damaged %v behind %d reads (%v)", row, found.Fault, reads, err)
 		}
 	}
 }
