@@ -580,7 +580,7 @@ func TestAPipeInTheFolder(t *testing.T) {
 
 func TestRemovesWhatWasUnfinished(t *testing.T) {
 	dir := t.TempDir()
-	for _, name := range []string{"snapshot.new", "place.new"} {
+	for _, name := range []string{"snapshot.new", "place.new", "frames.new"} {
 		if err := os.WriteFile(filepath.Join(dir, name), []byte("half"), 0o600); err != nil {
 			t.Fatal(err)
 		}
@@ -593,7 +593,7 @@ func TestRemovesWhatWasUnfinished(t *testing.T) {
 
 // What can't be removed is an error: it would be in the way of a later snapshot.
 func TestWhatWasUnfinishedAndStays(t *testing.T) {
-	for _, name := range []string{"snapshot.new", "place.new"} {
+	for _, name := range []string{"snapshot.new", "place.new", "frames.new"} {
 		dir := t.TempDir()
 		if err := os.MkdirAll(filepath.Join(dir, name, "not empty"), 0o700); err != nil {
 			t.Fatal(err)
@@ -1135,6 +1135,86 @@ func readFile(t *testing.T, dir, name string) []byte {
 		t.Fatal(err)
 	}
 	return content
+}
+
+// Before Load nothing is kept. A taker that fails ends the start: nothing is made, and the folder is as it was.
+func TestLoadEndsWhereATakerFails(t *testing.T) {
+	dir := t.TempDir()
+	j := mustOpen(t, dir)
+	for n := uint64(0); n < 3; n++ { // (more than a piece each)
+		if err := j.Append(context.Background(), batches(20000*n, 20000*(n+1))); err != nil {
+			t.Fatal(err)
+		}
+	}
+	mustClose(t, j)
+	before := names(t, dir)
+	unread, err := Open(dir)
+	if err != nil {
+		t.Fatal(err)
+	}
+	defer unread.Close()
+	for _, err := range []error{unread.Append(context.Background(), batch(1)), unread.Snapshot(writes(nil))} {
+		if err != errUnread {
+			t.Error(err)
+		}
+	}
+	taken := 0
+	err = unread.Load(func([]byte) error { taken++; return io.ErrShortBuffer })
+	if err != io.ErrShortBuffer || taken != 1 {
+		t.Errorf("%v, and %d pieces were taken", err, taken)
+	}
+	for _, err := range []error{unread.Append(context.Background(), batch(1)), unread.Snapshot(writes(nil)), unread.Load(func([]byte) error { return nil })} {
+		if err != io.ErrShortBuffer {
+			t.Error(err)
+		}
+	}
+	if got := names(t, dir); got != before {
+		t.Errorf("%s is there, and was %s", got, before)
+	}
+	if err := unread.Close(); err != nil {
+		t.Error(err)
+	}
+	wantMessages(t, mustOpen(t, dir), batches(0, 60000))
+}
+
+// A file that is made is new: what had its name, and what a link with its name leads to, stay as they were.
+func TestAFileThatIsMadeIsNew(t *testing.T) {
+	dir := t.TempDir()
+	f, err := openFolder(dir)
+	if err != nil {
+		t.Fatal(err)
+	}
+	defer f.Close()
+	other := filepath.Join(dir, "other")
+	for what, make := range map[string]func(name string) error{
+		"a file":   func(name string) error { return os.Link(other, name) },
+		"a link":   func(name string) error { return os.Symlink(other, name) },
+		"a pipe":   func(name string) error { return syscall.Mkfifo(name, 0o600) },
+		"no file":  func(string) error { return nil },
+		"a folder": func(name string) error { return os.Mkdir(name, 0o700) },
+	} {
+		if err := os.WriteFile(other, []byte("before"), 0o600); err != nil {
+			t.Fatal(err)
+		}
+		if err := make(filepath.Join(dir, "journal.1")); err != nil {
+			t.Fatal(err)
+		}
+		made, err := f.create("journal.1")
+		if err != nil {
+			t.Fatalf("%s: %v", what, err)
+		}
+		if _, err := made.WriteAt([]byte("new"), 0); err != nil {
+			t.Fatal(err)
+		}
+		made.Close()
+		if got := readFile(t, dir, "other"); string(got) != "before" {
+			t.Errorf("%s: the other one is now %q", what, got)
+		}
+		if got := readFile(t, dir, "journal.1"); string(got) != "new" {
+			t.Errorf("%s: %q", what, got)
+		}
+		os.Remove(filepath.Join(dir, "journal.1"))
+	}
 }
 
 // A mark comes behind a burst, once, and nobody waits for it.
