@@ -113,57 +113,60 @@ func thousand(t *testing.T) (d *disk, place svid.Place) {
 // Each changed bit of a folder of 1,000 uses is found, and named with its file and the place of its frame. Behind the last frame
 // with uses it is a tear: nothing of it was acknowledged.
 func TestEachChangedBitIsNamed(t *testing.T) {
-	d, _ := thousand(t)
+	d, place := thousand(t)
 	step := 1
 	if !*long {
-		step = 8 * 41 // (which meets each byte of a cell)
-	}
-	if testing.Short() {
-		step *= 5
-	}
-	found, err := check(d, "disk")
-	if err != nil || found.Fault != nil || len(found.Files) != 2 {
-		t.Fatal(found, err)
+		step = 37 // (which meets each bit of a byte, and each byte of a cell)
 	}
 	bits := 0
 	for _, row := range []struct {
-		name string
-		file *fileOnDisk
-		used int // how many bytes the frames with uses take
-	}{{snapshotName, d.snapshot.now, len(d.snapshot.now.seen)}, {"journal.3", d.journal(3).file, 500 * 128}} {
-		length := len(row.file.seen)
-		if row.name == "journal.3" && length < row.used+32 {
-			t.Fatalf("%d bytes", length)
-		}
-		for bit := 0; bit < 8*length; bit += step {
-			at := bit / 8
-			content := append([]byte(nil), row.file.seen...)
-			content[at] ^= 1 << (bit % 8)
-			f := &File{Name: row.name}
-			number, _ := numberOf(row.name)
-			f.number = number
-			if err := f.read(content, svid.NewFileReader(found.Place, number), nil); err != nil {
+		name  string
+		file  *fileOnDisk
+		frame int // how many bytes a frame with uses has
+		count int
+	}{{snapshotName, d.snapshot.now, 8256, 5}, {"journal.3", d.journal(3).file, 128, 500}} {
+		number, _ := numberOf(row.name)
+		content := append([]byte(nil), row.file.seen...)
+		// A reader in front of each frame: what stands before it is as it was.
+		var readers []svid.FileReader
+		for r := svid.NewFileReader(place, number); ; {
+			readers = append(readers, *r)
+			if _, err := r.Next(content); err == io.EOF {
+				break
+			} else if err != nil {
 				t.Fatal(err)
 			}
-			frame := at / 128 * 128
-			switch {
-			case row.name == snapshotName && at < 5*8256:
-				frame = at / 8256 * 8256
-			case row.name == snapshotName:
-				frame = 5 * 8256
-			case at >= row.used+32: // (the zeros behind the mark)
-				frame = row.used + 32
-			case at >= row.used:
-				frame = row.used
+		}
+		if len(readers) != row.count+2 { // (with a mark, and at the end)
+			t.Fatalf("%s has %d frames", row.name, len(readers)-1)
+		}
+		for bit := 0; bit < 8*len(content); bit += step {
+			at, which := bit/8, row.count+1
+			if at < row.frame*row.count {
+				which = at / row.frame
+			} else if at < row.frame*row.count+32 {
+				which = row.count
 			}
 			want := svid.ErrDamaged
-			if at >= row.used {
+			if which >= row.count && number > 0 {
 				want = svid.ErrTorn
 			}
-			if f.Fault != want || f.At != int64(frame) {
-				t.Fatalf("%s, bit %d of byte %d: %v at %d, want %v at %d", row.name, bit%8, at, f.Fault, f.At, want, frame)
+			content[at] ^= 1 << (bit % 8)
+			r := readers[which]
+			frame := r.At()
+			if _, err := r.Next(content); err != want {
+				t.Fatalf("%s, bit %d of byte %d: %v at %d, want %v", row.name, bit%8, at, err, frame, want)
 			}
-			bits++
+			if bits++; bits%997 == 0 { // (and as a start reads it)
+				f := &File{Name: row.name, number: number}
+				if err := f.read(append([]byte(nil), content...), svid.NewFileReader(place, number), nil); err != nil {
+					t.Fatal(err)
+				}
+				if f.Fault != want || f.At != frame {
+					t.Fatalf("%s, bit %d of byte %d: %v at %d, want %v at %d", row.name, bit%8, at, f.Fault, f.At, want, frame)
+				}
+			}
+			content[at] ^= 1 << (bit % 8)
 		}
 	}
 	// And by a start, which writes nothing.

@@ -1128,6 +1128,27 @@ func killed(t *testing.T, dir string) string {
 	return laid(t, files)
 }
 
+// A number between two journals may have none: crashes leave names each on its own. A snapshot passes it over.
+func TestAJournalThatIsNotThere(t *testing.T) {
+	dir := t.TempDir()
+	for n := uint64(0); n < 3; n++ {
+		j := mustOpen(t, dir)
+		mustAppend(t, j, batch(n))
+		mustClose(t, j)
+	}
+	if err := os.Remove(filepath.Join(dir, "journal.3")); err != nil {
+		t.Fatal(err)
+	}
+	j := mustOpen(t, dir)
+	wantMessages(t, j, append(batch(0), batch(2)...))
+	if err := j.Snapshot(writes(j.messages)); err != nil {
+		t.Fatal(err)
+	}
+	if got := names(t, dir); got != "journal.6 lock place snapshot" {
+		t.Error(got)
+	}
+}
+
 func readFile(t *testing.T, dir, name string) []byte {
 	t.Helper()
 	content, err := os.ReadFile(filepath.Join(dir, name))
@@ -1236,13 +1257,28 @@ func TestAMarkEndsABurst(t *testing.T) {
 	mustAppend(t, j, batch(1))
 	for <-marks < 4 {
 	}
-	mustClose(t, j) // (it has a mark)
-	if n != 4 {
+	// A journal that is followed by another one has a mark, too, and one without a batch needs none.
+	j.write.Lock()
+	j.quiet = 0
+	j.write.Unlock()
+	mustAppend(t, j, batch(2))
+	for i := 0; i < 2; i++ {
+		if err := j.Snapshot(func(io.Writer) error { return io.ErrClosedPipe }); !errors.Is(err, io.ErrClosedPipe) {
+			t.Fatal(err)
+		}
+	}
+	mustClose(t, j)
+	if n != 6 {
 		t.Errorf("%d syncs", n)
 	}
 	found, err := Check(dir)
-	if err != nil || found.Fault != nil || found.Files[1].Frames != 2 || found.Files[1].Marks != 2 {
-		t.Errorf("%v %v", found, err)
+	if err != nil || found.Fault != nil {
+		t.Fatal(found, err)
+	}
+	for i, want := range [][2]int{{0, 1}, {3, 3}, {0, 0}, {0, 0}} {
+		if f := found.Files[i]; f.Frames != want[0] || f.Marks != want[1] {
+			t.Errorf("%s: %d frames and %d marks, want %v", f.Name, f.Frames, f.Marks, want)
+		}
 	}
 }
 
