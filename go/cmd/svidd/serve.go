@@ -187,13 +187,7 @@ func (s *sidecar) open(ctx context.Context) error {
 		if s.journal, err = journal.Open(s.state); err != nil {
 			return err
 		}
-		if cut := s.journal.Cut(); cut > 0 {
-			s.log.Event("journal cut", "bytes", cut, "why", "a crash left them of a write that nobody was answered for")
-		}
-		kept = s.journal
-		if place, err = s.journal.Place(); err != nil {
-			return err
-		}
+		kept, place = s.journal, s.journal.Place()
 	}
 	specs, err := s.specs()
 	if err != nil {
@@ -260,9 +254,24 @@ func (s *sidecar) load() error {
 	if s.journal == nil {
 		return s.engine.Load(nil)
 	}
-	err := s.engine.Load(s.journal.Messages())
-	debug.FreeOSMemory() // of the messages, which may be as large as the record
-	return err
+	err := s.journal.Load(s.engine.Feed)
+	debug.FreeOSMemory() // of the files, which may be as large as the record
+	if err != nil {
+		return err
+	}
+	for _, f := range s.journal.Torn() {
+		s.log.Event("journal torn", "file", f.Name, "at", f.At, "bytes", f.Rest, "why", "a crash left them of a write that nobody was answered for")
+	}
+	if wants, must := s.journal.WantsSnapshot(); wants {
+		err := s.journal.Snapshot(s.engine.Save)
+		if must && err != nil || errors.Is(err, svid.ErrFolderEnded) {
+			return err
+		}
+		if err != nil {
+			s.log.Error("snapshot", err)
+		}
+	}
+	return s.engine.Load(nil)
 }
 
 // checkBundle is the validator's own judgment of one bundle.
