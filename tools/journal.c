@@ -294,6 +294,18 @@ static size_t file_of(uint64_t journal, const size_t *lens, size_t count, uint8_
     return len;
 }
 
+/* A mark of this number, behind so many zeros. */
+static void behind(size_t zeros, uint64_t number, uint32_t status) {
+    static uint8_t file[512];
+    svid_folder f = NUMBERS(0, 1, 3, 0, number - 1, 0, 0, 0);
+    svid_told told;
+    memset(file, 0, sizeof file);
+    at = "a frame behind";
+    answered = svid_journal_put(&f, &OURS, NULL, 0, file + zeros, 32, &told);
+    holds(answered == SVID_OK, "a mark");
+    is("a frame behind", read_all(3, &OURS, file, zeros + 32), status, 0);
+}
+
 static void bits(void) {
     enum { COUNT = 5 };
     static const size_t LENS[COUNT] = { 65, 1, 32, 31, 0 };
@@ -337,6 +349,9 @@ static void bits(void) {
     memcpy(other, NEWER, 32);
     is("a newer format", read_all(3, &OURS, other, 96), SVID_FILE_NEWER, 0);
     is("a newer format that is cut", read_all(3, &OURS, other, 63), SVID_FILE_TEAR, 0);
+    /* a frame behind is damage where one of its number may stand, each in a cell of its own */
+    behind(32, 2, SVID_FILE_DAMAGE), behind(64, 3, SVID_FILE_DAMAGE), behind(256, 9, SVID_FILE_DAMAGE);
+    behind(0, 3, SVID_FILE_TEAR), behind(32, 3, SVID_FILE_TEAR), behind(224, 9, SVID_FILE_TEAR), behind(33, 2, SVID_FILE_TEAR), behind(32, 1, SVID_FILE_TEAR);
     /* a snapshot is written whole, so all that is not its own is damage */
     size_t snapshot = file_of(0, LENS, COUNT, file, sizeof file, places);
     is("the whole snapshot", read_all(0, &OURS, file, snapshot), SVID_FILE_END, snapshot);

@@ -163,7 +163,7 @@ static void marked(void) {
 static void no_messages(void) {
     static const struct { const char *bytes; size_t len; uint32_t status; } rows[] = {
         { "XSR\2\1", 5, SVID_MAGIC }, { "JSR\2\3", 5, SVID_KIND }, { "JSR\2\1\0\0\0\0\0\0\0\1\0\1\0\1", 17, SVID_COUNT }, { "JSR\2\1\0\0\0", 8, SVID_TRUNCATED },
-        { "JSR", 3, SVID_TRUNCATED }, { "JSR\2\1\0\0\0\0\0\0\0\1\0\0\0\0?", 18, SVID_MAGIC },
+        { "JSR", 3, SVID_TRUNCATED }, { "JSR\2\1\0\0\0\0\0\0\0\1\0\0\0\0XXXX", 21, SVID_MAGIC },
     };
     uint8_t value[2 * SVID_BATCH_OF_LEN];
     claim good = { 1, OWN_PLACE, NOW, NOW + 100, 0 };
@@ -186,7 +186,9 @@ static void no_messages(void) {
         case 3: value[16] = 2, memcpy(value + 82, value + 17, 65), len = 147, status = SVID_USE_ORDER; break;
         default: value[82] = 'X', len = 2 * SVID_BATCH_OF_LEN, status = SVID_MAGIC; break; /* behind a good one */
         }
-        holds(svid_validator_take(&v, NOW, value, len, &due) == status, "what is no row of messages");
+        answered = svid_validator_take(&v, NOW, value, len, &due);
+        if (answered != status) printf("row %zu\n", i);
+        holds(answered == status, "what is no row of messages");
         answered = svid_validator_log(&v, &START, 0, LASTS, value, len, &told);
         holds(answered == status && told.input == 1 && told.place == due.place && !told.len && !told.message && !told.more && mark_of(&v, NULL).passed == position - 1, "claims beside the record that are no messages");
         memset(&fate, 0xA5, sizeof fate);

@@ -11,7 +11,7 @@ use Rattle.svid_check.specs.Runs.{Terms}
 use Rattle.svid_check.specs.Saves.{piece_of}
 use Rattle.svid_check.specs.Setting.{Renewal}
 use Rattle.svid_check.specs.World.{Answer, Answered, Check, Content, Entry, Event, Made, Member, OldSend, Piece, Pieced, Posting, Renew, Restart, Save, Saved, Send, Sent, Sum, Summed, Take, Tick, Took, Withdraw, World, answer_at, answer_content, answer_posting, answer_summary, checked, far, front, happens, has_withdrawal, joined, logged, old_parts_of, parts_in, post, put, restart, take_part, take_posting, ticked, took, with_renewal, withdrawal_at, withdrew}
-use Rattle.svid_check.proofs.PlacesLemmas.{put_own}
+use Rattle.svid_check.proofs.PlacesLemmas.{later_place, put_own}
 
 -- whose event it is
 abbrev pub who : Event → ℕ
@@ -38,11 +38,12 @@ abbrev pub renewal_then : World → Event → Option Renewal
 renewal_then w (Renew v renewal) = Some renewal
 renewal_then w e = (w.members (who e)).renewal
 
--- but for validator v, all are as they were; these are the saves, and this is its renewal
+-- but for validator v, all are as they were; these are the saves, this is its renewal, and what was posted is there
 pub record Changes (w : World) (v : ℕ) (left : List Saved) (given : Option Renewal) (after : World) : Type 0 where
   pub others : (n : ℕ) → n ≢ v → after.members n ≡ w.members n
   pub saves : after.saves ≡ left
   pub renewal : (after.members v).renewal ≡ given
+  pub pool : (k : ℕ) (q : Posting) → slice_get w.pool k ≡ Some q → slice_get after.pool k ≡ Some q
 
 took_renewal : (limit : ℕ) (x : Member) (entry : Entry) (sender : Uses) (b : BatchData) (refused : Option ℕ) → (took limit x entry sender b refused).renewal ≡ x.renewal
 took_renewal limit x entry sender b None = cond_both (nat_lt limit b.moment) x (logged (joined x sender b) entry) (λ (y : Member). y.renewal ≡ x.renewal) (λ _. refl) (λ _. refl)
@@ -53,20 +54,26 @@ module _ (w : World) (v : ℕ) where
   Is after = Changes w v w.saves (w.members v).renewal after
 
   stays : Is w
-  stays = record { others = λ n d. refl; saves = refl; renewal = refl }
+  stays = record { others = λ n d. refl; saves = refl; renewal = refl; pool = λ k q at. at }
 
   put_renewed : (x : Member) → Changes w v w.saves x.renewal (put w v x)
   put_renewed x = record {
     others = λ n d. cond-false (n == v) x (w.members n) (ne_eqb n v d);
     saves = refl;
     renewal = ap (λ (m : Member). m.renewal) (put_own w v x);
+    pool = λ k q at. at;
   }
 
   put_changes : (x : Member) → x.renewal ≡ (w.members v).renewal → Is (put w v x)
   put_changes x same = subst (λ (given : Option Renewal). Changes w v w.saves given (put w v x)) same (put_renewed x)
 
   post_changes : (x : Member) (content : Content) (after : World) → Is after → Is (post after v x content)
-  post_changes x content after h = record { others = h.others; saves = h.saves; renewal = h.renewal }
+  post_changes x content after h = record {
+    others = h.others;
+    saves = h.saves;
+    renewal = h.renewal;
+    pool = λ k q at. later_place after.pool (record { maker = v; was = x; content = content }) k q (h.pool k q at);
+  }
 
   part_changes : (limit : ℕ) (x : Member) (entry : Entry) (refused : Option ℕ) (q : Posting) (b : Option BatchData) → x.renewal ≡ (w.members v).renewal → Is (take_part w v limit x entry refused q b)
   part_changes limit x entry refused q None same = stays
@@ -113,7 +120,7 @@ module _ (group : ℕ → Terms) where
       post_changes w v (w.members v) (Summed (summary_of (w.members v).held)) (put w v x) (put_changes w v x refl)
   event_changes w (Answer v now k refused) = answer_changes w v (far group v now) (ticked (w.members v) now) k refused (slice_get w.pool k) refl
   event_changes w (Take v now k p refused) = take_changes w v (far group v now) (ticked (w.members v) now) k p refused (slice_get w.pool k) refl
-  event_changes w (Save v) = record { others = λ n d. refl; saves = refl; renewal = refl }
+  event_changes w (Save v) = record { others = λ n d. refl; saves = refl; renewal = refl; pool = λ k q at. at }
   event_changes w (Piece v after most) = post_changes w v (w.members v) (Pieced (piece_of (w.members v).held after most)) w (stays w v)
   event_changes w (Restart v k) = restart_changes w v (slice_get w.saves k)
   event_changes w (Renew v renewal) = put_renewed w v (with_renewal (w.members v) (Some renewal))

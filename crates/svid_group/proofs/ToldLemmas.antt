@@ -1,5 +1,5 @@
 -- The laws of records and verdicts hold in a group that reads a log.
-use Rattle.std.proofs.Common.{◌≡◌, ◌<◌, ℕ, zero, suc, List, [], ◌∷◌, length, IsTrue, Option, Some, refl, sym, ap, ◌∙◌, subst, arith}
+use Rattle.std.proofs.Common.{◌≡◌, ◌<◌, ℕ, zero, suc, false, List, [], ◌∷◌, length, IsTrue, Option, Some, refl, sym, ap, ◌∙◌, subst, arith}
 use Rattle.std.specs.Prelude.{◌==◌, slice_get}
 use Rattle.std.proofs.lemmas.Bool.{cond-true, eq-eqb}
 use Rattle.std.proofs.lemmas.Option.{none-some, same_Some}
@@ -22,9 +22,10 @@ use Rattle.svid_check.proofs.RunsLemmas.{told_now}
 use Rattle.svid_check.proofs.SendsLemmas.{send_told, told_is_held, told_refuses}
 use Rattle.svid_check.proofs.SoundLemmas.{Sound}
 use Rattle.svid_log.specs.Groups.{begins}
-use Rattle.svid_group.specs.Told.{AcceptanceGoesAlong, AcceptedIsRefused, ChainsTell, ChecksAreVerdicts, EqualTellings, RecordsAreTold, RestartsAbsorb, RestartsPutBack, SendsTellAll, ToldIsRefused, WithMemoryVerdicts, WithdrawnAreRefused, group_after}
-use Rattle.svid_group.specs.World.{Aside, Call, Event, World, aside_of, happen, happens, put_aside, put_back, reader, reader_at, start}
-use Rattle.svid_group.proofs.StandsLemmas.{is_whole}
+use Rattle.svid_group.specs.Told.{AcceptanceGoesAlong, AcceptedIsRefused, ChainsTell, ChecksAreVerdicts, ClaimedIsRefused, EqualTellings, RecordsAreTold, RestartsAbsorb, RestartsPutBack, SendsTellAll, ToldIsRefused, WithMemoryVerdicts, WithdrawnAreRefused, group_after}
+use Rattle.svid_group.specs.World.{Aside, Call, Event, Read, World, aside_of, happen, happens, put_aside, put_back, reader, reader_at, start}
+use Rattle.svid_group.proofs.OnceLemmas.{accepted_is_held}
+use Rattle.svid_group.proofs.StandsLemmas.{happens_whole, is_whole}
 
 is_sound : (group : ℕ → Terms) (events : List Event) → Sound (group_after group events)
 is_sound group events = (is_whole group events).sound
@@ -70,6 +71,12 @@ chains_tell group events v k q u chain send taken along =
 
 pub told_is_refused : ToldIsRefused
 told_is_refused group events v input u h of = told_refuses ((group_after group events).members v) input u (records_are_told group events v) h of
+
+pub claimed_is_refused : ClaimedIsRefused
+claimed_is_refused group events v now c input accepts of =
+    let w = happen group start events in
+    let z = happens group w (Read v now false) in
+    told_refuses (z.group.members v) input c (((happens_whole group w (Read v now false) (is_whole group events)).sound.members v).is_told) (accepted_is_held group w v now c accepts).1 of
 
 pub accepted_is_refused : AcceptedIsRefused
 accepted_is_refused group events v moment s uses token input u accepts is h =

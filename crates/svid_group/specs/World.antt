@@ -24,7 +24,10 @@ pub record World : Type 0 where
   pub asides : ℕ → Aside
   pub saved : List Aside
 
--- What may happen: any event of a group without a log; anyone puts any use at the end of the log; validator v reads the next use of the log at the time `now`, where memory may be refused; what has expired beside its record goes; it begins anew with an empty record, behind a front of the log that has expired; or it misses uses, and accepts nothing until a moment by which these have expired.
+-- What may happen. `Call`: any event of a group without a log. `Put`: anyone puts any use at the end of the log. `Read`:
+-- validator v reads the next use of the log at the time `now`, where memory may be refused. `Look`: what has expired beside its
+-- record goes. `Anew`: it begins with an empty record, behind a front of the log that has expired. `Miss`: it misses uses, and
+-- accepts nothing until a moment by which these have expired.
 pub data Event : Type 0 where
   Call : (event : check.Event) → Event
   Put : (u : Use) → Event

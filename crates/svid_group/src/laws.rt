@@ -3,7 +3,7 @@
 ghost use Rattle.svid_group.specs.History.{EveryKindHappens, OwnClaimIsAccepted};
 ghost use Rattle.svid_group.specs.Once.{AcceptedIsFirst, AcceptedIsHeld, AcceptedIsUnrefused, AcceptedOnce, LaterInLogIsPast, OneUseOfAKey, OnlyClaimIsAccepted, OwnIsAccepted, PlaceIsAcceptedOnce};
 ghost use Rattle.svid_group.specs.Reads.{ReadsAreEvents};
-ghost use Rattle.svid_group.specs.Told.{AcceptanceGoesAlong, AcceptedIsRefused, ChainsTell, ChecksAreVerdicts, EqualTellings, RecordsAreTold, ReportsAreExact, ReportsAreWhole, RestartsAbsorb, RestartsPutBack, SendsTellAll, ToldIsRefused, TwoPlacesAreReported, WithMemoryVerdicts, WithdrawnAreRefused};
+ghost use Rattle.svid_group.specs.Told.{AcceptanceGoesAlong, AcceptedIsRefused, AnswersTellAll, ChainsTell, ChecksAreVerdicts, ClaimedIsRefused, EqualTellings, EventsLeaveLater, RecordsAreTold, ReportsAreExact, ReportsAreWhole, RestartsAbsorb, RestartsPutBack, SendsMakeEqual, SendsTellAll, ToldIsRefused, ToldWereMade, TwoPlacesAreReported, WithMemoryVerdicts, WithdrawnAreRefused};
 ghost use Rattle.svid_group.specs.Verdicts.{ClaimsAreVerdicts, InputIsAcceptedOnce, JudgedAreVerdicts, RenewedAreVerdicts};
 
 /// Whatever happens in a group, of all claims with one key and one expiry at most one is ever accepted, by one validator, once; and
@@ -36,12 +36,16 @@ pub fn records_have_first_claims()
 
 /// Each validator's record is what it was told, by the log and outside of it: the greatest moment, and the uses that are live at
 /// it. Each check is answered by the verdict for that, acceptance or refusal, or by want of memory, and by nothing but the verdict
-/// where no memory is refused. Validators that were told the same have the same record.
+/// where no memory is refused. Nothing else is told than what was accepted by a check of the group, withdrawn by a validator of it,
+/// or put into the log. Validators that were told the same have the same record; and one that takes a send whole, with no other event
+/// of its own between, was then told just what the sender had been told, if it had been told no more before.
 pub fn records_are_told()
     ensures records { RecordsAreTold }
     ensures checks { ChecksAreVerdicts }
     ensures verdicts { WithMemoryVerdicts }
+    ensures made { ToldWereMade }
     ensures equal { EqualTellings }
+    ensures taken { SendsMakeEqual }
 {}
 
 /// A validator that was told a use accepts no token of its key and its expiry, at any moment: so it is with a claim of the log that
@@ -52,6 +56,7 @@ pub fn records_are_told()
 /// never answered. Of the uses that the log tells, [`accepted_claims_are_first`] and [`records_have_first_claims`] speak.
 pub fn told_tokens_are_refused()
     ensures told { ToldIsRefused }
+    ensures claimed { ClaimedIsRefused }
     ensures accepted { AcceptedIsRefused }
     ensures withdrawn { WithdrawnAreRefused }
     ensures whole { SendsTellAll }
@@ -73,6 +78,19 @@ pub fn reports_are_exact()
 pub fn restarts_absorb()
     ensures parts { RestartsAbsorb }
     ensures put_back { RestartsPutBack }
+{}
+
+/// A validator that made a summary and took all parts of an answer to it was told all uses that the answerer had been told by then,
+/// those of the log too; or else some bucket of its own, when it made the summary, and of the answerer, when it answered, had two
+/// texts of one digest. Fields have their ranges.
+pub fn answers_tell_all()
+    ensures { AnswersTellAll }
+{}
+
+/// Each event but a restart and a beginning anew leaves a later record, so any number of them may come between the pieces of a save,
+/// which `saves_lose_nothing` of svid_check is about.
+pub fn records_go_on()
+    ensures { EventsLeaveLater }
 {}
 
 /// What a call of svid_log's `Member::read` does with the record of a validator of a group is what as many events leave, gaps and
