@@ -14,6 +14,7 @@ import "C"
 
 import (
 	"encoding/binary"
+	"errors"
 	"sync"
 	"unsafe"
 )
@@ -34,9 +35,20 @@ type Candidate struct {
 // verifies signatures. It shares no lock with a Validator (Renew takes that of both), and its methods may
 // be called by many goroutines at once. Each key is parsed once.
 type Keyring struct {
-	mu     sync.RWMutex // held for reading while an asker of bundles is in use
-	askers chan *asker
-	keys   *keyCache
+	rsaBits int          // at most so many has an RSA key
+	mu      sync.RWMutex // held for reading while an asker of bundles is in use
+	askers  chan *asker
+	keys    *keyCache
+}
+
+// KeyringOptions say which keys a keyring has.
+type KeyringOptions struct {
+	// Bundles are the trust bundles: a JSON object from trust domain names to JWK
+	// sets, as JoinBundles makes it.
+	Bundles []byte
+	// RSABits is how many bits an RSA key may have, from 2,048 to 16,384. A longer key
+	// verifies nothing. It bounds what a token of a stranger costs. 0 is UsualRSABits.
+	RSABits int
 }
 
 // An asker is a handle of trust bundles, which lists candidate keys. There is one
@@ -51,11 +63,30 @@ type asker struct {
 // NewKeyring returns a keyring of trust bundles: a JSON object from trust domain
 // names to JWK sets. Errors: ErrBundles, a *BundleError, ErrNoMemory.
 func NewKeyring(bundles []byte) (*Keyring, error) {
-	askers, err := openAskers(bundles)
+	return OpenKeyring(KeyringOptions{Bundles: bundles})
+}
+
+// OpenKeyring is NewKeyring with options. Its errors are those, and ErrRSABits.
+func OpenKeyring(o KeyringOptions) (*Keyring, error) {
+	bits, err := o.rsaBits()
 	if err != nil {
 		return nil, err
 	}
-	return &Keyring{askers: askers, keys: newKeyCache()}, nil
+	askers, err := openAskers(o.Bundles)
+	if err != nil {
+		return nil, err
+	}
+	return &Keyring{rsaBits: bits, askers: askers, keys: newKeyCache(bits)}, nil
+}
+
+func (o KeyringOptions) rsaBits() (int, error) {
+	switch {
+	case o.RSABits == 0:
+		return UsualRSABits, nil
+	case o.RSABits < leastRSABits || o.RSABits > mostRSABits:
+		return 0, ErrRSABits
+	}
+	return o.RSABits, nil
 }
 
 func openAskers(bundles []byte) (chan *asker, error) {
@@ -98,7 +129,7 @@ func (k *Keyring) SetBundles(bundles []byte) error {
 
 // replace puts other handles in the place of the old ones, none of which is in use then. The caller holds the lock.
 func (k *Keyring) replace(askers chan *asker) (old chan *asker) {
-	old, k.askers, k.keys = k.askers, askers, newKeyCache()
+	old, k.askers, k.keys = k.askers, askers, newKeyCache(k.rsaBits)
 	return old
 }
 
@@ -107,7 +138,7 @@ func (k *Keyring) Close() {
 	k.mu.Lock()
 	defer k.mu.Unlock()
 	closeAskers(k.askers)
-	k.keys = newKeyCache() // whose plans would answer without the library
+	k.keys = newKeyCache(k.rsaBits) // whose plans would answer without the library
 }
 
 // MaxCandidates is how many keys are tried for a token. A token that names no kid,
@@ -208,7 +239,7 @@ func field(rows []byte) (text, rest []byte) {
 // it, and returns that key's question for Validator.Check. It returns no question
 // and no error if none of them made the signature: the validator then rejects the
 // token as BadSignature, or for what comes before that. The error is that of
-// Candidates. A token with a good signature may get its question though Candidates
+// Candidates, or ErrNoMemory. A token with a good signature may get its question though Candidates
 // would reject it: the validator rejects it too.
 func (k *Keyring) Verify(token string) ([]Question, error) {
 	s, whole := cutToken(token)
@@ -235,31 +266,43 @@ func (k *Keyring) tried(token string, s *parts) (yes []Question, same bool, err 
 	if err != nil {
 		return nil, true, err
 	}
-	for i := range candidates {
-		c := &candidates[i]
-		if c.Key.Verify(c.Algorithm, s.signed, signature) != nil {
-			continue
-		}
-		if c.Question, same, err = k.question(token, i, keys); !same || err != nil {
-			return nil, same, err
-		}
-		keys.keep(s, candidates, i, signature)
-		return []Question{c.Question}, true, nil
+	i, err := findMaker(candidates, &signing{text: s.signed, signature: signature})
+	if err != nil || i < 0 {
+		return nil, true, err
 	}
-	return nil, true, nil
+	if candidates[i].Question, same, err = k.question(token, i, keys); !same || err != nil {
+		return nil, same, err
+	}
+	keys.keep(s, candidates, i, signature)
+	return []Question{candidates[i].Question}, true, nil
+}
+
+// findMaker is the place of the first candidate that made the signature, or -1. ErrNoMemory: no candidate is known to have
+// made it, and one may have.
+func findMaker(candidates []Candidate, s *signing) (place int, err error) {
+	for i, c := range candidates {
+		switch verdict := c.Key.verify(c.Algorithm, s); {
+		case verdict == nil:
+			return i, nil
+		case errors.Is(verdict, ErrNoMemory):
+			err = verdict
+		}
+	}
+	return -1, err
 }
 
 // A keyCache has each key of the bundles parsed once, by its JSON text: a kid is
 // not unique. It holds no more keys than the bundles do. plans are by header and
 // trust domain.
 type keyCache struct {
-	mu    sync.RWMutex
-	keys  map[string]*Key
-	plans map[planName]*plan
+	rsaBits int // at most so many has an RSA key
+	mu      sync.RWMutex
+	keys    map[string]*Key
+	plans   map[planName]*plan
 }
 
-func newKeyCache() *keyCache {
-	return &keyCache{keys: make(map[string]*Key), plans: make(map[planName]*plan)}
+func newKeyCache(rsaBits int) *keyCache {
+	return &keyCache{rsaBits: rsaBits, keys: make(map[string]*Key), plans: make(map[planName]*plan)}
 }
 
 func (c *keyCache) get(text []byte) *Key {
@@ -269,7 +312,10 @@ func (c *keyCache) get(text []byte) *Key {
 	if key != nil {
 		return key
 	}
-	key = parseKey(text)
+	key = parseKey(text, c.rsaBits)
+	if errors.Is(key.fault, ErrNoMemory) {
+		return key // The next token may find memory.
+	}
 	c.mu.Lock()
 	defer c.mu.Unlock()
 	c.keys[key.text] = key

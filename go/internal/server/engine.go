@@ -69,6 +69,7 @@ type Options struct {
 	Mode      Mode
 	Audiences []string
 	Domains   []string // trust domains that are to have a bundle: until one has, its tokens can't be judged
+	RSABits   int      // at most so many has an RSA key, as svid.KeyringOptions has it
 	Longest   uint64   // seconds past now that a token may live
 	Ahead     uint64   // seconds that clocks of the group may differ
 	Step      uint64   // seconds that the clock may go ahead between two ticks; 0 for any
@@ -126,7 +127,7 @@ func NewEngine(o Options) (*Engine, error) {
 	if o.Step == 0 {
 		o.Step = svid.NoLimit
 	}
-	keyring, err := svid.NewKeyring(noBundles)
+	keyring, err := svid.OpenKeyring(svid.KeyringOptions{Bundles: noBundles, RSABits: o.RSABits})
 	if err != nil {
 		return nil, err
 	}
