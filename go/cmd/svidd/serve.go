@@ -9,6 +9,7 @@ import (
 	"os"
 	"os/signal"
 	"runtime/debug"
+	"strings"
 	"sync"
 	"syscall"
 	"time"
@@ -199,13 +200,13 @@ func (s *sidecar) open(ctx context.Context) error {
 		}
 	}
 	s.engine, err = server.NewEngine(server.Options{
-		Mode: server.Mode(s.replay), Audiences: s.audiences, Domains: domains, Longest: s.longest.value, Ahead: s.ahead.value,
+		Mode: server.Mode(s.replay), Audiences: s.audiences, Domains: domains, RSABits: s.rsaBits, Longest: s.longest.value, Ahead: s.ahead.value,
 		Step: clockStep, Jumped: func() { s.fail(errClock) }, Place: place, Journal: kept, Grouped: len(s.servers()) > 0, Wait: s.wait, Log: s.log,
 	})
 	if err != nil {
 		return err
 	}
-	s.watcher, err = bundles.Watch(ctx, specs, s.renew, bundles.Options{Log: s.said, Check: checkBundle})
+	s.watcher, err = bundles.Watch(ctx, specs, s.renew, bundles.Options{Log: s.said, Check: checkBundle, Unusable: s.unusable})
 	if err != nil {
 		return err
 	}
@@ -285,6 +286,14 @@ func checkBundle(domain string, document json.RawMessage) error {
 	}
 	validator.Close()
 	return nil
+}
+
+// unusable says why a key of a bundle verifies no token, or nothing.
+func (o *options) unusable(key json.RawMessage) string {
+	if _, err := (svid.KeyringOptions{RSABits: o.rsaBits}).ParseKey(key); errors.Is(err, svid.ErrKey) {
+		return strings.TrimPrefix(err.Error(), "svid: ")
+	}
+	return ""
 }
 
 // renew runs at each change of the bundles.
