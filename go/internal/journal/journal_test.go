@@ -1086,7 +1086,7 @@ func TestEachFailedCallOfAStartIsAnError(t *testing.T) {
 			f.mu.Unlock()
 			mustClose(t, j)
 		}
-		if last = f.failed == ""; last != (err == nil) {
+		if last = f.failed == ""; last != (err == nil) || !last && !errors.Is(err, syscall.EIO) {
 			t.Errorf("%s fails: %v", f.failed, err)
 		}
 		mustAppend(t, mustOpen(t, dir), batch(1))
