@@ -882,7 +882,17 @@ func appender(dir string) int {
 				mu.Lock()
 				now := record[:len(record):len(record)]
 				mu.Unlock()
-				return writes(now)(w)
+				for len(now) > 0 { // in pieces
+					piece := now
+					if most := 5000 * 82; len(piece) > most {
+						piece = piece[:most]
+					}
+					if _, err := w.Write(piece); err != nil {
+						return err
+					}
+					now = now[len(piece):]
+				}
+				return nil
 			})
 			if err != nil {
 				failed <- err
