@@ -63,11 +63,11 @@ func writeState(std stdio, found *journal.Report) (damaged bool, err error) {
 	}
 	for _, f := range found.Files {
 		_, uses, err := svid.Uses(f.Messages)
-		says := count(len(uses), "use")
+		says := counted(len(uses), "use")
 		if err != nil {
 			says, damaged = fmt.Sprintf("what it bears is no message: %v", err), true
 		}
-		if _, err := fmt.Fprintf(std.out, "%s: %s: %s, %s\n", filepath.Base(f.Name), stateOf(f), says, count(f.Length, "byte")); err != nil {
+		if _, err := fmt.Fprintf(std.out, "%s: %s: %s, %s\n", filepath.Base(f.Name), stateOf(f), says, counted(f.Length, "byte")); err != nil {
 			return false, err
 		}
 	}
@@ -80,7 +80,7 @@ func stateOf(f *journal.File) string {
 	var newer *svid.FormatError
 	switch {
 	case f.Torn():
-		end = fmt.Sprintf("torn at byte %d, and nobody was answered for the %s there", f.At, count(f.Rest, "byte"))
+		end = fmt.Sprintf("torn at byte %d, and nobody was answered for the %s there", f.At, counted(f.Rest, "byte"))
 	case errors.As(f.Fault, &newer):
 		end = fmt.Sprintf("format %d at byte %d", newer.Format, f.At)
 	case f.Fault != nil:
@@ -89,11 +89,11 @@ func stateOf(f *journal.File) string {
 	if f.Old {
 		return end + ": the format of older versions"
 	}
-	return fmt.Sprintf("%s: %s, %s", end, count(f.Frames, "frame"), count(f.Marks, "mark"))
+	return fmt.Sprintf("%s: %s, %s", end, counted(f.Frames, "frame"), counted(f.Marks, "mark"))
 }
 
-// count is a number of things, as "1 frame" or "2 frames".
-func count(n int, thing string) string {
+// counted is a number of things, as "1 frame" or "2 frames".
+func counted(n int, thing string) string {
 	if n == 1 {
 		return "1 " + thing
 	}
