@@ -15,10 +15,12 @@ import (
 	"os/exec"
 	"path/filepath"
 	"strings"
+	"syscall"
 	"testing"
 	"time"
 
 	"github.com/nats-io/nats.go"
+	"github.com/nats-io/nkeys"
 
 	"svid.example/go/internal/broker"
 	"svid.example/go/internal/natstest"
@@ -268,4 +270,115 @@ func TestFilesThatCannotBeUsed(t *testing.T) {
 			t.Errorf("%+v: %v", f, err)
 		}
 	}
+}
+
+// kinds are names of what is no regular file.
+func kinds(t *testing.T, dir string) map[string]string {
+	t.Helper()
+	in := func(name string) string { return filepath.Join(dir, name) }
+	socket, err := net.Listen("unix", in("socket"))
+	if err != nil {
+		t.Fatal(err)
+	}
+	t.Cleanup(func() { socket.Close() })
+	for _, err := range []error{syscall.Mkfifo(in("pipe"), 0o600), os.Symlink(in("pipe"), in("link")), os.Mkdir(in("folder"), 0o700)} {
+		if err != nil {
+			t.Fatal(err)
+		}
+	}
+	return map[string]string{"a pipe": in("pipe"), "a link to a pipe": in("link"), "a socket": in("socket"), "a folder": in("folder"), "a device": "/dev/zero"}
+}
+
+// wantNoFile wants an error of a call, soon, that says which name is no regular file.
+func wantNoFile(t *testing.T, what, name string, call func() error) {
+	t.Helper()
+	done := make(chan error, 1)
+	go func() { done <- call() }()
+	select {
+	case err := <-done:
+		if err == nil || !strings.Contains(err.Error(), name+" is no regular file") {
+			t.Errorf("%s: %v", what, err)
+		}
+	case <-time.After(20 * time.Second):
+		t.Fatalf("%s: it waits", what)
+	}
+}
+
+// Only regular files are read, at the start and before each connection.
+func TestWhatIsNoRegularFile(t *testing.T) {
+	dir := t.TempDir()
+	good := newAuthority(t).write(dir, "svidd", "spiffe://example.org/svidd")
+	good.Creds = filepath.Join(dir, "creds")
+	pair, err := nkeys.CreateUser()
+	if err != nil {
+		t.Fatal(err)
+	}
+	seed, err := pair.Seed()
+	if err != nil {
+		t.Fatal(err)
+	}
+	if err := os.WriteFile(good.Creds, decorated("a.b.c", seed), 0o600); err != nil {
+		t.Fatal(err)
+	}
+	l, err := net.Listen("tcp", "127.0.0.1:0")
+	if err != nil {
+		t.Fatal(err)
+	}
+	defer l.Close()
+	for kind, name := range kinds(t, dir) {
+		for which, of := range map[string]func(*Files) *string{
+			"CA": func(f *Files) *string { return &f.CA }, "Cert": func(f *Files) *string { return &f.Cert },
+			"Key": func(f *Files) *string { return &f.Key }, "Creds": func(f *Files) *string { return &f.Creds },
+		} {
+			bad := good
+			*of(&bad) = name
+			wantNoFile(t, which+", "+kind+", at the start", name, func() error { _, err := bad.Connect(); return err })
+
+			// It comes into the place of a good file later.
+			later := good
+			*of(&later) = filepath.Join(t.TempDir(), "file")
+			if err := os.Symlink(*of(&good), *of(&later)); err != nil {
+				t.Fatal(err)
+			}
+			var o nats.Options
+			for _, option := range mustConnect(t, later) {
+				if err := option(&o); err != nil {
+					t.Fatal(err)
+				}
+			}
+			dial := func() error {
+				c, err := o.CustomDialer.Dial("tcp", l.Addr().String())
+				if err == nil {
+					c.Close()
+				}
+				return err
+			}
+			user := func() error { _, err := o.UserJWT(); return err }
+			sign := func() error { _, err := o.SignatureCB([]byte("nonce")); return err }
+			for _, call := range []func() error{dial, user, sign} {
+				if err := call(); err != nil {
+					t.Fatal(err)
+				}
+			}
+			if err := os.Remove(*of(&later)); err != nil {
+				t.Fatal(err)
+			}
+			if err := os.Symlink(name, *of(&later)); err != nil {
+				t.Fatal(err)
+			}
+			if which != "Creds" {
+				wantNoFile(t, which+", "+kind+", before a connection", *of(&later), dial)
+				continue
+			}
+			wantNoFile(t, which+", "+kind+", as it says who it is", *of(&later), user)
+			wantNoFile(t, which+", "+kind+", as it signs", *of(&later), sign)
+		}
+	}
+}
+
+// decorated is a file of credentials, as nsc writes it.
+func decorated(jwt string, seed []byte) []byte {
+	return []byte("-----BEGIN NATS USER JWT-----\n" + jwt + "\n------END NATS USER JWT------\n\n" +
+		"************************* IMPORTANT *************************\nNKEY Seed printed below can be used to sign and prove identity.\n\n" +
+		"-----BEGIN USER NKEY SEED-----\n" + string(seed) + "\n------END USER NKEY SEED------\n")
 }
