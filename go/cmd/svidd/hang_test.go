@@ -2,6 +2,7 @@ package main
 
 import (
 	"fmt"
+	"net"
 	"os"
 	"os/exec"
 	"path/filepath"
@@ -108,6 +109,39 @@ func TestAPipeInThePlaceOfAFile(t *testing.T) {
 		p.exitsWith(2)
 		if !strings.Contains(p.log.String(), row.want) {
 			t.Errorf("%q: %s", row.args, p.log)
+		}
+	}
+}
+
+// Nor is a pipe waited for, a socket or a folder, in the place of a file for the NATS servers: neither by --check-config, nor by
+// a start.
+func TestWhatIsNoRegularFileForNATS(t *testing.T) {
+	dir := t.TempDir()
+	in := func(name string) string { return filepath.Join(dir, name) }
+	if err := syscall.Mkfifo(in("pipe"), 0o600); err != nil {
+		t.Fatal(err)
+	}
+	if err := os.Mkdir(in("folder"), 0o700); err != nil {
+		t.Fatal(err)
+	}
+	socket, err := net.Listen("unix", in("socket"))
+	if err != nil {
+		t.Fatal(err)
+	}
+	defer socket.Close()
+	good := []string{bundleOption(bundleFile(t, example)), "--replay", "reuse", "--nats", "nats://127.0.0.1:1"}
+	for _, kind := range []string{"pipe", "folder", "socket"} {
+		for _, options := range [][]string{
+			{"--nats-creds", in(kind)}, {"--nats-ca", in(kind)}, {"--nats-cert", in(kind), "--nats-key", in(kind)},
+		} {
+			for _, check := range []string{"--check-config=true", "--check-config=false"} {
+				p := prepare(t, nil, append(append(good[:len(good):len(good)], options...), check)...)
+				p.launch()
+				p.exitsWith(2)
+				if log := p.log.String(); !strings.Contains(log, "--nats-creds: "+in(kind)+" is no regular file") || strings.Count(log, "\n") != 1 {
+					t.Errorf("%q, %s: %s", options, check, log)
+				}
+			}
 		}
 	}
 }
