@@ -19,9 +19,9 @@ type keeper struct {
 	mu      sync.Mutex
 	batches []byte
 	busy    bool // a goroutine brings them there
-	full    bool // and it said so
 	tasks   int  // that goroutine, and values whose uses are still to come
 	idle    *sync.Cond
+	faults  seldom
 }
 
 // begin says that uses are to come, until end.
@@ -63,10 +63,7 @@ func (e *Engine) keepSoon(batches ...[]byte) {
 	defer k.mu.Unlock()
 	if len(k.batches)+length > mostUnkept {
 		e.Metrics.JournalFailures.Add(1)
-		if !k.full {
-			e.Log.Error("journal", errUnkept)
-		}
-		k.full = true
+		k.faults.log(e.Log, "journal", errUnkept)
 		return
 	}
 	for _, b := range batches {
@@ -85,14 +82,14 @@ func (e *Engine) keepWaiting() {
 	for {
 		k.mu.Lock()
 		batches := k.batches
-		k.batches, k.full = nil, false
+		k.batches = nil
 		k.busy = len(batches) > 0
 		k.mu.Unlock()
 		if len(batches) == 0 {
 			return
 		}
 		if err := e.keep("acceptance", batches); err != nil {
-			e.Log.Error("journal", err)
+			k.faults.log(e.Log, "journal", err)
 		}
 		time.Sleep(keepPause)
 	}
