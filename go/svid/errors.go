@@ -76,6 +76,8 @@ var messageReasons = map[C.uint32_t]string{
 var statusErrors = map[C.uint32_t]error{
 	C.SVID_NO_MEMORY:          ErrNoMemory,
 	C.SVID_CLOSED:             ErrClosed,
+	C.SVID_NO_LOG:             ErrNoLog,
+	C.SVID_HAS_LOG:            ErrHasLog,
 	C.SVID_GONE:               ErrGone,
 	C.SVID_TOO_FAR:            ErrTooFar,
 	C.SVID_JUMP:               ErrJump,

@@ -26,6 +26,7 @@ import (
 	"io"
 	"strings"
 	"sync"
+	"sync/atomic"
 	"unsafe"
 )
 
@@ -77,8 +78,11 @@ type Validator struct {
 	used C.svid_use
 	key  C.svid_key
 	id   [C.SVID_ID_ROOM]byte
+	// And of a log.
+	fates   []C.svid_fate
+	reading C.svid_reading
 
-	bundles uint64 // how often there were other bundles, the first included; guarded by mu
+	edition atomic.Uint64 // how often there were other bundles, the first included; written under mu
 }
 
 // Open returns a validator with an empty record. To go on with a saved record,
@@ -95,7 +99,8 @@ func Open(o Options) (*Validator, error) {
 	for i, b := range o.Place {
 		terms.place[i] = C.uint8_t(b)
 	}
-	v := &Validator{bundles: 1}
+	v := &Validator{}
+	v.edition.Store(1)
 	status := C.svid_validator_open(&v.handle, &terms, start(own), C.size_t(len(own)),
 		start(o.Bundles), C.size_t(len(o.Bundles)), &v.told)
 	if err := failure(status, &v.told); err != nil {
@@ -139,7 +144,7 @@ func (v *Validator) SetBundles(bundles []byte) error {
 	if err := failure(status, &v.told); err != nil {
 		return err
 	}
-	v.bundles++
+	v.edition.Add(1)
 	return nil
 }
 
@@ -197,7 +202,7 @@ func (v *Validator) JudgeAgain(now uint64, accepted Accepted) error {
 	defer v.mu.Unlock()
 	*(*TokenKey)(unsafe.Pointer(&v.key)) = accepted.Use.Key
 	status := C.svid_validator_judge_again(&v.handle, C.uint64_t(now), &v.key, C.uint64_t(accepted.Use.Expires), &v.told)
-	if status != C.SVID_CLOSED && status != C.SVID_JUMP && (accepted.by != v || accepted.bundles != v.bundles) {
+	if status != C.SVID_CLOSED && status != C.SVID_JUMP && (accepted.by != v || accepted.bundles != v.edition.Load()) {
 		return ErrRenewed
 	}
 	return failure(status, &v.told)
@@ -226,18 +231,10 @@ func (v *Validator) accepted(status C.uint32_t) (Accepted, error) {
 	if err := failure(status, &v.told); err != nil {
 		return Accepted{}, err
 	}
-	return Accepted{ID: string(v.id[:v.told.len]), Use: v.use(false), by: v, bundles: v.bundles}, nil
+	return Accepted{ID: string(v.id[:v.told.len]), Use: v.use(false), by: v, bundles: v.edition.Load()}, nil
 }
 
-func (v *Validator) use(withdrawn bool) Use {
-	return Use{
-		Key:       *(*TokenKey)(unsafe.Pointer(&v.used.key)),
-		Expires:   uint64(v.used.exp),
-		At:        uint64(v.used.at),
-		Place:     *(*Place)(unsafe.Pointer(&v.used.place)),
-		Withdrawn: withdrawn,
-	}
-}
+func (v *Validator) use(withdrawn bool) Use { return useOf(&v.used, withdrawn) }
 
 // questions is the address of the first question, and nil where there is none.
 func questions(yes []Question) *C.svid_question {
