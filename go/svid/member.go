@@ -143,7 +143,7 @@ func (v *Validator) OpenLog(log Log) error {
 func (v *Validator) Read(now, position uint64, value []byte, edition uint64, room []LogUse) (Reading, error) {
 	v.mu.Lock()
 	defer v.mu.Unlock()
-	if edition != v.edition.Load() {
+	if edition != v.edition {
 		return Reading{}, ErrRenewed
 	}
 	if len(v.fates) < len(room) {
@@ -223,7 +223,11 @@ func (v *Validator) GoOn() error {
 }
 
 // Edition is how often the validator had other trust bundles: 1 at first, and one more with each SetBundles.
-func (v *Validator) Edition() uint64 { return v.edition.Load() }
+func (v *Validator) Edition() uint64 {
+	v.mu.Lock()
+	defer v.mu.Unlock()
+	return v.edition
+}
 
 // Edition is that of the bundles by which the token was judged.
 func (a Accepted) Edition() uint64 { return a.bundles }

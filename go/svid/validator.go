@@ -26,7 +26,6 @@ import (
 	"io"
 	"strings"
 	"sync"
-	"sync/atomic"
 	"unsafe"
 )
 
@@ -82,7 +81,7 @@ type Validator struct {
 	fates   []C.svid_fate
 	reading C.svid_reading
 
-	edition atomic.Uint64 // how often there were other bundles, the first included; written under mu
+	edition uint64 // how often there were other bundles, the first included; guarded by mu
 }
 
 // Open returns a validator with an empty record. To go on with a saved record,
@@ -99,8 +98,7 @@ func Open(o Options) (*Validator, error) {
 	for i, b := range o.Place {
 		terms.place[i] = C.uint8_t(b)
 	}
-	v := &Validator{}
-	v.edition.Store(1)
+	v := &Validator{edition: 1}
 	status := C.svid_validator_open(&v.handle, &terms, start(own), C.size_t(len(own)),
 		start(o.Bundles), C.size_t(len(o.Bundles)), &v.told)
 	if err := failure(status, &v.told); err != nil {
@@ -144,7 +142,7 @@ func (v *Validator) SetBundles(bundles []byte) error {
 	if err := failure(status, &v.told); err != nil {
 		return err
 	}
-	v.edition.Add(1)
+	v.edition++
 	return nil
 }
 
@@ -202,7 +200,7 @@ func (v *Validator) JudgeAgain(now uint64, accepted Accepted) error {
 	defer v.mu.Unlock()
 	*(*TokenKey)(unsafe.Pointer(&v.key)) = accepted.Use.Key
 	status := C.svid_validator_judge_again(&v.handle, C.uint64_t(now), &v.key, C.uint64_t(accepted.Use.Expires), &v.told)
-	if status != C.SVID_CLOSED && status != C.SVID_JUMP && (accepted.by != v || accepted.bundles != v.edition.Load()) {
+	if status != C.SVID_CLOSED && status != C.SVID_JUMP && (accepted.by != v || accepted.bundles != v.edition) {
 		return ErrRenewed
 	}
 	return failure(status, &v.told)
@@ -231,7 +229,7 @@ func (v *Validator) accepted(status C.uint32_t) (Accepted, error) {
 	if err := failure(status, &v.told); err != nil {
 		return Accepted{}, err
 	}
-	return Accepted{ID: string(v.id[:v.told.len]), Use: v.use(false), by: v, bundles: v.edition.Load()}, nil
+	return Accepted{ID: string(v.id[:v.told.len]), Use: v.use(false), by: v, bundles: v.edition}, nil
 }
 
 func (v *Validator) use(withdrawn bool) Use { return useOf(&v.used, withdrawn) }

@@ -99,7 +99,16 @@ func TestStrictAcceptsOnceInTheWholeGroup(t *testing.T) {
 		t.Errorf("accepted %s; unjudged %s", got, count(unjudged))
 	}
 	t.Logf("%d tokens to 3 sidecars at once: accepted %s, not judged %s", n, count(accepted), count(unjudged))
-	equalRecords(t, all)
+	// Each sidecar has claimed by a place of its own, and the first claims are in all records.
+	places := map[string]bool{}
+	for _, line := range strings.Split(equalRecords(t, all), "\n") {
+		if words := strings.Fields(line); len(words) == 4 {
+			places[words[2]] = true
+		}
+	}
+	if len(places) != len(all) {
+		t.Errorf("the uses are of %d places", len(places))
+	}
 }
 
 // In mode once a token may be accepted by each sidecar, and then every report says so.

@@ -724,9 +724,16 @@ func copyDir(t *testing.T, from, to string) {
 	}
 }
 
-// TestValuesWhileServersAreKilled has a cluster of three brokers, and kills each of them in turn while the members put
+// Nothing is missing, and nobody begins anew, while each of three brokers is killed in turn, or restarted, and the members put
 // values at the same instant.
-func TestValuesWhileServersAreKilled(t *testing.T) {
+func TestValuesWhileServersAreRestarted(t *testing.T) {
+	for name, end := range map[string]func(*broker.Server){"killed": (*broker.Server).Kill, "stopped": (*broker.Server).Stop} {
+		end := end
+		t.Run(name, func(t *testing.T) { whileEnded(t, end) })
+	}
+}
+
+func whileEnded(t *testing.T, end func(*broker.Server)) {
 	servers := natstest.Cluster(t, 3)
 	var members []*member
 	for i := range servers {
@@ -738,7 +745,7 @@ func TestValuesWhileServersAreKilled(t *testing.T) {
 	go func() {
 		defer close(killed)
 		for _, s := range servers {
-			s.Kill()
+			end(s)
 			time.Sleep(time.Second)
 			restart(t, s)
 			for replicas(members[0]) < 3 && !t.Failed() {
@@ -756,6 +763,11 @@ func TestValuesWhileServersAreKilled(t *testing.T) {
 		putAtOnce(t, members, n)
 	}
 	wantOneOrder(t, members, 6*n)
+	for _, m := range members {
+		if m.logged("values are gone") || m.logged("lost values") {
+			t.Error(m.lines)
+		}
+	}
 	t.Logf("%d values, read by three members in one order", 6*n)
 }
 
@@ -1069,6 +1081,52 @@ func TestPlacesThatWereReadBefore(t *testing.T) {
 		if anew := len(s.begun) == 1 && s.begun[0].Missed; err != row.want || len(s.order) != row.order || r.seen != row.seen || anew != row.anew {
 			t.Errorf("%s: %v, %d values, seen %d, began %v", name, err, len(s.order), r.seen, s.begun)
 		}
+	}
+}
+
+// A server that was just elected may say at first that the bucket has less than it has. That is no loss; what it says for a while
+// is one.
+func TestWhatABrokerSaysOfALoss(t *testing.T) {
+	made := time.Now()
+	says := func(last uint64, created time.Time) (info streamInfo) {
+		info.Created, info.State.First, info.State.Last = created, 1, last
+		return info
+	}
+	right, behind, another := says(5, made), says(4, made), says(9, made.Add(time.Second))
+	away := errors.New("away")
+	for name, row := range map[string]struct {
+		first  streamInfo
+		then   []streamInfo // by turns, and then no answer
+		always bool         // the last one again and again
+		lost   bool
+		err    error
+	}{
+		"as it was":             {right, nil, false, false, nil},
+		"behind, for a moment":  {behind, []streamInfo{behind, right}, false, false, nil},
+		"another, for a moment": {another, []streamInfo{right}, false, false, nil},
+		"behind, and then away": {behind, []streamInfo{behind}, false, false, away},
+		"behind for long":       {behind, []streamInfo{behind}, true, true, errAnother},
+		"another for long":      {another, []streamInfo{another}, true, true, errAnother},
+	} {
+		row := row
+		t.Run(name, func(t *testing.T) {
+			t.Parallel()
+			s := &sink{}
+			r := reader{group: &Group{sink: s, ready: make(chan struct{}), life: context.Background()}, bucket: bucket{first: 1, last: 5, created: made}, seen: 5}
+			lost, err := r.isLost(&row.first, func() (streamInfo, error) {
+				if len(row.then) == 0 {
+					return streamInfo{}, away
+				}
+				next := row.then[0]
+				if len(row.then) > 1 || !row.always {
+					row.then = row.then[1:]
+				}
+				return next, nil
+			})
+			if lost != row.lost || err != row.err || len(s.begun) == 1 != row.lost || row.lost && !s.begun[0].Missed {
+				t.Errorf("lost %v, %v, began %+v", lost, err, s.begun)
+			}
+		})
 	}
 }
 

@@ -214,12 +214,12 @@ func (r *reader) missing(to uint64) {
 // passed over, so all is read again then.
 func (r *reader) isSame() error {
 	g := r.group
-	info, err := g.info(g.life, readWait)
+	info, err := r.ask()
 	if err != nil {
 		return err
 	}
 	r.mind(info.Config)
-	if lost, err := r.isLost(&info); err != nil || lost {
+	if lost, err := r.isLost(&info, r.ask); err != nil || lost {
 		return err
 	}
 	if r.stamp.IsZero() {
@@ -245,20 +245,21 @@ func (r *reader) isOther(info streamInfo) bool {
 
 // isLost says whether the bucket is another one, or has lost its last values: then reading begins anew, and the error says so. A
 // server that was just elected may not have read yet all that it has, so the broker must say the same for a while.
-func (r *reader) isLost(info *streamInfo) (lost bool, err error) {
-	g := r.group
+func (r *reader) isLost(info *streamInfo, ask func() (streamInfo, error)) (lost bool, err error) {
 	for from := time.Now(); r.isOther(*info); {
 		if time.Since(from) > lossWait {
 			r.begin(bucketOf(*info), true)
 			return true, errAnother
 		}
-		pause(g.life, lossPause)
-		if *info, err = g.info(g.life, readWait); err != nil {
+		pause(r.group.life, lossPause)
+		if *info, err = ask(); err != nil {
 			return false, err
 		}
 	}
 	return false, nil
 }
+
+func (r *reader) ask() (streamInfo, error) { return r.group.info(r.group.life, readWait) }
 
 // mind says that someone changed the bucket, so that it may lose values. Who has read them goes on: the next one to join
 // does not.
@@ -317,7 +318,7 @@ func (r *reader) idle(f *feed) error {
 		return nil // The broker is away, which the connection's handlers log.
 	}
 	r.mind(info.Config)
-	if lost, err := r.isLost(&info); lost {
+	if lost, err := r.isLost(&info, r.ask); lost {
 		return err
 	} else if err != nil {
 		return nil

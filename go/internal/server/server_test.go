@@ -1059,16 +1059,16 @@ func TestAnotherBucket(t *testing.T) {
 // Of values up to the last one that was there when the engine began, it accepts nothing: an earlier life of it may have
 // answered 200 for them.
 func TestWhatAnEarlierLifeMayHaveRead(t *testing.T) {
-	for _, last := range []uint64{0, 1} {
+	for last, want := range []error{nil, ErrMissed} {
 		e := ready(t, engine(t, Options{Mode: Strict, Grouped: true}))
-		e.Begin(group.Log{Ready: last})
+		e.Begin(group.Log{Ready: uint64(last)})
 		mine := claimOf(t, e, token("a"))
 		e.claims.begin(mine)
 		if number, _ := e.claims.next(func() {}); number != 1 {
 			t.Fatal(number)
 		}
 		e.Take([]group.Value{{Kind: group.Claims, Position: 1, Message: mine.use.Batch()}})
-		if <-mine.done; (mine.err == nil) != (last == 0) {
+		if <-mine.done; mine.err != want {
 			t.Errorf("the last value was %d: %v", last, mine.err)
 		}
 	}
