@@ -39,11 +39,25 @@ const (
 	FateReplayed
 )
 
-// fates by their numbers in the library.
-var fates = map[C.uint64_t]Fate{
-	C.SVID_FATE_ACCEPTED: FateAccepted, C.SVID_FATE_FIRST: FateFirst, C.SVID_FATE_WITHDRAWAL: FateWithdrawal,
-	C.SVID_FATE_TOO_FAR_AHEAD: FateTooFarAhead, C.SVID_FATE_EXPIRED: FateExpired, C.SVID_FATE_WITHDRAWN: FateWithdrawn,
-	C.SVID_FATE_REPLAYED: FateReplayed,
+// fateOf reads a fate as the library writes it.
+func fateOf(fate C.uint64_t) Fate {
+	switch fate {
+	case C.SVID_FATE_ACCEPTED:
+		return FateAccepted
+	case C.SVID_FATE_FIRST:
+		return FateFirst
+	case C.SVID_FATE_WITHDRAWAL:
+		return FateWithdrawal
+	case C.SVID_FATE_TOO_FAR_AHEAD:
+		return FateTooFarAhead
+	case C.SVID_FATE_EXPIRED:
+		return FateExpired
+	case C.SVID_FATE_WITHDRAWN:
+		return FateWithdrawn
+	case C.SVID_FATE_REPLAYED:
+		return FateReplayed
+	}
+	return 0
 }
 
 var fateNames = [...]string{"none", "Accepted", "First", "Withdrawal", "TooFarAhead", "Expired", "Withdrawn", "Replayed"}
@@ -169,7 +183,7 @@ func (v *Validator) Read(now, position uint64, value []byte, edition uint64, roo
 		return Reading{}, err
 	}
 	for i := range v.fates[:r.Count] {
-		fate := fates[v.fates[i].fate]
+		fate := fateOf(v.fates[i].fate)
 		room[i] = LogUse{Use: useOf(&v.fates[i].used, fate == FateWithdrawal), Fate: fate}
 	}
 	return r, nil
