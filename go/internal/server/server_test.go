@@ -1051,8 +1051,9 @@ func TestAnotherBucket(t *testing.T) {
 	}
 	// Where values have expired before they were read, nothing is missed; and what was missed before stays so.
 	e.Begin(group.Log{Passed: 7, Ready: 9})
-	if got := e.deafUntil(); got != moment+3600+60 {
-		t.Errorf("then it accepts nothing until %d", got)
+	mark, _, err := e.validator.LogMark()
+	if want := (svid.Mark{Passed: 7, Deaf: moment + 3600 + 60}); err != nil || mark != want || e.deafUntil() != want.Deaf {
+		t.Errorf("then it is at %+v, and accepts nothing until %d (%v)", mark, e.deafUntil(), err)
 	}
 }
 
