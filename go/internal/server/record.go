@@ -73,11 +73,7 @@ func (e *Engine) Take(values []group.Value) []error {
 		return t.errs
 	}
 	for i, v := range values {
-		err := e.read(v)
-		if e.Log.Writes(All) {
-			e.Log.Detail("message", "bytes", len(v.Message), "error", err)
-		}
-		t.note(i, err)
+		t.note(i, e.read(v))
 	}
 	return t.errs
 }

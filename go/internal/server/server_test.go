@@ -138,9 +138,11 @@ func (t *tie) Aside() uint64          { return 0 }
 func (t *tie) Connected() bool        { return true }
 
 func (t *tie) Put(ctx context.Context, kind group.Kind, number uint64, message []byte) error {
+	t.mu.Lock()
 	if t.forged != nil {
 		message = t.forged
 	}
+	t.mu.Unlock()
 	t.put(stored{t, kind, number, message})
 	if t.answer != nil {
 		select {
@@ -910,6 +912,8 @@ func TestWhatComesWhileTheClockIsTooFarAhead(t *testing.T) {
 		t.Error(err)
 	}
 	wantUses(t, []*Engine{e}, 2)
+	b.mu.Lock()
+	defer b.mu.Unlock()
 	if m.aside != 1 {
 		t.Errorf("%d values were put aside", m.aside)
 	}
@@ -1346,13 +1350,23 @@ func TestAValueUnderAnotherOnesKey(t *testing.T) {
 	m := b.members[0]
 	all[0].Wait = 30 * time.Millisecond
 	other := svid.Use{Key: svid.TokenKey{1}, Expires: moment + 300, At: moment, Place: svid.Place{1}}
-	for _, forged := range [][]byte{other.Batch(), []byte("garbage"), {}} {
-		m.forged = forged
+	forge := func(message []byte) {
+		m.mu.Lock()
+		defer m.mu.Unlock()
+		m.forged = message
+	}
+	for i, forged := range [][]byte{other.Batch(), []byte("garbage"), {}} {
+		forge(forged)
 		if err := check(all[0], token("a")); !errors.Is(err, context.DeadlineExceeded) {
 			t.Errorf("%q: %v", forged, err)
 		}
+		await(t, "the value", func() bool {
+			m.mu.Lock()
+			defer m.mu.Unlock()
+			return len(m.log) == i+1
+		})
 	}
-	m.forged = nil
+	forge(nil)
 	if err := check(all[1], token("a")); err != nil {
 		t.Error(err)
 	}

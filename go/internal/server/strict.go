@@ -157,6 +157,9 @@ func saturated(a, b uint64) uint64 {
 func (e *Engine) read(v group.Value) (aside error) {
 	e.keeper.begin() // Claims end before the keeper has their uses. So Run waits for this value too.
 	defer e.keeper.end()
+	if e.Log.Writes(All) {
+		defer func() { e.Log.Detail("message", "bytes", len(v.Message), "error", aside) }()
+	}
 	var accepted []svid.Use
 	var other *svid.Use
 	isOther := e.isOfOtherMode(v.Kind)
