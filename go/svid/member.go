@@ -157,7 +157,7 @@ func (v *Validator) OpenLog(log Log) error {
 func (v *Validator) Read(now, position uint64, value []byte, edition uint64, room []LogUse) (Reading, error) {
 	v.mu.Lock()
 	defer v.mu.Unlock()
-	if edition != v.edition {
+	if edition != v.bundles {
 		return Reading{}, ErrRenewed
 	}
 	if len(v.fates) < len(room) {
@@ -240,7 +240,7 @@ func (v *Validator) GoOn() error {
 func (v *Validator) Edition() uint64 {
 	v.mu.Lock()
 	defer v.mu.Unlock()
-	return v.edition
+	return v.bundles
 }
 
 // Edition is that of the bundles by which the token was judged.

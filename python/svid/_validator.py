@@ -16,8 +16,9 @@ from typing import Union
 
 from . import _library as lib
 from ._bundles import Bundles, Path, Source
-from ._handle import CHECK, JUDGE, Calls, Handle, decoded, fault
-from ._signatures import Verifier, Verifies
+from ._handle import CHECK, JUDGE, Calls, Handle, fault
+from ._signatures import USUAL_RSA_BITS, Verifier, Verifies
+from ._trust import decoded
 from .errors import Error, NoKey, UnknownDomain
 from .records import Accepted, Report, Use
 
@@ -60,6 +61,7 @@ class Validator:
         place: bytes | None = None,
         refresh: float | None = 10.0,
         verifies: Verifies | None = None,
+        rsa_bits: int = USUAL_RSA_BITS,
     ) -> None:
         """Makes a validator whose record is empty.
 
@@ -78,6 +80,8 @@ class Validator:
             check. None is never. Where they can't be read, the bundles stay as they are, and the
             logger "svid" has a warning.
         verifies: verifies signatures in place of the package `cryptography`; see `svid.Verifies`.
+        rsa_bits: how many bits an RSA key may have, 2,048 to 16,384. A longer one verifies nothing,
+            so that a token of a stranger costs little. It is not for `verifies`.
 
         Raises BadBundles, OSError for a file of bundles, and ValueError and TypeError for arguments
         that can't be.
@@ -87,7 +91,7 @@ class Validator:
             raise ValueError("place has 16 bytes")
         if refresh is not None and not refresh >= 0:
             raise ValueError("refresh is a number of seconds, or None")
-        self._verifies = verifies or Verifier()
+        self._verifies = verifies or Verifier(rsa_bits)
         self._source = Source(bundles)
         self._stamp = self._source.stamp()
         self._refresh = math.inf if refresh is None else refresh

@@ -1,5 +1,6 @@
 """Signatures: tokens of four other libraries, of nine algorithms, and keys of every kind."""
 
+import functools
 import hashlib
 import itertools
 import json
@@ -298,27 +299,43 @@ def test_an_rsa_key_has_2048_bits_or_more(bits):
         assert verdict(checks, token("RS256", key)) == expected
 
 
-def test_an_rsa_key_may_have_16384_bits():
-    modulus, private = many_primes(16_384)
-    jwk = {**RS, "n": number(modulus)}
+@pytest.mark.parametrize(
+    ("bits", "most", "expected"),
+    [
+        (4096, None, ACCEPTED),
+        (4097, None, BAD_SIGNATURE),
+        (4097, 4096, BAD_SIGNATURE),
+        (4097, 4097, ACCEPTED),
+        (8192, None, BAD_SIGNATURE),
+        (16_384, 16_384, ACCEPTED),
+    ],
+)
+def test_an_rsa_key_has_4096_bits_or_fewer_unless_more_are_allowed(bits, most, expected):
+    modulus, private = many_primes(bits)
+    jwk, size = {**RS, "n": number(modulus)}, (bits + 7) // 8
     signed = token("RS256").rpartition(".")[0]
-    made = pow(int.from_bytes(padded(signed.encode(), 2048), "big"), private, modulus)
-    with validator(bundle(jwk)) as checks:
-        assert verdict(checks, f"{signed}.{b64(made.to_bytes(2048, 'big'))}") == ACCEPTED
+    made = pow(int.from_bytes(padded(signed.encode(), size), "big"), private, modulus)
+    with validator(bundle(jwk), **({} if most is None else {"rsa_bits": most})) as checks:
+        assert verdict(checks, f"{signed}.{b64(made.to_bytes(size, 'big'))}") == expected
 
 
+@pytest.mark.parametrize("most", [-1, 0, 2047, 16_385])
+def test_the_bound_of_rsa_keys_has_bounds(most):
+    with pytest.raises(ValueError, match="rsa_bits must be from 2,048 to 16,384"):
+        validator(bundle(RS), rsa_bits=most)
+
+
+@functools.cache
 def many_primes(bits):
     """A modulus of so many bits and its private exponent, of primes that are soon found."""
-    modulus, phi = 1, 1
-    while modulus.bit_length() <= bits - 2048:
-        numbers = rsa.generate_private_key(65537, 2048).private_numbers()
-        modulus, phi = modulus * numbers.p * numbers.q, phi * (numbers.p - 1) * (numbers.q - 1)
-    small = [2, 3, 5, 7, 13, 23, 43, 83, 163, 317, 631]  # each less than twice the one before it
-    rest = [it for it in small if (modulus * it).bit_length() == bits]
-    if rest:
-        modulus, phi = modulus * rest[-1], phi * (rest[-1] - 1)
-    assert modulus.bit_length() == bits
-    return modulus, pow(65537, -1, phi)
+    while True:
+        modulus, phi = 1, 1
+        for _ in range(bits // 2048):
+            numbers = rsa.generate_private_key(65537, 2048).private_numbers()
+            modulus, phi = modulus * numbers.p * numbers.q, phi * (numbers.p - 1) * (numbers.q - 1)
+        for small in 1, 3, 5, 7, 13, 23, 43, 83, 163, 317, 631:
+            if (modulus * small).bit_length() == bits:
+                return modulus * small, pow(65537, -1, phi * max(small - 1, 1))
 
 
 def padded(signed, size):
