@@ -99,10 +99,6 @@ func (e *Engine) sendClaims() {
 	}()
 }
 
-// claimPiece is how many uses of an own value the record takes at a time. The claims among them end then: other processors
-// answer them, while this one judges the next ones.
-const claimPiece = 16
-
 // readRoom is how many uses of a value are read at a time. The claims among them end then: other processors answer them, while
 // this one reads the next ones.
 const readRoom = 64
