@@ -136,6 +136,65 @@ def test_two_tokens_in_one_request_are_none():
         assert checks.report().uses == ()
 
 
+@pytest.mark.parametrize("between", [",", ", ", ",Bearer ", ", Bearer ", " ", " Bearer "])
+def test_two_tokens_in_one_header_are_none(between):
+    """As a server joins two headers, and as a client may write them."""
+    made = f"Bearer {fresh(jti='1')}{between}{fresh(jti='2')}"
+    with validator() as checks:
+        headers = [(b"authorization", made.encode())]
+        sent = run(SvidMiddleware(None, checks), {"type": "http", "headers": headers})
+        assert sent[0]["status"] == 401
+        said = []
+        WsgiMiddleware(None, checks)({"HTTP_AUTHORIZATION": made}, lambda *it: said.append(it))
+        assert [status for status, _ in said] == ["401 Unauthorized"]
+        assert checks.report().uses == ()
+
+
+def test_an_id_that_was_there_before_is_replaced():
+    """A server or another middleware may have put it there, by whatever the caller said."""
+    seen, other = [], "spiffe://example.org/root"
+
+    async def app(scope, receive, send):
+        seen.append(scope["spiffe_id"])
+
+    def wsgi(environ, start_response):
+        seen.append(environ["svid.spiffe_id"])
+        return []
+
+    with validator() as checks:
+        headers = [(b"authorization", b"Bearer " + fresh(jti="1").encode())]
+        scope = {"type": "http", "headers": headers, "spiffe_id": other}
+        assert run(SvidMiddleware(app, checks), scope) == []
+        made = "Bearer " + fresh(jti="2")
+        WsgiMiddleware(wsgi, checks)({"HTTP_AUTHORIZATION": made, "svid.spiffe_id": other}, None)
+    assert seen == [HELLO[6:]] * 2
+
+
+@pytest.mark.parametrize("token", [b"\x80.\xff.\xfe", b"\xc3\xa9", "\u00e9.\u20ac.a".encode()])
+def test_a_header_of_any_bytes_is_answered(token):
+    """It is no UTF-8, or is, and has no good token either way."""
+    with validator() as checks:
+        headers = [(b"authorization", b"Bearer " + token)]
+        sent = run(SvidMiddleware(None, checks), {"type": "http", "headers": headers})
+        assert sent[0]["status"] == 401
+        said, given = [], {"HTTP_AUTHORIZATION": "Bearer " + token.decode("latin-1")}
+        WsgiMiddleware(None, checks)(given, lambda *it: said.append(it[0]))
+        assert said == ["401 Unauthorized"]
+
+
+def test_a_name_of_a_header_has_any_case():
+    seen = []
+
+    async def app(scope, receive, send):
+        seen.append(scope["spiffe_id"])
+
+    with validator() as checks:
+        for name in b"authorization", b"Authorization", b"AUTHORIZATION":
+            headers = [(name, b"Bearer " + fresh(jti=name.decode()).encode())]
+            run(SvidMiddleware(app, checks), {"type": "http", "headers": headers})
+    assert seen == [HELLO[6:]] * 3
+
+
 def test_the_server_starts_and_stops_without_a_token():
     seen = []
 

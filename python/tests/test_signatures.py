@@ -188,6 +188,15 @@ def test_a_secret_is_no_key():
             assert verdict(checks, made) == "refused Alg"
 
 
+def test_one_key_verifies_by_each_of_its_algorithms():
+    key = private_key("RS256")
+    with validator(bundle(entry(key, "k1"))) as checks:
+        for turn in range(2):
+            for alg in ALGORITHMS:
+                if alg[0] != "E":
+                    assert verdict(checks, token(alg, key, jti=f"{alg} {turn}")) == ACCEPTED
+
+
 ES = entry(private_key("ES256"), "k1")
 RS = entry(private_key("RS256"), "k1")
 ODD = {
@@ -305,6 +314,15 @@ def test_an_rsa_key_may_have_16384_bits():
     made = pow(int.from_bytes(padded(signed.encode(), 2048), "big"), private, modulus)
     with validator(bundle(jwk)) as checks:
         assert verdict(checks, f"{signed}.{b64(made.to_bytes(2048, 'big'))}") == ACCEPTED
+
+
+def test_an_rsa_key_has_no_more_than_16384_bits():
+    """A longer one is not even parsed: each verification would take the longer."""
+    modulus, private = many_primes(16_385)
+    signed = token("RS256").rpartition(".")[0]
+    made = pow(int.from_bytes(padded(signed.encode(), 2049), "big"), private, modulus)
+    with validator(bundle({**RS, "n": number(modulus)})) as checks:
+        assert verdict(checks, f"{signed}.{b64(made.to_bytes(2049, 'big'))}") == BAD_SIGNATURE
 
 
 def many_primes(bits):
