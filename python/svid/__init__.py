@@ -10,13 +10,15 @@
     except svid.Refused as why:
         print("refused:", why)
 
-`Validator` is the whole of it. `Refused` has a subclass for each of the 25 reasons to refuse a
-token. `svid.asgi` and `svid.wsgi` are middlewares for web services.
+`Validator` is the whole of it for one process, and `Validator(state=..)` keeps its record over
+restarts. `Refused` has a subclass for each of the 25 reasons to refuse a token. `svid.asgi` and
+`svid.wsgi` are middlewares for web services.
 """
 
 from __future__ import annotations
 
 from ._bundles import Bundle, Bundles, from_workload_api
+from ._journal import Journal
 from ._signatures import Verifies
 from ._validator import Validator
 from .errors import (
@@ -27,6 +29,7 @@ from .errors import (
     BadSignature,
     Closed,
     Crit,
+    Damaged,
     Error,
     Exp,
     Expired,
@@ -34,10 +37,12 @@ from .errors import (
     Gone,
     HeaderNotObject,
     HeaderSpelling,
+    Held,
     Jti,
     Jump,
     Kid,
     Nbf,
+    Newer,
     NoKey,
     NotAudience,
     NotThreeParts,
@@ -52,6 +57,7 @@ from .errors import (
     TooLong,
     TooLongLived,
     Typ,
+    Unavailable,
     UnknownDomain,
     Withdrawn,
 )
@@ -68,6 +74,7 @@ __all__ = [
     "Bundles",
     "Closed",
     "Crit",
+    "Damaged",
     "Error",
     "Exp",
     "Expired",
@@ -75,10 +82,13 @@ __all__ = [
     "Gone",
     "HeaderNotObject",
     "HeaderSpelling",
+    "Held",
+    "Journal",
     "Jti",
     "Jump",
     "Kid",
     "Nbf",
+    "Newer",
     "NoKey",
     "NotAudience",
     "NotThreeParts",
@@ -94,6 +104,7 @@ __all__ = [
     "TooLong",
     "TooLongLived",
     "Typ",
+    "Unavailable",
     "UnknownDomain",
     "Use",
     "Validator",

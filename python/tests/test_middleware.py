@@ -1,16 +1,18 @@
 """The middlewares, by the examples, each with a client of its own."""
 
 import asyncio
+import errno
 import http.client
 import importlib.util
 import json
+import os
 import pathlib
 import subprocess
 import sys
-import time
+import threading
 
 import pytest
-from making import bundle, entry, private_key, token, validator
+from making import bundle, entry, fresh, private_key, token, validator
 from starlette.applications import Starlette
 from starlette.responses import PlainTextResponse
 from starlette.routing import Route, WebSocketRoute
@@ -23,11 +25,6 @@ from svid.wsgi import SvidMiddleware as WsgiMiddleware
 
 EXAMPLES = pathlib.Path(__file__).parent.parent / "examples"
 HELLO = "hello spiffe://example.org/billing/api"
-
-
-def fresh(**members):
-    """A token of now."""
-    return token(**{"exp": int(time.time()) + 300, "jti": None, **members})
 
 
 @pytest.fixture
@@ -240,3 +237,48 @@ def test_a_closed_validator_lets_nobody_in():
     client = TestClient(SvidMiddleware(app, checks), raise_server_exceptions=False)
     answer = client.get("/", headers={"Authorization": "Bearer " + fresh()})
     assert (answer.status_code, answer.text) == (500, "")
+
+
+def test_a_check_that_is_unavailable_is_answered_503(tmp_path, monkeypatch):
+    def fails(_):
+        raise OSError(errno.EIO, "no disk")
+
+    with validator(state=tmp_path) as checks:
+        monkeypatch.setattr(os, "fdatasync", fails)
+
+        def header():
+            return "Bearer " + fresh(jti=os.urandom(8).hex())
+
+        scope = {"type": "http", "headers": [(b"authorization", header().encode())]}
+        start, _ = run(SvidMiddleware(None, checks), scope)
+        assert (start["status"], start["headers"]) == (503, [(b"content-length", b"0")])
+        scope = {"type": "websocket", "headers": [(b"authorization", header().encode())]}
+        assert run(SvidMiddleware(None, checks), scope) == [
+            {"type": "websocket.close", "code": 1013}
+        ]
+        said = []
+        WsgiMiddleware(None, checks)({"HTTP_AUTHORIZATION": header()}, lambda *it: said.append(it))
+        assert said == [("503 Service Unavailable", [("Content-Length", "0")])]
+
+
+def test_a_check_that_waits_does_not_hold_up_the_event_loop(tmp_path, monkeypatch):
+    seen, go, real = [], threading.Event(), os.fdatasync
+
+    def fdatasync(file):
+        assert go.wait(60)
+        real(file)
+
+    async def app(scope, receive, send):
+        seen.append(scope["spiffe_id"])
+
+    async def main(checks):
+        scope = {"type": "http", "headers": [(b"authorization", b"Bearer " + fresh().encode())]}
+        request = asyncio.create_task(SvidMiddleware(app, checks)(scope, None, None))
+        await asyncio.sleep(0)
+        go.set()  # (this comes behind the request, which would wait for ever on the event loop)
+        await request
+
+    with validator(state=tmp_path, wait=30) as checks:
+        monkeypatch.setattr(os, "fdatasync", fdatasync)
+        asyncio.run(main(checks))
+    assert seen == [HELLO[6:]]
