@@ -11,14 +11,16 @@
         print("refused:", why)
 
 `Validator` is the whole of it for one process, and `Validator(state=..)` keeps its record over
-restarts. `Refused` has a subclass for each of the 25 reasons to refuse a token. `svid.asgi` and
-`svid.wsgi` are middlewares for web services.
+restarts. Several processes are each a `Member` of one log. `Refused` has a subclass for each of the
+25 reasons to refuse a token. `svid.asgi` and `svid.wsgi` are middlewares for web services.
 """
 
 from __future__ import annotations
 
 from ._bundles import Bundle, Bundles, from_workload_api
 from ._journal import Journal
+from ._log import Log, OtherLog
+from ._member import Member
 from ._signatures import Verifies
 from ._validator import Validator
 from .errors import (
@@ -87,12 +89,15 @@ __all__ = [
     "Jti",
     "Jump",
     "Kid",
+    "Log",
+    "Member",
     "Nbf",
     "Newer",
     "NoKey",
     "NotAudience",
     "NotThreeParts",
     "NotYet",
+    "OtherLog",
     "PayloadNotObject",
     "PayloadSpelling",
     "Refused",

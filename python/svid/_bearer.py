@@ -2,6 +2,7 @@
 
 from __future__ import annotations
 
+from http import HTTPStatus
 from typing import NamedTuple
 
 from ._validator import Validator
@@ -12,22 +13,22 @@ class Admission(NamedTuple):
     """What becomes of a request."""
 
     spiffe_id: str | None
-    """Whose it is; None where it is not let in. Then the others say how to answer."""
-    status: str = ""
-    """The status, as "401 Unauthorized"."""
+    """Whose it is; None where it is not let in."""
+    status: HTTPStatus = HTTPStatus.OK
+    """The status of the answer where it is not let in."""
     challenge: str = ""
-    """The header WWW-Authenticate, where the answer has one."""
+    """The header WWW-Authenticate of that answer, where it has one."""
 
 
 def admit(validator: Validator, authorization: str | None) -> Admission:
     """Checks the token of an Authorization header, None where the request has not exactly one."""
     scheme, _, token = (authorization or "").partition(" ")
     if scheme.lower() != "bearer":
-        return Admission(None, "401 Unauthorized", "Bearer")
+        return Admission(None, HTTPStatus.UNAUTHORIZED, "Bearer")
     try:
         return Admission(validator.check(token.strip(" ")).spiffe_id)
     except Refused as why:
         challenge = f'Bearer error="invalid_token", error_description="{why.name}"'
-        return Admission(None, "401 Unauthorized", challenge)
+        return Admission(None, HTTPStatus.UNAUTHORIZED, challenge)
     except Unavailable:
-        return Admission(None, "503 Service Unavailable")
+        return Admission(None, HTTPStatus.SERVICE_UNAVAILABLE)

@@ -38,6 +38,15 @@ MESSAGE_FAULTS = {
 }
 """Why bytes are no messages, by status."""
 
+HAS_LOG = 10
+NO_LOG = 19
+FATE_ACCEPTED = 0
+FATE_FIRST = 1
+FATE_WITHDRAWAL = 2
+FATE_TOO_FAR_AHEAD = 8
+"""The other fates are refusals, by their numbers."""
+ORDER_GAP = 2
+
 FOLDER_FAULTS = {
     41: "the numbers are not those of a folder",
     42: "a sync failed",
@@ -130,6 +139,23 @@ class Part(ctypes.Structure):
     done: int
 
 
+class Mark(ctypes.Structure):
+    """`svid_mark`: where a validator is in a log."""
+
+    _fields_ = [("passed", c_uint64), ("begun", c_size_t), ("deaf", c_uint64)]
+    passed: int
+    begun: int
+    deaf: int
+
+
+class Reading(ctypes.Structure):
+    """`svid_reading`: what a call did that read a value of a log."""
+
+    _fields_ = [("order", c_uint64), ("from", c_size_t), ("count", c_size_t)]
+    order: int
+    count: int
+
+
 class Folder(ctypes.Structure):
     """`svid_folder`: how a state folder stands."""
 
@@ -192,9 +218,14 @@ _CALLS = {
     "svid_journal_unwritten": _FOLDER,
     "svid_report": [*_LENT, *_NOW, *_OUT, *_TOLD],
     "svid_validator_answer": [*_VALIDATOR, *_NOW, *_LENT, *_OUT, *_TOLD],
+    "svid_validator_beside": [*_VALIDATOR, *_OUT, *_TOLD],
     "svid_validator_bundles": [*_VALIDATOR, *_LENT, *_TOLD],
+    "svid_validator_go_on": [*_VALIDATOR, *_TOLD],
+    "svid_validator_log": [*_VALIDATOR, c_void_p, c_uint64, c_uint64, *_LENT, *_TOLD],
+    "svid_validator_mark": [*_VALIDATOR, c_void_p, *_TOLD],
     "svid_validator_open": [*_VALIDATOR, c_void_p, *_LENT, *_LENT, *_TOLD],
     "svid_validator_parts": [*_VALIDATOR, c_void_p, *_OUT, *_TOLD],
+    "svid_validator_read": [*_VALIDATOR, *_NOW, c_uint64, *_LENT, *_OUT, c_void_p, *_TOLD],
     "svid_validator_summary": [*_VALIDATOR, *_OUT, *_TOLD],
     "svid_validator_take": [*_VALIDATOR, *_NOW, *_LENT, *_TOLD],
     "svid_validator_tick": [*_VALIDATOR, *_NOW, *_TOLD],

@@ -147,13 +147,14 @@ class Validator:
 
         With `state` it returns once the disk has the use, and raises Unavailable where that fails.
         """
-        accepted = self._checked(CHECK, token, now)
+        accepted, _ = self._checked(CHECK, token, now)
         self._keep(accepted.use)
         return accepted
 
     def judge(self, token: Token, now: float | None = None) -> Accepted:
         """Answers what `check` would, but the record gains no use: `check` may still accept it."""
-        return self._checked(JUDGE, token, now)
+        accepted, _ = self._checked(JUDGE, token, now)
+        return accepted
 
     def withdraw(self, token: Token, now: float | None = None) -> Use:
         """Withdraws a token until it expires: from now on it is refused as Withdrawn.
@@ -277,8 +278,8 @@ class Validator:
         if self._journal.wants_snapshot:
             self._journal.snapshot_soon(self.parts)
 
-    def _checked(self, calls: Calls, token: Token, now: float | None) -> Accepted:
-        """What `check` or `judge` answers, by these calls of the C library."""
+    def _checked(self, calls: Calls, token: Token, now: float | None) -> tuple[Accepted, int]:
+        """What `check` or `judge` answers by these calls, and the edition of the bundles."""
         if self._stamp and time.monotonic() >= self._look_at:
             self._look()
         seconds = int(time.time()) if now is None else _seconds(now)

@@ -4,6 +4,7 @@ from __future__ import annotations
 
 import asyncio
 from collections.abc import Awaitable, Callable, MutableMapping
+from http import HTTPStatus
 from typing import Any
 
 from ._bearer import admit
@@ -42,14 +43,15 @@ class SvidMiddleware:
             admission = await asyncio.to_thread(admit, self.validator, header)
         else:
             admission = admit(self.validator, header)
-        status = int(admission.status[:3] or 200)
         if admission.spiffe_id is not None:
             await self.app({**scope, "spiffe_id": admission.spiffe_id}, receive, send)
         elif scope["type"] == "websocket":
-            await send({"type": "websocket.close", "code": 1008 if status == 401 else 1013})
+            code = 1008 if admission.status == HTTPStatus.UNAUTHORIZED else 1013
+            await send({"type": "websocket.close", "code": code})
         else:
             headers = [(b"content-length", b"0")]
             if admission.challenge:
                 headers.append((b"www-authenticate", admission.challenge.encode()))
-            await send({"type": "http.response.start", "status": status, "headers": headers})
+            start = {"type": "http.response.start", "status": int(admission.status)}
+            await send({**start, "headers": headers})
             await send({"type": "http.response.body"})

@@ -36,5 +36,5 @@ class SvidMiddleware:
         headers = [("Content-Length", "0")]
         if admission.challenge:
             headers.append(("WWW-Authenticate", admission.challenge))
-        start_response(admission.status, headers)
+        start_response(f"{admission.status.value} {admission.status.phrase}", headers)
         return []
