@@ -49,7 +49,7 @@ def names(folder):
 
 def until(true):
     """Waits until something is true."""
-    end = time.monotonic() + 30
+    end = time.monotonic() + 20
     while not true():
         assert time.monotonic() < end
         time.sleep(0.001)
@@ -259,7 +259,7 @@ def test_messages_are_bytes_of_some_length(tmp_path):
 
 @pytest.fixture
 def slow(monkeypatch):
-    """A disk whose syncs of files wait for `go`, or 20 seconds; `syncs` has how many came."""
+    """A disk whose syncs of files wait for `go`, or 5 seconds; `syncs` has how many came."""
 
     class Slow:
         syncs = 0
@@ -269,7 +269,7 @@ def slow(monkeypatch):
 
     def fdatasync(file):
         slow.syncs += 1
-        slow.go.wait(20)
+        slow.go.wait(5)
         real(file)
 
     slow = Slow()

@@ -60,7 +60,10 @@ def load(name):
     return module
 
 
-def test_starlette(bundles):
+@pytest.mark.parametrize("keeps", [False, True])
+def test_starlette(bundles, keeps, tmp_path, monkeypatch):
+    if keeps:
+        monkeypatch.setenv("SVID_STATE", str(tmp_path / "state"))
     with TestClient(load("starlette_app").app) as client:
         made = "bearer " + fresh(jti="1")
         answer = client.get("/", headers={"Authorization": made})

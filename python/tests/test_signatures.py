@@ -307,36 +307,27 @@ def test_an_rsa_key_has_2048_bits_or_more(bits):
         assert verdict(checks, token("RS256", key)) == expected
 
 
-def test_an_rsa_key_may_have_16384_bits():
-    modulus, private = many_primes(16_384)
-    jwk = {**RS, "n": number(modulus)}
+MERSENNE = [2**it - 1 for it in (2203, 2281, 3217, 4253, 4423)]  # known primes, of 16,377 bits
+
+
+@pytest.mark.parametrize("bits, last, said", [(16_384, 83, ACCEPTED), (16_385, 163, BAD_SIGNATURE)])
+def test_an_rsa_key_has_16384_bits_or_less(bits, last, said):
+    primes, size = [*MERSENNE, last], (bits + 7) // 8
+    assert math.prod(primes).bit_length() == bits
     signed = token("RS256").rpartition(".")[0]
-    made = pow(int.from_bytes(padded(signed.encode(), 2048), "big"), private, modulus)
-    with validator(bundle(jwk)) as checks:
-        assert verdict(checks, f"{signed}.{b64(made.to_bytes(2048, 'big'))}") == ACCEPTED
+    made = power(int.from_bytes(padded(signed.encode(), size), "big"), primes)
+    with validator(bundle({**RS, "n": number(math.prod(primes))})) as checks:
+        assert verdict(checks, f"{signed}.{b64(made.to_bytes(size, 'big'))}") == said
 
 
-def test_an_rsa_key_has_no_more_than_16384_bits():
-    """A longer one is not even parsed: each verification would take the longer."""
-    modulus, private = many_primes(16_385)
-    signed = token("RS256").rpartition(".")[0]
-    made = pow(int.from_bytes(padded(signed.encode(), 2049), "big"), private, modulus)
-    with validator(bundle({**RS, "n": number(modulus)})) as checks:
-        assert verdict(checks, f"{signed}.{b64(made.to_bytes(2049, 'big'))}") == BAD_SIGNATURE
-
-
-def many_primes(bits):
-    """A modulus of so many bits and its private exponent, of primes that are soon found."""
-    modulus, phi = 1, 1
-    while modulus.bit_length() <= bits - 2048:
-        numbers = rsa.generate_private_key(65537, 2048).private_numbers()
-        modulus, phi = modulus * numbers.p * numbers.q, phi * (numbers.p - 1) * (numbers.q - 1)
-    small = [2, 3, 5, 7, 13, 23, 43, 83, 163, 317, 631]  # each less than twice the one before it
-    rest = [it for it in small if (modulus * it).bit_length() == bits]
-    if rest:
-        modulus, phi = modulus * rest[-1], phi * (rest[-1] - 1)
-    assert modulus.bit_length() == bits
-    return modulus, pow(65537, -1, phi)
+def power(value, primes):
+    """A value to the private exponent of a modulus with these primes (RFC 8017, section 5.1.2)."""
+    made, modulus = 0, 1
+    for prime in primes:
+        part = pow(value, pow(65537, -1, prime - 1), prime)
+        made += modulus * ((part - made) * pow(modulus, -1, prime) % prime)
+        modulus *= prime
+    return made
 
 
 def padded(signed, size):
