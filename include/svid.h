@@ -1,9 +1,11 @@
 /* svid.h: check JWT-SVIDs and share the record of used tokens, from C. Link with libsvid.a (or -lsvid) and the C library.
  *
- * There are two ways to use it:
+ * There are two ways to check tokens:
  * - A service keeps a `svid_validator`: open it once, check tokens, renew its bundles, exchange messages with other validators, and
  *   close it. See "A validator that you keep" below.
- * - The other calls are stateless. They read all inputs anew each time, so use them for records of up to a few thousand uses.
+ * - The other calls on records are stateless. They read all inputs anew each time, so use them for records of up to a few thousand uses.
+ *
+ * To keep a record over restarts and crashes, see "A state folder".
  *
  * Words: a *record* is what a validator remembers: the time that it has seen (its *moment*) and the *uses* of tokens that have not yet
  * expired. A *message* tells a record or a part of it to other validators (docs/FORMATS.md). All times are whole seconds since 1970.
@@ -22,11 +24,12 @@
  * Limits: messages, bundles and a table of questions have at most SVID_INPUT_MOST bytes each, and a token at most 65,536. Your own audiences
  * and the questions that you answer have no limit.
  *
- * Stack, as measured: no call takes more than 120 KiB, hostile tokens among them. So a thread of musl, which has 128 KiB unless you ask for
- * more, can make every call. Reports and answers take the most; a check takes up to 66 KiB.
+ * Stack, as measured: no call takes more than 124 KiB, hostile tokens and bundles among them. So a thread of musl, which has 128 KiB unless
+ * you ask for more, can make every call. Bundles take the most; a check takes up to 66 KiB.
  *
  * Memory comes from malloc. If malloc returns NULL, the status is SVID_NO_MEMORY. No call keeps anything, except that a validator keeps its
- * own record and bundles until you close it. Stateless calls share nothing, so threads may make them at the same time. */
+ * own record and bundles until you close it, and a `svid_bundles` its bundles. Stateless calls share nothing, so threads may make them at
+ * the same time. */
 #ifndef SVID_H
 #define SVID_H
 #include <stddef.h>
@@ -45,6 +48,8 @@ extern "C" {
 #define SVID_SUMMARY_LEN 8205        /* the length of each summary */
 #define SVID_BATCH_OF_LEN 82         /* the length of a batch of one use */
 #define SVID_INPUT_MOST 67108864     /* the most bytes that an input of messages may have */
+#define SVID_PAYLOAD_MOST 16777215   /* the most bytes that a payload of a state folder's file has */
+#define SVID_FRAME_MORE 63           /* a frame has at most so many bytes more than its payload */
 #define SVID_MOST_CANDIDATES 4       /* how many keys svidd, the Go library and the Python package try for a token: give svid_validator_ask
                                         the same, so that all answer the same (docs/FORMATS.md, "Candidates") */
 
@@ -56,12 +61,13 @@ enum svid_status {
                                 67,108,864 bytes is bad; told: input */
     SVID_NOT_SUMMARY = 4,    /* the first input is messages, but not one summary; nothing is told beside it */
 
-    /* what a call on a validator that you keep answers beside these */
-    SVID_CLOSED = 5,         /* the validator is closed; nothing happened */
-    SVID_IS_OPEN = 6,        /* svid_validator_open: the validator is open already, and stays as it was */
+    /* what a call on a validator or on bundles that you keep answers beside these */
+    SVID_CLOSED = 5,         /* the validator is closed, or the bundles are; nothing happened */
+    SVID_IS_OPEN = 6,        /* svid_validator_open, svid_bundles_open: the handle is open already, and stays as it was */
     SVID_GONE = 7,           /* svid_validator_withdraw: the token has expired, so that there is nothing to withdraw */
     SVID_TOO_FAR = 8,        /* a message's moment is more than `ahead` seconds past `now`; it was not taken */
     SVID_JUMP = 9,           /* `now` is more than `step` seconds past the record's moment; nothing happened */
+    SVID_HAS_LOG = 10,       /* svid_validator_check: the validator reads a log, which decides about its tokens; nothing happened */
 
     /* why an input is no row of messages; told: input, message, place */
     SVID_MAGIC = 11,         /* the first four bytes are those of no version */
@@ -72,6 +78,7 @@ enum svid_status {
     SVID_USE_FUTURE = 16,    /* a use was made after its batch's moment */
     SVID_USE_ORDER = 17,     /* a use is not greater than the one before it */
     SVID_TRUNCATED = 18,     /* the bytes end before the message does */
+    SVID_NO_LOG = 19,        /* the validator reads no log; nothing happened */
 
     /* why a text is no SPIFFE ID; svid_id: place, for 24 and 26 to 28; else 0 */
     SVID_ID_TOO_LONG = 21,   /* more than 2,048 bytes */
@@ -91,6 +98,25 @@ enum svid_status {
                                 line, counted from 1 */
     SVID_OWN_NOT_UTF8 = 35,  /* an audience of the validator's own is not UTF-8 */
     SVID_OWN_LENGTHS = 36,   /* the lengths of the audiences do not add up to the length of `own` */
+
+    /* why a state folder takes no call; nothing happened */
+    SVID_FOLDER_UNFIT = 41,       /* the numbers are not those of a folder; of svid_journal_read: the reader's do not fit the bytes */
+    SVID_FOLDER_ENDED = 42,       /* a sync failed: nobody knows what the disk holds until the next start */
+    SVID_FOLDER_NOT_GROWING = 43, /* no journal grows yet */
+    SVID_FOLDER_BUSY = 44,        /* a call is due already */
+    SVID_FOLDER_NOTHING_DUE = 45, /* no call is due */
+    SVID_FOLDER_FLYING = 46,      /* a frame was handed out, and is not synced yet */
+    SVID_FOLDER_NOT_FLYING = 47,  /* no frame was handed out */
+    SVID_FOLDER_NOT_WRITING = 48, /* no snapshot is being written */
+    SVID_FOLDER_NO_MARK = 49,     /* the snapshot has no mark at its end */
+    SVID_FOLDER_TOO_LONG = 50,    /* the payload has more than SVID_PAYLOAD_MOST bytes */
+    SVID_FOLDER_FULL = 51,        /* a number of the folder has come to its end */
+
+    /* where reading a file ends; the place is reader->at */
+    SVID_FILE_END = 52,           /* the end: nothing was written here */
+    SVID_FILE_TEAR = 53,          /* a write was cut off: nobody was told that it is on the disk. Only a journal has one */
+    SVID_FILE_DAMAGE = 54,        /* what was synced here has changed */
+    SVID_FILE_NEWER = 55,         /* a frame of a newer format stands here; frame->format is its number */
 
     /* why a token is refused: the first that holds, in this order */
     SVID_TOO_LONG = 101,
@@ -138,7 +164,8 @@ typedef struct {
                         4 of svid_check, and 1 of any other call. SVID_TOO_MUCH also: 1 for bundles, 2 for a table of questions */
     size_t message;  /* which of its messages, counted from 1 */
     size_t place;
-    size_t more;     /* of svid_validator_ask: 1 if more keys may have signed the token than it lists */
+    size_t more;     /* of svid_validator_ask and svid_bundles_ask: 1 if more keys may have signed the token than it lists; of
+                        svid_validator_mark: 1 if the validator accepts claims */
 } svid_told;
 
 /* What a check is told, beside its inputs. */
@@ -212,7 +239,8 @@ uint32_t svid_validator_open_by_lengths(svid_validator *v, const svid_terms *ter
 void svid_validator_close(svid_validator *v);
 
 /* Replaces the trust bundles. The record stays, so a token that was accepted before is still SVID_REPLAYED. If the new bundles are
- * refused (SVID_TOO_MUCH, SVID_BUNDLES_NOT_OBJECT to SVID_BUNDLES_KEYS), the old ones stay. */
+ * refused (SVID_TOO_MUCH, SVID_BUNDLES_NOT_OBJECT to SVID_BUNDLES_KEYS), the old ones stay. The call takes five microseconds for each key;
+ * svid_validator_renew_by takes none of that under the validator's lock. */
 uint32_t svid_validator_bundles(svid_validator *v, const uint8_t *bundles, size_t bundles_len, svid_told *told);
 
 /* Lists the keys that may have signed the token, the first `most` of them in the order of their bundle, and writes a row for each:
@@ -228,7 +256,8 @@ uint32_t svid_validator_bundles(svid_validator *v, const uint8_t *bundles, size_
 uint32_t svid_validator_ask(svid_validator *v, const uint8_t *token, size_t token_len, size_t most,
                             uint8_t *out, size_t out_len, svid_told *told);
 
-/* Checks a token at the time `now`. `yes` are `yes_len` questions of this token whose answer is yes, in any order.
+/* Checks a token at the time `now`. `yes` are `yes_len` questions of this token whose answer is yes, in any order. SVID_HAS_LOG if the
+ * validator reads a log: it accepts a token by svid_validator_read alone.
  *
  * First the call advances the record to `now`; it judges the token at the record's moment, which may be later. If it accepts the token, the
  * status is SVID_OK: the record has gained the use, `used` is that use, and `out` has the SPIFFE ID of the subject. If it refuses the token,
@@ -244,7 +273,10 @@ uint32_t svid_validator_check(svid_validator *v, uint64_t now, const svid_questi
                               svid_use *used, svid_told *told);
 
 /* Answers what svid_validator_check would answer, but the record gains no use: a later check may still accept the token. `used` is the
- * use that a check would add. */
+ * use that a check would add.
+ *
+ * If the validator reads a log, `used` is the claim to put into the log (svid_batch_of), and a token with a claim beside the record is
+ * SVID_REPLAYED too. */
 uint32_t svid_validator_judge(svid_validator *v, uint64_t now, const svid_question *yes, size_t yes_len,
                               const uint8_t *token, size_t token_len, uint8_t *out, size_t out_len,
                               svid_use *used, svid_told *told);
@@ -301,6 +333,264 @@ uint32_t svid_validator_summary(svid_validator *v, uint8_t *out, size_t out_len,
  * summary's moment. SVID_NOT_SUMMARY; SVID_TOO_FAR; SVID_TOO_MUCH and SVID_MAGIC to SVID_TRUNCATED; SVID_JUMP. */
 uint32_t svid_validator_answer(svid_validator *v, uint64_t now, const uint8_t *summary, size_t summary_len,
                                uint8_t *out, size_t out_len, svid_told *told);
+
+/* ---- A validator that reads a group's log ----
+ *
+ * Validators that read one log accept a token once in the whole group. A *log* is a list of values in one order, the same for all; a *value*
+ * is a row of messages. A *claim* is a use in a value: it says that the validator of that place wants to accept the token. Of the claims of a
+ * token that have not expired, the first in the log counts. The validators of a group have different places.
+ *
+ * To check a token:
+ *   1. svid_validator_judge refuses the token, or tells its claim in `used`.
+ *   2. Put svid_batch_of(used) at the end of the log, as a value or as a part of one.
+ *   3. Read the values in their order with svid_validator_read. It tells what becomes of the claim: accept the token if that is
+ *      SVID_FATE_ACCEPTED. Accept it once for each claim that you put: an earlier claim with the same bytes may stand in the log too. */
+
+/* What becomes of a use that stands in a log. The other names are those of a status with the same number. */
+enum svid_fates {
+    SVID_FATE_ACCEPTED = 0,      /* the first claim of its token, and this validator's own: it accepts the token. The record has the use */
+    SVID_FATE_FIRST = 1,         /* the first claim of its token, which this validator does not accept: it is of another place, or stands at
+                                    `ready` or in front of it, or the validator is deaf. The record has the use */
+    SVID_FATE_WITHDRAWAL = 2,    /* a withdrawal. The record has it */
+    SVID_FATE_TOO_FAR_AHEAD = 8, /* it was made more than `ahead` seconds past `now`. It counts as a claim, and nobody that sees it as early
+                                    accepts it */
+    SVID_FATE_EXPIRED = 118,     /* it has expired */
+    SVID_FATE_WITHDRAWN = 124,   /* the token was withdrawn */
+    SVID_FATE_REPLAYED = 125     /* the record has a use of the token, or a claim in front of it in the log has its key */
+};
+
+/* How a value follows on those that were read. */
+enum svid_orders {
+    SVID_ORDER_AGAIN = 0,  /* it was read before; nothing happened */
+    SVID_ORDER_NEXT = 1,
+    SVID_ORDER_GAP = 2     /* values in front of it are missing: the validator is deaf for `lasts` seconds */
+};
+
+/* Where a validator is in a log. At the start `begun` and `deaf` are 0, and `passed` is the position of the last value in front of the first
+ * one that the log still has: 0 if it has all. If it has not, uses of the values up to there may live: then `deaf` is the moment by which they
+ * have all expired. */
+typedef struct {
+    uint64_t passed;    /* the position of the last value that was read to its end */
+    size_t begun;       /* how many uses of the value behind that one were read */
+    uint64_t deaf;      /* the moment before which the validator accepts nothing, in seconds */
+} svid_mark;
+
+/* A use of a value, and what becomes of it. */
+typedef struct {
+    svid_use used;
+    uint64_t fate;      /* one of svid_fates */
+} svid_fate;
+
+/* What svid_validator_read did. */
+typedef struct {
+    uint64_t order;     /* one of svid_orders */
+    size_t from;        /* the number of the first use of the value that the call read, counted from 0 */
+    size_t count;       /* how many uses it read, and wrote to `out` */
+} svid_reading;
+
+/* Lets the validator read a log from `mark` on. `ready` is the position of the last value that an earlier life of it may have read, so that of the
+ * last value in the log at the start: the validator accepts nothing up to there. `lasts` is how many seconds a use may live once it is in
+ * the log: the longest life of a token, and twice what two clocks may differ. `beside` is what svid_validator_beside wrote at that mark, or no
+ * bytes. The record stays as it is: take one that was saved at that mark or later by svid_validator_take. A validator that reads a log already
+ * begins anew.
+ *
+ * SVID_MAGIC to SVID_TRUNCATED, with `place` told and not `message`; SVID_NO_MEMORY. Then nothing happened. */
+uint32_t svid_validator_log(svid_validator *v, const svid_mark *mark, uint64_t ready, uint64_t lasts,
+                            const uint8_t *beside, size_t beside_len, svid_told *told);
+
+/* Reads the value at `position` of the log, with all its bytes. Positions are counted from 1, without gaps. The validator goes on where it
+ * stopped in the value, and writes each use that it reads to `out`, with its fate. `out` has room for `out_len` entries.
+ *
+ * SVID_OK: the value is read to its end, or was before. SVID_TOO_SHORT: `out` is full, and uses are left. SVID_NO_MEMORY: uses are left, too.
+ * After these two, call again with the same value: the validator goes on. SVID_MAGIC to SVID_TRUNCATED, with `place` told and not `message`: the
+ * value is no row of messages, so it has no uses, for every validator alike, and it is read to its end. SVID_NO_LOG.
+ *
+ * The call first advances the record to `now`, and to the time of each use that is not too far ahead. SVID_JUMP: call again with `now` 0, which
+ * advances nothing. SVID_JUMP also if values are missing in front of this one and `now` is 0: a gap wants a clock. `reading` is always written.
+ * `out` stays as it was behind the first `reading->count` entries. */
+uint32_t svid_validator_read(svid_validator *v, uint64_t now, uint64_t position, const uint8_t *value, size_t value_len,
+                             svid_fate *out, size_t out_len, svid_reading *reading, svid_told *told);
+
+/* Tells where the validator is in its log. `told->more` is 1 if it accepts claims: it has read up to `ready`, and its record's moment has
+ * reached `deaf`; else 0. SVID_NO_LOG: `mark` stays as it was. */
+uint32_t svid_validator_mark(svid_validator *v, svid_mark *mark, svid_told *told);
+
+/* Ends the time in which the validator is deaf, by setting `deaf` to 0. It may then accept a token whose claim it missed, so for a second
+ * time. SVID_NO_LOG. */
+uint32_t svid_validator_go_on(svid_validator *v, svid_told *told);
+
+/* Writes the claims beside the record as messages: those of the log that count, and that the record has not. Save them with the mark and the
+ * record of the same moment. SVID_NO_LOG. */
+uint32_t svid_validator_beside(svid_validator *v, uint8_t *out, size_t out_len, svid_told *told);
+
+/* ---- Trust bundles that you keep ----
+ *
+ * A `svid_bundles` reads trust bundles once, and lists the keys that may have signed a token. It keeps no record, and shares nothing with a
+ * validator: so threads list keys, and read new bundles, while the validator's lock is free for checks. The rules for a `svid_validator` hold
+ * for it too: it begins as SVID_BUNDLES_CLOSED, only the calls write it, give it to one call at a time, and do not copy it while it is open.
+ *
+ * To check a token:
+ *   1. svid_bundles_ask lists the first keys that may have signed it.
+ *   2. Your crypto library verifies the signature with each of these keys, until one of them made it.
+ *   3. svid_bundles_question gives the question of that key: the token is hashed once.
+ *   4. svid_validator_check gets that question, and accepts or refuses the token.
+ *
+ * To renew the bundles of a validator without holding up its checks: open a `svid_bundles`, exchange by svid_validator_renew_by, and close
+ * it. Only the exchange needs the validator's lock, and its time does not depend on the bundles. */
+typedef struct { uint64_t word; void *held; } svid_bundles;
+#define SVID_BUNDLES_CLOSED { 0, NULL }
+
+/* Opens a closed handle: reads trust bundles, as for svid_validator_open. SVID_IS_OPEN: the handle stays as it was. SVID_TOO_MUCH and
+ * SVID_BUNDLES_NOT_OBJECT to SVID_BUNDLES_KEYS: the handle stays closed. */
+uint32_t svid_bundles_open(svid_bundles *b, const uint8_t *bundles, size_t bundles_len, svid_told *told);
+
+/* Closes a handle, and frees all that it holds. Does nothing to a closed one. */
+void svid_bundles_close(svid_bundles *b);
+
+/* Lists the keys that may have signed the token as svid_validator_ask does, but without their questions: it hashes nothing. Each row is
+ *     the algorithm's name  its length in 4 bytes, the greatest first, and then the name, as "ES256"
+ *     the key               its length in 4 bytes, the greatest first, and then the key as JSON (RFC 7517)
+ * The rows are numbered from 0. `most`, `told->more` and what it answers are as for svid_validator_ask. */
+uint32_t svid_bundles_ask(svid_bundles *b, const uint8_t *token, size_t token_len, size_t most,
+                          uint8_t *out, size_t out_len, svid_told *told);
+
+/* Writes the question of the row with this number to `asked`: it hashes the token once. The question is that of svid_validator_ask.
+ * SVID_TOO_LONG to SVID_JTI, SVID_UNKNOWN_DOMAIN and SVID_NO_KEY if the token is refused already. SVID_NO_KEY also if there is no such row:
+ * `number` is less than the number of keys that may have signed the token. Unless the status is SVID_OK, `asked` stays as it was. */
+uint32_t svid_bundles_question(svid_bundles *b, const uint8_t *token, size_t token_len, size_t number,
+                               svid_question *asked, svid_told *told);
+
+/* Exchanges the trust bundles of a validator for those of an open handle, in a time that does not depend on them: it reads nothing, allocates
+ * nothing and frees nothing. The handle then holds the bundles that the validator had. The record stays, as for svid_validator_bundles. Wants
+ * the lock of both. SVID_CLOSED if one of them is closed: then nothing happened. */
+uint32_t svid_validator_renew_by(svid_validator *v, svid_bundles *b, svid_told *told);
+
+/* ---- A state folder ----
+ *
+ * A state folder keeps a record over restarts and crashes. It has a snapshot and journals (docs/FORMATS.md, "State folder"). You open,
+ * write, sync, rename and remove the files. These calls say which of that is due, make the bytes, and read them back. They take no memory.
+ *
+ * A `svid_folder` is eight numbers in your memory. Only these calls write it; you may read and copy it. Each call checks it, and answers
+ * SVID_FOLDER_UNFIT if the numbers are not those of a folder. There is nothing to close. Give it to one call at a time. Unless the status
+ * is SVID_OK, it stays as it was, and so does each output but `told`.
+ *
+ * A file is a row of frames, one for each *payload*: any bytes, at most SVID_PAYLOAD_MOST. A frame seals its payload with its number and
+ * with the file that it is in. So a frame of another file, of another folder or at another place is not taken for this one's. An empty payload
+ * is a *mark*: it carries nothing, but makes damage of the frame before it visible.
+ *
+ * At a start:
+ *   1. Read the snapshot, and then each journal by rising number, with svid_journal_read.
+ *   2. Call svid_journal_open with the smallest and the greatest number of the journals that are there, or with 1 and 0.
+ *   3. Make the calls of the system that are due: svid_journal_due says which, and svid_journal_answer is told how it went, until
+ *      SVID_CALL_NOTHING is due. Then the journal `newest` grows, and is empty. A start writes to no journal that it found.
+ *
+ * To append:
+ *   1. svid_journal_put writes the frame of a payload into your room. Requests that share a sync share a payload.
+ *   2. Write it at byte `end` of the journal `newest`, and sync the file (fdatasync).
+ *   3. svid_journal_synced if both succeeded: only now may you acknowledge what the payload says. svid_journal_unwritten if the write failed:
+ *      the next frame goes to the same place. svid_journal_failed if the sync failed: this ends the folder until the next start.
+ * Append a mark (an empty payload) behind a burst and before you close the folder; nobody waits for it.
+ *
+ * To replace the snapshot: svid_journal_begin, and then the calls that are due, as at a start. While SVID_CALL_WRITE_SNAPSHOT is due, write
+ * the pieces of svid_journal_piece one behind the other, an empty one last, and then answer. The snapshot must have each use that the record
+ * had when the new journal began to grow, which is when SVID_CALL_WRITE_SNAPSHOT becomes due: svid_validator_parts, first called then, writes
+ * that. You may append at any time in between; the next frame goes where `newest` and `end` say. */
+typedef struct {
+    uint64_t step;      /* what is due */
+    uint64_t oldest;    /* no journal of a smaller number is there */
+    uint64_t newest;    /* the journal that grows; at a start, the greatest number that was found */
+    uint64_t ended;     /* 1 after a sync that failed */
+    uint64_t count;     /* how many frames of the journal that grows are synced */
+    uint64_t end;       /* how many bytes they take: the next frame goes there */
+    uint64_t flying;    /* how many bytes the frame takes that was handed out and is not synced, or 0 */
+    uint64_t pieces;    /* how many pieces of a snapshot were handed out */
+} svid_folder;
+
+/* 16 bytes that tell a state folder from each other one. Take random ones when you make the folder, and keep them in it. */
+typedef struct {
+    uint8_t bytes[16];
+} svid_place;
+
+/* A call of the system that is due: a number of enum svid_call, and for two of them the number of the journal; else 0. */
+typedef struct {
+    uint64_t call;
+    uint64_t journal;
+} svid_due;
+
+enum svid_call {
+    SVID_CALL_NOTHING = 0,          /* none is due */
+    SVID_CALL_CREATE_JOURNAL = 1,   /* make an empty journal of this number, a new file: remove one that has its name, then open with O_EXCL */
+    SVID_CALL_SYNC_FOLDER = 2,      /* fsync the folder */
+    SVID_CALL_WRITE_SNAPSHOT = 3,   /* make a file beside the snapshot, and write the pieces to it */
+    SVID_CALL_SYNC_SNAPSHOT = 4,    /* sync that file */
+    SVID_CALL_RENAME_SNAPSHOT = 5,  /* rename it over the snapshot */
+    SVID_CALL_REMOVE_JOURNAL = 6    /* remove the journal of this number; if it is not there, that is a success */
+};
+
+/* How far a file is read. Begin with SVID_READER_FIRST; only svid_journal_read writes it. */
+typedef struct {
+    uint64_t count;     /* how many frames were read */
+    uint64_t at;        /* how many bytes they take: the place of the next one */
+    uint64_t marked;    /* 1 if the last of them is a mark, and else 0 */
+} svid_reader;
+#define SVID_READER_FIRST { 0, 0, 0 }
+
+/* What svid_journal_read found. */
+typedef struct {
+    size_t payload;     /* where in the bytes the payload begins */
+    size_t len;         /* how many bytes it has; 0 for a mark */
+    uint64_t format;    /* 1, or of SVID_FILE_NEWER the number of that format */
+} svid_frame;
+
+/* A start, in a folder that was read: no journal has a number below `oldest` or above `newest`. Without journals these are 1 and 0. `f`
+ * may be uninitialised. SVID_FOLDER_FULL if `newest` is 2^62 - 1 or more; SVID_FOLDER_UNFIT if `oldest` is greater than `newest` + 1. */
+uint32_t svid_journal_open(svid_folder *f, uint64_t oldest, uint64_t newest);
+
+/* Begins a new journal and a new snapshot. SVID_FOLDER_ENDED; SVID_FOLDER_BUSY while a call is due; SVID_FOLDER_FULL. */
+uint32_t svid_journal_begin(svid_folder *f);
+
+/* Says which call of the system is due. Changes nothing. SVID_FOLDER_ENDED. */
+uint32_t svid_journal_due(const svid_folder *f, svid_due *due);
+
+/* Tells that the call that was due succeeded (`ok` is not 0) or failed (`ok` is 0).
+ *
+ * A sync of the folder that fails ends the folder until the next start, and so does a start that gets no further. Any other call that fails
+ * ends the switch alone, and svid_journal_begin begins it anew. SVID_FOLDER_ENDED; SVID_FOLDER_NOTHING_DUE; SVID_FOLDER_FLYING if the next
+ * journal would grow while a frame is not synced: answer again once it is; SVID_FOLDER_NO_MARK if a snapshot would end without a mark. */
+uint32_t svid_journal_answer(svid_folder *f, uint32_t ok);
+
+/* Writes the frame of a payload into `out`. `told->len` is its length: write so many bytes at byte `f->end` of the journal `f->newest`. An
+ * empty payload is a mark. SVID_FOLDER_ENDED, SVID_FOLDER_NOT_GROWING, SVID_FOLDER_FLYING, SVID_FOLDER_TOO_LONG, SVID_FOLDER_FULL; SVID_TOO_SHORT
+ * if `out` has too little room, and `told->len` says how much the frame needs: `payload_len` + SVID_FRAME_MORE always do. */
+uint32_t svid_journal_put(svid_folder *f, const svid_place *place, const uint8_t *payload, size_t payload_len,
+                          uint8_t *out, size_t out_len, svid_told *told);
+
+/* Tells that the frame was written and synced: it is acknowledged, and the next one goes behind it. SVID_FOLDER_ENDED;
+ * SVID_FOLDER_NOT_FLYING. */
+uint32_t svid_journal_synced(svid_folder *f);
+
+/* Tells that the write of the frame failed. Nothing ends: the next frame goes to the same place. SVID_FOLDER_ENDED;
+ * SVID_FOLDER_NOT_FLYING. */
+uint32_t svid_journal_unwritten(svid_folder *f);
+
+/* Tells that a sync of the journal that grows failed. Nothing is acknowledged any more until the next start. SVID_FOLDER_ENDED. */
+uint32_t svid_journal_failed(svid_folder *f);
+
+/* Writes the frame of the next piece of a snapshot into `out`; `told->len` is its length. Write it behind the pieces before it. An empty payload
+ * is the mark that ends the snapshot: behind it answer SVID_CALL_WRITE_SNAPSHOT. SVID_FOLDER_ENDED, SVID_FOLDER_NOT_WRITING,
+ * SVID_FOLDER_TOO_LONG, SVID_FOLDER_FULL; SVID_TOO_SHORT as of svid_journal_put. */
+uint32_t svid_journal_piece(svid_folder *f, const svid_place *place, const uint8_t *payload, size_t payload_len,
+                            uint8_t *out, size_t out_len, svid_told *told);
+
+/* Reads the next frame of a file of the folder `place`: of the journal of this number, or of the snapshot if `journal` is 0. `bytes` are
+ * those of the whole file.
+ *
+ * SVID_OK: `frame` says where in `bytes` the payload stands, and the reader goes on behind it. Else the reader stays as it was, and the status
+ * says why there is no frame at byte `reader->at`: SVID_FILE_END, SVID_FILE_TEAR, SVID_FILE_DAMAGE, SVID_FILE_NEWER, or SVID_FOLDER_UNFIT if
+ * the reader's numbers do not fit the bytes. Of SVID_FILE_NEWER `frame->format` is the number of that format; `payload` and `len` are then 0.
+ * A snapshot that ends without a mark is damaged. */
+uint32_t svid_journal_read(const svid_place *place, uint64_t journal, const uint8_t *bytes, size_t bytes_len,
+                           svid_reader *reader, svid_frame *frame);
 
 /* ---- Stateless calls ---- */
 
@@ -367,6 +657,7 @@ static inline const char *svid_strstatus(uint32_t status) {
     case SVID_GONE: return "SVID_GONE";
     case SVID_TOO_FAR: return "SVID_TOO_FAR";
     case SVID_JUMP: return "SVID_JUMP";
+    case SVID_HAS_LOG: return "SVID_HAS_LOG";
     case SVID_MAGIC: return "SVID_MAGIC";
     case SVID_KIND: return "SVID_KIND";
     case SVID_COUNT: return "SVID_COUNT";
@@ -375,6 +666,7 @@ static inline const char *svid_strstatus(uint32_t status) {
     case SVID_USE_FUTURE: return "SVID_USE_FUTURE";
     case SVID_USE_ORDER: return "SVID_USE_ORDER";
     case SVID_TRUNCATED: return "SVID_TRUNCATED";
+    case SVID_NO_LOG: return "SVID_NO_LOG";
     case SVID_ID_TOO_LONG: return "SVID_ID_TOO_LONG";
     case SVID_ID_SCHEME: return "SVID_ID_SCHEME";
     case SVID_ID_DOMAIN_EMPTY: return "SVID_ID_DOMAIN_EMPTY";
@@ -389,6 +681,21 @@ static inline const char *svid_strstatus(uint32_t status) {
     case SVID_TABLE_LINE: return "SVID_TABLE_LINE";
     case SVID_OWN_NOT_UTF8: return "SVID_OWN_NOT_UTF8";
     case SVID_OWN_LENGTHS: return "SVID_OWN_LENGTHS";
+    case SVID_FOLDER_UNFIT: return "SVID_FOLDER_UNFIT";
+    case SVID_FOLDER_ENDED: return "SVID_FOLDER_ENDED";
+    case SVID_FOLDER_NOT_GROWING: return "SVID_FOLDER_NOT_GROWING";
+    case SVID_FOLDER_BUSY: return "SVID_FOLDER_BUSY";
+    case SVID_FOLDER_NOTHING_DUE: return "SVID_FOLDER_NOTHING_DUE";
+    case SVID_FOLDER_FLYING: return "SVID_FOLDER_FLYING";
+    case SVID_FOLDER_NOT_FLYING: return "SVID_FOLDER_NOT_FLYING";
+    case SVID_FOLDER_NOT_WRITING: return "SVID_FOLDER_NOT_WRITING";
+    case SVID_FOLDER_NO_MARK: return "SVID_FOLDER_NO_MARK";
+    case SVID_FOLDER_TOO_LONG: return "SVID_FOLDER_TOO_LONG";
+    case SVID_FOLDER_FULL: return "SVID_FOLDER_FULL";
+    case SVID_FILE_END: return "SVID_FILE_END";
+    case SVID_FILE_TEAR: return "SVID_FILE_TEAR";
+    case SVID_FILE_DAMAGE: return "SVID_FILE_DAMAGE";
+    case SVID_FILE_NEWER: return "SVID_FILE_NEWER";
     case SVID_TOO_LONG: return "SVID_TOO_LONG";
     case SVID_NOT_THREE_PARTS: return "SVID_NOT_THREE_PARTS";
     case SVID_HEADER_SPELLING: return "SVID_HEADER_SPELLING";

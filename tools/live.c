@@ -18,7 +18,7 @@
 
 #define NOW UINT64_C(1767225600)
 /* The stack that a call may take: svid.h says so. */
-#define STACK_MOST 122880
+#define STACK_MOST 126976
 
 /* How many allocations were asked for; how many blocks stand, and with how many bytes. */
 static long asked, standing, held, refused_at;
@@ -686,7 +686,7 @@ static void stack(void) {
     printf("at most %zu bytes of stack", most);
 }
 
-int main(int argc, char **argv) {
+static void read_inputs(void) {
     bundles_len = read_file("bundles.json", bundles);
     token_len = read_file("token.txt", token);
     if (token_len && token[token_len - 1] == '\n') token_len--;
@@ -699,6 +699,10 @@ int main(int argc, char **argv) {
     begin(TELL, &v);
     holds(svid_validator_summary(&v, summary, sizeof summary, &told) == SVID_OK && told.len == SVID_SUMMARY_LEN, "the length of a summary");
     svid_validator_close(&v);
+}
+
+int main(int argc, char **argv) {
+    read_inputs();
     const char *what = argc > 1 ? argv[1] : "";
     if (!strcmp(what, "refused")) refused();
     else if (!strcmp(what, "edges")) edges();

@@ -42,11 +42,12 @@ static int push_point(OSSL_PARAM_BLD *build, const json_t *jwk, const algorithm 
         && OSSL_PARAM_BLD_push_octet_string(build, OSSL_PKEY_PARAM_PUB_KEY, point, 1 + 2 * alg->half);
 }
 
-/* A modulus of at least 2,048 bits (RFC 7518, section 3.3) and an exponent. */
+/* A modulus of 2,048 bits (RFC 7518, section 3.3) to JWK_MOST_BITS, and an exponent. */
 static int push_modulus(OSSL_PARAM_BLD *build, const json_t *jwk, BIGNUM *n, BIGNUM *e) {
     uint8_t bytes[JWK_MOST];
     size_t n_len = member(jwk, "n", bytes, sizeof bytes), e_len;
-    if (!is_text(jwk, "kty", "RSA") || !n_len || !BN_bin2bn(bytes, (int)n_len, n) || BN_num_bits(n) < 2048) return 0;
+    if (!is_text(jwk, "kty", "RSA") || !n_len || !BN_bin2bn(bytes, (int)n_len, n)) return 0;
+    if (BN_num_bits(n) < 2048 || BN_num_bits(n) > JWK_MOST_BITS) return 0;
     e_len = member(jwk, "e", bytes, sizeof bytes);
     return e_len && BN_bin2bn(bytes, (int)e_len, e)
         && OSSL_PARAM_BLD_push_BN(build, OSSL_PKEY_PARAM_RSA_N, n)

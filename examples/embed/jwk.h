@@ -6,6 +6,7 @@
 #include <stdint.h>
 
 #define JWK_MOST 2048   /* bytes of the longest modulus, and of the longest signature: OpenSSL takes no longer ones */
+#define JWK_MOST_BITS 4096   /* of a modulus: with a longer one, a token of a stranger costs milliseconds */
 
 /* An algorithm of RFC 7518, section 3.1. */
 typedef struct {

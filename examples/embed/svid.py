@@ -38,6 +38,38 @@ class Part(c.Structure):
     _fields_ = [("begun", c.c_uint64), ("done", c.c_uint64), ("withdrawn", c.c_uint64), ("exp", c.c_uint64), ("at", c.c_uint64), ("key", c.c_uint8 * 32), ("place", c.c_uint8 * 16)]
 
 
+class Mark(c.Structure):
+    _fields_ = [("passed", c.c_uint64), ("begun", c.c_size_t), ("deaf", c.c_uint64)]
+
+
+class Fate(c.Structure):
+    _fields_ = [("used", Use), ("fate", c.c_uint64)]
+
+
+class Reading(c.Structure):
+    _fields_ = [("order", c.c_uint64), ("from", c.c_size_t), ("count", c.c_size_t)]
+
+
+class Folder(c.Structure):
+    _fields_ = [("step", c.c_uint64), ("oldest", c.c_uint64), ("newest", c.c_uint64), ("ended", c.c_uint64), ("count", c.c_uint64), ("end", c.c_uint64), ("flying", c.c_uint64), ("pieces", c.c_uint64)]
+
+
+class Place(c.Structure):
+    _fields_ = [("bytes", c.c_uint8 * 16)]
+
+
+class Due(c.Structure):
+    _fields_ = [("call", c.c_uint64), ("journal", c.c_uint64)]
+
+
+class Reader(c.Structure):
+    _fields_ = [("count", c.c_uint64), ("at", c.c_uint64), ("marked", c.c_uint64)]
+
+
+class Frame(c.Structure):
+    _fields_ = [("payload", c.c_size_t), ("len", c.c_size_t), ("format", c.c_uint64)]
+
+
 class Refused(Exception):
     """Why a call gave up: its status, and what it told."""
 

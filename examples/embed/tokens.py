@@ -53,7 +53,7 @@ def main(folder):
     curves = {"ES256": ec.SECP256R1(), "ES384": ec.SECP384R1(), "ES512": ec.SECP521R1()}
     of = {alg: ec.generate_private_key(curve) for alg, curve in curves.items()}
     of |= {kid: ec.generate_private_key(ec.SECP256R1()) for kid in ("fourth", "fifth")}
-    of["RSA"], of["weak"] = (rsa.generate_private_key(65537, bits) for bits in (2048, 1024))
+    of["RSA"], of["weak"], of["long"] = (rsa.generate_private_key(65537, bits) for bits in (2048, 1024, 4104))
     new = ec.generate_private_key(ec.SECP256R1())
     off = entry("off", of["ES256"])
     off["y"] = off["x"]
@@ -79,7 +79,7 @@ def main(folder):
         ("stranger", signed(new, "ES256", "ES256", "stranger"), bad, bad),
         ("broken", resigned(es256, lambda raw, _: bytes([raw[0] ^ 1]) + raw[1:]), bad, bad),
         ("short", resigned(es256, lambda raw, _: raw[:-1]), bad, bad),
-        ("long", resigned(es256, lambda raw, _: raw + b"\0"), bad, bad),
+        ("one-more", resigned(es256, lambda raw, _: raw + b"\0"), bad, bad),
         ("huge", resigned(es256, lambda raw, _: raw * 40), bad, bad),
         ("zero", resigned(es256, lambda raw, _: bytes(64)), bad, bad),
         ("der", resigned(es256, as_der), bad, bad),
@@ -88,6 +88,7 @@ def main(folder):
         ("other-alg", signed(of["RSA"], "RS256", "PS256", "other-alg"), bad, no_key),
         ("its-alg", signed(of["RSA"], "PS256", "PS256", "its-alg"), good, no_key),
         ("weak", signed(of["weak"], "RS256", "weak", "weak"), bad, no_key),
+        ("long", signed(of["long"], "RS256", "long", "long"), bad, no_key),
         ("off-curve", signed(of["ES256"], "ES256", "off", "off-curve"), bad, no_key),
         ("other-curve", signed(of["ES256"], "ES256", "named", "other-curve"), bad, no_key),
     ]

@@ -5,7 +5,7 @@
 // service holds two things:
 //
 //   - A [Keyring] has the trust bundles. It finds the keys that may have signed
-//     a token, and verifies the signature with Go's standard library.
+//     a token, and verifies the signature.
 //   - A [Validator] has the record. It judges a token whose signature is
 //     verified, and remembers that it was used.
 //
@@ -26,11 +26,12 @@
 // has seen. A message carries a record or a part of it to other validators. All
 // times are whole seconds since 1970.
 //
-// Building needs cgo (CGO_ENABLED=1 and a C compiler), and of this repository
-// the file include/svid.h and the libsvid.a under dist for the machine. With
-// `-tags openssl` OpenSSL's libcrypto verifies the signatures (Debian: libssl-dev
-// to build, libssl3 to run). It takes a fraction of the time for RSA, P-384 and
-// P-521.
+// Building needs cgo (CGO_ENABLED=1 and a C compiler), OpenSSL 3 with its headers
+// (Debian: libssl-dev to build, libssl3 to run), and of this repository the file
+// include/svid.h and the libsvid.a under dist for the machine. OpenSSL's libcrypto
+// verifies the signatures. With `-tags gocrypto` Go's standard library does, and
+// nothing of OpenSSL is needed. That takes a service longer: three times for RSA,
+// and seven times for P-521.
 package svid
 
 // #include "svid.h"

@@ -31,6 +31,8 @@ var (
 	ErrBatch = errors.New("svid: not a batch of version 2")
 	// ErrAudience: an audience is not UTF-8, is empty, or holds a line break.
 	ErrAudience = errors.New("svid: an audience must be UTF-8 text without line breaks, and not empty")
+	// ErrRSABits: KeyringOptions.RSABits is out of its range.
+	ErrRSABits = errors.New("svid: RSABits must be from 2048 to 16384, or 0 for 4096")
 	// ErrBundles: the bundles are not one JSON object.
 	ErrBundles = errors.New("svid: the bundles are not one JSON object from trust domains to JWK sets")
 )

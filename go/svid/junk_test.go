@@ -28,10 +28,12 @@ const mebibyte = 1 << 20
 // that make it cost the most: a trust domain of a mebibyte of keys, that of the
 // good tokens beside it.
 type junk struct {
-	name, header string
-	signature    []byte
-	key          func(kid string) map[string]string
-	pad          int
+	name, algorithm string
+	signature       []byte
+	key             func(kid string) map[string]string
+	oneKid          bool // all keys have the token's kid, and else the token names none
+	fresh           bool // each token names other keys, which nobody tried before: four with one kid
+	pad             int
 }
 
 func junks(t testing.TB) []junk {
@@ -45,9 +47,9 @@ func junks(t testing.TB) []junk {
 			signature[i] = byte(i + 1)
 		}
 		signature[0], signature[len(signature)/2] = 0, 0
-		return junk{algorithm, `{"alg":"` + algorithm + `"}`, signature, func(kid string) map[string]string { return issuer.ECKey(kid, &key.PublicKey) }, 0}
+		return junk{name: algorithm, algorithm: algorithm, signature: signature, key: func(kid string) map[string]string { return issuer.ECKey(kid, &key.PublicKey) }}
 	}
-	rsa := func(bits int, exponent int64) junk {
+	rsa := func(algorithm string, bits int, exponent int64) junk {
 		n := make([]byte, bits/8)
 		if _, err := rand.Read(n); err != nil {
 			t.Fatal(err)
@@ -57,16 +59,26 @@ func junks(t testing.TB) []junk {
 		e := base64.RawURLEncoding.EncodeToString(big.NewInt(exponent).Bytes())
 		signature := append([]byte(nil), n...)
 		signature[0] = 1
-		return junk{fmt.Sprintf("RS256-%d-e%d", bits, exponent), `{"alg":"RS256"}`, signature, func(kid string) map[string]string {
+		return junk{name: fmt.Sprintf("%s-%d-e%d", algorithm, bits, exponent), algorithm: algorithm, signature: signature, key: func(kid string) map[string]string {
 			return map[string]string{"kty": "RSA", "use": "jwt-svid", "kid": kid, "n": modulus, "e": e}
-		}, 0}
+		}}
 	}
-	none := func(string) map[string]string { return map[string]string{"kty": "EC", "use": "jwt-svid", "kid": ""} }
+	none := func(string) map[string]string { return map[string]string{"kty": "EC", "use": "jwt-svid", "kid": "0"} }
 	all := []junk{
-		{"26,000-keys", `{"alg":"ES256"}`, []byte("signature"), none, 0},
-		{"26,000-keys-of-one-kid", `{"alg":"ES256","kid":""}`, []byte("signature"), none, 0},
+		{name: "26,000-keys", algorithm: "ES256", signature: []byte("signature"), key: none},
+		{name: "26,000-keys-of-one-kid", algorithm: "ES256", signature: []byte("signature"), key: none, oneKid: true},
 		ec("ES256", elliptic.P256()), ec("ES384", elliptic.P384()), ec("ES512", elliptic.P521()),
-		rsa(2048, 65537), rsa(4096, 65537), rsa(4096, 1<<31-1),
+	}
+	for _, algorithm := range issuer.Algorithms {
+		if algorithm[0] != 'E' {
+			all = append(all, rsa(algorithm, 2048, 65537), rsa(algorithm, 4096, 65537), rsa(algorithm, 4096, 1<<31-1))
+		}
+	}
+	for _, j := range all[2:len(all):len(all)] {
+		if strings.HasPrefix(j.name, "ES") || j.name == "PS512-4096-e2147483647" {
+			j.name, j.fresh = j.name+"-fresh", true
+			all = append(all, j)
+		}
 	}
 	for _, j := range all[:len(all):len(all)] {
 		j.name, j.pad = j.name+"/64-KiB", 48_000
@@ -79,7 +91,13 @@ func junks(t testing.TB) []junk {
 func (j junk) bundles(t testing.TB) []byte {
 	var keys []json.RawMessage
 	for size, i := 0, 0; ; i++ {
-		key := mustJSON(j.key(fmt.Sprint(i)))
+		kid := i
+		if j.fresh {
+			kid /= svid.MaxCandidates
+		}
+		members := j.key(fmt.Sprint(kid))
+		members["number"] = fmt.Sprint(i)
+		key := mustJSON(members)
 		if size += len(key) + 1; size > mebibyte-10 {
 			break
 		}
@@ -98,8 +116,15 @@ func (j junk) bundles(t testing.TB) []byte {
 
 func (j junk) token(jti int) string {
 	encode := base64.RawURLEncoding.EncodeToString
+	header := fmt.Sprintf(`{"alg":"%s"}`, j.algorithm)
+	switch {
+	case j.oneKid:
+		header = fmt.Sprintf(`{"alg":"%s","kid":"0"}`, j.algorithm)
+	case j.fresh:
+		header = fmt.Sprintf(`{"alg":"%s","kid":"%d"}`, j.algorithm, jti+1)
+	}
 	payload := fmt.Sprintf(`{"sub":"spiffe://junk.example/x","aud":"ledger","exp":%d,"jti":"%d","pad":"%s"}`, moment+300, jti, strings.Repeat("a", j.pad))
-	return encode([]byte(j.header)) + "." + encode([]byte(payload)) + "." + encode(j.signature)
+	return encode([]byte(header)) + "." + encode([]byte(payload)) + "." + encode(j.signature)
 }
 
 // open is a validator and a keyring of these bundles, as svidd has them.
@@ -127,7 +152,7 @@ func processorTime(t testing.TB) time.Duration {
 // A token of a stranger costs no more where its trust domain has thousands of keys.
 func TestAJunkTokenCostsLittle(t *testing.T) {
 	for _, j := range junks(t) {
-		if j.pad == 0 || strings.HasPrefix(j.name, "RS") {
+		if j.pad == 0 || j.fresh || j.algorithm[0] != 'E' {
 			continue // they cost less
 		}
 		v, k := j.open(t)

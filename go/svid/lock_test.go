@@ -127,6 +127,7 @@ func TestEachCallOfAValidatorHoldsItsLock(t *testing.T) {
 		"Judge":        func() { _, _ = v.Judge(now, token, yes) },
 		"JudgeAgain":   func() { _ = v.JudgeAgain(now, judged) },
 		"Save":         func() { _ = v.Save(&bytes.Buffer{}) },
+		"Renew":        func() { _ = v.Renew(k, one.Bundles()) },
 		"SetBundles":   func() { _ = v.SetBundles(one.Bundles()) },
 		"Summary":      func() { _, _ = v.Summary() },
 		"Take":         func() { _ = v.Take(now, judged.Use.Batch()) },
@@ -256,6 +257,9 @@ func TestTheKeysOfBundlesHaveALock(t *testing.T) {
 	}
 	candidates, keys, err := k.candidates(token)
 	if err != nil || !s.readDomain() {
+		t.Fatal(err)
+	}
+	if candidates[0].Question, _, err = k.question(token, 0, keys); err != nil {
 		t.Fatal(err)
 	}
 	text := []byte(candidates[0].Key.JSON())

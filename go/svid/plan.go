@@ -112,13 +112,11 @@ func (p *plan) verify(s *parts) ([]Question, error) {
 	if err != nil {
 		return nil, err
 	}
-	for i := range p.candidates {
-		c := &p.candidates[i]
-		if c.Key.Verify(c.Algorithm, s.signed, signature) == nil {
-			return []Question{question(s, c, signature)}, nil
-		}
+	i, err := findMaker(p.candidates, &signing{text: s.signed, signature: signature})
+	if err != nil || i < 0 {
+		return nil, err
 	}
-	return nil, nil
+	return []Question{question(s, &p.candidates[i], signature)}, nil
 }
 
 // question asks whether the candidate made the signature (docs/FORMATS.md).

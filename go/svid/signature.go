@@ -16,8 +16,11 @@ import (
 )
 
 const (
-	minRSABits = 2048  // what RFC 7518, section 3.3, asks of an RSA key
-	maxRSABits = 16384 // a bundle of another trust domain must not cost seconds a token
+	// UsualRSABits is how many bits an RSA key may have, unless KeyringOptions say
+	// another number.
+	UsualRSABits = 4096
+	leastRSABits = 2048  // what RFC 7518, section 3.3, asks of an RSA key
+	mostRSABits  = 16384 // as long as OpenSSL takes one
 )
 
 // ErrSignature: the key didn't make the signature.
@@ -84,6 +87,14 @@ func signatureLen(a *algorithm, key crypto.PublicKey) int {
 // fieldLen is how many bytes a coordinate of the curve has.
 func fieldLen(curve elliptic.Curve) int { return (curve.Params().BitSize + 7) / 8 }
 
+// A signing is a text and its signature. The text is hashed once, however many keys may have made the signature: all of them
+// by one algorithm.
+type signing struct {
+	text      string
+	signature []byte
+	digest    digest
+}
+
 // A Key is a public key of a trust bundle: an entry of a JWK set.
 type Key struct {
 	text      string
@@ -93,20 +104,28 @@ type Key struct {
 	fault     error
 }
 
-// ParseKey reads a JWK of type RSA or EC. The error is ErrKey, with the reason: an RSA
-// key of fewer than 2,048 or more than 16,384 bits, a curve that no algorithm has, a
-// point off its curve, a coordinate of another length than the curve's, an alg that
-// is there and is no name of an algorithm.
-func ParseKey(jwk []byte) (*Key, error) {
-	k := parseKey(jwk)
+// ParseKey reads a JWK of type RSA or EC. The error is ErrNoMemory, or ErrKey with the
+// reason: an RSA key of fewer than 2,048 or more than UsualRSABits bits, a curve that
+// no algorithm has, a point off its curve, a coordinate of another length than the
+// curve's, an alg that is there and is no name of an algorithm.
+func ParseKey(jwk []byte) (*Key, error) { return KeyringOptions{}.ParseKey(jwk) }
+
+// ParseKey is the function ParseKey, with the bound of these options. It may answer
+// ErrRSABits too.
+func (o KeyringOptions) ParseKey(jwk []byte) (*Key, error) {
+	bits, err := o.rsaBits()
+	if err != nil {
+		return nil, err
+	}
+	k := parseKey(jwk, bits)
 	if k.fault != nil {
 		return nil, k.fault
 	}
 	return k, nil
 }
 
-// parseKey is ParseKey that keeps the fault: a key that can't be used verifies nothing.
-func parseKey(jwk []byte) *Key {
+// parseKey is ParseKey that keeps the fault: a key that can't be used verifies nothing. An RSA key has at most so many bits.
+func parseKey(jwk []byte, rsaBits int) *Key {
 	k := &Key{text: string(jwk)}
 	// (By their exact names: a struct's tags would take any case.)
 	var members map[string]json.RawMessage
@@ -114,7 +133,7 @@ func parseKey(jwk []byte) *Key {
 		k.fault = fmt.Errorf("%w: %v", ErrKey, err)
 		return k
 	}
-	k.public, k.fault = parsePublic(members)
+	k.public, k.fault = parsePublic(members, rsaBits)
 	if _, ok := members["alg"]; ok && k.fault == nil {
 		k.algorithm, k.fault = parseAlgorithm(members)
 	}
@@ -125,14 +144,14 @@ func parseKey(jwk []byte) *Key {
 }
 
 // parsePublic reads the members of the key's type. All others may be anything.
-func parsePublic(members map[string]json.RawMessage) (crypto.PublicKey, error) {
+func parsePublic(members map[string]json.RawMessage, rsaBits int) (crypto.PublicKey, error) {
 	kty, err := stringAt(members, "kty")
 	if err != nil {
 		return nil, err
 	}
 	switch kty {
 	case "RSA":
-		return parseRSA(members)
+		return parseRSA(members, rsaBits)
 	case "EC":
 		return parseEC(members)
 	}
@@ -151,13 +170,13 @@ func parseAlgorithm(members map[string]json.RawMessage) (string, error) {
 	return name, nil
 }
 
-func parseRSA(members map[string]json.RawMessage) (crypto.PublicKey, error) {
+func parseRSA(members map[string]json.RawMessage, most int) (crypto.PublicKey, error) {
 	modulus, err := number(members, "n")
 	if err != nil {
 		return nil, err
 	}
-	if bits := modulus.BitLen(); bits < minRSABits || bits > maxRSABits {
-		return nil, fmt.Errorf("%w: an RSA key of %d bits; it must have from %d to %d", ErrKey, bits, minRSABits, maxRSABits)
+	if bits := modulus.BitLen(); bits < leastRSABits || bits > most {
+		return nil, fmt.Errorf("%w: an RSA key of %d bits; it must have from %d to %d", ErrKey, bits, leastRSABits, most)
 	}
 	exponent, err := number(members, "e")
 	if err != nil {
@@ -246,8 +265,12 @@ func (k *Key) Public() (crypto.PublicKey, error) { return k.public, k.fault }
 // algorithm, one of RS256, RS384, RS512, ES256, ES384, ES512, PS256, PS384 and
 // PS512. ErrSignature: it didn't, as a key of another type or curve than the
 // algorithm's can't. ErrKey: the key can't be used at all, or its JWK names another
-// algorithm.
+// algorithm. ErrNoMemory: memory was refused, so nothing is known.
 func (k *Key) Verify(name, signed string, signature []byte) error {
+	return k.verify(name, &signing{text: signed, signature: signature})
+}
+
+func (k *Key) verify(name string, s *signing) error {
 	if k.fault != nil {
 		return k.fault
 	}
@@ -258,8 +281,8 @@ func (k *Key) Verify(name, signed string, signature []byte) error {
 	if k.algorithm != "" && k.algorithm != name {
 		return fmt.Errorf("%w: the key is for %s, and the token says %s", ErrKey, k.algorithm, name)
 	}
-	if due := signatureLen(a, k.public); due == 0 || len(signature) != due || !k.made(a, signed, signature) {
+	if due := signatureLen(a, k.public); due == 0 || len(s.signature) != due {
 		return ErrSignature
 	}
-	return nil
+	return k.made(a, s)
 }

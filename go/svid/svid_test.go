@@ -338,7 +338,7 @@ func TestKeysThatCannotBeUsed(t *testing.T) {
 		"a bad one for ES256": `{"kty":"oct","k":"AA","alg":"ES256"}`,
 		"RSA of 1,024 bits":   `{"kty":"RSA","n":"` + modulus(1024) + `","e":"AQAB"}`,
 		"RSA of 2,047 bits":   `{"kty":"RSA","n":"` + modulus(2047) + `","e":"AQAB"}`,
-		"RSA of 16,385 bits":  `{"kty":"RSA","n":"` + modulus(16385) + `","e":"AQAB"}`,
+		"RSA of 4,097 bits":   `{"kty":"RSA","n":"` + modulus(4097) + `","e":"AQAB"}`,
 		"exponent 1":          `{"kty":"RSA","n":"` + modulus(2048) + `","e":"AQ"}`,
 		"exponent 2":          `{"kty":"RSA","n":"` + modulus(2048) + `","e":"Ag"}`,
 		"exponent 65536":      `{"kty":"RSA","n":"` + modulus(2048) + `","e":"AQAA"}`,
@@ -364,11 +364,11 @@ func TestKeysThatCannotBeUsed(t *testing.T) {
 		}
 	}
 	for what, jwk := range map[string]string{
-		"RSA of 2,048 bits":  `{"kty":"RSA","n":"` + modulus(2048) + `","e":"AQAB"}`,
-		"RSA of 16,384 bits": `{"kty":"RSA","n":"` + modulus(16384) + `","e":"AQAB"}`,
-		"exponent 3":         `{"kty":"RSA","n":"` + modulus(2048) + `","e":"Aw"}`,
-		"exponent 2^31-1":    `{"kty":"RSA","n":"` + modulus(2048) + `","e":"f____w"}`,
-		"a zero in it":       string(mustJSON(issuer.ECKey("a", &short.PublicKey))),
+		"RSA of 2,048 bits": `{"kty":"RSA","n":"` + modulus(2048) + `","e":"AQAB"}`,
+		"RSA of 4,096 bits": `{"kty":"RSA","n":"` + modulus(4096) + `","e":"AQAB"}`,
+		"exponent 3":        `{"kty":"RSA","n":"` + modulus(2048) + `","e":"Aw"}`,
+		"exponent 2^31-1":   `{"kty":"RSA","n":"` + modulus(2048) + `","e":"f____w"}`,
+		"a zero in it":      string(mustJSON(issuer.ECKey("a", &short.PublicKey))),
 	} {
 		if _, err := svid.ParseKey([]byte(jwk)); err != nil {
 			t.Errorf("%s: %v", what, err)

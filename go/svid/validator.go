@@ -79,6 +79,8 @@ type Validator struct {
 	id   [C.SVID_ID_ROOM]byte
 
 	bundles uint64 // how often there were other bundles, the first included; guarded by mu
+	large   bool   // they may have more keys than may be tried under the lock; guarded by mu
+	rows    []byte // room for their candidates; guarded by mu
 }
 
 // Open returns a validator with an empty record. To go on with a saved record,
@@ -95,7 +97,7 @@ func Open(o Options) (*Validator, error) {
 	for i, b := range o.Place {
 		terms.place[i] = C.uint8_t(b)
 	}
-	v := &Validator{bundles: 1}
+	v := &Validator{bundles: 1, large: len(o.Bundles) > largeBundles}
 	status := C.svid_validator_open(&v.handle, &terms, start(own), C.size_t(len(own)),
 		start(o.Bundles), C.size_t(len(o.Bundles)), &v.told)
 	if err := failure(status, &v.told); err != nil {
@@ -130,19 +132,6 @@ func (v *Validator) Close() {
 	C.svid_validator_close(&v.handle)
 }
 
-// SetBundles replaces the trust bundles. The record stays, so a token that was
-// used before is still rejected. On an error the old bundles stay.
-func (v *Validator) SetBundles(bundles []byte) error {
-	v.mu.Lock()
-	defer v.mu.Unlock()
-	status := C.svid_validator_bundles(&v.handle, start(bundles), C.size_t(len(bundles)), &v.told)
-	if err := failure(status, &v.told); err != nil {
-		return err
-	}
-	v.bundles++
-	return nil
-}
-
 // Check judges the token, and if it accepts it, adds the use to the record, so
 // that the token is rejected from then on as Replayed. yes are the questions of
 // Keyring.Verify. The record advances to now first, and the token is judged at
@@ -153,6 +142,7 @@ func (v *Validator) SetBundles(bundles []byte) error {
 func (v *Validator) Check(now uint64, token string, yes []Question) (Accepted, error) {
 	v.mu.Lock()
 	defer v.mu.Unlock()
+	yes = v.answered(token, yes)
 	status := C.check(&v.handle, C.uint64_t(now), questions(yes), C.size_t(len(yes)), token,
 		start(v.id[:]), C.size_t(len(v.id)), &v.used, &v.told)
 	return v.accepted(status)
@@ -180,6 +170,7 @@ func (v *Validator) Judge(now uint64, token string, yes []Question) (Accepted, e
 }
 
 func (v *Validator) judge(now uint64, token string, yes []Question) (Accepted, error) {
+	yes = v.answered(token, yes)
 	status := C.judge(&v.handle, C.uint64_t(now), questions(yes), C.size_t(len(yes)), token,
 		start(v.id[:]), C.size_t(len(v.id)), &v.used, &v.told)
 	return v.accepted(status)

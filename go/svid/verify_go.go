@@ -1,4 +1,4 @@
-//go:build cgo && !openssl
+//go:build cgo && gocrypto
 
 package svid
 
@@ -8,17 +8,29 @@ import (
 	"math/big"
 )
 
+// A digest is that of a signed text, or nil before it is made.
+type digest []byte
+
 // A handle is what verifies by OpenSSL. Go's library needs none.
 type handle struct{}
 
 func (k *Key) hold() error { return nil }
 
-// made says whether the key made a signature over the signed text. The signature has the length that is due.
-func (k *Key) made(a *algorithm, signed string, signature []byte) bool {
-	hash := a.hash.New()
-	hash.Write([]byte(signed))
-	digest := hash.Sum(nil)
-	switch key := k.public.(type) {
+// made is nil if the key made the signature, which has the length that is due, and else ErrSignature.
+func (k *Key) made(a *algorithm, s *signing) error {
+	if s.digest == nil {
+		hash := a.hash.New()
+		hash.Write([]byte(s.text))
+		s.digest = hash.Sum(nil)
+	}
+	if !verifyInGo(a, k.public, s.digest, s.signature) {
+		return ErrSignature
+	}
+	return nil
+}
+
+func verifyInGo(a *algorithm, public any, digest, signature []byte) bool {
+	switch key := public.(type) {
 	case *ecdsa.PublicKey:
 		half := len(signature) / 2
 		return ecdsa.Verify(key, digest, new(big.Int).SetBytes(signature[:half]), new(big.Int).SetBytes(signature[half:]))

@@ -1,16 +1,24 @@
-//go:build cgo && openssl
+//go:build cgo && !gocrypto
 
 package svid
 
 /*
-#cgo LDFLAGS: -lcrypto
+#if !__has_include(<openssl/evp.h>)
+#error "svid verifies signatures by OpenSSL: install its headers (Debian: libssl-dev), or build with -tags gocrypto"
+#endif
+// (The macros of OpenSSL would put the folder of the build into the program.)
+#define OPENSSL_FILE "verify_openssl.go"
+#define OPENSSL_LINE 0
 #include <openssl/bn.h>
-#include <openssl/ec.h>
+#include <openssl/core_names.h>
 #include <openssl/ecdsa.h>
 #include <openssl/err.h>
 #include <openssl/evp.h>
+#include <openssl/params.h>
 #include <openssl/rsa.h>
-#include <openssl/x509.h>
+#cgo LDFLAGS: -lcrypto
+
+enum { NO, YES, NO_MEMORY };
 
 // What verifies by one key and one algorithm, for one call at a time.
 typedef struct {
@@ -19,10 +27,51 @@ typedef struct {
     EVP_MD *md;
 } seat;
 
-static EVP_PKEY *read_key(const unsigned char *der, size_t len) {
-    EVP_PKEY *key = d2i_PUBKEY(NULL, &der, (long)len);
+// The digest of a text, which has no bytes before it is made.
+typedef struct {
+    unsigned char bytes[EVP_MAX_MD_SIZE];
+    unsigned int len;
+} digest;
+
+typedef struct {
+    int is; // NO, YES or NO_MEMORY
+    digest of;
+} verdict;
+
+// Lets OpenSSL load what it keeps for all keys. Where memory is refused to that, OpenSSL 3.0 may crash, so it is done at the
+// start of the process.
+static void begin(void) {
+    static const char *const types[] = { "RSA", "EC" }, *const hashes[] = { "SHA256", "SHA384", "SHA512" };
+    for (size_t i = 0; i < sizeof types / sizeof *types; i++) {
+        EVP_PKEY_CTX *making = EVP_PKEY_CTX_new_from_name(NULL, types[i], NULL);
+        if (making != NULL) EVP_PKEY_fromdata_init(making);
+        EVP_PKEY_CTX_free(making);
+    }
+    for (size_t i = 0; i < sizeof hashes / sizeof *hashes; i++) EVP_MD_free(EVP_MD_fetch(NULL, hashes[i], NULL));
+    EVP_SIGNATURE_free(EVP_SIGNATURE_fetch(NULL, "RSA", NULL));
+    EVP_SIGNATURE_free(EVP_SIGNATURE_fetch(NULL, "ECDSA", NULL));
     ERR_clear_error();
+}
+
+// The key, which is known to be a good one: so NULL is for want of memory.
+static EVP_PKEY *make_key(const char *type, OSSL_PARAM *params) {
+    EVP_PKEY *key = NULL;
+    EVP_PKEY_CTX *making = EVP_PKEY_CTX_new_from_name(NULL, type, NULL);
+    if (making == NULL || EVP_PKEY_fromdata_init(making) != 1 || EVP_PKEY_fromdata(making, &key, EVP_PKEY_PUBLIC_KEY, params) != 1) key = NULL;
+    EVP_PKEY_CTX_free(making);
+    ERR_clear_error(); // (the queue of errors is the thread's, and would grow)
     return key;
+}
+
+// n begins with its lowest byte.
+static EVP_PKEY *rsa_key(unsigned char *n, size_t n_len, unsigned int e) {
+    OSSL_PARAM params[] = { OSSL_PARAM_construct_BN(OSSL_PKEY_PARAM_RSA_N, n, n_len), OSSL_PARAM_construct_uint(OSSL_PKEY_PARAM_RSA_E, &e), OSSL_PARAM_construct_end() };
+    return make_key("RSA", params);
+}
+
+static EVP_PKEY *ec_key(char *curve, unsigned char *point, size_t point_len) {
+    OSSL_PARAM params[] = { OSSL_PARAM_construct_utf8_string(OSSL_PKEY_PARAM_GROUP_NAME, curve, 0), OSSL_PARAM_construct_octet_string(OSSL_PKEY_PARAM_PUB_KEY, point, point_len), OSSL_PARAM_construct_end() };
+    return make_key("EC", params);
 }
 
 static void close_seat(seat *s) {
@@ -32,7 +81,7 @@ static void close_seat(seat *s) {
     s->key = NULL, s->digest = NULL, s->md = NULL;
 }
 
-// padding is that of RSA, or 0.
+// padding is that of RSA, or 0. Whether there was memory for it.
 static int open_seat(seat *s, EVP_PKEY *key, const char *hash, int padding) {
     s->md = EVP_MD_fetch(NULL, hash, NULL);
     s->digest = EVP_MD_CTX_new();
@@ -58,29 +107,66 @@ static unsigned char *der_of(const unsigned char *signature, int half, int *len)
     return der;
 }
 
-// 1: the key made the signature. half is the length of r and of s, and 0 for RSA.
-static int verify(seat *s, _GoString_ text, const unsigned char *signature, size_t len, int half) {
-    unsigned char digest[EVP_MAX_MD_SIZE], *der = NULL;
-    unsigned int digest_len = 0;
+// Whether this thread has a queue of errors, in which alone want of memory differs from a signature that is bad.
+static int has_queue(void) {
+    static _Thread_local int has = 0;
+    if (!has) {
+        ERR_raise(ERR_LIB_USER, ERR_R_PASSED_NULL_PARAMETER);
+        has = ERR_peek_error() != 0;
+        ERR_clear_error();
+    }
+    return has;
+}
+
+// Whether want of memory is what an error of the queue means. The errors of a bad signature, if there are any, begin with a code
+// of RSA's or EC's own part of OpenSSL. One that all parts have, in front, says no more than that something below failed.
+static int is_memory(unsigned long error, int in_front) {
+    int lib = ERR_GET_LIB(error), reason = ERR_GET_REASON(error);
+    return reason == ERR_R_MALLOC_FAILURE || (in_front && (ERR_GET_RFLAGS(error) & ERR_RFLAG_COMMON)) ||
+        (lib == ERR_LIB_BN && reason == BN_R_TOO_MANY_TEMPORARY_VARIABLES) || (lib == ERR_LIB_EVP && reason == EVP_R_INITIALIZATION_ERROR);
+}
+
+// NO or NO_MEMORY, by what the queue has of a signature that was not verified. Empties it.
+static int why(void) {
+    int is = NO, in_front = 1;
+    for (unsigned long error; (error = ERR_get_error()) != 0; in_front = 0)
+        if (is_memory(error, in_front)) is = NO_MEMORY;
+    return is;
+}
+
+// Whether the key made the signature. half is the length of r and of s, and 0 for RSA. of is the text's digest, or none.
+static verdict verify(seat *s, _GoString_ text, digest of, const unsigned char *signature, size_t len, int half) {
+    verdict said = { NO_MEMORY, of };
+    unsigned char *der = NULL;
     int der_len = 0;
-    int good = EVP_DigestInit_ex2(s->digest, s->md, NULL) == 1 && EVP_DigestUpdate(s->digest, _GoStringPtr(text), _GoStringLen(text)) == 1 &&
-        EVP_DigestFinal_ex(s->digest, digest, &digest_len) == 1;
-    if (good && half != 0) {
+    if (!has_queue()) return said;
+    if (said.of.len == 0 &&
+        !(EVP_DigestInit_ex2(s->digest, s->md, NULL) == 1 && EVP_DigestUpdate(s->digest, _GoStringPtr(text), _GoStringLen(text)) == 1 &&
+          EVP_DigestFinal_ex(s->digest, said.of.bytes, &said.of.len) == 1)) {
+        said.of.len = 0;
+        ERR_clear_error();
+        return said;
+    }
+    if (half != 0) {
         der = der_of(signature, half, &der_len);
-        good = der != NULL && der_len > 0;
+        if (der == NULL || der_len <= 0) {
+            ERR_clear_error();
+            return said;
+        }
         signature = der, len = (size_t)der_len;
     }
-    good = good && EVP_PKEY_verify(s->key, signature, len, digest, digest_len) == 1;
+    int good = EVP_PKEY_verify(s->key, signature, len, said.of.bytes, said.of.len) == 1;
     OPENSSL_free(der);
-    if (!good) ERR_clear_error(); // (it would grow: the queue is the thread's)
-    return good;
+    said.is = good ? YES : why();
+    return said;
 }
 */
 import "C"
 
 import (
-	"crypto/x509"
-	"fmt"
+	"crypto/ecdsa"
+	"crypto/elliptic"
+	"crypto/rsa"
 	"runtime"
 	"sync/atomic"
 	"unsafe"
@@ -91,6 +177,7 @@ import (
 var slots = make(chan int, runtime.GOMAXPROCS(0))
 
 func init() {
+	C.begin()
 	for i := 0; i < cap(slots); i++ {
 		slots <- i
 	}
@@ -98,6 +185,9 @@ func init() {
 
 // openHandles counts keys that OpenSSL holds. Tests look at it.
 var openHandles atomic.Int64
+
+// A digest is that of a signed text, or none before it is made.
+type digest = C.digest
 
 // A handle is a key as OpenSSL holds it, until it is garbage.
 type handle struct {
@@ -109,13 +199,20 @@ type handle struct {
 
 // hold gives the key to OpenSSL.
 func (k *Key) hold() error {
-	der, err := x509.MarshalPKIXPublicKey(k.public)
-	if err != nil {
-		return fmt.Errorf("%w: %v", ErrKey, err)
+	var key *C.EVP_PKEY
+	switch public := k.public.(type) {
+	case *rsa.PublicKey:
+		n := public.N.Bytes()
+		for i, j := 0, len(n)-1; i < j; i, j = i+1, j-1 {
+			n[i], n[j] = n[j], n[i]
+		}
+		key = C.rsa_key((*C.uchar)(unsafe.Pointer(&n[0])), C.size_t(len(n)), C.uint(public.E))
+	case *ecdsa.PublicKey:
+		point := elliptic.Marshal(public.Curve, public.X, public.Y)
+		key = C.ec_key(curveNames[fieldLen(public.Curve)], (*C.uchar)(unsafe.Pointer(&point[0])), C.size_t(len(point)))
 	}
-	key := C.read_key((*C.uchar)(unsafe.Pointer(&der[0])), C.size_t(len(der)))
 	if key == nil {
-		return fmt.Errorf("%w: OpenSSL can't read it", ErrKey)
+		return ErrNoMemory
 	}
 	k.handle = &handle{key: key, seats: make([][]C.seat, cap(slots))}
 	openHandles.Add(1)
@@ -133,46 +230,58 @@ func (h *handle) free() {
 	openHandles.Add(-1)
 }
 
-// made says whether the key made a signature over the signed text. The signature has the length that is due, and is not empty.
-func (k *Key) made(a *algorithm, signed string, signature []byte) bool {
+// made is nil if the key made the signature, which has the length that is due, and is not empty. Else it is ErrSignature, or
+// ErrNoMemory where that is not known.
+func (k *Key) made(a *algorithm, s *signing) error {
 	slot := <-slots
 	defer func() { slots <- slot }()
-	good := k.handle.verify(slot, a, signed, signature)
+	is := k.handle.verify(slot, a, s)
 	runtime.KeepAlive(k.handle)
-	return good
+	switch is {
+	case C.YES:
+		return nil
+	case C.NO_MEMORY:
+		return ErrNoMemory
+	}
+	return ErrSignature
 }
 
 // verify is made with a slot that the caller has.
-func (h *handle) verify(slot int, a *algorithm, signed string, signature []byte) bool {
+func (h *handle) verify(slot int, a *algorithm, s *signing) C.int {
 	if seats := h.seats[slot]; seats != nil && seats[a.place].key != nil {
-		return verifyBy(&seats[a.place], a, signed, signature)
+		return s.verifyBy(&seats[a.place], a)
 	}
 	var seat C.seat
 	if !h.open(&seat, a) {
-		return false
+		return C.NO_MEMORY
 	}
-	good := verifyBy(&seat, a, signed, signature)
-	if !good {
+	is := s.verifyBy(&seat, a)
+	if is != C.YES {
 		C.close_seat(&seat)
-		return false
+		return is
 	}
 	if h.seats[slot] == nil {
 		h.seats[slot] = make([]C.seat, len(algorithms))
 	}
 	h.seats[slot][a.place] = seat
-	return true
+	return is
 }
 
-func verifyBy(seat *C.seat, a *algorithm, signed string, signature []byte) bool {
+func (s *signing) verifyBy(seat *C.seat, a *algorithm) C.int {
 	half := 0
 	if a.curve != nil {
-		half = len(signature) / 2
+		half = len(s.signature) / 2
 	}
-	return C.verify(seat, signed, (*C.uchar)(unsafe.Pointer(&signature[0])), C.size_t(len(signature)), C.int(half)) == 1
+	said := C.verify(seat, s.text, s.digest, (*C.uchar)(unsafe.Pointer(&s.signature[0])), C.size_t(len(s.signature)), C.int(half))
+	s.digest = said.of
+	return said.is
 }
 
-// hashNames are OpenSSL's names of hashes, by the bytes of a digest.
-var hashNames = map[int]*C.char{32: C.CString("SHA256"), 48: C.CString("SHA384"), 64: C.CString("SHA512")}
+// OpenSSL's names of hashes, by the bytes of a digest, and of curves, by the bytes of a coordinate.
+var (
+	hashNames  = map[int]*C.char{32: C.CString("SHA256"), 48: C.CString("SHA384"), 64: C.CString("SHA512")}
+	curveNames = map[int]*C.char{32: C.CString("P-256"), 48: C.CString("P-384"), 66: C.CString("P-521")}
+)
 
 func (h *handle) open(seat *C.seat, a *algorithm) bool {
 	padding := C.int(0)

@@ -1,9 +1,14 @@
-//go:build cgo && openssl
+//go:build cgo && !gocrypto
 
 package svid
 
 import (
+	"fmt"
+	"os"
 	"runtime"
+	"strconv"
+	"strings"
+	"sync"
 	"testing"
 	"time"
 
@@ -90,5 +95,52 @@ func TestAStrangersTokenKeepsNoSeat(t *testing.T) {
 	}
 	if n := keptSeats(key); n == 0 || n > cap(slots) {
 		t.Errorf("%d seats are kept of %d", n, cap(slots))
+	}
+}
+
+// threads is how many threads this process has.
+func threads(t *testing.T) int {
+	t.Helper()
+	status, err := os.ReadFile("/proc/self/status")
+	if err != nil {
+		t.Fatal(err)
+	}
+	_, rest, _ := strings.Cut(string(status), "Threads:")
+	n, err := strconv.Atoi(strings.Fields(rest)[0])
+	if err != nil {
+		t.Fatal(err)
+	}
+	return n
+}
+
+// However many goroutines verify at once, only as many threads are in OpenSSL as there are processors.
+func TestNoThreadsPileUp(t *testing.T) {
+	one, err := issuer.New("example.org")
+	if err != nil {
+		t.Fatal(err)
+	}
+	keyring, err := NewKeyring(one.Bundles())
+	if err != nil {
+		t.Fatal(err)
+	}
+	defer keyring.Close()
+	var group sync.WaitGroup
+	before, crowd := threads(t), 50*cap(slots)
+	for i := 0; i < crowd; i++ {
+		token := one.Token("ES384", map[string]any{"sub": "spiffe://example.org/web", "aud": "ledger", "exp": 2_000_000_000, "jti": fmt.Sprint(i)})
+		group.Add(1)
+		go func() {
+			defer group.Done()
+			for i := 0; i < 10; i++ {
+				if yes, err := keyring.Verify(token); err != nil || len(yes) != 1 {
+					t.Error(yes, err)
+				}
+			}
+		}()
+	}
+	group.Wait()
+	// (a thread that Go started stays)
+	if more := threads(t) - before; more > 2*cap(slots)+2 {
+		t.Errorf("%d goroutines that verify made %d threads more", crowd, more)
 	}
 }

@@ -1,6 +1,6 @@
 // Answers the library's questions by the browser's own cryptography (WebCrypto): is this signature good for this key?
 //
-// A key is used by the rules of the packages for Go and Python, which are stricter than those of browsers: an RSA key of 2,048 to 16,384
+// A key is used by the rules of the packages for Go and Python, which are stricter than those of browsers: an RSA key of 2,048 to 4,096
 // bits with an odd exponent from 3 to 2^31-1, an EC key of the algorithm's curve with coordinates of full length, and no other `alg`.
 
 import { hexOf } from "./library.js";
@@ -8,7 +8,7 @@ import { decoded, firstBad } from "./token.js";
 
 const CURVES = { ES256: "P-256", ES384: "P-384", ES512: "P-521" };
 const COORDINATE = { "P-256": 32, "P-384": 48, "P-521": 66 };
-const LEAST_BITS = 2048, MOST_BITS = 16384, MOST_EXPONENT = 2n ** 31n - 1n;
+const LEAST_BITS = 2048, MOST_BITS = 4096, MOST_EXPONENT = 2n ** 31n - 1n;
 const encoder = new TextEncoder();
 
 class UnusableKey extends Error {}
@@ -58,7 +58,7 @@ function keyAlone({ kty, alg: own, crv, x, y, n, e }, alg) {
 
 function rsaKey(n, e) {
   const bits = numberOf("n", n).toString(2).length, exponent = numberOf("e", e);
-  if (bits < LEAST_BITS || bits > MOST_BITS) throw new UnusableKey(`its modulus has ${bits.toLocaleString("en")} bits, and must have from 2,048 to 16,384`);
+  if (bits < LEAST_BITS || bits > MOST_BITS) throw new UnusableKey(`its modulus has ${bits.toLocaleString("en")} bits, and must have from 2,048 to 4,096`);
   if (exponent < 3n || exponent > MOST_EXPONENT || exponent % 2n === 0n) throw new UnusableKey("its exponent is no odd number from 3 to 2^31-1");
   return { kty: "RSA", n, e };
 }

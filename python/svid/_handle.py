@@ -2,7 +2,6 @@
 
 from __future__ import annotations
 
-import binascii
 import ctypes
 import os
 import struct
@@ -13,6 +12,7 @@ from typing import Any, NamedTuple
 
 from . import _library as lib
 from ._signatures import Verifies
+from ._trust import Trust, first
 from .errors import (
     REFUSALS,
     BadBundles,
@@ -27,29 +27,20 @@ from .records import Accepted, Use
 
 _USE = struct.Struct("=QQ32s16s")
 _ROW = struct.Struct(">32s4x5sI")  # a question, the algorithm, the length of the key
-_ROW_SIZE = _ROW.size
+_MOST = lib.size(lib.MOST_CANDIDATES)
 _LONG = 8192  # a token of so many bytes may take some milliseconds to read: other threads go on
-_URL_SAFE = bytes.maketrans(b"-_", b"+/")
 _ROOM = 65_536
 _ROOM_SIZE = lib.size(_ROOM)
 _NONE = lib.size(0)
-_MOST = lib.size(lib.MOST_CANDIDATES)
 _ONE = lib.size(1)
 
 _Call = Callable[..., int]
-Calls = tuple[tuple[_Call, _Call], tuple[_Call, _Call]]
-"""How to ask about and to judge a short token, and how a long one."""
+Calls = tuple[_Call, _Call]
+"""How to judge a short token, and how a long one."""
 
-_QUICK_ASK: _Call = lib.quick.svid_validator_ask
-_LONG_ASK: _Call = lib.library.svid_validator_ask
-CHECK: Calls = (
-    (_QUICK_ASK, lib.quick.svid_validator_check),
-    (_LONG_ASK, lib.library.svid_validator_check),
-)
-JUDGE: Calls = (
-    (_QUICK_ASK, lib.quick.svid_validator_judge),
-    (_LONG_ASK, lib.library.svid_validator_judge),
-)
+_ASK: _Call = lib.quick.svid_validator_ask
+CHECK: Calls = (lib.quick.svid_validator_check, lib.library.svid_validator_check)
+JUDGE: Calls = (lib.quick.svid_validator_judge, lib.library.svid_validator_judge)
 
 
 _FATE = struct.Struct("=QQ32s16sQ")
@@ -117,7 +108,11 @@ class Handle:
         self._room_at = lib.address(self._room)
         self._used_at = lib.address(self._used)
         terms = lib.Terms(longest, ahead, step, (ctypes.c_uint8 * 16)(*place))
-        self._read(lib.library.svid_validator_open, lib.address(terms), own, len(own), bundles)
+        self._trust = _opened(bundles)
+        self._run(
+            lib.library.svid_validator_open,
+            *(lib.address(terms), own, len(own), bundles, len(bundles)),
+        )
         self._freeing = weakref.finalize(self, _close, self._words)
         self._freeing.atexit = False  # a thread that outlives the interpreter may be in a call
         _handles.add(self)
@@ -127,11 +122,13 @@ class Handle:
         if self._freeing.alive:
             with self._lock:
                 self._freeing()
+            self._trust.close()
 
     def leave(self) -> None:
         """Leaves it to the parent process: the fork may have come while a thread was in a call."""
         self._freeing.detach()
         self._lock = _LeftBehind()
+        self._trust.leave(self._lock)
 
     @property
     def edition(self) -> int:
@@ -139,20 +136,29 @@ class Handle:
         return self._edition
 
     def renew(self, bundles: bytes) -> None:
-        """Replaces the bundles. Raises BadBundles, and then the old ones stay."""
+        """Replaces the bundles. Raises BadBundles, and then the old ones stay.
 
-        def call(at: Any, *lent: Any) -> int:
-            status: int = lib.library.svid_validator_bundles(at, *lent)
-            self._edition += status == lib.OK  # (while the lock is held)
-            return status
-
-        self._read(call, bundles)
+        They are read before the lock is taken, and the old ones are freed behind it.
+        """
+        asked, judged = _opened(bundles), _opened(bundles)
+        try:
+            with self._lock:
+                lent = (self._at, judged.at, self._told_at)
+                status = lib.library.svid_validator_renew_by(*lent)
+                if status != lib.OK:
+                    raise self._fault(status)
+                asked, self._trust = self._trust, asked
+                self._edition += 1
+        finally:
+            asked.close()
+            judged.close()
 
     def ask(self, token: bytes) -> None:
         """Raises the refusals of a token that need no audience, time, signature and record."""
         size, room, told = lib.size(len(token)), self._room_at, self._told_at
         with self._lock:
-            status = _LONG_ASK(self._at, token, size, _NONE, room, _ROOM_SIZE, told)
+            ask = lib.library.svid_validator_ask
+            status = ask(self._at, token, size, _NONE, room, _ROOM_SIZE, told)
             if status != lib.OK:
                 raise self._fault(status)
 
@@ -161,28 +167,55 @@ class Handle:
     ) -> tuple[Accepted, int]:
         """Judges a token by CHECK or JUDGE, and gives the edition of the bundles. Raises Refused.
 
-        The lock is free while a signature is verified.
+        The lock is free while a signature is verified, and while a long token is read.
         """
-        ask, judge = calls[0] if len(token) < _LONG else calls[1]
+        is_long = len(token) >= _LONG
+        judge = calls[is_long]
         at, size, room, told = self._at, lib.size(len(token)), self._room_at, self._told_at
+        when, used = lib.moment(now), self._used_at
+        while True:
+            trust, yes = (self._long if is_long else self._short)(token, size, verifies)
+            count = _ONE if yes else _NONE
+            with self._lock:
+                if yes and trust is not self._trust:
+                    continue  # The question may be of a key that is not there any more.
+                status = judge(at, when, yes, count, token, size, room, _ROOM_SIZE, used, told)
+                if status != lib.OK:
+                    raise self._fault(status)
+                subject = self._room[: self._told.len].decode()
+                expires, moment, key, place = _USE.unpack(self._used)
+                edition = self._edition
+            return Accepted(subject, Use(expires, key, place, moment)), edition
+
+    def _short(self, token: bytes, size: Any, verifies: Verifies) -> tuple[Trust, bytes]:
+        """The question that a token's signature answers, or nothing, and the bundles it is of.
+
+        The questions of all keys that are tried cost less than another call would.
+        """
         with self._lock:
-            status = ask(at, token, size, _MOST, room, _ROOM_SIZE, told)
+            trust, lent = self._trust, (token, size, _MOST)
+            status = _ASK(self._at, *lent, self._room_at, _ROOM_SIZE, self._told_at)
             if status == lib.OK:
                 rows = self._view[: self._told.len].tobytes()
             elif status in REFUSALS:
-                rows = b""  # another reason may come before this one, and `now` is to be told
+                return (
+                    trust,
+                    b"",
+                )  # (another reason may come before this one, and `now` is to be told)
             else:
-                rows = self._rest(status, ask, token, size, _MOST)
-        yes = _first_yes(rows, token, verifies) if rows else b""
-        when, count, used = lib.moment(now), _ONE if yes else _NONE, self._used_at
-        with self._lock:
-            status = judge(at, when, yes, count, token, size, room, _ROOM_SIZE, used, told)
-            if status != lib.OK:
-                raise self._fault(status)
-            subject = self._room[: self._told.len].decode()
-            expires, moment, key, place = _USE.unpack(self._used)
-            edition = self._edition
-        return Accepted(subject, Use(expires, key, place, moment)), edition
+                rows = self._rest(status, _ASK, *lent)
+        found = first(_ROW, rows, token, verifies)
+        return trust, rows[found[1] : found[1] + 32] if found else b""
+
+    def _long(self, token: bytes, size: Any, verifies: Verifies) -> tuple[Trust, bytes]:
+        """The same of a long token, without the lock. It is hashed for the key that verified it."""
+        while True:
+            trust = self._trust
+            status, yes = trust.answer(token, size, verifies)
+            if status == lib.OK or status in REFUSALS:
+                return trust, yes
+            if trust is self._trust:
+                raise fault(status, trust.told)
 
     def withdraw(self, now: int, key: bytes, expires: int) -> Use:
         """Withdraws the token with this key of 32 bytes. Raises Gone."""
@@ -265,13 +298,6 @@ class Handle:
         """The answer to the summary of another validator."""
         return self._written(lib.library.svid_validator_answer, now, summary, len(summary))
 
-    def _read(self, call: _Call, *lent: Any) -> None:
-        """Makes a call that reads bundles, the last that it is lent."""
-        try:
-            self._run(call, *lent, len(lent[-1]))
-        except BadMessages as error:
-            raise BadBundles(f"the bundles are more than {lib.INPUT_MOST:,} bytes") from error
-
     def _run(self, call: _Call, *lent: Any) -> int:
         """Makes a call, and gives the length that it tells."""
         with self._lock:
@@ -329,6 +355,16 @@ _FAULTS: dict[int, type[Exception]] = {
 }
 
 
+def _opened(bundles: bytes) -> Trust:
+    """These bundles. Raises BadBundles."""
+    trust = Trust(bundles)
+    if trust.status == lib.TOO_MUCH:
+        raise BadBundles(f"the bundles are more than {lib.INPUT_MOST:,} bytes")
+    if trust.status != lib.OK:
+        raise fault(trust.status, trust.told)
+    return trust
+
+
 def _close(words: ctypes.Array[ctypes.c_uint64]) -> None:
     lib.library.svid_validator_close(lib.address(words))
 
@@ -340,22 +376,3 @@ def _leave_all() -> None:
 
 _handles: weakref.WeakSet[Handle] = weakref.WeakSet()
 os.register_at_fork(after_in_child=_leave_all)
-
-
-def _first_yes(rows: bytes, token: bytes, verifies: Verifies) -> bytes:
-    """The first question of the rows whose answer is yes, or nothing."""
-    signed, _, signature = token.rpartition(b".")
-    signature = decoded(signature)
-    at = 0
-    while at < len(rows):
-        question: bytes
-        question, alg, size = _ROW.unpack_from(rows, at)
-        at += _ROW_SIZE + size
-        if verifies(alg.decode(), rows[at - size : at], signed, signature):
-            return question
-    return b""
-
-
-def decoded(part: bytes) -> bytes:
-    """The bytes of a part of a token whose spelling the library has judged."""
-    return binascii.a2b_base64(part.translate(_URL_SAFE) + b"==")

@@ -206,6 +206,7 @@ _NOW = [c_uint64]
 _FOLDER = [c_void_p]
 _PLACE = [c_char_p]
 _CALLS = {
+    "svid_bundles_open": [*_VALIDATOR, *_LENT, *_TOLD],
     "svid_journal_answer": [*_FOLDER, c_uint32],
     "svid_journal_begin": _FOLDER,
     "svid_journal_due": [*_FOLDER, c_void_p],
@@ -219,11 +220,11 @@ _CALLS = {
     "svid_report": [*_LENT, *_NOW, *_OUT, *_TOLD],
     "svid_validator_answer": [*_VALIDATOR, *_NOW, *_LENT, *_OUT, *_TOLD],
     "svid_validator_beside": [*_VALIDATOR, *_OUT, *_TOLD],
-    "svid_validator_bundles": [*_VALIDATOR, *_LENT, *_TOLD],
     "svid_validator_go_on": [*_VALIDATOR, *_TOLD],
     "svid_validator_log": [*_VALIDATOR, c_void_p, c_uint64, c_uint64, *_LENT, *_TOLD],
     "svid_validator_mark": [*_VALIDATOR, c_void_p, *_TOLD],
     "svid_validator_open": [*_VALIDATOR, c_void_p, *_LENT, *_LENT, *_TOLD],
+    "svid_validator_renew_by": [*_VALIDATOR, *_VALIDATOR, *_TOLD],
     "svid_validator_parts": [*_VALIDATOR, c_void_p, *_OUT, *_TOLD],
     "svid_validator_read": [*_VALIDATOR, *_NOW, c_uint64, *_LENT, *_OUT, c_void_p, *_TOLD],
     "svid_validator_summary": [*_VALIDATOR, *_OUT, *_TOLD],
@@ -232,7 +233,13 @@ _CALLS = {
     "svid_validator_withdraw": [*_VALIDATOR, *_NOW, c_char_p, c_uint64, c_void_p, *_TOLD],
     "svid_version": [],
 }
-_CALLS_OF_A_CHECK = ["svid_validator_ask", "svid_validator_check", "svid_validator_judge"]
+_CALLS_OF_A_CHECK = [
+    "svid_bundles_ask",
+    "svid_bundles_question",
+    "svid_validator_ask",
+    "svid_validator_check",
+    "svid_validator_judge",
+]
 """ctypes converts no argument of these, which would take a twentieth of a check. Each of them is an
 `address`, `bytes`, a `size` or a `moment`. Give them no `int`: they would see 32 bits of it."""
 
@@ -274,10 +281,11 @@ def _load(path: str, kind: type[_Library]) -> _Library:
             call.restype = c_uint32
         for name in _CALLS_OF_A_CHECK:
             getattr(library, name).restype = c_uint32
+        for close in (library.svid_bundles_close, library.svid_validator_close):
+            close.argtypes = _VALIDATOR
+            close.restype = None
     except AttributeError as error:
         raise ImportError(f"{path} has version {version}, which is too old: {error}") from error
-    library.svid_validator_close.argtypes = _VALIDATOR
-    library.svid_validator_close.restype = None
     return library
 
 

@@ -23,7 +23,7 @@ from . import _library as lib
 from ._bundles import Bundles
 from ._handle import JUDGE, Read
 from ._log import Log, OtherLog
-from ._signatures import Verifies
+from ._signatures import USUAL_RSA_BITS, Verifies
 from ._validator import Token, Validator
 from .errors import REFUSALS, Closed, Error, Jump, Refused, Unavailable
 from .records import Accepted, Use, batches
@@ -65,6 +65,7 @@ class Member(Validator):
         place: bytes | None = None,
         refresh: float | None = 10.0,
         verifies: Verifies | None = None,
+        rsa_bits: int = USUAL_RSA_BITS,
         wait: float = 2.0,
     ) -> None:
         """Makes a member, and begins to read the log.
@@ -86,6 +87,7 @@ class Member(Validator):
             place=place,
             refresh=refresh,
             verifies=verifies,
+            rsa_bits=rsa_bits,
             wait=wait,
         )
         self._log = log

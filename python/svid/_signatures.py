@@ -28,6 +28,7 @@ _CURVES: dict[str, tuple[str, ec.EllipticCurve]] = {
     "ES384": ("P-384", ec.SECP384R1()),
     "ES512": ("P-521", ec.SECP521R1()),
 }
+USUAL_RSA_BITS = 4096
 _RSA_BITS = range(2048, 16_384 + 1)
 _RSA_EXPONENTS = range(3, 2**31, 2)
 
@@ -39,18 +40,21 @@ class Verifier:
 
     - `alg`, where it is there, is the token's algorithm;
     - EC: `crv` is the algorithm's curve, and `x` and `y` of full length are a point of it;
-    - RSA: `n` has 2,048 to 16,384 bits, and `e` is an odd number from 3 to 2^31-1.
+    - RSA: `n` has from 2,048 to `rsa_bits` bits, and `e` is an odd number from 3 to 2^31-1.
 
     `x5c` and all other members are passed over.
     """
 
-    def __init__(self) -> None:
+    def __init__(self, rsa_bits: int = USUAL_RSA_BITS) -> None:
+        if rsa_bits not in _RSA_BITS:
+            raise ValueError("rsa_bits must be from 2,048 to 16,384")
+        self._rsa_bits = range(_RSA_BITS.start, rsa_bits + 1)
         self._keys: dict[tuple[str, bytes], _Good] = {}
 
     def __call__(self, alg: str, key: bytes, signed: bytes, signature: bytes) -> bool:
         good = self._keys.get((alg, key))
         if good is None:
-            good = self._keys[alg, key] = _parsed(alg, key)
+            good = self._keys[alg, key] = _parsed(alg, key, self._rsa_bits)
         return good(signed, signature)
 
     def forget(self) -> None:
@@ -58,12 +62,12 @@ class Verifier:
         self._keys = {}
 
 
-def _parsed(alg: str, key: bytes) -> _Good:
+def _parsed(alg: str, key: bytes, rsa_bits: range) -> _Good:
     try:
         jwk: dict[str, Any] = json.loads(key)
         if jwk.get("alg", alg) != alg:
             return _never
-        return _elliptic(alg, jwk) if alg in _CURVES else _rsa(alg, jwk)
+        return _elliptic(alg, jwk) if alg in _CURVES else _rsa(alg, jwk, rsa_bits)
     except (KeyError, TypeError, ValueError):
         return _never
 
@@ -94,9 +98,9 @@ def _elliptic(alg: str, jwk: dict[str, Any]) -> _Good:
     return good
 
 
-def _rsa(alg: str, jwk: dict[str, Any]) -> _Good:
+def _rsa(alg: str, jwk: dict[str, Any], bits: range) -> _Good:
     numbers = rsa.RSAPublicNumbers(_number(_decoded(jwk["e"])), _number(_decoded(jwk["n"])))
-    if numbers.n.bit_length() not in _RSA_BITS or numbers.e not in _RSA_EXPONENTS:
+    if numbers.n.bit_length() not in bits or numbers.e not in _RSA_EXPONENTS:
         return _never
     public, algorithm = numbers.public_key(), _HASHES[alg[2:]]
     size = (numbers.n.bit_length() + 7) // 8

@@ -16,9 +16,10 @@ from typing import TypeVar, Union
 
 from . import _library as lib
 from ._bundles import Bundles, Path, Source
-from ._handle import CHECK, JUDGE, Calls, Handle, decoded, fault
+from ._handle import CHECK, JUDGE, Calls, Handle, fault
 from ._journal import Journal
-from ._signatures import Verifier, Verifies
+from ._signatures import USUAL_RSA_BITS, Verifier, Verifies
+from ._trust import decoded
 from .errors import Error, NoKey, UnknownDomain
 from .records import Accepted, Report, Use
 
@@ -62,6 +63,7 @@ class Validator:
         place: bytes | None = None,
         refresh: float | None = 10.0,
         verifies: Verifies | None = None,
+        rsa_bits: int = USUAL_RSA_BITS,
         state: Path | None = None,
         wait: float = 2.0,
     ) -> None:
@@ -82,6 +84,8 @@ class Validator:
             check. None is never. Where they can't be read, the bundles stay as they are, and the
             logger "svid" has a warning.
         verifies: verifies signatures in place of the package `cryptography`; see `svid.Verifies`.
+        rsa_bits: how many bits an RSA key may have, 2,048 to 16,384. A longer one verifies nothing,
+            so that a token of a stranger costs little. It is not for `verifies`.
         state: a folder that keeps the record, so that no token that `check` returned is accepted
             again behind a crash, a restart or a loss of power. The validator has the place that is
             in it. `check` and `withdraw` return once the disk has the use. What `take` got is kept
@@ -99,7 +103,7 @@ class Validator:
             raise ValueError("refresh is a number of seconds, or None")
         if not wait >= 0:
             raise ValueError("wait is a number of seconds")
-        self._verifies = verifies or Verifier()
+        self._verifies = verifies or Verifier(rsa_bits)
         self._source = Source(bundles)
         self._stamp = self._source.stamp()
         self._refresh = math.inf if refresh is None else refresh

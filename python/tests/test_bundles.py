@@ -7,6 +7,8 @@ import pathlib
 import signal
 import subprocess
 import sys
+import threading
+import time
 import types
 
 import pytest
@@ -204,6 +206,101 @@ print(open("/proc/self/status").read().partition("VmHWM:")[2].split()[0])
     words = [sys.executable, "-c", text]
     ran = subprocess.run(words, env=environment, capture_output=True, timeout=60, check=True)
     assert int(ran.stdout) < 100_000  # kilobytes, the most that this process had
+
+
+def many_keys():
+    """A mebibyte of bundles: 26,000 keys of one trust domain, of which none is usable."""
+    one = b'{"kty":"EC","use":"jwt-svid","kid":""}'
+    count = ((1 << 20) - 40) // (len(one) + 1)
+    return b'{"example.org":{"keys":[' + b",".join([one] * count) + b"]}}"
+
+
+def test_bundles_are_read_without_the_lock():
+    with validator() as checks:
+        done = []
+
+        def renew():
+            with pytest.raises(svid.BadBundles):
+                checks.renew(b"[]")
+            done.append(True)
+
+        with checks._handle._lock:
+            thread = threading.Thread(target=renew)
+            thread.start()
+            thread.join(20)
+            assert done == [True]
+
+
+def test_a_renewal_holds_up_no_check():
+    many = many_keys()
+    with validator() as checks:
+        parts = []
+        for _ in range(10):
+            thread = threading.Thread(target=checks.renew, args=(many,))
+            longest, started = 0.0, time.perf_counter()
+            thread.start()
+            while thread.is_alive():
+                began = time.perf_counter()
+                with checks._handle._lock:
+                    longest = max(longest, time.perf_counter() - began)
+            parts.append(longest / (time.perf_counter() - started))
+        # (One that waited for the bundles to be read would wait for a third of that, each time.)
+        assert min(parts) < 0.2
+
+
+def test_the_memory_of_a_renewal():
+    program = """
+import resource, sys, svid
+many = sys.stdin.buffer.read()
+checks = svid.Validator(audiences="ledger", bundles=b"{}")
+before = resource.getrusage(resource.RUSAGE_SELF).ru_maxrss
+for _ in range(5):
+    checks.renew(many)
+print(resource.getrusage(resource.RUSAGE_SELF).ru_maxrss - before)
+"""
+    ran = subprocess.run([sys.executable, "-c", program], input=many_keys(), stdout=subprocess.PIPE)
+    assert ran.returncode == 0 and int(ran.stdout) < 100_000_000 // 1024
+
+
+@pytest.mark.parametrize("pad", ["", "a" * 10_000])
+def test_a_key_that_goes_while_a_signature_is_verified(pad):
+    asked = []
+
+    def verifies(alg, key, signed, signature):
+        asked.append(key)
+        if len(asked) == 1:
+            checks.renew({"example.org": {"keys": [entry(KEY, "k2")]}})
+        return True
+
+    with validator(verifies=verifies) as checks:
+        assert verdict(checks, token(pad=pad)) == "refused NoKey"
+        assert len(asked) == 1
+        # The question of a key that stays is asked again of the bundles that there are now.
+        asked.clear()
+        made = token(header={"kid": "k2"}, jti="2", pad=pad)
+        assert verdict(checks, made) == ACCEPTED
+        assert len(asked) == 2
+
+
+def test_threads_check_while_bundles_are_renewed():
+    texts = [token(jti=str(it), pad="a" * 10_000 * (it % 2)) for it in range(200)]
+    said = []
+    with validator() as checks:
+        both = [bundle(entry(KEY, "k1")), bundle(entry(KEY, "k1"), entry(KEY, "k2"))]
+        threads = [
+            threading.Thread(target=lambda: said.extend(verdict(checks, it) for it in texts))
+            for _ in range(4)
+        ]
+        for it in threads:
+            it.start()
+        turn = 0
+        while any(it.is_alive() for it in threads):
+            checks.renew(both[turn % 2])
+            turn += 1
+        for it in threads:
+            it.join()
+    assert said.count(ACCEPTED) == len(texts)
+    assert said.count("refused Replayed") == 3 * len(texts)
 
 
 def test_bundles_that_are_refused_leave_the_old_ones(tmp_path):

@@ -307,17 +307,47 @@ def test_an_rsa_key_has_2048_bits_or_more(bits):
         assert verdict(checks, token("RS256", key)) == expected
 
 
-MERSENNE = [2**it - 1 for it in (2203, 2281, 3217, 4253, 4423)]  # known primes, of 16,377 bits
-
-
-@pytest.mark.parametrize("bits, last, said", [(16_384, 83, ACCEPTED), (16_385, 163, BAD_SIGNATURE)])
-def test_an_rsa_key_has_16384_bits_or_less(bits, last, said):
-    primes, size = [*MERSENNE, last], (bits + 7) // 8
-    assert math.prod(primes).bit_length() == bits
+@pytest.mark.parametrize(
+    ("bits", "most", "expected"),
+    [
+        (4096, None, ACCEPTED),
+        (4097, None, BAD_SIGNATURE),
+        (4097, 4096, BAD_SIGNATURE),
+        (4097, 4097, ACCEPTED),
+        (8192, None, BAD_SIGNATURE),
+        (16_384, 16_384, ACCEPTED),
+        (16_385, 16_384, BAD_SIGNATURE),
+    ],
+)
+def test_an_rsa_key_has_4096_bits_or_fewer_unless_more_are_allowed(bits, most, expected):
+    primes, size = PRIMES[bits], (bits + 7) // 8
+    modulus = math.prod(primes)
+    assert modulus.bit_length() == bits
     signed = token("RS256").rpartition(".")[0]
     made = power(int.from_bytes(padded(signed.encode(), size), "big"), primes)
-    with validator(bundle({**RS, "n": number(math.prod(primes))})) as checks:
-        assert verdict(checks, f"{signed}.{b64(made.to_bytes(size, 'big'))}") == said
+    with validator(
+        bundle({**RS, "n": number(modulus)}), **({} if most is None else {"rsa_bits": most})
+    ) as checks:
+        assert verdict(checks, f"{signed}.{b64(made.to_bytes(size, 'big'))}") == expected
+
+
+@pytest.mark.parametrize("most", [-1, 0, 2047, 16_385])
+def test_the_bound_of_rsa_keys_has_bounds(most):
+    with pytest.raises(ValueError, match="rsa_bits must be from 2,048 to 16,384"):
+        validator(bundle(RS), rsa_bits=most)
+
+
+# Primes of moduli of so many bits: such of Mersenne (2^521-1), and a small one.
+PRIMES = {
+    bits: [*(2**it - 1 for it in exponents), last]
+    for bits, exponents, last in (
+        (4096, (2281, 1279, 521), 32_749),
+        (4097, (2281, 1279, 521), 65_521),
+        (8192, (4423, 3217, 521), 2**31 - 1),
+        (16_384, (4423, 4253, 3217, 2281, 2203), 83),
+        (16_385, (4423, 4253, 3217, 2281, 2203), 163),
+    )
+}
 
 
 def power(value, primes):

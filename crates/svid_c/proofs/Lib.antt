@@ -1,7 +1,11 @@
 pub mod AsBox
+pub mod AsTrustBox
 pub mod CheckedLemmas
 pub mod InputsLemmas
 pub mod JoinedLemmas
+mod JournalLemmas
 pub mod LiveLemmas
+pub mod LogLemmas
 pub mod NamesLemmas
 pub mod OfferLemmas
+pub mod TrustLemmas

@@ -11,7 +11,7 @@ use Rattle.svid_check.specs.declared.take_fault.TakeFault.{TakeFault}
 use Rattle.svid_check.specs.declared.withdraw_fault.WithdrawFault.{WithdrawFault}
 use Rattle.svid_c.specs.Checked.{RefusesAs}
 use Rattle.svid_c.specs.Inputs.{AreBundles}
-use Rattle.svid_c.specs.Live.{CallsAt, IsBegun, IsNotTaken, IsTaken, Kept, closed_at, does_at, is_jump, jumped, none_held, too_far_on}
+use Rattle.svid_c.specs.Live.{CallsAt, HandleCallsAt, IsBegun, IsNotTaken, IsRest, IsTaken, Kept, ToValidator, closed_at, does_at, is_jump, jumped, none_held, too_far_on}
 use Rattle.svid_c.specs.Status.{told_length}
 use Rattle.svid_c.specs.declared.live.Live.{Live}
 use Rattle.svid_c.specs.declared.told.SvidTold.{SvidTold}
@@ -21,24 +21,30 @@ use Rattle.svid_c.specs.declared.open.SvidTerms.{SvidTerms}
 -- a validator that is made of what the inputs say begins
 pub begun : (own : List (List ℕ)) (text : List ℕ) (terms : SvidTerms) (kept : List Bundle) (nobody : Nobody) (r : State)
     → AreBundles text kept → r ≡ state_of 0 []
-    → IsBegun own text terms (record { validator = record { own = own; place = terms.place; ahead = terms.ahead; bundles = kept; verifier = nobody; longest = Some terms.longest; state = r }; step = terms.step })
+    → IsBegun own text terms (record { validator = record { own = own; place = terms.place; ahead = terms.ahead; bundles = kept; verifier = nobody; longest = Some terms.longest; state = r }; step = terms.step; member = None })
 begun own text terms kept nobody r are new = record {
   kept = kept;
   nobody = nobody;
   are = are;
   held = ap (λ s. record { own = own; place = terms.place; ahead = terms.ahead; bundles = kept; verifier = nobody; longest = Some terms.longest; state = s }) new;
   step = refl;
+  member = refl;
 }
+
+-- a call at a moment did this to what it took
+pub handle_called : (now : ℕ) (B : Type 0) (D : Live → Live → Type 0) (status : ℕ) (told : SvidTold) (old mid new : Option Live) (live a b : Live)
+    → IsTaken now old mid live → a ≡ live → new ≡ Some b → D a b → HandleCallsAt now B D status told old new
+handle_called now B D status told old mid new live a b t is put does =
+    does_at a b (t.held ∙ ap Some (sym is)) (ap (λ l. is_jump l now) is ∙ t.near) put does
 
 -- a call at a moment did this to the validator that it took
 pub called : (now : ℕ) (B : Type 0) (D : Kept → Kept → Type 0) (status : ℕ) (told : SvidTold) (old mid new : Option Live) (live a b : Live)
-    → IsTaken now old mid live → a ≡ live → new ≡ Some b → b.step ≡ a.step → D a.validator b.validator → CallsAt now B D status told old new
-called now B D status told old mid new live a b t is put step does =
-    does_at a b (t.held ∙ ap Some (sym is)) (ap (λ l. is_jump l now) is ∙ t.near) put step does
+    → IsTaken now old mid live → a ≡ live → new ≡ Some b → IsRest a b → D a.validator b.validator → CallsAt now B D status told old new
+called now B D status told old mid new live a b t is put rest does = handle_called now B (ToValidator D) status told old mid new live a b t is put (rest, does)
 
 -- a call at a moment took none, and told so
-pub not_called : (now : ℕ) (B : Type 0) (D : Kept → Kept → Type 0) (status given : ℕ) (told : SvidTold) (old new : Option Live)
-    → IsNotTaken now old new given → status ≡ given → told ≡ told_length 0 → B → CallsAt now B D status told old new
+pub not_called : (now : ℕ) (B : Type 0) (D : Live → Live → Type 0) (status given : ℕ) (told : SvidTold) (old new : Option Live)
+    → IsNotTaken now old new given → status ≡ given → told ≡ told_length 0 → B → HandleCallsAt now B D status told old new
 not_called now B D status given told old new (none_held held left number) is length before = closed_at held left (is ∙ number) length before
 not_called now B D status given told old new (too_far_on live held far left number) is length before = jumped live held far left (is ∙ number) length before
 

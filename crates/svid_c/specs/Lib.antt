@@ -3,11 +3,15 @@ pub mod Checked
 pub mod Handle
 pub mod Inputs
 pub mod Joined
+pub mod Journal
 pub mod Live
+pub mod Log
 pub mod Nobody
 pub mod Offers
 pub mod Own
 pub mod Parts
 pub mod Questions
 pub mod Status
+pub mod Trust
+pub mod TrustHandle
 pub mod Written

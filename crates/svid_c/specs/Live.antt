@@ -12,7 +12,9 @@ use Rattle.svid_replay.specs.Sets.{holds, rising}
 use Rattle.svid_replay.specs.Summary.{SummaryData}
 use Rattle.svid_wire.specs.BatchText.{batch_text}
 use Rattle.svid_wire.specs.declared.message.Message.TheVariants.{Summary}
+use Rattle.svid_log.specs.Members.{MemberState}
 use Rattle.svid_check.specs.Changes.{gains, horizon, withdrawal}
+use Rattle.svid_check.specs.Claiming.{IsLooked, is_claimed, or_claimed, unless_claimed}
 use Rattle.svid_check.specs.Setting.{Held, setting_by, with_bundles, with_state}
 use Rattle.svid_check.specs.Verdict.{again_rows, verdict}
 use Rattle.svid_check.specs.declared.accepted.Accepted.{Accepted}
@@ -41,16 +43,32 @@ Kept = Held Nobody
 abbrev pub is_jump : Live → ℕ → Bool
 is_jump live now = nat_lt 0 live.validator.state.moment && nat_lt live.step (now - live.validator.state.moment)
 
--- A call on a handle: where that is closed, this is told, and all is as it was; else the call does to the validator what it is for.
-pub data Calls (IsAsBefore : Type 0) (Does : Kept → Kept → Type 0) (status : ℕ) (told : SvidTold) (old new : Option Live) : Type 0 where
-  closed : old ≡ None → new ≡ None → status ≡ 5 → told ≡ told_length 0 → IsAsBefore → Calls IsAsBefore Does status told old new
-  does : (a b : Live) → old ≡ Some a → new ≡ Some b → b.step ≡ a.step → Does a.validator b.validator → Calls IsAsBefore Does status told old new
+-- the rest of what a handle holds is as it was: how far its clock may go, and where its validator is in a log
+abbrev pub IsRest : Live → Live → Type 0
+IsRest a b = (b.step ≡ a.step) × (b.member ≡ a.member)
 
--- A call at a moment: as `Calls`, but where the moment lies too far past the record's, that is told, and all is as it was.
-pub data CallsAt (now : ℕ) (IsAsBefore : Type 0) (Does : Kept → Kept → Type 0) (status : ℕ) (told : SvidTold) (old new : Option Live) : Type 0 where
-  closed_at : old ≡ None → new ≡ None → status ≡ 5 → told ≡ told_length 0 → IsAsBefore → CallsAt now IsAsBefore Does status told old new
-  jumped : (a : Live) → old ≡ Some a → is_jump a now ≡ true → new ≡ Some a → status ≡ 9 → told ≡ told_length 0 → IsAsBefore → CallsAt now IsAsBefore Does status told old new
-  does_at : (a b : Live) → old ≡ Some a → is_jump a now ≡ false → new ≡ Some b → b.step ≡ a.step → Does a.validator b.validator → CallsAt now IsAsBefore Does status told old new
+-- a call does something to the validator, and the rest is as it was
+abbrev pub ToValidator : (Kept → Kept → Type 0) → Live → Live → Type 0
+ToValidator Does a b = IsRest a b × Does a.validator b.validator
+
+-- A call on a handle: where that is closed, this is told, and all is as it was; else the call does what it is for to what the handle holds.
+pub data HandleCalls (IsAsBefore : Type 0) (Does : Live → Live → Type 0) (status : ℕ) (told : SvidTold) (old new : Option Live) : Type 0 where
+  closed : old ≡ None → new ≡ None → status ≡ 5 → told ≡ told_length 0 → IsAsBefore → HandleCalls IsAsBefore Does status told old new
+  does : (a b : Live) → old ≡ Some a → new ≡ Some b → Does a b → HandleCalls IsAsBefore Does status told old new
+
+-- a call on a handle that does something to the validator alone
+abbrev pub Calls : Type 0 → (Kept → Kept → Type 0) → ℕ → SvidTold → Option Live → Option Live → Type 0
+Calls IsAsBefore Does = HandleCalls IsAsBefore (ToValidator Does)
+
+-- A call at a moment: as `HandleCalls`, but where the moment lies too far past the record's, that is told, and all is as it was.
+pub data HandleCallsAt (now : ℕ) (IsAsBefore : Type 0) (Does : Live → Live → Type 0) (status : ℕ) (told : SvidTold) (old new : Option Live) : Type 0 where
+  closed_at : old ≡ None → new ≡ None → status ≡ 5 → told ≡ told_length 0 → IsAsBefore → HandleCallsAt now IsAsBefore Does status told old new
+  jumped : (a : Live) → old ≡ Some a → is_jump a now ≡ true → new ≡ Some a → status ≡ 9 → told ≡ told_length 0 → IsAsBefore → HandleCallsAt now IsAsBefore Does status told old new
+  does_at : (a b : Live) → old ≡ Some a → is_jump a now ≡ false → new ≡ Some b → Does a b → HandleCallsAt now IsAsBefore Does status told old new
+
+-- a call at a moment that does something to the validator alone
+abbrev pub CallsAt : ℕ → Type 0 → (Kept → Kept → Type 0) → ℕ → SvidTold → Option Live → Option Live → Type 0
+CallsAt now IsAsBefore Does = HandleCallsAt now IsAsBefore (ToValidator Does)
 
 -- what a call at a moment takes out of a handle: the validator that it holds, where the moment lies not too far past the record's
 pub record IsTaken (now : ℕ) (old new : Option Live) (live : Live) : Type 0 where
@@ -70,6 +88,7 @@ pub record IsBegun (own : List (List ℕ)) (bundles : List ℕ) (terms : SvidTer
   pub are : AreBundles bundles kept
   pub held : live.validator ≡ record { own = own; place = terms.place; ahead = terms.ahead; bundles = kept; verifier = nobody; longest = Some terms.longest; state = state_of 0 [] }
   pub step : live.step ≡ terms.step
+  pub member : live.member ≡ None
 
 -- what comes of a closed handle that is opened with these audiences: it holds a validator that begins; or the bundles are refused
 pub data Begins (bundles : List ℕ) (terms : SvidTerms) (status : ℕ) (told : SvidTold) (new : Option Live) (own : List (List ℕ)) : Type 0 where
@@ -81,20 +100,27 @@ pub data Opens (AreOwn : List (List ℕ) → Type 0) (IsOwnFault : OwnFault → 
   was_open : (live : Live) → old ≡ Some live → new ≡ old → status ≡ 6 → told ≡ told_length 0 → Opens AreOwn IsOwnFault bundles terms status told old new
   was_closed : old ≡ None → Named AreOwn IsOwnFault (new ≡ None) (Begins bundles terms status told new) status told → Opens AreOwn IsOwnFault bundles terms status told old new
 
--- the verdict of a validator on a token at a moment, where the answer to just these questions is yes
-abbrev pub verdict_at : Kept → List (List ℕ) → ℕ → List ℕ → Result (Option Accepted) Refusal
-verdict_at held given now token = verdict (setting_by (says_yes given) held) (raised_to held.state now).moment (raised_to held.state now).uses token
+-- a claim beside the record, where there is a log, has this key and is live at a moment
+abbrev pub claimed_by : Option MemberState → ℕ → List ℕ → Bool
+claimed_by None moment key = false
+claimed_by (Some m) moment key = is_claimed m moment key
 
--- What a check does: there is too little room for an ID, and nothing happens; or the record is raised, and the token is refused or
--- accepted, as is its verdict at the raised record. The text of an accepted token's ID is put, its use is told, and the record gains
--- this of it.
-pub data Checks (gained : State → Use → State) (now : ℕ) (given : List (List ℕ)) (token : List ℕ) (status : ℕ) (told : SvidTold) (old_out new_out : List ℕ) (old_use new_use : SvidUse) (old new : Kept) : Type 0 where
-  no_room : length old_out < 2048 → status ≡ 1 → told ≡ told_length 2048 → new_out ≡ old_out → new_use ≡ old_use → new ≡ old → Checks gained now given token status told old_out new_out old_use new_use old new
-  refused : (why : Refusal) → 2048 ≤ length old_out → Refuses why (verdict_at old given now token) → RefusesAs token why
-      → status ≡ refusal_number why → told ≡ told_length 0 → new_out ≡ old_out → new_use ≡ old_use → new ≡ with_state old (raised_to old.state now) → Checks gained now given token status told old_out new_out old_use new_use old new
-  accepted : (a : Accepted) → 2048 ≤ length old_out → verdict_at old given now token ≡ Ok (Some a)
-      → status ≡ 0 → told ≡ told_length (length (id_text a.id)) → HasFirst (id_text a.id) old_out new_out
-      → new_use ≡ use_seen a.used → new ≡ with_state old (gained (raised_to old.state now) a.used) → Checks gained now given token status told old_out new_out old_use new_use old new
+-- the verdict of a validator on a token at a moment, where the answer to just these questions is yes; one that reads a log refuses a token that is claimed there
+abbrev pub verdict_at : Live → List (List ℕ) → ℕ → List ℕ → Result (Option Accepted) Refusal
+verdict_at live given now token =
+    let x = raised_to live.validator.state now in
+    unless_claimed (claimed_by live.member x.moment) (verdict (setting_by (says_yes given) live.validator) x.moment x.uses token)
+
+-- after a look at the claims beside the record, where there is a log
+abbrev pub IsLookedBy : ℕ → Option MemberState → Option MemberState → Type 0
+IsLookedBy moment None new = new ≡ None
+IsLookedBy moment (Some m) new = (n : MemberState) × (new ≡ Some n) × IsLooked moment m n
+
+-- what a judgment or a check at a moment leaves: the record is now r, and of the claims beside it those that have expired may be gone
+pub record IsLeft (now : ℕ) (r : State) (a b : Live) : Type 0 where
+  pub validator : b.validator ≡ with_state a.validator r
+  pub step : b.step ≡ a.step
+  pub member : IsLookedBy (raised_to a.validator.state now).moment a.member b.member
 
 -- a check adds the use that it accepts
 abbrev pub adds : State → Use → State
@@ -103,6 +129,22 @@ adds r used = gains r (Some used)
 -- a judgment adds nothing
 abbrev pub adds_nothing : State → Use → State
 adds_nothing r used = r
+
+-- What a check does: there is too little room for an ID, and nothing happens; or the record is raised, and the token is refused or
+-- accepted, as is its verdict at the raised record. The text of an accepted token's ID is put, its use is told, and the record gains
+-- this of it.
+pub data Checks (gained : State → Use → State) (now : ℕ) (given : List (List ℕ)) (token : List ℕ) (status : ℕ) (told : SvidTold) (old_out new_out : List ℕ) (old_use new_use : SvidUse) (old new : Live) : Type 0 where
+  no_room : length old_out < 2048 → status ≡ 1 → told ≡ told_length 2048 → new_out ≡ old_out → new_use ≡ old_use → new ≡ old → Checks gained now given token status told old_out new_out old_use new_use old new
+  refused : (why : Refusal) → 2048 ≤ length old_out → Refuses why (verdict_at old given now token) → RefusesAs token why
+      → status ≡ refusal_number why → told ≡ told_length 0 → new_out ≡ old_out → new_use ≡ old_use → IsLeft now (raised_to old.validator.state now) old new → Checks gained now given token status told old_out new_out old_use new_use old new
+  accepted : (a : Accepted) → 2048 ≤ length old_out → verdict_at old given now token ≡ Ok (Some a)
+      → status ≡ 0 → told ≡ told_length (length (id_text a.id)) → HasFirst (id_text a.id) old_out new_out
+      → new_use ≡ use_seen a.used → IsLeft now (gained (raised_to old.validator.state now) a.used) old new → Checks gained now given token status told old_out new_out old_use new_use old new
+
+-- What a check by itself does: where the validator reads a log, this is told, and nothing happens; else it is a check that adds the use that it accepts.
+pub data ChecksAlone (now : ℕ) (given : List (List ℕ)) (token : List ℕ) (status : ℕ) (told : SvidTold) (old_out new_out : List ℕ) (old_use new_use : SvidUse) (old new : Live) : Type 0 where
+  reads_log : (m : MemberState) → old.member ≡ Some m → status ≡ 10 → told ≡ told_length 0 → new_out ≡ old_out → new_use ≡ old_use → new ≡ old → ChecksAlone now given token status told old_out new_out old_use new_use old new
+  alone : old.member ≡ None → Checks adds now given token status told old_out new_out old_use new_use old new → ChecksAlone now given token status told old_out new_out old_use new_use old new
 
 -- what the record gains of a token that is accepted
 abbrev pub gained_by : Gain → State → Use → State
@@ -115,10 +157,11 @@ number_if_refused None = 0
 number_if_refused (Some why) = refusal_number why
 
 -- what judging an accepted token again does: the record is raised, and the answer is what refuses the token there, if something does
-pub record JudgesAgain (now : ℕ) (key : List ℕ) (exp status : ℕ) (told : SvidTold) (old new : Kept) : Type 0 where
-  pub answer : status ≡ number_if_refused (first_row (again_rows (raised_to old.state now).moment (raised_to old.state now).uses key exp))
+pub record JudgesAgain (now : ℕ) (key : List ℕ) (exp status : ℕ) (told : SvidTold) (old new : Live) : Type 0 where
+  pub answer : let x = raised_to old.validator.state now in
+      status ≡ number_if_refused (or_claimed (claimed_by old.member x.moment key) (first_row (again_rows x.moment x.uses key exp)))
   pub length : told ≡ told_length 0
-  pub raised : new ≡ with_state old (raised_to old.state now)
+  pub left : IsLeft now (raised_to old.validator.state now) old new
 
 -- what renewing the bundles does: other bundles stand in the place of those that there were; or they are refused, and nothing happens
 pub data Renews (text : List ℕ) (status : ℕ) (told : SvidTold) (old new : Kept) : Type 0 where

@@ -3,7 +3,7 @@ ghost use Rattle.std.specs.Prelude.{◌≡◌, Option, IsSome, None, Some};
 ghost use Rattle.svid_c.specs.declared.live.Live.{Live};
 ghost use Rattle.svid_c.specs.Handle.{handle_owns, live_coded};
 
-mod parts;
+pub(crate) mod parts;
 
 use crate::live::Live;
 use parts::Parts;

@@ -3,6 +3,7 @@ ghost use Rattle.svid_c.specs.Live.{is_jump};
 
 use svid_check::Validator;
 use svid_keys::{JwtKey, Verifier};
+use svid_log::Member;
 use svid_replay::RunUses;
 use svid_shards::ShardedUses;
 use svid_token::Alg;
@@ -24,11 +25,12 @@ impl Verifier for Nobody {
 /// The store of the uses of a validator that C keeps.
 pub(crate) type Store = ShardedUses<RunUses>;
 
-/// What a handle of C holds: a validator, and how far its clock may go in one step.
+/// What a handle of C holds: a validator, how far its clock may go in one step, and where it is in a log, if it reads one.
 #[derive(Drop)]
 pub struct Live {
     pub(crate) validator: Validator<Nobody, Store>,
     pub(crate) step: u64,
+    pub(crate) member: Option<Member<RunUses>>,
 }
 
 impl Live {

@@ -1,5 +1,9 @@
 ghost use Rattle.std.specs.Prelude.{◌≡◌};
-ghost use Rattle.svid_c.specs.Live.{CallsAt, JudgesAgain};
+ghost use Rattle.svid_token.specs.Rows.{first_row};
+ghost use Rattle.svid_replay.specs.Buckets.{raised_to};
+ghost use Rattle.svid_check.specs.Claiming.{or_claimed};
+ghost use Rattle.svid_check.specs.Verdict.{again_rows};
+ghost use Rattle.svid_c.specs.Live.{HandleCallsAt, IsLeft, JudgesAgain, claimed_by};
 
 use crate::live::Live;
 use crate::refusal::refusal_number;
@@ -7,14 +11,26 @@ use crate::told::{SvidTold, told_length};
 use crate::validator::{SvidValidator, only};
 use crate::withdraw::SvidKey;
 use std::alloc::Global;
+use svid_token::Refusal;
+
+// What refuses an accepted token at a later moment.
+fn refusal_in_log(live: &mut Live, now: u64, key: &[u8; 32], exp: u64) -> Option<Refusal>
+    ensures answer { let x = raised_to live.old.validator.state now in
+        result ≡ or_claimed (claimed_by live.old.member x.moment key.now) (first_row (again_rows x.moment x.uses key.now exp)) }
+    ensures left { IsLeft now (raised_to live.old.validator.state now) live.old live.new }
+{
+    match &mut live.member {
+        Some(member) => live.validator.judge_claim_again(member, now, key, exp),
+        None => live.validator.judge_again(now, key, exp),
+    }
+}
 
 // Judges an accepted token again.
 fn judge_again(live: &mut Live, now: u64, key: &[u8; 32], exp: u64, told: &mut SvidTold) -> u32
-    ensures does { JudgesAgain now key.now exp result told.new live.old.validator live.new.validator }
-    ensures step { live.new.step ≡ live.old.step }
+    ensures { JudgesAgain now key.now exp result told.new live.old live.new }
 {
     *told = told_length(0);
-    match live.validator.judge_again(now, key, exp) {
+    match refusal_in_log(live, now, key, exp) {
         None => 0,
         Some(refusal) => refusal_number(refusal),
     }
@@ -36,7 +52,7 @@ pub extern "C" fn svid_validator_judge_again(
     exp: u64,
     told: &mut SvidTold,
 ) -> u32
-    ensures { CallsAt now (Unit {0}) (JudgesAgain now key.now.bytes exp result told.new) result told.new v.old.handle.live v.new.handle.live }
+    ensures { HandleCallsAt now (Unit {0}) (JudgesAgain now key.now.bytes exp result told.new) result told.new v.old.handle.live v.new.handle.live }
 {
     let mut live = match v.take_at(alloc, now) {
         Ok(live) => live,

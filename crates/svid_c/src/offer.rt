@@ -20,7 +20,7 @@ use svid_keys::{Candidates, JwtKey, question};
 use svid_token::Refusal;
 
 // Adds a field after its length.
-fn push_field(row: &mut Vec<u8>, bytes: &[u8]) -> Result<(), AllocError>
+pub(crate) fn push_field(row: &mut Vec<u8>, bytes: &[u8]) -> Result<(), AllocError>
     requires { length bytes.now < 2 ^ 32 }
     ensures { OnOk result (row.new.items ≡ row.old.items ++ field bytes.now) }
 {
@@ -67,7 +67,7 @@ fn rows_of(
 }
 
 // Puts rows, and tells whether there are more.
-fn put_rows(rows: &[u8], more: bool, out: &mut [u8], told: &mut SvidTold) -> u32
+pub(crate) fn put_rows(rows: &[u8], more: bool, out: &mut [u8], told: &mut SvidTold) -> u32
     ensures put { IsPut rows.now result out.old out.new }
     ensures told { told.new ≡ told_rows (length rows.now) more }
 {
@@ -77,7 +77,7 @@ fn put_rows(rows: &[u8], more: bool, out: &mut [u8], told: &mut SvidTold) -> u32
 }
 
 // Tells why a token is refused.
-fn refuse_token(refusal: Refusal, told: &mut SvidTold) -> u32
+pub(crate) fn refuse_token(refusal: Refusal, told: &mut SvidTold) -> u32
     ensures number { result ≡ refusal_number refusal }
     ensures told { told.new ≡ told_length 0 }
 {

@@ -55,6 +55,7 @@ fn begin(
             Some(terms.longest),
         ),
         step: terms.step,
+        member: None,
     })
 }
 

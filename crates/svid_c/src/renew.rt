@@ -1,5 +1,5 @@
 ghost use Rattle.std.specs.Prelude.{◌≡◌};
-ghost use Rattle.svid_c.specs.Live.{Calls, CallsAt, Renews, Ticks};
+ghost use Rattle.svid_c.specs.Live.{Calls, CallsAt, IsRest, Renews, Ticks};
 
 use crate::inputs::bundles_of;
 use crate::live::Live;
@@ -11,7 +11,7 @@ use std::alloc::Global;
 // Reads other bundles, and puts them in the place of those that there are.
 fn renew(alloc: Global, live: &mut Live, bundles: &[u8], told: &mut SvidTold) -> u32
     ensures does { Renews bundles.now result told.new live.old.validator live.new.validator }
-    ensures step { live.new.step ≡ live.old.step }
+    ensures rest { IsRest live.old live.new }
 {
     match bundles_of(alloc, bundles) {
         Ok(bundles) => {
@@ -44,7 +44,7 @@ pub extern "C" fn svid_validator_bundles(
 
 fn tick(live: &mut Live, now: u64, told: &mut SvidTold) -> u32
     ensures does { Ticks now result told.new live.old.validator live.new.validator }
-    ensures step { live.new.step ≡ live.old.step }
+    ensures rest { IsRest live.old live.new }
 {
     live.validator.tick(now);
     *told = told_length(0);

@@ -1,7 +1,7 @@
 ghost use Rattle.std.specs.Prelude.{◌≡◌, IfOk};
 ghost use Rattle.std.specs.List.{flat_map};
 ghost use Rattle.svid_wire.specs.BatchText.{batch_text};
-ghost use Rattle.svid_c.specs.Live.{CallsAt, Replies};
+ghost use Rattle.svid_c.specs.Live.{CallsAt, IsRest, Replies};
 
 use crate::inputs::summary_in;
 use crate::live::Live;
@@ -35,7 +35,7 @@ fn reply(
     told: &mut SvidTold,
 ) -> u32
     ensures does { Replies now summary.now result told.new out.old out.new live.old.validator live.new.validator }
-    ensures step { live.new.step ≡ live.old.step }
+    ensures rest { IsRest live.old live.new }
 {
     let asked = match summary_in(alloc, summary) {
         Ok(asked) => asked,

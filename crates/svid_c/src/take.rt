@@ -1,5 +1,5 @@
 ghost use Rattle.std.specs.Prelude.{◌≡◌};
-ghost use Rattle.svid_c.specs.Live.{CallsAt, Takes};
+ghost use Rattle.svid_c.specs.Live.{CallsAt, IsRest, Takes};
 
 use crate::inputs::join_lent;
 use crate::live::Live;
@@ -13,7 +13,7 @@ use svid_replay::{Record, RunUses};
 // Takes what messages tell.
 fn take(alloc: Global, live: &mut Live, now: u64, messages: &[u8], told: &mut SvidTold) -> u32
     ensures does { Takes now messages.now result told.new live.old.validator live.new.validator }
-    ensures step { live.new.step ≡ live.old.step }
+    ensures rest { IsRest live.old live.new }
 {
     let mut record = Record::new(RunUses::without_keys(alloc));
     if let Err(fault) = join_lent(alloc, messages, 1, &mut record) {

@@ -19,7 +19,8 @@ pub struct SvidTold {
     /// The place in that message, in bytes from its first; of bundles, the place of the refused name among all
     /// names in rising order of their bytes, from 0; of a table, the number of the line, counted from 1.
     pub place: usize,
-    /// Of [`svid_validator_ask`](crate::offer::svid_validator_ask), 1 where more keys may have signed the token than it lists, and else 0.
+    /// Of [`svid_validator_ask`](crate::offer::svid_validator_ask) and [`svid_bundles_ask`](crate::bundles_ask::svid_bundles_ask), 1 where
+    /// more keys may have signed the token than it lists, and else 0.
     pub more: usize,
 }
 
@@ -90,7 +91,7 @@ fn bundles_place(fault: BundleFault) -> usize
     }
 }
 
-fn reason_number(reason: Reason) -> u32
+pub(crate) fn reason_number(reason: Reason) -> u32
     ensures { result ≡ reason_number reason }
 {
     match reason {

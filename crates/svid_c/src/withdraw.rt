@@ -1,5 +1,5 @@
 ghost use Rattle.std.specs.Prelude.{◌≡◌};
-ghost use Rattle.svid_c.specs.Live.{CallsAt, Withdraws};
+ghost use Rattle.svid_c.specs.Live.{CallsAt, IsRest, Withdraws};
 
 use crate::check::{SvidUse, use_seen};
 use crate::live::Live;
@@ -26,7 +26,7 @@ fn withdraw(
     told: &mut SvidTold,
 ) -> u32
     ensures does { Withdraws now key exp result told.new used.old used.new live.old.validator live.new.validator }
-    ensures step { live.new.step ≡ live.old.step }
+    ensures rest { IsRest live.old live.new }
 {
     *told = told_length(0);
     match live.validator.withdraw(now, key, exp) {

@@ -2,6 +2,7 @@ pub mod Alone
 pub mod Bounds
 pub mod Calls
 pub mod Changes
+pub mod Claiming
 pub mod Events
 pub mod Forgetful
 pub mod Headline

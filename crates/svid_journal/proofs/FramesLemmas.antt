@@ -1,9 +1,10 @@
 -- A frame is known by its bytes.
-use Rattle.std.proofs.Common.{◌≡◌, ◌≢◌, ℕ, ◌+◌, ◌-◌, ◌*◌, ◌/◌, ◌%◌, ◌^◌, ◌<◌, List, [], ◌∷◌, ◌++◌, length, take, drop, replicate, refl, sym, ◌∙◌, ap, arith, append_assoc, length-append}
+use Rattle.std.proofs.Common.{◌≡◌, ◌≢◌, ℕ, ◌+◌, ◌-◌, ◌*◌, ◌/◌, ◌%◌, ◌^◌, ◌<◌, List, [], ◌∷◌, ◌++◌, length, take, drop, replicate, refl, sym, ◌∙◌, ap, arith, append_assoc, length-append, drop-drop}
 use Rattle.std.specs.List.{AllByRecursion}
 use Rattle.std.specs.Int.{to_be_bytes, from_be_bytes, w32, w64}
 use Rattle.std.proofs.lemmas.List.{take_at, take_all, drop_at, length-take, length-replicate, append-nil, take-append-drop}
 use Rattle.std.proofs.lemmas.Nat.{from_be_bytes-to_be_bytes_4, from_be_bytes-to_be_bytes_8}
+use Rattle.std.proofs.Math.Seq.{take-append_seam, drop-append-add}
 use Rattle.sha2.specs.Sha256.{sha256}
 use Rattle.sha2.proofs.Facts256.{length-sha256}
 use Rattle.svid_journal.specs.Frames.{tag_of, numbers_of, sealed, head_of, gap, filler, frame_len, frame_in, frame_of, frames_of, IsFormat, IsPayload, BeginsWithNone}
@@ -233,3 +234,27 @@ each_push (p ∷ ps) payload each bears = (each.0, each_push ps payload each.1 b
 
 pub longer : (title : List ℕ) (payloads : List (List ℕ)) (payload : List ℕ) → length (frames_of title 1 (payloads ++ payload ∷ [])) ≡ length (frames_of title 1 payloads) + length (frame_of title (1 + length payloads) payload)
 longer title payloads payload = ap length (frames_of-push title 1 payloads payload) ∙ length-append (frames_of title 1 payloads) (frame_of title (1 + length payloads) payload)
+
+-- a piece that is put behind what is done
+put_behind : (done piece rest old new : List ℕ) (at : ℕ) → at ≡ length done → old ≡ done ++ rest → new ≡ take at old ++ (piece ++ drop (at + length piece) old) → new ≡ (done ++ piece) ++ drop (length piece) rest
+put_behind done piece rest old new at place is put =
+    let front : take at old ≡ done = (λ i. take (place i) (is i)) ∙ take-append_seam done rest in
+    let back : drop (at + length piece) old ≡ drop (length piece) rest = (λ i. drop (place i + length piece) (is i)) ∙ drop-append-add done rest (length piece) in
+    put ∙ (λ i. front i ++ (piece ++ back i)) ∙ sym (append_assoc done piece (drop (length piece) rest))
+
+-- a head, a payload and filler that are put one behind the other are a frame
+pub frame_put : (v : ℕ) (title : List ℕ) (number : ℕ) (payload head filled room one two three : List ℕ) (at : ℕ) → head ≡ head_of v title number payload → filled ≡ filler (gap (length payload)) → at ≡ 32 + length payload
+    → one ≡ take 0 room ++ (head ++ drop (0 + length head) room) → two ≡ take 32 one ++ (payload ++ drop (32 + length payload) one) → three ≡ take at two ++ (filled ++ drop (at + length filled) two)
+    → three ≡ frame_in v title number payload ++ drop (frame_len (length payload)) room
+unfolding frame_in
+frame_put v title number payload head filled room one two three at heads fills_up place first second third =
+    let long : length head ≡ 32 = ap length heads ∙ length-head_of v title number payload in
+    let gaps : length filled ≡ gap (length payload) = ap length fills_up ∙ length-replicate (gap (length payload)) 255 in
+    let none : 0 + length head ≡ length head = omega arith in
+    let first_done : one ≡ head ++ drop (length head) room = first ∙ (λ i. head ++ drop (none i) room) in
+    let second_done = put_behind head payload (drop (length head) room) one two 32 (sym long) first_done second in
+    let third_done = put_behind (head ++ payload) filled (drop (length payload) (drop (length head) room)) two three at (omega (arith, length-append head payload)) second_done third in
+    let rests : drop (length filled) (drop (length payload) (drop (length head) room)) ≡ drop (32 + (length payload + gap (length payload))) room =
+    (ap (drop (length filled)) (drop-drop (length payload) (length head) room) ∙ drop-drop (length filled) (length head + length payload) room) ∙ ap (λ n. drop n room) (omega arith) in
+    let frames : (head ++ payload) ++ filled ≡ head_of v title number payload ++ (payload ++ filler (gap (length payload))) = append_assoc head payload filled ∙ (λ i. heads i ++ (payload ++ fills_up i)) in
+    third_done ∙ (λ i. frames i ++ rests i)

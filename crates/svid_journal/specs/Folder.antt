@@ -5,7 +5,7 @@ use Rattle.svid_journal.specs.declared.step.Step.TheVariants.{Idle, Starting, En
 use Rattle.svid_journal.specs.declared.call.Call.{Call}
 use Rattle.svid_journal.specs.declared.call.Call.TheVariants.{Nothing, CreateJournal, SyncFolder, WriteSnapshot, SyncSnapshot, RenameSnapshot, RemoveJournal}
 use Rattle.svid_journal.specs.declared.fault.Fault.{Fault}
-use Rattle.svid_journal.specs.declared.fault.Fault.TheVariants.{Unfit, Ended, NotGrowing, Busy, NothingDue, Flying, NotFlying, NotWriting, NoMark, TooLong, Full, NoMemory}
+use Rattle.svid_journal.specs.declared.fault.Fault.TheVariants.{Unfit, Ended, NotGrowing, Busy, NothingDue, Flying, NotFlying, NotWriting, NoMark, TooLong, Full, TooShort}
 use Rattle.svid_journal.specs.declared.folder.Folder.{Folder}
 use Rattle.svid_journal.specs.declared.words.Words.{Words}
 use Rattle.svid_journal.specs.declared.title.File.TheVariants.{Journal, Snapshot}
@@ -164,9 +164,10 @@ piece_fault f len = first_row (ready_rows f ((NotWriting, not (is_writing f.step
 abbrev pub open_fault : ℕ → ℕ → Option Fault
 open_fault oldest newest = first_row ((Full, nat_le (2 ^ 62) (newest + 1)) ∷ (Unfit, nat_lt (newest + 1) oldest) ∷ [])
 
--- a fault is the one that is due, or memory ran out
-abbrev pub RefusedBy : Option Fault → Fault → Type 0
-RefusedBy due fault = (due ≡ Some fault) ⊎ ((due ≡ None) × (fault ≡ NoMemory))
+-- why no frame of so many bytes of payload is put into so much room: the fault that is due, or else the room is too short
+abbrev pub room_fault : Option Fault → ℕ → ℕ → Option Fault
+room_fault (Some fault) len room = Some fault
+room_fault None len room = first_row ((TooShort (frame_len len), nat_lt room (frame_len len)) ∷ [])
 
 -- the call that is due, or why none is told
 abbrev pub due : Folder → Option Fault → Result Call Fault

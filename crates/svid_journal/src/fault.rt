@@ -1,7 +1,3 @@
-ghost use Rattle.std.specs.Prelude.{◌≡◌};
-ghost use Rattle.svid_journal.specs.declared.fault.Fault.TheVariants.{NoMemory};
-
-use std::alloc::AllocError;
 use thiserror::Error;
 
 /// Why a folder takes no call. Its numbers are as they were.
@@ -40,15 +36,7 @@ pub enum Fault {
     /// A number has come to its end.
     #[error("a number of the folder has come to its end")]
     Full,
-    /// Out of memory.
-    #[error("out of memory")]
-    NoMemory,
-}
-
-impl From<AllocError> for Fault {
-    ghost from_gives = { λ _ e. e ≡ NoMemory };
-
-    fn from(_error: AllocError) -> Fault {
-        Fault::NoMemory
-    }
+    /// The room is too short: the frame takes so many bytes.
+    #[error("the room is too short: the frame takes {0} bytes")]
+    TooShort(usize),
 }

@@ -1,11 +1,11 @@
-ghost use Rattle.std.specs.Prelude.{◌≡◌, ◌+◌, ◌<◌, ◌≤◌, ◌^◌, ◌++◌, None, Some, true, length, IfOk, IfErr, IfNone, OnOk, OnErr};
+ghost use Rattle.std.specs.Prelude.{◌≡◌, ◌+◌, ◌<◌, ◌≤◌, ◌^◌, ◌++◌, None, Some, true, length, drop, IfOk, IfErr, IfNone, OnOk, OnErr};
 ghost use Rattle.svid_journal.specs.Titles.{bytes_of};
-ghost use Rattle.svid_journal.specs.Frames.{frame_of};
-ghost use Rattle.svid_journal.specs.Folder.{IsSmall, RefusedBy, is_fit, ready_fault, begin_fault, answer_fault, put_fault, landed_fault, piece_fault, open_fault, opened, begun, gone_on, given_up, answered, removed, due, flown, landed, lost, ended, pieced, journal_title, snapshot_title};
+ghost use Rattle.svid_journal.specs.Frames.{frame_of, frame_len};
+ghost use Rattle.svid_journal.specs.Folder.{IsSmall, is_fit, ready_fault, begin_fault, answer_fault, put_fault, landed_fault, piece_fault, room_fault, open_fault, opened, begun, gone_on, given_up, answered, removed, due, flown, landed, lost, ended, pieced, journal_title, snapshot_title};
 
 use crate::call::Call;
 use crate::fault::Fault;
-use crate::frame::{MOST, MOST_PAYLOAD, frame_len, push_frame};
+use crate::frame::{MOST, MOST_PAYLOAD, frame_len, put_frame};
 use crate::step::Step;
 use crate::title::{File, Title};
 
@@ -285,26 +285,30 @@ impl Folder {
         Ok(())
     }
 
-    /// Appends to `out` the frame of a payload, and tells at which place of the journal that grows it is to be written.
+    /// Puts the frame of a payload first into `room`, and tells how long it is. It is to be written at `end` of the journal `newest`.
     ///
     /// An empty payload is a mark. The next frame is handed out once this one is synced: [`Folder::synced`], [`Folder::unwritten`] and
-    /// [`Folder::failed`] tell what became of it. On a fault nothing is appended.
-    pub fn put(&mut self, out: &mut Vec<u8>, folder: [u8; 16], payload: &[u8]) -> Result<u64, Fault>
-        ensures ok { IfOk result (λ at. (put_fault self.old (length payload.now) ≡ None) × (at ≡ self.old.end) × (self.new ≡ flown self.old (length payload.now))) }
-        ensures frame { OnOk result (out.new.items ≡ out.old.items ++ frame_of (bytes_of (journal_title self.old folder)) (1 + self.old.count) payload.now) }
-        ensures err { IfErr result (λ e. RefusedBy (put_fault self.old (length payload.now)) e × (self.new ≡ self.old)) }
-        ensures none { OnErr result (out.new.items ≡ out.old.items) }
+    /// [`Folder::failed`] tell what became of it. On a fault the room stays as it was. It takes no memory.
+    pub fn put(&mut self, room: &mut [u8], folder: [u8; 16], payload: &[u8]) -> Result<usize, Fault>
+        ensures ok { IfOk result (λ len. (room_fault (put_fault self.old (length payload.now)) (length payload.now) (length room.old) ≡ None) × (len ≡ frame_len (length payload.now)) × (self.new ≡ flown self.old (length payload.now))) }
+        ensures frame { OnOk result (room.new ≡ frame_of (bytes_of (journal_title self.old folder)) (1 + self.old.count) payload.now ++ drop (frame_len (length payload.now)) room.old) }
+        ensures err { IfErr result (λ e. (room_fault (put_fault self.old (length payload.now)) (length payload.now) (length room.old) ≡ Some e) × (self.new ≡ self.old)) }
+        ensures none { OnErr result (room.new ≡ room.old) }
     {
         if let Some(fault) = self.put_fault(payload.len()) {
             return Err(fault);
+        }
+        let len = frame_len(payload.len());
+        if room.len() < len {
+            return Err(Fault::TooShort(len));
         }
         let title = Title {
             file: File::Journal(self.newest),
             folder,
         };
-        push_frame(out, &title, 1 + self.count, payload)?;
-        self.flying = frame_len(payload.len()) as u64;
-        Ok(self.end)
+        put_frame(room, &title, 1 + self.count, payload);
+        self.flying = len as u64;
+        Ok(len)
     }
 
     /// Tells that the frame was written and synced: it is acknowledged.
@@ -345,31 +349,35 @@ impl Folder {
         Ok(())
     }
 
-    /// Appends to `out` the frame of the next piece of a snapshot, which is to be written behind the ones before it. An empty payload is
-    /// the mark that ends the snapshot. On a fault nothing is appended.
+    /// Puts the frame of the next piece of a snapshot first into `room`, and tells how long it is. It is to be written behind the ones
+    /// before it. An empty payload is the mark that ends the snapshot. On a fault the room stays as it was. It takes no memory.
     pub fn piece(
         &mut self,
-        out: &mut Vec<u8>,
+        room: &mut [u8],
         folder: [u8; 16],
         payload: &[u8],
-    ) -> Result<(), Fault>
-        ensures ok { OnOk result ((piece_fault self.old (length payload.now) ≡ None) × (self.new ≡ pieced self.old (length payload.now))) }
-        ensures frame { OnOk result (out.new.items ≡ out.old.items ++ frame_of (bytes_of (snapshot_title folder)) (1 + self.old.pieces) payload.now) }
-        ensures err { IfErr result (λ e. RefusedBy (piece_fault self.old (length payload.now)) e × (self.new ≡ self.old)) }
-        ensures none { OnErr result (out.new.items ≡ out.old.items) }
+    ) -> Result<usize, Fault>
+        ensures ok { IfOk result (λ len. (room_fault (piece_fault self.old (length payload.now)) (length payload.now) (length room.old) ≡ None) × (len ≡ frame_len (length payload.now)) × (self.new ≡ pieced self.old (length payload.now))) }
+        ensures frame { OnOk result (room.new ≡ frame_of (bytes_of (snapshot_title folder)) (1 + self.old.pieces) payload.now ++ drop (frame_len (length payload.now)) room.old) }
+        ensures err { IfErr result (λ e. (room_fault (piece_fault self.old (length payload.now)) (length payload.now) (length room.old) ≡ Some e) × (self.new ≡ self.old)) }
+        ensures none { OnErr result (room.new ≡ room.old) }
     {
         if let Some(fault) = self.piece_fault(payload.len()) {
             return Err(fault);
+        }
+        let len = frame_len(payload.len());
+        if room.len() < len {
+            return Err(Fault::TooShort(len));
         }
         let title = Title {
             file: File::Snapshot,
             folder,
         };
-        push_frame(out, &title, 1 + self.pieces, payload)?;
+        put_frame(room, &title, 1 + self.pieces, payload);
         self.pieces += 1;
         if payload.is_empty() {
             self.step = Step::Ending;
         }
-        Ok(())
+        Ok(len)
     }
 }

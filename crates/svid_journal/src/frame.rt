@@ -1,4 +1,4 @@
-ghost use Rattle.std.specs.Prelude.{◌≡◌, ◌≢◌, ◌+◌, ◌*◌, ◌/◌, ◌%◌, ◌<◌, ◌≤◌, ◌^◌, ◌++◌, [], ◌∷◌, List, ℕ, length, take, drop, MatchOption, IfSome, IfNone, OnOk, OnErr, vec_len};
+ghost use Rattle.std.specs.Prelude.{◌≡◌, ◌≢◌, ◌+◌, ◌*◌, ◌/◌, ◌%◌, ◌<◌, ◌≤◌, ◌^◌, ◌++◌, [], ◌∷◌, List, ℕ, length, take, drop, MatchOption, IfSome, IfNone};
 ghost use Rattle.std.specs.Int.{to_be_bytes, w32, w64};
 ghost use Rattle.sha2.specs.Sha256.{sha256};
 ghost use Rattle.svid_journal.specs.Titles.{bytes_of};
@@ -6,7 +6,6 @@ ghost use Rattle.svid_journal.specs.Frames.{numbers_of, sealed, head_of, gap, fi
 
 use crate::title::Title;
 use sha2::{Digest, Sha256};
-use std::alloc::AllocError;
 
 /// The format of the frames that this crate writes.
 pub const FORMAT: u8 = 1;
@@ -89,40 +88,24 @@ fn filler(count: usize) -> &'static [u8]
     FILLER.split_at(count).0
 }
 
-// Appends the frame of a payload. Out of memory, it may have appended a front of it.
-fn push_parts(
-    out: &mut Vec<u8>,
-    title: &Title,
-    number: u64,
-    payload: &[u8],
-) -> Result<(), AllocError>
-    requires { IsPayload payload.now }
-    ensures ok { OnOk result (out.new.items ≡ out.old.items ++ frame_of (bytes_of title.now) number payload.now) }
-    ensures front { take (vec_len out.old) out.new.items ≡ out.old.items }
+// Puts a piece at a place of a room.
+fn put_at(room: &mut [u8], at: usize, piece: &[u8])
+    requires { at + length piece.now ≤ length room.old }
+    ensures put { room.new ≡ take at room.old ++ (piece.now ++ drop (at + length piece.now) room.old) }
+    ensures long { length room.new ≡ length room.old }
 {
-    out.extend_from_slice(&head(FORMAT, title, number, payload))?;
-    out.extend_from_slice(payload)?;
-    out.extend_from_slice(filler(gap(payload.len())))?;
-    Ok(())
+    room[at..at + piece.len()].copy_from_slice(piece);
 }
 
-// Appends the frame of a payload, or out of memory nothing.
-pub(crate) fn push_frame(
-    out: &mut Vec<u8>,
-    title: &Title,
-    number: u64,
-    payload: &[u8],
-) -> Result<(), AllocError>
-    requires { IsPayload payload.now }
-    ensures ok { OnOk result (out.new.items ≡ out.old.items ++ frame_of (bytes_of title.now) number payload.now) }
-    ensures err { OnErr result (out.new.items ≡ out.old.items) }
+// Puts the frame of a payload first into a room that is long enough.
+pub(crate) fn put_frame(room: &mut [u8], title: &Title, number: u64, payload: &[u8])
+    requires bears { IsPayload payload.now }
+    requires long { frame_len (length payload.now) ≤ length room.old }
+    ensures { room.new ≡ frame_of (bytes_of title.now) number payload.now ++ drop (frame_len (length payload.now)) room.old }
 {
-    let before = out.len();
-    let pushed = push_parts(out, title, number, payload);
-    if pushed.is_err() {
-        out.truncate(before);
-    }
-    pushed
+    put_at(room, 0, &head(FORMAT, title, number, payload));
+    put_at(room, 32, payload);
+    put_at(room, 32 + payload.len(), filler(gap(payload.len())));
 }
 
 pub(crate) fn split_head(bytes: &[u8]) -> Option<(&[u8], &[u8])>

@@ -1,7 +1,4 @@
-ghost use Rattle.std.specs.Prelude.{◌<◌};
-
 use super::*;
-use std::alloc::Global;
 use std::test::*;
 
 const FOLDER: [u8; 16] = [7; 16];
@@ -69,17 +66,30 @@ fn tells_what_stands_in_a_file(rt: HostRuntime) -> Result<(), Fail> {
     Ok(())
 }
 
+// A room in front of a place, and from there on.
+fn parted(room: &[u8], at: usize) -> (&[u8], &[u8]) {
+    room.split_at(room.len().min(at))
+}
+
 #[test]
 fn hands_out_frames(rt: HostRuntime) -> Result<(), Fail> {
     let mut folder = Folder::open(1, 2)?;
     folder.answer(true)?;
     folder.answer(true)?;
-    let mut file = Vec::new(rt.alloc());
-    assert_eq!(rt; folder.put(&mut file, FOLDER, b"hi")?, 0);
+    let mut small = [9; 63];
+    assert_eq!(rt;
+        folder.put(&mut small, FOLDER, b"hi"),
+        Err(Fault::TooShort(64))
+    );
+    let mut memory = [9; 70];
+    let room: &mut [u8] = &mut memory;
+    assert_eq!(rt; folder.put(room, FOLDER, b"hi")?, 64);
+    assert_eq!(rt; parted(room, 64), (&FILE[..64], [9; 6].as_slice()));
     folder.synced()?;
-    assert_eq!(rt; folder.put(&mut file, FOLDER, b"")?, 64);
+    assert_eq!(rt; folder.put(room, FOLDER, b"")?, 32);
+    assert_eq!(rt; parted(room, 32).0, &FILE[64..]);
     folder.synced()?;
-    assert_eq!(rt; file.as_slice(), FILE.as_slice());
+    assert_eq!(rt; (folder.count, folder.end), (2, 96));
     Ok(())
 }
 
@@ -97,9 +107,11 @@ fn makes_a_snapshot_and_removes_old_journals(rt: HostRuntime) -> Result<(), Fail
         folder.answer(true)?;
     }
     calls.push(folder.due()?)?;
-    let mut out = Vec::new(rt.alloc());
-    folder.piece(&mut out, FOLDER, b"hi")?;
-    folder.piece(&mut out, FOLDER, b"")?;
+    let mut memory = [0; 96];
+    let out: &mut [u8] = &mut memory;
+    let (first, mark) = out.split_at_mut(64);
+    folder.piece(first, FOLDER, b"hi")?;
+    folder.piece(mark, FOLDER, b"")?;
     folder.answer(true)?;
     for _ in 0..6 {
         calls.push(folder.due()?)?;
@@ -124,41 +136,7 @@ fn makes_a_snapshot_and_removes_old_journals(rt: HostRuntime) -> Result<(), Fail
         ]
         .as_slice()
     );
-    assert_eq!(rt; stop(&SNAPSHOT, out.as_slice(), 2), (96, Next::End));
+    assert_eq!(rt; stop(&SNAPSHOT, out, 2), (96, Next::End));
     assert_eq!(rt; Words::of(&folder).folder(), Some(folder));
-    Ok(())
-}
-
-// Under tools/failmalloc.c a request of these many bytes has the nth allocation that follows refused, and one of `ASK` bytes is given
-// exactly where one was. No allocator gives so much, so without it both are refused.
-const ARM: usize = 4_611_686_018_427_387_904;
-
-const ASK: usize = 6_917_529_027_641_081_856;
-
-fn refuse(alloc: Global, nth: usize)
-    requires { nth < 4294967296 }
-{
-    let _ = Vec::<u8>::with_capacity(alloc, ARM + nth);
-}
-
-#[test]
-fn answers_that_memory_is_refused(rt: HostRuntime) -> Result<(), Fail> {
-    let mut folder = Folder::open(1, 0)?;
-    folder.answer(true)?;
-    folder.answer(true)?;
-    for nth in 1..100usize {
-        let before = folder;
-        let mut out = Vec::new(rt.alloc());
-        refuse(rt.alloc(), nth);
-        let put = folder.put(&mut out, FOLDER, b"hi");
-        let was_refused = Vec::<u8>::with_capacity(rt.alloc(), ASK).is_ok();
-        refuse(rt.alloc(), 0);
-        if !was_refused {
-            assert_eq!(rt; put, Ok(0));
-            break;
-        }
-        assert_eq!(rt; put, Err(Fault::NoMemory));
-        assert_eq!(rt; (out.len(), folder), (0, before));
-    }
     Ok(())
 }

@@ -19,15 +19,16 @@ use svid_script_tokens::keys::say_candidates;
 use svid_script_tokens::{Trust, token_refused};
 use svid_token::Refusal;
 
-// What is asked of a validator by another verifier than its own.
+/// What is asked of a validator by another verifier than its own.
 #[derive(Drop)]
-struct Asked {
-    now: u64,
-    token: Vec<u8>,
-    verifier: AnyVerifier,
+pub struct Asked {
+    pub now: u64,
+    pub token: Vec<u8>,
+    pub verifier: AnyVerifier,
 }
 
-fn asked_in(env: &Env, words: &[&str]) -> Result<Asked, Stop> {
+/// The words behind the first two are `NOW TOKEN VERIFIER`.
+pub fn asked_in(env: &Env, words: &[&str]) -> Result<Asked, Stop> {
     let now = number(word(words, 2))?;
     let token = bytes(env, word(words, 3))?;
     match verifier_if_any(env, word(words, 4))? {

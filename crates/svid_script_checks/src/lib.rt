@@ -11,3 +11,6 @@ mod verifier;
 
 pub use any_validator::{AnyValidator, Validators};
 pub use calls::call;
+pub use checking::say_checked;
+pub use lending::{Asked, asked_in};
+pub use verifier::AnyVerifier;

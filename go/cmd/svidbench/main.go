@@ -1,6 +1,7 @@
 // Svidbench makes what bench/sidecar measures with, and measures what wrk can't: the group as it grows.
 //
-//	svidbench mint --tokens N --out DIR             DIR/bundle.json, and DIR/tokens, one a line
+//	svidbench mint --tokens N --out DIR             DIR/bundle.json, and DIR/tokens, one a line; --algorithm RS256 for
+//	                                                another than ES256, --keys N for a bundle of so many keys
 //	svidbench record --uses N                       a record of N uses, on standard output
 //	svidbench fill --nats URL --group NAME --uses N puts N uses into a group's bucket
 //	svidbench scale --svidd FILE --members N        a group of N sidecars on this machine, as a row of a table
@@ -9,8 +10,11 @@ package main
 
 import (
 	"bufio"
+	"crypto/ecdsa"
+	"crypto/elliptic"
 	"crypto/rand"
 	"encoding/binary"
+	"encoding/json"
 	"flag"
 	"fmt"
 	"io"
@@ -47,16 +51,24 @@ func main() {
 	}
 }
 
-// mint makes tokens of ES256 that live for an hour, each with a jti of its own.
+// mint makes tokens that live for an hour, each with a jti of its own.
 func mint(f *flag.FlagSet, args []string) error {
 	n := f.Int("tokens", 1000, "how many")
 	out := f.String("out", ".", "the folder")
+	algorithm := f.String("algorithm", "ES256", "what signs them")
+	keys := f.Int("keys", 0, "how many keys the bundle has; 0 for one of each type and curve")
 	f.Parse(args)
 	i, err := issuer.New(domain)
 	if err != nil {
 		return err
 	}
-	if err := os.WriteFile(filepath.Join(*out, "bundle.json"), i.JWKSet(), 0o644); err != nil {
+	bundle := []byte(i.JWKSet())
+	if *keys > 0 {
+		if bundle, err = bundleOf(i, *algorithm, *keys); err != nil {
+			return err
+		}
+	}
+	if err := os.WriteFile(filepath.Join(*out, "bundle.json"), bundle, 0o644); err != nil {
 		return err
 	}
 	file, err := os.Create(filepath.Join(*out, "tokens"))
@@ -64,7 +76,7 @@ func mint(f *flag.FlagSet, args []string) error {
 		return err
 	}
 	w := bufio.NewWriter(file)
-	for _, token := range mintAll(i, *n, "token") {
+	for _, token := range mintAll(i, *algorithm, *n, "token") {
 		fmt.Fprintln(w, token)
 	}
 	if err := w.Flush(); err != nil {
@@ -73,8 +85,32 @@ func mint(f *flag.FlagSet, args []string) error {
 	return file.Close()
 }
 
+// bundleOf is a JWK set of the issuer's key for the algorithm, behind other keys, of P-256, which sign nothing.
+func bundleOf(i *issuer.Issuer, algorithm string, keys int) ([]byte, error) {
+	var own struct{ Keys []map[string]string }
+	if err := json.Unmarshal(i.JWKSet(), &own); err != nil {
+		return nil, err
+	}
+	var set struct {
+		Keys []map[string]string `json:"keys"`
+	}
+	for len(set.Keys) < keys-1 {
+		key, err := ecdsa.GenerateKey(elliptic.P256(), rand.Reader)
+		if err != nil {
+			return nil, err
+		}
+		set.Keys = append(set.Keys, issuer.ECKey(fmt.Sprintf("other-%d", len(set.Keys)), &key.PublicKey))
+	}
+	for _, key := range own.Keys {
+		if key["kid"] == issuer.KeyID(algorithm) {
+			set.Keys = append(set.Keys, key)
+		}
+	}
+	return json.Marshal(set)
+}
+
 // mintAll makes n tokens on all processors.
-func mintAll(i *issuer.Issuer, n int, name string) []string {
+func mintAll(i *issuer.Issuer, algorithm string, n int, name string) []string {
 	tokens, exp := make([]string, n), time.Now().Unix()+longest/2
 	var workers sync.WaitGroup
 	step := runtime.NumCPU()
@@ -83,7 +119,7 @@ func mintAll(i *issuer.Issuer, n int, name string) []string {
 		go func(first int) {
 			defer workers.Done()
 			for k := first; k < n; k += step {
-				tokens[k] = i.Token("ES256", map[string]any{"sub": i.Subject("/billing/api"), "aud": audience, "exp": exp,
+				tokens[k] = i.Token(algorithm, map[string]any{"sub": i.Subject("/billing/api"), "aud": audience, "exp": exp,
 					"iat": exp - longest/2, "jti": fmt.Sprintf("%s-%d", name, k)})
 			}
 		}(first)

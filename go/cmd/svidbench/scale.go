@@ -222,7 +222,7 @@ func (g *scaled) toldAll(uses int) error {
 
 // measure sends n tokens, and prints the row.
 func (g *scaled) measure(n int) error {
-	tokens := mintAll(g.issuer, n, "scale")
+	tokens := mintAll(g.issuer, "ES256", n, "scale")
 	before, err := g.read()
 	if err != nil {
 		return err

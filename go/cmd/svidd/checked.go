@@ -25,7 +25,7 @@ func (o *options) bundleProblems() (faults, warnings problems) {
 	ctx, cancel := context.WithCancel(context.Background())
 	defer cancel()
 	_, err = bundles.Watch(ctx, files, func(domains map[string]json.RawMessage) { read = len(domains) }, bundles.Options{
-		Check: checkBundle,
+		Check: checkBundle, Unusable: o.unusable,
 		Log: func(event string, fields ...any) {
 			sentence := fmt.Sprintf("the trust bundle can't be used: %v", unread(fields))
 			faults.wrong(event == "bundle not read", "%s", sentence)

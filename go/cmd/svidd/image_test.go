@@ -137,9 +137,13 @@ drwxr-xr-x 0:0 /usr/local
 drwxr-xr-x 0:0 /usr/local/bin
 -rwxr-xr-x 0:0 /usr/local/bin/svidd
 drwxr-xr-x 0:0 /usr/share
+drwxr-xr-x 0:0 /usr/share/common-licenses
+-rw-r--r-- 0:0 /usr/share/common-licenses/Apache-2.0
 drwxr-xr-x 0:0 /usr/share/doc
 drwxr-xr-x 0:0 /usr/share/doc/libc6
 -rw-r--r-- 0:0 /usr/share/doc/libc6/copyright
+drwxr-xr-x 0:0 /usr/share/doc/libssl3
+-rw-r--r-- 0:0 /usr/share/doc/libssl3/copyright
 drwxr-xr-x 0:0 /usr/share/doc/svidd
 -rw-r--r-- 0:0 /usr/share/doc/svidd/copyright
 drwxr-xr-x 0:0 /var

@@ -25,6 +25,7 @@ const version = "0.1.0"
 const (
 	exitYes     = 0
 	exitRefused = 1 // a token was rejected
+	exitDamaged = 1 // a state folder is damaged
 	exitFailed  = 2 // usage, a file, the network or memory
 )
 
@@ -34,6 +35,7 @@ const usage = `usage:
   svidd withdraw --admin SOCKET (- < token | --key HEX --exp SECONDS | TOKEN)
   svidd report   --admin SOCKET [--json]
   svidd ready    [--listen ADDRESS]
+  svidd check-state DIR [--messages]
   svidd version
 
 BUNDLES: --workload-api unix:///run/spire/agent.sock, --bundle DOMAIN=FILE|https://.. or --bundles DIR
@@ -43,7 +45,7 @@ BUNDLES: --workload-api unix:///run/spire/agent.sock, --bundle DOMAIN=FILE|https
 
 // commands by name. Each returns the exit status.
 var commands = map[string]func(args []string, std stdio) int{
-	"serve": serve, "verify": verify, "withdraw": withdraw, "report": report, "ready": ready, "version": printVersion,
+	"serve": serve, "verify": verify, "withdraw": withdraw, "report": report, "ready": ready, "check-state": checkState, "version": printVersion,
 }
 
 // stdio is what a command reads and writes.

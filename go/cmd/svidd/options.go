@@ -22,6 +22,7 @@ import (
 	"svid.example/go/internal/regular"
 	"svid.example/go/internal/server"
 	"svid.example/go/internal/workload"
+	"svid.example/go/svid"
 )
 
 // A list is an option that may be given more than once.
@@ -66,6 +67,7 @@ type options struct {
 	bundleFolder       string
 	workload           string // the address of the Workload API
 	longest, ahead     seconds
+	rsaBits            int
 
 	listen, admin string
 	replay        string
@@ -93,6 +95,7 @@ func (o *options) addCommon(f *flag.FlagSet) {
 	f.StringVar(&o.bundleFolder, "bundles", "", "folder `DIR` of trust bundles, each DOMAIN.json")
 	f.StringVar(&o.workload, "workload-api", "", "`ADDRESS` of the SPIFFE Workload API that gives the trust bundles, as unix:///run/spire/agent.sock;\nSPIFFE_ENDPOINT_SOCKET counts where no bundles are given")
 	f.Var(&o.longest, "longest", "the most `SECONDS` that a token may have to live")
+	f.IntVar(&o.rsaBits, "rsa-bits", svid.UsualRSABits, "the most `BITS` that an RSA key may have, 2048 to 16384")
 	f.StringVar(&o.config, "config", "", "`FILE` of options, as TOML (audience = [\"ledger\"]) or as a JSON object")
 }
 
@@ -266,6 +269,7 @@ func (o *options) commonProblems() (all problems) {
 		all.wrong(folderFault(o.bundleFolder) != nil, "--bundles: %v. Give a folder that has the trust bundles, each DOMAIN.json", folderFault(o.bundleFolder))
 	}
 	all.wrong(o.longest.given && (o.longest.value == 0 || o.longest.value > mostLongest), "--longest must be from 1 to %d seconds", uint64(mostLongest))
+	all.wrong(o.rsaBits < leastRSABits || o.rsaBits > mostRSABits, "--rsa-bits must be from %d to %d", leastRSABits, mostRSABits)
 	return all
 }
 
@@ -328,6 +332,9 @@ const (
 	mostConfig  = 1 << 20 // bytes of a file of options
 
 	mostSocket = 107 // bytes of the path of a unix socket, as Linux has it
+
+	leastRSABits = 2048 // as svid.KeyringOptions has it
+	mostRSABits  = 16384
 )
 
 var natsSchemes = map[string]bool{"nats": true, "tls": true, "ws": true, "wss": true}

@@ -3,11 +3,13 @@ package main
 import (
 	"context"
 	"encoding/json"
+	"errors"
 	"flag"
 	"fmt"
 	"os"
 	"os/signal"
 	"runtime/debug"
+	"strings"
 	"sync"
 	"syscall"
 	"time"
@@ -185,13 +187,7 @@ func (s *sidecar) open(ctx context.Context) error {
 		if s.journal, err = journal.Open(s.state); err != nil {
 			return err
 		}
-		if cut := s.journal.Cut(); cut > 0 {
-			s.log.Event("journal cut", "bytes", cut, "why", "a crash left them of a write that nobody was answered for")
-		}
-		kept = s.journal
-		if place, err = s.journal.Place(); err != nil {
-			return err
-		}
+		kept, place = s.journal, s.journal.Place()
 	}
 	specs, err := s.specs()
 	if err != nil {
@@ -204,13 +200,13 @@ func (s *sidecar) open(ctx context.Context) error {
 		}
 	}
 	s.engine, err = server.NewEngine(server.Options{
-		Mode: server.Mode(s.replay), Audiences: s.audiences, Domains: domains, Longest: s.longest.value, Ahead: s.ahead.value,
+		Mode: server.Mode(s.replay), Audiences: s.audiences, Domains: domains, RSABits: s.rsaBits, Longest: s.longest.value, Ahead: s.ahead.value,
 		Step: clockStep, Jumped: func() { s.fail(errClock) }, Place: place, Journal: kept, Grouped: len(s.servers()) > 0, Wait: s.wait, Log: s.log,
 	})
 	if err != nil {
 		return err
 	}
-	s.watcher, err = bundles.Watch(ctx, specs, s.renew, bundles.Options{Log: s.said, Check: checkBundle})
+	s.watcher, err = bundles.Watch(ctx, specs, s.renew, bundles.Options{Log: s.said, Check: checkBundle, Unusable: s.unusable})
 	if err != nil {
 		return err
 	}
@@ -258,9 +254,24 @@ func (s *sidecar) load() error {
 	if s.journal == nil {
 		return s.engine.Load(nil)
 	}
-	err := s.engine.Load(s.journal.Messages())
-	debug.FreeOSMemory() // of the messages, which may be as large as the record
-	return err
+	err := s.journal.Load(s.engine.Feed)
+	debug.FreeOSMemory() // of the files, which may be as large as the record
+	if err != nil {
+		return err
+	}
+	for _, f := range s.journal.Torn() {
+		s.log.Event("journal torn", "file", f.Name, "at", f.At, "bytes", f.Rest, "why", "a crash left them of a write that nobody was answered for")
+	}
+	if wants, must := s.journal.WantsSnapshot(); wants {
+		err := s.journal.Snapshot(s.engine.Save)
+		if must && err != nil || errors.Is(err, svid.ErrFolderEnded) {
+			return err
+		}
+		if err != nil {
+			s.log.Error("snapshot", err)
+		}
+	}
+	return s.engine.Load(nil)
 }
 
 // checkBundle is the validator's own judgment of one bundle.
@@ -275,6 +286,14 @@ func checkBundle(domain string, document json.RawMessage) error {
 	}
 	validator.Close()
 	return nil
+}
+
+// unusable says why a key of a bundle verifies no token, or nothing.
+func (o *options) unusable(key json.RawMessage) string {
+	if _, err := (svid.KeyringOptions{RSABits: o.rsaBits}).ParseKey(key); errors.Is(err, svid.ErrKey) {
+		return strings.TrimPrefix(err.Error(), "svid: ")
+	}
+	return ""
 }
 
 // renew runs at each change of the bundles.

@@ -159,8 +159,10 @@ func TestAStateFolderThatCantBeTaken(t *testing.T) {
 		{"place", []byte("here\n"), "is not 32 hexadecimal digits"},
 	} {
 		state := t.TempDir()
-		if err := os.WriteFile(filepath.Join(state, row.name), row.content, 0o600); err != nil {
-			t.Fatal(err)
+		for name, content := range map[string][]byte{"place": []byte(strings.Repeat("0f", 16)), row.name: row.content} {
+			if err := os.WriteFile(filepath.Join(state, name), content, 0o600); err != nil {
+				t.Fatal(err)
+			}
 		}
 		p := prepare(t, nil, bundleOption(bundleFile(t, example)), "--state", state)
 		p.launch()

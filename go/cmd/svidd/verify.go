@@ -81,7 +81,7 @@ func (o *options) judge(token string, std stdio) error {
 	if err != nil {
 		return err
 	}
-	keyring, err := svid.NewKeyring(text)
+	keyring, err := svid.OpenKeyring(svid.KeyringOptions{Bundles: text, RSABits: o.rsaBits})
 	if err != nil {
 		return err
 	}

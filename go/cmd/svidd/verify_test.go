@@ -1,9 +1,14 @@
 package main
 
 import (
+	"crypto"
+	"crypto/rand"
+	"crypto/rsa"
+	"crypto/sha256"
 	"encoding/base64"
 	"encoding/json"
 	"encoding/pem"
+	"fmt"
 	"net/http"
 	"net/http/httptest"
 	"os"
@@ -56,6 +61,60 @@ func TestVerifyReadsOneToken(t *testing.T) {
 		if status != row.status || !strings.Contains(err, row.want) || (out == "") != (status != 0) {
 			t.Errorf("%.40q and %d bytes: %d %q %q, and %q is due", row.stdin, len(row.stdin), status, out, err, row.want)
 		}
+	}
+}
+
+// A key with more bits than --rsa-bits verifies nothing, and the operator hears of it.
+func TestAnRSAKeyHasABound(t *testing.T) {
+	key, err := rsa.GenerateMultiPrimeKey(rand.Reader, 10, 5120)
+	if err != nil {
+		t.Fatal(err)
+	}
+	encode := base64.RawURLEncoding.EncodeToString
+	signed := encode([]byte(`{"alg":"PS256","kid":"long"}`)) + "." +
+		encode([]byte(fmt.Sprintf(`{"sub":"spiffe://example.org/web","aud":"ledger","exp":%d}`, time.Now().Unix()+60)))
+	sum := sha256.Sum256([]byte(signed))
+	signature, err := rsa.SignPSS(rand.Reader, key, crypto.SHA256, sum[:], &rsa.PSSOptions{SaltLength: sha256.Size})
+	if err != nil {
+		t.Fatal(err)
+	}
+	file := filepath.Join(t.TempDir(), "bundle.json")
+	bundle := `{"keys":[{"kty":"RSA","use":"jwt-svid","kid":"long","e":"AQAB","n":"` + encode(key.N.Bytes()) + `"}]}`
+	if err := os.WriteFile(file, []byte(bundle), 0o600); err != nil {
+		t.Fatal(err)
+	}
+	one, why := signed+"."+encode(signature), "an RSA key of 5120 bits; it must have from 2048 to 4096"
+	for _, row := range []struct {
+		option []string
+		want   string
+		status int
+	}{
+		{nil, "refused BadSignature", 1},
+		{[]string{"--rsa-bits", "5119"}, "refused BadSignature", 1},
+		{[]string{"--rsa-bits", "5120"}, "", 0},
+		{[]string{"--rsa-bits", "16385"}, "must be from 2048 to 16384", 2},
+	} {
+		status, _, err := here(one, append([]string{"verify", "--audience", "ledger", bundleOption(file)}, row.option...)...)
+		if status != row.status || !strings.Contains(err, row.want) {
+			t.Errorf("verify %q: %d %q", row.option, status, err)
+		}
+	}
+	p := start(t, bundleOption(file), "--replay", "reuse")
+	p.want(one, 401, "BadSignature")
+	over := p.events("key passed over")
+	if len(over) != 1 || !strings.Contains(fmt.Sprint(over[0]["why"]), why) || len(p.events("bundle has no key")) != 1 {
+		t.Errorf("the log has %v: %s", over, p.log)
+	}
+	p.end()
+	p = start(t, bundleOption(file), "--replay", "reuse", "--rsa-bits", "5120")
+	p.want(one, 200, "")
+	if len(p.events("key passed over")) != 0 {
+		t.Errorf("the log is %s", p.log)
+	}
+	p.end()
+	check := []string{"serve", "--check-config", "--audience", "a", "--longest", "60", "--replay", "reuse", bundleOption(file)}
+	if status, _, err := here("", check...); status != 0 || !strings.Contains(err, "warning") || !strings.Contains(err, "no key of it can be used") {
+		t.Errorf("--check-config: %d %q", status, err)
 	}
 }
 

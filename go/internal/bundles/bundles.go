@@ -33,6 +33,7 @@ const (
 	usualLimit    = 15 * time.Second // for one answer over https, and the first one of a Workload API
 	mostRedirects = 5
 	mostSaid      = 16 // entries of one bundle that are logged each by itself
+	mostJudged    = 64 // entries of one bundle that Options.Unusable is asked about
 )
 
 // Options say what Watch needs beside its sources. Each field may be left out.
@@ -43,6 +44,9 @@ type Options struct {
 	// Check judges a bundle that was read before it takes the place of the last good one. The validator's own reader
 	// belongs here.
 	Check func(domain string, document json.RawMessage) error
+	// Unusable says why a key can't verify any token, or nothing. It is asked about the first keys of a new bundle, for
+	// the log alone.
+	Unusable func(key json.RawMessage) (why string)
 	// Every is the time between two looks at files and folders; 0 is five seconds.
 	Every time.Duration
 	// Limit is how long one answer over https may take, and the first one of a Workload API; 0 is fifteen seconds.
@@ -364,12 +368,21 @@ func (w *Watcher) judge(domain, source string, text []byte, err error) (wait tim
 // errNoKeys: a bundle verifies no token.
 var errNoKeys = errors.New(`no entry of it has the use "jwt-svid", so no token of this trust domain can be accepted`)
 
+// errNoGoodKeys: it has keys, and none can be used.
+var errNoGoodKeys = errors.New("no key of it can be used, so no token of this trust domain can be accepted")
+
 // say logs a new bundle, and the entries of it that are passed over: each once, as long as it is in the bundle, and
 // where there are many, the first ones. (The bundle may be of a trust domain that means no good.)
 func (w *Watcher) say(domain, source string, d document) {
 	keys, over, said := 0, 0, map[[sha256.Size]byte]bool{}
+	none := errNoKeys
 	for i, entry := range d.Keys {
 		why := passedOver(entry)
+		if why == "" && i < mostJudged && w.options.Unusable != nil {
+			if why = w.options.Unusable(entry); why != "" {
+				none = errNoGoodKeys
+			}
+		}
 		if why == "" {
 			keys++
 			continue
@@ -385,7 +398,7 @@ func (w *Watcher) say(domain, source string, d document) {
 	w.said[domain] = said
 	w.log("bundle read", "domain", domain, "source", source, "keys", keys, "passed over", over)
 	if keys == 0 {
-		w.log("bundle has no key", "domain", domain, "source", source, "why", errNoKeys)
+		w.log("bundle has no key", "domain", domain, "source", source, "why", none)
 	}
 }
 

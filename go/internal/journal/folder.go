@@ -1,9 +1,6 @@
 package journal
 
 import (
-	"bufio"
-	"bytes"
-	"crypto/rand"
 	"encoding/hex"
 	"errors"
 	"fmt"
@@ -18,24 +15,21 @@ import (
 	"time"
 
 	"svid.example/go/internal/regular"
+	"svid.example/go/svid"
 )
 
 // The names of the folder's files.
 const (
 	lockName      = "lock"
 	placeName     = "place"
+	framesName    = "frames"
 	snapshotName  = "snapshot"
 	journalPrefix = "journal."
 	unfinished    = ".new"
 )
 
-const (
-	mostFile  = math.MaxInt64 - 1 // bytes of a snapshot or a journal: as many as fit into memory
-	mostPlace = 100               // bytes of the file of the place, which has 33
-)
-
-// errUnsureNames is what an error wraps where files have their names, and the disk may not have these.
-var errUnsureNames = errors.New("fsync of the folder failed")
+// mostFile is how many bytes a file may have: as many as fit into memory.
+const mostFile = math.MaxInt64 - 1
 
 // ErrHeld is what the error of Open wraps where another process has the folder.
 var ErrHeld = errors.New("the state folder is in use")
@@ -43,42 +37,127 @@ var ErrHeld = errors.New("the state folder is in use")
 // journalName is the name of the journal of this number.
 func journalName(number uint64) string { return journalPrefix + strconv.FormatUint(number, 10) }
 
-// A folder is a folder whose changes are forced to the disk. Its methods take names within it.
-type folder string
-
-// openFolder makes the folder where it is not there.
-func openFolder(dir string) (folder, error) {
-	f := folder(filepath.Clean(dir))
-	err := os.Mkdir(string(f), 0o700)
-	if err == nil {
-		return f, folder(filepath.Dir(string(f))).sync()
-	}
-	if !errors.Is(err, os.ErrExist) {
-		return "", fmt.Errorf("journal: %w", err)
-	}
-	return f, nil
+// A system makes the calls of the system on one folder. Tests have a model of a disk.
+type system interface {
+	path(name string) string // for people
+	names() ([]string, error)
+	read(name string) ([]byte, error)
+	create(name string) (file, error) // a new file; one that has the name is removed first
+	rename(from, to string) error
+	remove(name string) error
+	sync() error // of the folder
 }
 
-func (f folder) path(name string) string { return filepath.Join(string(f), name) }
+// A file is open for writing.
+type file interface {
+	WriteAt(b []byte, at int64) (int, error)
+	sync() error     // fsync
+	datasync() error // fdatasync
+	Close() error
+}
 
-// sync forces the folder's names to the disk. Where the disk may not have them, the error wraps errUnsureNames.
-func (f folder) sync() error {
-	d, err := os.Open(string(f))
+// A folder is one of the system's.
+type folder struct {
+	dir  string
+	self *os.File // open all the while, so that a sync needs no more files
+}
+
+// openFolder opens the folder. It makes one that is not there, so that its name lasts.
+func openFolder(dir string) (*folder, error) {
+	dir = filepath.Clean(dir)
+	err := os.Mkdir(dir, 0o700)
+	if err == nil {
+		err = syncAbove(dir)
+	}
+	if err != nil && !errors.Is(err, os.ErrExist) {
+		return nil, fmt.Errorf("journal: %w", err)
+	}
+	self, err := os.OpenFile(dir, os.O_RDONLY|syscall.O_DIRECTORY, 0)
+	if err != nil {
+		return nil, fmt.Errorf("journal: %w", err)
+	}
+	return &folder{dir, self}, nil
+}
+
+// syncAbove forces the name of the folder to the disk.
+func syncAbove(dir string) error {
+	above, err := os.Open(filepath.Dir(dir))
 	if err != nil {
 		return err
 	}
-	defer d.Close()
-	if err := syncFile(d); err != nil {
-		return fmt.Errorf("%w: %v", errUnsureNames, err)
-	}
-	return nil
+	defer above.Close()
+	return syncFile(above)
 }
 
 // syncFile is fsync. Tests let it fail.
 var syncFile = (*os.File).Sync
 
+func (f *folder) Close() error { return f.self.Close() }
+
+func (f *folder) path(name string) string { return filepath.Join(f.dir, name) }
+
+func (f *folder) names() ([]string, error) {
+	entries, err := os.ReadDir(f.dir)
+	if err != nil {
+		return nil, err
+	}
+	var all []string
+	for _, e := range entries {
+		all = append(all, e.Name())
+	}
+	return all, nil
+}
+
+func (f *folder) read(name string) ([]byte, error) { return regular.Read(f.path(name), mostFile) }
+
+func (f *folder) create(name string) (file, error) {
+	if err := f.remove(name); err != nil && !errors.Is(err, os.ErrNotExist) {
+		return nil, err
+	}
+	made, err := os.OpenFile(f.path(name), os.O_WRONLY|os.O_CREATE|os.O_EXCL, 0o600)
+	if err != nil {
+		return nil, err
+	}
+	return osFile{made}, nil
+}
+
+func (f *folder) rename(from, to string) error { return os.Rename(f.path(from), f.path(to)) }
+
+func (f *folder) remove(name string) error { return os.Remove(f.path(name)) }
+
+func (f *folder) sync() error { return syncFile(f.self) }
+
+type osFile struct{ *os.File }
+
+// WriteAt tells how many bytes it has written where it fails, which that of os.File does not.
+func (f osFile) WriteAt(b []byte, at int64) (n int, err error) {
+	for n < len(b) {
+		m, err := syscall.Pwrite(int(f.Fd()), b[n:], at+int64(n))
+		if err == syscall.EINTR {
+			continue
+		}
+		if err == nil && m == 0 {
+			err = io.ErrShortWrite
+		}
+		if err != nil {
+			return n, &os.PathError{Op: "write", Path: f.Name(), Err: err}
+		}
+		n += m
+	}
+	return n, nil
+}
+
+func (f osFile) sync() error { return syncFile(f.File) }
+
+func (f osFile) datasync() error {
+	if err := syscall.Fdatasync(int(f.Fd())); err != nil {
+		return &os.PathError{Op: "fdatasync", Path: f.Name(), Err: err}
+	}
+	return nil
+}
+
 // hold locks the folder until the file that it returns is closed, and writes into it who holds it.
-func (f folder) hold() (*os.File, error) {
+func (f *folder) hold() (*os.File, error) {
 	lock, err := regular.Open(f.path(lockName), os.O_RDWR|os.O_CREATE, 0o600)
 	if err != nil {
 		return nil, fmt.Errorf("journal: %w", err)
@@ -90,11 +169,11 @@ func (f folder) hold() (*os.File, error) {
 	return lock, nil
 }
 
-func (f folder) lockFile(lock *os.File) error {
+func (f *folder) lockFile(lock *os.File) error {
 	err := syscall.Flock(int(lock.Fd()), syscall.LOCK_EX|syscall.LOCK_NB)
 	if err == syscall.EWOULDBLOCK {
 		return fmt.Errorf("journal: %w: %s is held by %s: stop it, or give this one a folder of its own",
-			ErrHeld, f, holder(lock))
+			ErrHeld, f.dir, holder(lock))
 	}
 	if err != nil {
 		return fmt.Errorf("journal: flock of %s: %w", lock.Name(), err)
@@ -123,15 +202,15 @@ func holder(lock *os.File) string {
 }
 
 // journals returns the numbers of the folder's journals in rising order.
-func (f folder) journals() ([]uint64, error) {
-	entries, err := os.ReadDir(string(f))
+func journals(sys system) ([]uint64, error) {
+	names, err := sys.names()
 	if err != nil {
 		return nil, fmt.Errorf("journal: %w", err)
 	}
 	var numbers []uint64
-	for _, e := range entries {
-		n, err := strconv.ParseUint(strings.TrimPrefix(e.Name(), journalPrefix), 10, 64)
-		if err == nil && e.Name() == journalName(n) {
+	for _, name := range names {
+		n, err := strconv.ParseUint(strings.TrimPrefix(name, journalPrefix), 10, 64)
+		if err == nil && n > 0 && name == journalName(n) {
 			numbers = append(numbers, n)
 		}
 	}
@@ -139,189 +218,74 @@ func (f folder) journals() ([]uint64, error) {
 	return numbers, nil
 }
 
-// dropEmptyEnd removes the empty journals at the end, and returns the numbers of the others. No Append was ever answered
-// by an empty journal, and the one before it may have grown after it was made.
-func (f folder) dropEmptyEnd(numbers []uint64) ([]uint64, error) {
-	for n := len(numbers); n > 0; n-- {
-		name := journalName(numbers[n-1])
-		info, err := os.Stat(f.path(name))
-		if err != nil {
-			return nil, fmt.Errorf("journal: %w", err)
-		}
-		if info.Size() > 0 || !info.Mode().IsRegular() {
-			return numbers[:n], nil
-		}
-		if err := f.remove(name); err != nil {
-			return nil, err
-		}
-	}
-	return nil, nil
-}
-
-// ensure opens a file for reading and writing, and makes it, so that it lasts, where it is not there.
-func (f folder) ensure(name string) (*os.File, error) {
-	file, err := regular.Open(f.path(name), os.O_RDWR|os.O_CREATE, 0o600)
-	if err != nil {
-		return nil, fmt.Errorf("journal: %w", err)
-	}
-	if err := f.sync(); err != nil {
-		file.Close()
-		return nil, fmt.Errorf("journal: %w", err)
-	}
-	return file, nil
-}
-
-// readWhole returns the content of a file that must be whole batches.
-func (f folder) readWhole(name string) ([]byte, error) {
-	content, err := regular.Read(f.path(name), mostFile)
-	if err != nil {
-		return nil, fmt.Errorf("journal: %w", err)
-	}
-	if place, err := scan(bytes.NewReader(content)); err != nil {
-		return nil, fmt.Errorf("journal: %s is damaged at byte %d: %w: put back a copy; without one, cut the file there "+
-			"(truncate -s %d), and tokens that were accepted behind that place can be accepted again", f.path(name), place, err, place)
-	}
-	return content, nil
-}
-
-// mend opens a journal that a crash may have torn, and makes it where it is not there. It cuts off what stands behind
-// the last whole batch, and returns the batches, the file and how many bytes it cut, without the filler at the end.
-func (f folder) mend(name string) (whole []byte, file *os.File, cut int64, err error) {
-	file, err = f.ensure(name)
-	if err != nil {
-		return nil, nil, 0, err
-	}
-	content, err := io.ReadAll(file)
-	if err != nil {
-		file.Close()
-		return nil, nil, 0, fmt.Errorf("journal: %w", err)
-	}
-	// Whatever ends the scan is a tear: only the file's end can be torn, and reading from memory does not fail.
-	good, _ := scan(bytes.NewReader(content))
-	if int64(len(content)) > good {
-		cut = int64(len(bytes.TrimRight(content[good:], "\x00\xff")))
-		err = file.Truncate(good)
-	}
-	// What was read may not be on the disk yet, and from here on it counts as if it were. It is written again, since the
-	// kernel takes a page for clean that it failed to write, and fsync passes that over.
-	if err == nil {
-		_, err = file.WriteAt(content[:good], 0)
-	}
-	if err == nil {
-		err = syncFile(file)
-	}
-	if err != nil {
-		file.Close()
-		return nil, nil, 0, fmt.Errorf("journal: %w", err)
-	}
-	return content[:good], file, cut, nil
-}
-
-// replace puts what write writes in the place of a file, whole or not at all: to a new file that good then judges,
-// forced to the disk, and renamed.
-func (f folder) replace(name string, write func(io.Writer) error, good func(io.Reader) error) error {
-	err := f.writeNew(name+unfinished, write, good)
-	if err == nil {
-		err = os.Rename(f.path(name+unfinished), f.path(name))
-	}
-	if err != nil {
-		os.Remove(f.path(name + unfinished)) // Where that fails too, the next Open removes it.
-		return err
-	}
-	return f.sync()
-}
-
-// writeNew writes a file from its beginning, and forces it to the disk.
-func (f folder) writeNew(name string, write func(io.Writer) error, good func(io.Reader) error) error {
-	file, err := regular.Open(f.path(name), os.O_RDWR|os.O_CREATE|os.O_TRUNC, 0o600)
-	if err != nil {
-		return err
-	}
-	defer file.Close()
-	if err := write(file); err != nil {
-		return err
-	}
-	if _, err := file.Seek(0, io.SeekStart); err != nil {
-		return err
-	}
-	if err := good(file); err != nil {
-		return err
-	}
-	if err := syncFile(file); err != nil {
-		return err
-	}
-	return file.Close()
-}
-
-// wholeBatches is nil exactly if r gives whole batches and nothing more.
-func wholeBatches(r io.Reader) error {
-	_, err := scan(bufio.NewReaderSize(r, 64<<10))
-	return err
-}
-
-// removeJournalsBefore removes the journals with smaller numbers.
-func (f folder) removeJournalsBefore(number uint64) error {
-	numbers, err := f.journals()
-	if err != nil {
-		return err
-	}
-	for _, n := range numbers {
-		if n < number {
-			if err := f.remove(journalName(n)); err != nil {
-				return err
-			}
-		}
-	}
-	return f.sync()
-}
-
 // removeUnfinished removes the files that a process was writing when it was killed.
-func (f folder) removeUnfinished() error {
-	for _, name := range []string{snapshotName, placeName} {
-		if err := f.remove(name + unfinished); err != nil && !errors.Is(err, os.ErrNotExist) {
-			return err
+func removeUnfinished(sys system) error {
+	for _, name := range []string{snapshotName, placeName, framesName} {
+		if err := sys.remove(name + unfinished); err != nil && !errors.Is(err, os.ErrNotExist) {
+			return fmt.Errorf("journal: %w", err)
 		}
 	}
 	return nil
 }
 
-func (f folder) remove(name string) error {
-	if err := os.Remove(f.path(name)); err != nil {
-		return fmt.Errorf("journal: %w", err)
-	}
-	return nil
-}
-
-// place reads the place, or makes it.
-func (f folder) place() (place [16]byte, err error) {
-	text, err := regular.Read(f.path(placeName), mostPlace)
-	if errors.Is(err, os.ErrNotExist) {
-		return f.makePlace()
-	}
+// readPlace reads the place. The error wraps os.ErrNotExist where there is none.
+func readPlace(sys system) (place svid.Place, err error) {
+	text, err := sys.read(placeName)
 	if err != nil {
 		return place, fmt.Errorf("journal: %w", err)
 	}
 	bytes, err := hex.DecodeString(strings.TrimSuffix(string(text), "\n"))
 	if err != nil || len(bytes) != len(place) {
-		return place, fmt.Errorf("journal: %s is not 32 hexadecimal digits: put back a copy, or remove it, and a new place is made",
-			f.path(placeName))
+		return place, fmt.Errorf("journal: %s is not 32 hexadecimal digits: put back a copy: no file of the folder can be read without it",
+			sys.path(placeName))
 	}
 	copy(place[:], bytes)
 	return place, nil
 }
 
 // makePlace makes a place at random and keeps it.
-func (f folder) makePlace() (place [16]byte, err error) {
-	if _, err := rand.Read(place[:]); err != nil {
-		return place, fmt.Errorf("journal: no random bytes for a place: %w", err)
+func makePlace(sys system) (place svid.Place, err error) {
+	if place, err = svid.NewPlace(); err != nil {
+		return place, fmt.Errorf("journal: %w", err)
 	}
-	write := func(w io.Writer) error {
-		_, err := fmt.Fprintf(w, "%x\n", place)
-		return err
+	return place, keepText(sys, placeName, place.String())
+}
+
+// keepText makes a file of one line, whole or not at all, that lasts.
+func keepText(sys system, name, text string) error {
+	made, err := sys.create(name + unfinished)
+	if err == nil {
+		_, err = made.WriteAt([]byte(text+"\n"), 0)
+		if err == nil {
+			err = made.sync()
+		}
+		made.Close()
 	}
-	good := func(io.Reader) error { return nil }
-	if err := f.replace(placeName, write, good); err != nil {
-		return [16]byte{}, fmt.Errorf("journal: place: %w", err)
+	if err == nil {
+		err = sys.rename(name+unfinished, name)
 	}
-	return place, nil
+	if err == nil {
+		err = sys.sync()
+	}
+	if err != nil {
+		return fmt.Errorf("journal: %s: %w", sys.path(name), err)
+	}
+	return nil
+}
+
+// firstOfFrames is the number of the first journal that consists of frames, in a folder of an older version in which a start
+// has begun to make such journals; 0 in another one.
+func firstOfFrames(sys system) (uint64, error) {
+	text, err := sys.read(framesName)
+	if errors.Is(err, os.ErrNotExist) {
+		return 0, nil
+	}
+	if err != nil {
+		return 0, fmt.Errorf("journal: %w", err)
+	}
+	number, err := strconv.ParseUint(strings.TrimSuffix(string(text), "\n"), 10, 64)
+	if err != nil {
+		return 0, fmt.Errorf("journal: %s is not the number of a journal: put back a copy", sys.path(framesName))
+	}
+	return number, nil
 }

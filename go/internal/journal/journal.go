@@ -7,66 +7,86 @@
 //	place        the validator's place, 32 hexadecimal digits, made once
 //	snapshot     a record as it was at some time
 //	journal.N    what was appended since; the greatest N is the one that grows
+//	frames       only until the first snapshot of a folder that an older version wrote: the first journal that it did not write
 //	*.new        a file that was being written when the process was killed; Open removes it
 //
-// A snapshot and a journal are batches as docs/FORMATS.md has them, one after the other, so `svid report` and
-// `svid merge` read them. Behind the batches of the journal that grows stand bytes FF, until it is closed. Batches may be
-// told in any order and more than once, which makes the rest simple:
+// The library decides (svid.Folder): what the bytes of a file are, which call of the system comes next, and what is read of a
+// file that a crash left. docs/FORMATS.md has the files, and docs/PROOFS.md what is proved of them. This package makes the
+// calls, and tells the library how they went. What stands here alone:
 //
-//   - Append returns after the batch is on the disk. Callers that come while a write is under way share the next one. None
-//     waits for longer than it wants: a goroutine writes for all of them.
-//     It writes over the bytes FF, so that the file's length changes seldom: to force a new length to the disk takes
-//     longer than the bytes themselves.
-//   - Snapshot first begins a new journal, then writes the record to snapshot.new, forces it to the disk, renames it
-//     over snapshot, and only then removes the older journals. At every moment the folder therefore holds the old
-//     snapshot and all journals, or the new snapshot and at least the new journal.
-//   - Open reads the snapshot and every journal. The last journal that is not empty may end in what a crash left of a
-//     write that no Append had answered, and in bytes FF. Open cuts it off behind the last whole batch. (An empty one
-//     behind it is what a Snapshot made that failed right there; Append went on with the one before it.)
+//   - Append returns after its batch is on the disk. Callers that come while a write is under way share the next frame and its
+//     sync. None waits for longer than it wants: a goroutine writes for all of them.
+//   - A journal grows by zeros, so that its length changes seldom: to force a new length to the disk takes longer than the
+//     bytes themselves.
+//   - A mark stands behind a journal that was closed, and behind one to which nobody appended for a second. So damage of the
+//     last batch is seen.
 package journal
 
 import (
-	"bytes"
 	"context"
 	"errors"
 	"fmt"
 	"io"
 	"os"
+	"strconv"
 	"sync"
 	"sync/atomic"
-	"syscall"
+	"time"
+
+	"svid.example/go/svid"
 )
 
 // ErrClosed is what a call returns after Close.
 var ErrClosed = errors.New("journal: closed")
 
+// errUnread is what a call returns before Load.
+var errUnread = errors.New("journal: the folder is not read yet")
+
+// errOld is what Append returns before the first snapshot of a folder of an older version: such a folder is read in another way.
+var errOld = errors.New("journal: an older version wrote the folder: take a snapshot first")
+
 // errFull is what Append returns while so much waits for the disk that there is no room for more.
 var errFull = errors.New("journal: the disk does not answer, and too much waits for it")
 
-// mostGathered is how many bytes wait for a write that is under way.
-const mostGathered = 16 << 20
+const (
+	// growth is how many zeros stand behind the frames of a journal that has grown.
+	growth = 256 << 10
+	// quiet is how long nobody appends until a mark is worth its write.
+	quiet = time.Second
+	// manyJournals is how many journals a start may find until the next snapshot is due at once.
+	manyJournals = 8
+)
 
 // A Journal is an open state folder. Its methods may be called from many goroutines at once.
 type Journal struct {
-	folder   folder
-	lock     *os.File
-	datasync func(fd int) error // fdatasync
+	sys   system
+	dir   string
+	held  []io.Closer // the lock and the folder
+	place svid.Place
+	torn  []*File
+	wants bool
 
 	gather    sync.Mutex // guards gathering
 	gathering *commit    // what the next write takes, nil where no caller waits
 
-	write  sync.Mutex   // held over a write; guards the fields below
-	file   *os.File     // the journal that grows
-	number uint64       // its number
-	size   int64        // how long its batches are, all of them on the disk
-	shown  atomic.Int64 // is size, for who does not wait for a write
-	room   int64        // its length; what is behind size is filler
-	broken error        // why nothing can be appended any more
+	write  sync.Mutex // held over a write; guards the fields below
+	core   *svid.Folder
+	file   file        // the journal that grows
+	room   int64       // its length; what is behind its frames is zeros
+	buffer []byte      // for a frame
+	old    bool        // an older version wrote the folder, and no snapshot was taken since
+	marked bool        // its last frame is a mark, or it has none
+	marker *time.Timer // puts a mark once it is quiet; nil before the first batch
+	broken error       // why nothing can be appended any more
 
-	snapshot sync.Mutex // held over a snapshot
+	quiet  time.Duration // until a mark is put; 0 for never
+	growth int
 
-	messages []byte
-	cut      int64
+	size     atomic.Int64 // for who does not wait for a write
+	older    int64        // how many bytes of frames older journals have, as a start found them
+	snapshot sync.Mutex   // held over a snapshot; guards next and upgrades
+	next     file         // the journal that is to grow
+	upgrades bool         // the file frames is there
 }
 
 // A commit is the batches that one write takes to the disk.
@@ -76,10 +96,9 @@ type commit struct {
 	err   error
 }
 
-// Open locks the folder dir, which it makes where its parent is there, and reads what it holds.
+// Open locks the folder dir, which it makes where its parent is there. Load reads it.
 //
-// The error wraps ErrHeld, and names the holder, where another process has the folder. A snapshot or an older journal
-// that is not whole batches is an error that names the file and the place: no crash leaves such a file.
+// The error wraps ErrHeld, and names the holder, where another process has the folder.
 func Open(dir string) (*Journal, error) {
 	f, err := openFolder(dir)
 	if err != nil {
@@ -87,89 +106,170 @@ func Open(dir string) (*Journal, error) {
 	}
 	lock, err := f.hold()
 	if err != nil {
+		f.Close()
 		return nil, err
 	}
-	j := &Journal{folder: f, lock: lock, datasync: syscall.Fdatasync}
-	if err := j.recover(); err != nil {
+	j, err := openBy(f, f.dir)
+	if err != nil {
 		lock.Close()
+		f.Close()
 		return nil, err
 	}
+	j.held = []io.Closer{f, lock}
 	return j, nil
 }
 
-// recover reads the folder's messages, mends its last journal and opens it.
-func (j *Journal) recover() error {
-	if err := j.folder.removeUnfinished(); err != nil {
-		return err
+// openBy opens a folder by these calls of the system.
+func openBy(sys system, dir string) (*Journal, error) {
+	if err := removeUnfinished(sys); err != nil {
+		return nil, err
 	}
-	numbers, err := j.folder.journals()
-	if err != nil {
-		return err
-	}
-	messages, err := j.folder.readWhole(snapshotName)
-	if err != nil && !errors.Is(err, os.ErrNotExist) {
-		return err
-	}
-	if numbers, err = j.folder.dropEmptyEnd(numbers); err != nil {
-		return err
-	}
-	if len(numbers) == 0 {
-		numbers = []uint64{1}
-	}
-	last := numbers[len(numbers)-1]
-	for _, n := range numbers[:len(numbers)-1] {
-		more, err := j.folder.readWhole(journalName(n))
-		if err != nil {
-			return err
+	place, err := readPlace(sys)
+	if errors.Is(err, os.ErrNotExist) {
+		var found *contents
+		if found, err = readAll(sys, nil); err == nil {
+			err = found.fault(dir)
 		}
-		messages = append(messages, more...)
+		if err == nil {
+			place, err = makePlace(sys)
+		}
 	}
-	tail, file, cut, err := j.folder.mend(journalName(last))
 	if err != nil {
-		return err
+		return nil, err
 	}
-	j.messages = append(messages, tail...)
-	j.file, j.number, j.room, j.cut = file, last, int64(len(tail)), cut
-	j.setSize(int64(len(tail)))
-	return nil
+	return &Journal{sys: sys, dir: dir, place: place, broken: errUnread, marked: true, quiet: quiet, growth: growth}, nil
 }
 
-// setSize sets size. The caller holds write, or is the only one.
-func (j *Journal) setSize(size int64) {
-	j.size = size
-	j.shown.Store(size)
-}
-
-// Messages returns the batches that Open found in the snapshot and the journals, one after the other, for the
-// validator to take at its start. The journal keeps no copy: a second call returns nil.
-func (j *Journal) Messages() []byte {
+// Load reads the folder, gives all that it holds to take, whole messages at a time, and begins a new journal. Only the first call
+// does. It reads while take is under way, so take may have messages of a folder that can't be read to its end. Its error ends
+// the reading.
+//
+// Damage is an error that names the file and the place: no crash leaves such a file. So is a file of a newer format.
+func (j *Journal) Load(take func(messages []byte) error) error {
+	j.snapshot.Lock()
+	defer j.snapshot.Unlock()
+	if j.state() != errUnread {
+		return j.state()
+	}
+	err := j.load(take)
 	j.write.Lock()
 	defer j.write.Unlock()
-	found := j.messages
-	j.messages = nil
-	return found
+	if j.broken == errUnread {
+		j.broken = err
+	}
+	return err
 }
 
-// Cut returns how many bytes Open cut off the end of the last journal, without its filler: what a crash left of a
-// write that no Append had answered. It is worth a line in the log where it is not 0.
-func (j *Journal) Cut() int64 { return j.cut }
+// state is why nothing can be appended, or nil.
+func (j *Journal) state() error {
+	j.write.Lock()
+	defer j.write.Unlock()
+	return j.broken
+}
 
-// Size returns how many bytes of batches the journal that grows has, by which a caller decides when to take a Snapshot. It
-// waits for no disk.
-func (j *Journal) Size() int64 { return j.shown.Load() }
+func (j *Journal) load(take func(messages []byte) error) error {
+	found, err := j.read(take)
+	if err != nil {
+		return err
+	}
+	j.write.Lock()
+	j.old = found.old
+	j.write.Unlock()
+	j.upgrades = found.old || found.fromFrames > 0
+	j.wants = !found.hasSnapshot || found.journals >= manyJournals || found.old
+	empty := true
+	for _, f := range found.files {
+		if f.Torn() {
+			j.torn = append(j.torn, f)
+		}
+		if f.number > 0 {
+			j.older += f.At
+		}
+		empty = empty && f.At == 0
+	}
+	j.size.Store(j.older)
+	if found.old && found.fromFrames == 0 {
+		if err := keepText(j.sys, framesName, strconv.FormatUint(found.newest+1, 10)); err != nil {
+			return err
+		}
+	}
+	if j.core, err = svid.OpenFolder(j.place, found.oldest, found.newest); err != nil {
+		return fmt.Errorf("journal: %s: %w", j.dir, err)
+	}
+	err = j.makeCalls(nil)
+	if err == nil && !found.hasSnapshot && empty {
+		err = j.replace(func(io.Writer) error { return nil })
+		j.wants = false
+	}
+	return err
+}
 
-// Append writes batch, whole batches of version 2, behind the journal, and returns after it is on the disk.
+// read reads all files, while take takes what they hold.
+func (j *Journal) read(take func(messages []byte) error) (found *contents, err error) {
+	pieces, stop := make(chan []byte, 4), make(chan struct{})
+	go func() {
+		defer close(pieces)
+		found, err = readAll(j.sys, func(piece []byte) {
+			select {
+			case pieces <- piece:
+			case <-stop:
+			}
+		})
+	}()
+	var fault error
+	for piece := range pieces {
+		if fault != nil {
+			continue
+		}
+		if fault = take(piece); fault != nil {
+			close(stop)
+		}
+	}
+	if err == nil {
+		err = found.fault(j.dir)
+	}
+	if err != nil {
+		return nil, err
+	}
+	for _, f := range found.files {
+		if fault == nil && len(f.Messages) > 0 {
+			fault = take(f.Messages)
+		}
+		f.Messages, f.content = nil, nil
+	}
+	return found, fault
+}
+
+// Torn returns the journals in which Load found what a crash left of a write that no Append had answered. They are worth a
+// line in the log.
+func (j *Journal) Torn() []*File { return j.torn }
+
+// Place returns the validator's place, which the first Open of the folder made at random.
+func (j *Journal) Place() svid.Place { return j.place }
+
+// WantsSnapshot says whether Load found that a snapshot is due: the folder has none, or the journals of many starts, or an older
+// version wrote it. In that last case it must be: Append fails until a Snapshot has replaced the old files.
+func (j *Journal) WantsSnapshot() (wants, must bool) {
+	j.write.Lock()
+	defer j.write.Unlock()
+	return j.wants, j.old
+}
+
+// Size returns how many bytes the frames of the journals have, by which a caller decides when to take a Snapshot. It waits for
+// no disk.
+func (j *Journal) Size() int64 { return j.size.Load() }
+
+// Append writes batch, whole messages, to the journal, and returns after it is on the disk.
 //
-// Callers that come while another write is under way share the next one, and its one fdatasync. Bytes that are no whole
-// batches are refused, since Open would cut off all that stands behind them. Where a write fails (the disk is full),
-// the journal is as it was, and a later Append may succeed. Where the disk does not say what it holds (fdatasync
-// failed), this and every later Append fails until the folder is opened anew.
+// Callers that come while another write is under way share the next one, and its one fdatasync. Where a write fails (the disk
+// is full), a later Append may succeed. Where the disk does not say what it holds (fdatasync failed), this and every later
+// Append fails until the folder is opened anew.
 //
 // Append waits until ctx ends, and wraps its error then. What becomes of the batch is open in that case: the disk has it now,
 // or later, or never.
 func (j *Journal) Append(ctx context.Context, batch []byte) error {
-	if _, err := scan(bytes.NewReader(batch)); err != nil {
-		return fmt.Errorf("journal: append: %w", err)
+	if len(batch) > svid.MaxPayload {
+		return fmt.Errorf("journal: append: %w", svid.ErrPayload)
 	}
 	c, err := j.join(batch)
 	if err != nil {
@@ -191,7 +291,7 @@ func (j *Journal) join(batch []byte) (*commit, error) {
 		j.gathering = &commit{done: make(chan struct{})}
 		go j.writeNext(j.gathering)
 	}
-	if len(j.gathering.bytes)+len(batch) > mostGathered {
+	if len(j.gathering.bytes)+len(batch) > svid.MaxPayload {
 		return nil, errFull
 	}
 	j.gathering.bytes = append(j.gathering.bytes, batch...)
@@ -214,160 +314,257 @@ func (j *Journal) seal() {
 	j.gathering = nil
 }
 
-// commit takes the bytes to the disk. The caller holds write.
-func (j *Journal) commit(b []byte) error {
+// commit takes a payload to the disk. The caller holds write.
+func (j *Journal) commit(payload []byte) error {
 	if j.broken != nil {
 		return j.broken
 	}
-	if err := j.put(b); err != nil {
-		return err
+	if j.old {
+		return errOld
 	}
-	if err := j.force(); err != nil {
-		return err
-	}
-	j.setSize(j.size + int64(len(b)))
-	return nil
-}
-
-// put writes the bytes behind the batches.
-func (j *Journal) put(b []byte) error {
-	end := j.size + int64(len(b))
-	if end > j.room {
-		if err := j.grow(end); err != nil {
-			return err
-		}
-	}
-	if _, err := j.file.WriteAt(b, j.size); err != nil {
-		if err := j.shorten(); err != nil {
-			return err
-		}
+	_, at := j.core.Growing()
+	frame, err := j.core.Put(j.buffer[:0], payload)
+	if err != nil {
 		return fmt.Errorf("journal: append: %w", err)
 	}
-	if j.room < end { // the disk is too full for more
-		j.room = end
+	j.keep(frame)
+	if err := j.put(frame, at); err != nil {
+		j.core.Unwritten()
+		return fmt.Errorf("journal: append: %w", err)
+	}
+	if err := j.file.datasync(); err != nil {
+		j.core.Failed()
+		return j.end(err)
+	}
+	if err := j.core.Synced(); err != nil {
+		return j.end(err)
+	}
+	j.size.Store(j.older + at + int64(len(frame)))
+	if j.marked = len(payload) == 0; !j.marked {
+		j.markSoon()
 	}
 	return nil
 }
 
-// filler is what a journal grows by. No batch begins so, and no use ends so. Where a crash leaves some of it in the place of
-// a batch's bytes, that is seen.
-var filler = bytes.Repeat([]byte{0xff}, 256<<10)
-
-// grow lets the file end behind end, with room for later batches, and forces that to the disk. Where the disk is too full,
-// the file stays as long as its batches.
-func (j *Journal) grow(end int64) error {
-	more := append(bytes.Repeat(filler[:1], int(end-j.room)), filler...)
-	if _, err := j.file.WriteAt(more, j.room); err != nil {
-		return j.shorten()
+// keep keeps the buffer of a frame for the next one, unless it is large.
+func (j *Journal) keep(frame []byte) {
+	if j.buffer = frame; cap(frame) > 1<<20 {
+		j.buffer = nil
 	}
-	j.room += int64(len(more))
-	return j.force()
 }
 
-// force is fdatasync. Where it fails, nothing can be appended any more.
-func (j *Journal) force() error {
-	if err := j.datasync(int(j.file.Fd())); err != nil {
-		j.broken = fmt.Errorf("journal: fdatasync of %s: %w: start the service again once its disk is well", j.file.Name(), err)
+// put writes a frame at a place. Where the file is too short, it grows by zeros too, as many as the disk has room for.
+func (j *Journal) put(frame []byte, at int64) error {
+	if at+int64(len(frame)) <= j.room {
+		_, err := j.file.WriteAt(frame, at)
+		return err
+	}
+	grown := append(append(make([]byte, 0, len(frame)+j.growth), frame...), make([]byte, j.growth)...)
+	n, err := j.file.WriteAt(grown, at)
+	if n < len(frame) {
+		return err
+	}
+	j.room = at + int64(n)
+	return nil
+}
+
+// markSoon lets a mark stand behind the journal once it is quiet. The caller holds write.
+func (j *Journal) markSoon() {
+	switch {
+	case j.quiet == 0:
+	case j.marker == nil:
+		j.marker = time.AfterFunc(j.quiet, func() {
+			j.write.Lock()
+			defer j.write.Unlock()
+			_ = j.mark() // Nobody waits for it.
+		})
+	default:
+		j.marker.Reset(j.quiet)
+	}
+}
+
+// mark puts a mark behind the journal that grows, unless one is there. The caller holds write.
+func (j *Journal) mark() error {
+	if j.marked || j.broken != nil {
 		return j.broken
 	}
-	return nil
+	return j.commit(nil)
 }
 
-// shorten removes what stands behind the batches. Where that fails, nothing can be appended any more.
-func (j *Journal) shorten() error {
-	if err := j.file.Truncate(j.size); err != nil {
-		j.broken = fmt.Errorf("journal: %s can't be cut behind its last batch: %w: start the service again once its disk is well",
-			j.file.Name(), err)
-		return j.broken
+// An ended error is why nothing can be appended any more. It is svid.ErrFolderEnded, too.
+type ended struct{ why error }
+
+func (e *ended) Error() string {
+	return fmt.Sprintf("journal: %v: start the service again once its disk is well", e.why)
+}
+func (e *ended) Unwrap() error        { return e.why }
+func (e *ended) Is(target error) bool { return target == svid.ErrFolderEnded }
+
+// end lets every later Append and Snapshot fail, since the disk does not say what it holds. The caller holds write.
+func (j *Journal) end(why error) error {
+	if j.broken == nil || j.broken == errUnread {
+		j.broken = &ended{why}
 	}
-	j.room = j.size
-	return nil
+	return j.broken
 }
 
-// Snapshot replaces the snapshot by what write writes, whole batches of version 2, and then drops the journals that are
-// older than the call.
+// Snapshot replaces the snapshot by what write writes, and then drops the journals that are older than the call. Each Write is
+// whole messages, and at most svid.MaxPayload bytes.
 //
-// write must write a record that holds at least each use that was appended before the call, save those that have
-// expired; a validator that adds a use before it appends it does. Append may be called all the while: what it appends
+// write must write a record that holds at least each use that was appended before it is called, save those that have
+// expired; a validator that adds a use before it appends it does. Append may be called all the while: what it appends then
 // goes to a new journal that stays. Where write or the disk fails, the error is returned and nothing is lost: the old
 // snapshot and all journals are still there.
 func (j *Journal) Snapshot(write func(io.Writer) error) error {
 	j.snapshot.Lock()
 	defer j.snapshot.Unlock()
-	number, err := j.beginNext()
-	if err != nil {
+	if err := j.state(); err != nil {
 		return err
 	}
-	err = j.folder.replace(snapshotName, write, wholeBatches)
-	if errors.Is(err, errUnsureNames) {
-		// The kernel tells of such a fault once. A later call must not take its silence for the name of this snapshot.
+	return j.replace(write)
+}
+
+// replace replaces the snapshot. The caller holds snapshot.
+func (j *Journal) replace(write func(io.Writer) error) error {
+	if err := j.core.Begin(); err != nil {
+		return fmt.Errorf("journal: snapshot: %w", err)
+	}
+	if err := j.makeCalls(write); err != nil {
+		return err
+	}
+	j.write.Lock()
+	defer j.write.Unlock()
+	j.old = false
+	if j.upgrades {
+		j.upgrades = j.sys.remove(framesName) != nil // (It says nothing any more, so it may stay.)
+	}
+	return nil
+}
+
+// makeCalls makes the calls of the system that are due, until none is, or one fails.
+func (j *Journal) makeCalls(write func(io.Writer) error) error {
+	var beside file
+	defer func() {
+		for _, f := range []file{beside, j.next} {
+			if f != nil {
+				f.Close()
+			}
+		}
+		j.next = nil
+	}()
+	for {
+		call, number, err := j.core.Due()
+		if err != nil {
+			return fmt.Errorf("journal: %w", err)
+		}
+		switch call {
+		case svid.NoCall:
+			return nil
+		case svid.CreateJournal:
+			j.next, err = j.sys.create(journalName(number))
+		case svid.SyncFolder:
+			err = j.sys.sync()
+		case svid.WriteSnapshot:
+			if beside, err = j.sys.create(snapshotName + unfinished); err == nil {
+				err = j.writePieces(beside, write)
+			}
+		case svid.SyncSnapshot:
+			err = beside.sync()
+		case svid.RenameSnapshot:
+			err = j.sys.rename(snapshotName+unfinished, snapshotName)
+		case svid.RemoveJournal:
+			if err = j.sys.remove(journalName(number)); errors.Is(err, os.ErrNotExist) {
+				err = nil
+			}
+		default:
+			err = fmt.Errorf("the library wants call %d of the system: build this version with the library that it came with", call)
+		}
+		if err := j.answer(call, err); err != nil {
+			if beside != nil {
+				_ = j.sys.remove(snapshotName + unfinished) // Where that fails too, the next snapshot or start removes it.
+			}
+			return err
+		}
+	}
+}
+
+// answer tells the library how the call went that was due, and lets the next journal grow where that is next. It returns why
+// the calls end here.
+func (j *Journal) answer(call svid.Call, fault error) error {
+	j.write.Lock()
+	defer j.write.Unlock()
+	if fault == nil && call == svid.SyncFolder && j.next != nil {
+		_ = j.mark() // The journal is closed. (Where the disk is full, it has no mark. A sync that fails ends the folder.)
+	}
+	before, _ := j.core.Growing()
+	err := j.core.Answer(fault == nil)
+	if fault != nil {
+		err = fault
+	}
+	if _, _, ended := j.core.Due(); ended != nil {
 		return j.end(err)
 	}
 	if err != nil {
-		return fmt.Errorf("journal: snapshot: %w", err)
+		return fmt.Errorf("journal: %w", err)
 	}
-	return j.folder.removeJournalsBefore(number)
+	if now, _ := j.core.Growing(); now != before {
+		j.grow()
+	}
+	return nil
 }
 
-// end lets every later Append and Snapshot fail, since the disk does not say what it holds.
-func (j *Journal) end(why error) error {
-	j.write.Lock()
-	defer j.write.Unlock()
-	if j.broken == nil {
-		j.broken = fmt.Errorf("journal: snapshot: %w: start the service again once its disk is well", why)
+// grow lets the next journal be the one that grows. The caller holds write.
+func (j *Journal) grow() {
+	if j.file != nil {
+		j.file.Close() // All of it is on the disk: nothing is lost by an error here.
+		j.older = 0
 	}
-	return j.broken
+	j.file, j.next, j.room, j.marked = j.next, nil, 0, true
+	j.size.Store(j.older)
 }
 
-// beginNext makes the next journal, lets Append write there from now on, and returns its number.
-func (j *Journal) beginNext() (uint64, error) {
-	j.write.Lock()
-	defer j.write.Unlock()
-	if j.broken != nil {
-		return 0, j.broken
+// writePieces writes a snapshot: each Write of write is a piece, and a mark ends it.
+func (j *Journal) writePieces(to file, write func(io.Writer) error) error {
+	p := &pieces{core: j.core, to: to}
+	if err := write(p); err != nil {
+		return err
 	}
-	// (a journal that is not the last one is whole batches, and no filler)
-	if err := j.shorten(); err != nil {
-		return 0, err
+	if p.err == nil {
+		p.put(nil)
 	}
-	if err := syncFile(j.file); err != nil {
-		j.broken = fmt.Errorf("journal: fsync of %s: %w: start the service again once its disk is well", j.file.Name(), err)
-		return 0, j.broken
-	}
-	next, err := j.folder.ensure(journalName(j.number + 1))
-	if errors.Is(err, errUnsureNames) {
-		// The kernel tells of such a fault once: what is appended to that file later could be lost with its name.
-		j.broken = fmt.Errorf("%w: start the service again once its disk is well", err)
-		return 0, j.broken
-	}
-	if err != nil {
-		return 0, err
-	}
-	j.file.Close() // All of it is on the disk: nothing is lost by an error here.
-	j.file, j.number, j.room = next, j.number+1, 0
-	j.setSize(0)
-	return j.number, nil
+	return p.err
 }
 
-// Place returns the validator's place. The first call makes it at random, and every later one, in this process or
-// another that opens the folder, returns the same.
-func (j *Journal) Place() ([16]byte, error) {
-	j.snapshot.Lock() // Two calls make one place, and none is made after Close.
-	defer j.snapshot.Unlock()
-	if j.isClosed() {
-		return [16]byte{}, ErrClosed
+// pieces are those of a snapshot, and the file that they go to.
+type pieces struct {
+	core   *svid.Folder
+	to     file
+	at     int64
+	buffer []byte
+	err    error
+}
+
+// Write writes a piece. No bytes are none, since an empty piece would end the snapshot.
+func (p *pieces) Write(piece []byte) (int, error) {
+	if p.err == nil && len(piece) > 0 {
+		p.put(piece)
 	}
-	return j.folder.place()
+	if p.err != nil {
+		return 0, p.err
+	}
+	return len(piece), nil
 }
 
-func (j *Journal) isClosed() bool {
-	j.write.Lock()
-	defer j.write.Unlock()
-	return j.broken == ErrClosed
+func (p *pieces) put(piece []byte) {
+	if p.buffer, p.err = p.core.Piece(p.buffer[:0], piece); p.err != nil {
+		return
+	}
+	_, p.err = p.to.WriteAt(p.buffer, p.at)
+	p.at += int64(len(p.buffer))
 }
 
-// Close waits for a Snapshot and an Append that are under way, and lets go of the folder. Every later Append and
-// Snapshot returns ErrClosed, and so does a second Close.
+// Close waits for a Snapshot and an Append that are under way, puts a mark behind the journal, and lets go of the folder. Every
+// later Append and Snapshot returns ErrClosed, and so does a second Close.
 func (j *Journal) Close() error {
 	j.snapshot.Lock()
 	defer j.snapshot.Unlock()
@@ -378,14 +575,20 @@ func (j *Journal) Close() error {
 	}
 	var err error
 	if j.broken == nil {
-		err = j.shorten() // Where that fails, the next Open does it.
+		err = j.mark()
 	}
 	j.broken = ErrClosed
-	if end := j.file.Close(); err == nil {
-		err = end
+	if j.marker != nil {
+		j.marker.Stop()
 	}
-	if unlock := j.lock.Close(); err == nil {
-		err = unlock
+	held := j.held
+	if j.file != nil {
+		held = append([]io.Closer{j.file}, held...)
+	}
+	for _, c := range held {
+		if end := c.Close(); err == nil {
+			err = end
+		}
 	}
 	return err
 }

@@ -20,17 +20,14 @@ import (
 	"time"
 
 	"svid.example/go/internal/regular"
+	"svid.example/go/svid"
 )
 
-// batch is a batch of one use, whose key begins with n.
+// batch is a batch of one use, whose key begins with n. It has 82 bytes, and its frame 128.
 func batch(n uint64) []byte {
-	b := append([]byte(batchHead), make([]byte, headLen-len(batchHead)+useLen)...)
-	binary.BigEndian.PutUint64(b[5:], 100)
-	binary.BigEndian.PutUint32(b[13:], 1)
-	binary.BigEndian.PutUint64(b[17:], 200)
-	binary.BigEndian.PutUint64(b[25:], n)
-	binary.BigEndian.PutUint64(b[73:], 100)
-	return b
+	use := svid.Use{Expires: 200, At: 100}
+	binary.BigEndian.PutUint64(use.Key[:], n)
+	return use.Batch()
 }
 
 // batches is the batches from the first number up to before the last.
@@ -42,9 +39,32 @@ func batches(first, last uint64) []byte {
 	return b
 }
 
-func mustOpen(t *testing.T, dir string) *Journal {
+// An opened folder, and the messages that it held.
+type opened struct {
+	*Journal
+	messages []byte
+}
+
+// load reads a folder that was opened, and closes it where that fails.
+func load(j *Journal, err error) (*opened, error) {
+	if err != nil {
+		return nil, err
+	}
+	o := &opened{Journal: j}
+	err = j.Load(func(messages []byte) error {
+		o.messages = append(o.messages, messages...)
+		return nil
+	})
+	if err != nil {
+		j.Close()
+		return nil, err
+	}
+	return o, nil
+}
+
+func mustOpen(t *testing.T, dir string) *opened {
 	t.Helper()
-	j, err := Open(dir)
+	j, err := load(Open(dir))
 	if err != nil {
 		t.Fatal(err)
 	}
@@ -52,14 +72,138 @@ func mustOpen(t *testing.T, dir string) *Journal {
 	return j
 }
 
-func mustAppend(t *testing.T, j *Journal, b []byte) {
+// openWith opens a folder by other calls of the system, and reads it.
+func openWith(dir string, wrap func(system) system) (*opened, error) {
+	f, err := openFolder(dir)
+	if err != nil {
+		return nil, err
+	}
+	lock, err := f.hold()
+	if err != nil {
+		return nil, err
+	}
+	j, err := openBy(wrap(f), dir)
+	if err != nil {
+		f.Close()
+		lock.Close()
+		return nil, err
+	}
+	j.held = []io.Closer{f, lock}
+	return load(j, nil)
+}
+
+// begin opens a folder of a model of a disk, and reads it.
+func begin(d *disk) (*opened, error) { return load(openBy(d, "disk")) }
+
+// A watched system asks before each call that changes something, and lets it fail with what it is answered.
+type watched struct {
+	system
+	before func(call, name string) error
+}
+
+func (w *watched) create(name string) (file, error) {
+	if err := w.before("create", name); err != nil {
+		return nil, err
+	}
+	f, err := w.system.create(name)
+	if err != nil {
+		return nil, err
+	}
+	return &watchedFile{f, name, w}, nil
+}
+
+func (w *watched) rename(from, to string) error {
+	if err := w.before("rename", to); err != nil {
+		return err
+	}
+	return w.system.rename(from, to)
+}
+
+func (w *watched) remove(name string) error {
+	if err := w.before("remove", name); err != nil {
+		return err
+	}
+	return w.system.remove(name)
+}
+
+func (w *watched) sync() error {
+	if err := w.before("sync", ""); err != nil {
+		return err
+	}
+	return w.system.sync()
+}
+
+type watchedFile struct {
+	file
+	name string
+	by   *watched
+}
+
+func (f *watchedFile) WriteAt(b []byte, at int64) (int, error) {
+	if err := f.by.before("write", f.name); err != nil {
+		return 0, err
+	}
+	return f.file.WriteAt(b, at)
+}
+
+func (f *watchedFile) sync() error {
+	if err := f.by.before("fsync", f.name); err != nil {
+		return err
+	}
+	return f.file.sync()
+}
+
+func (f *watchedFile) datasync() error {
+	if err := f.by.before("fdatasync", f.name); err != nil {
+		return err
+	}
+	return f.file.datasync()
+}
+
+// mustWatch opens a folder whose calls are watched. No mark comes by itself.
+func mustWatch(t *testing.T, dir string, before func(call, name string) error) *opened {
+	t.Helper()
+	j, err := openWith(dir, func(s system) system { return &watched{s, before} })
+	if err != nil {
+		t.Fatal(err)
+	}
+	j.quiet = 0
+	t.Cleanup(func() { j.Close() })
+	return j
+}
+
+// A fuse lets one call fail, of those that come behind setting it: the call of this number, counted from 0.
+type fuse struct {
+	mu     sync.Mutex
+	at, n  int
+	set    bool
+	failed string
+}
+
+func (f *fuse) before(call, name string) error {
+	f.mu.Lock()
+	defer f.mu.Unlock()
+	if !f.set {
+		return nil
+	}
+	f.n++
+	if f.n-1 == f.at {
+		f.failed = call + " " + name
+		return &os.PathError{Op: call, Path: name, Err: syscall.EIO}
+	}
+	return nil
+}
+
+func (f *fuse) from(at int) { f.mu.Lock(); f.at, f.n, f.set = at, 0, true; f.mu.Unlock() }
+
+func mustAppend(t *testing.T, j *opened, b []byte) {
 	t.Helper()
 	if err := j.Append(context.Background(), b); err != nil {
 		t.Fatal(err)
 	}
 }
 
-func mustClose(t *testing.T, j *Journal) {
+func mustClose(t *testing.T, j *opened) {
 	t.Helper()
 	if err := j.Close(); err != nil {
 		t.Fatal(err)
@@ -74,10 +218,10 @@ func writes(b []byte) func(io.Writer) error {
 	}
 }
 
-func wantMessages(t *testing.T, j *Journal, want []byte) {
+func wantMessages(t *testing.T, j *opened, want []byte) {
 	t.Helper()
-	if got := j.Messages(); !bytes.Equal(got, want) {
-		t.Fatalf("%d bytes of messages, want %d", len(got), len(want))
+	if !bytes.Equal(j.messages, want) {
+		t.Fatalf("%d bytes of messages, want %d", len(j.messages), len(want))
 	}
 }
 
@@ -101,15 +245,20 @@ func TestKeepsWhatWasAppended(t *testing.T) {
 	for n := uint64(0); n < 10; n++ {
 		mustAppend(t, j, batch(n))
 	}
-	if got := j.Size(); got != 820 {
-		t.Fatalf("size %d, want 820", got)
+	if got := j.Size(); got != 1280 {
+		t.Fatalf("size %d, want 1280", got)
 	}
 	mustClose(t, j)
 	j = mustOpen(t, dir)
 	wantMessages(t, j, batches(0, 10))
-	wantMessages(t, j, nil) // They are handed over once.
-	if got := names(t, dir); got != "journal.1 lock" {
+	if err := j.Load(func([]byte) error { t.Error("it is read twice"); return nil }); err != nil {
+		t.Fatal(err)
+	}
+	if got := names(t, dir); got != "journal.2 journal.3 lock place snapshot" {
 		t.Fatal(got)
+	}
+	if torn := j.Torn(); len(torn) > 0 {
+		t.Errorf("%v is torn", torn[0])
 	}
 }
 
@@ -125,7 +274,7 @@ func TestSnapshotReplacesWhatIsOlder(t *testing.T) {
 		t.Fatal(err)
 	}
 	mustAppend(t, j, batch(8))
-	if got := names(t, dir); got != "journal.2 lock snapshot" {
+	if got := names(t, dir); got != "journal.3 lock place snapshot" {
 		t.Fatal(got)
 	}
 	mustClose(t, j)
@@ -145,109 +294,117 @@ func TestFailedSnapshotLosesNothing(t *testing.T) {
 	if err := j.Snapshot(func(io.Writer) error { return why }); !errors.Is(err, why) {
 		t.Fatal(err)
 	}
-	if err := j.Snapshot(writes([]byte("no batch"))); err == nil {
-		t.Fatal("a snapshot that is no batch was kept")
+	if err := j.Snapshot(writes(make([]byte, svid.MaxPayload+1))); !errors.Is(err, svid.ErrPayload) {
+		t.Fatal(err)
 	}
-	if err := j.Snapshot(writes(batches(0, 6)[:100])); !errors.Is(err, io.ErrUnexpectedEOF) {
+	// A write that was told of a fault, and does not tell it.
+	if err := j.Snapshot(func(w io.Writer) error { w.Write(make([]byte, svid.MaxPayload+1)); return nil }); !errors.Is(err, svid.ErrPayload) {
 		t.Fatal(err)
 	}
 	mustAppend(t, j, batch(6))
 	mustClose(t, j)
 	wantMessages(t, mustOpen(t, dir), batches(0, 7))
-	if got := names(t, dir); got != "journal.2 journal.3 journal.4 journal.5 lock snapshot" {
+	if got := names(t, dir); got != "journal.3 journal.4 journal.5 journal.6 journal.7 lock place snapshot" {
 		t.Fatal(got)
 	}
 }
 
-// failSync lets the fsync of this number fail, counted from 0, of all that come from now on. It returns how many came.
-func failSync(t *testing.T, number int) (count func() int) {
-	t.Helper()
-	n := 0
-	real := syncFile
-	syncFile = func(f *os.File) error {
-		n++
-		if n-1 == number {
-			return syscall.EIO
-		}
-		return real(f)
-	}
-	t.Cleanup(func() { syncFile = real })
-	return func() int { return n }
-}
-
-// Whichever fsync of a snapshot fails, no batch is lost that an Append took before it, while it was written or after it.
-func TestEachFailedSyncOfASnapshotLosesNothing(t *testing.T) {
+// Whichever call of a snapshot fails, no batch is lost that an Append took before it, while it was written or after it. A sync of
+// the folder, or of a journal, is the end; any other fault passes.
+func TestEachFailedCallOfASnapshotLosesNothing(t *testing.T) {
+	seen := map[string]bool{}
 	for number, last := 0, false; !last; number++ {
-		t.Run(fmt.Sprint(number), func(t *testing.T) {
-			dir := t.TempDir()
-			j := mustOpen(t, dir)
-			mustAppend(t, j, batches(0, 3))
-			if err := j.Snapshot(writes(batches(0, 3))); err != nil {
-				t.Fatal(err)
+		dir := t.TempDir()
+		f := &fuse{}
+		j := mustWatch(t, dir, f.before)
+		mustAppend(t, j, batches(0, 3))
+		if err := j.Snapshot(writes(batches(0, 3))); err != nil {
+			t.Fatal(err)
+		}
+		acknowledged := batches(0, 4)
+		mustAppend(t, j, batch(3))
+		n := uint64(4)
+		add := func() error {
+			err := j.Append(context.Background(), batch(n))
+			if err == nil {
+				acknowledged = append(acknowledged, batch(n)...)
 			}
-			acknowledged := batches(0, 4)
-			mustAppend(t, j, batch(3))
-			n := uint64(4)
-			add := func() error {
-				err := j.Append(context.Background(), batch(n))
-				if err == nil {
-					acknowledged = append(acknowledged, batch(n)...)
-				}
-				n++
-				return err
+			n++
+			return err
+		}
+		f.from(number)
+		err := j.Snapshot(func(w io.Writer) error { add(); return writes(acknowledged)(w) })
+		f.mu.Lock()
+		failed := f.failed
+		f.set = false
+		f.mu.Unlock()
+		seen[failed] = true
+		if last = failed == ""; last && err != nil {
+			t.Fatalf("call %d: %v", number, err)
+		}
+		end := failed == "sync " || strings.HasPrefix(failed, "fdatasync")
+		if again := add(); end != errors.Is(again, svid.ErrFolderEnded) || end != (again != nil) {
+			t.Errorf("%s fails, and the next append says %v", failed, again)
+		}
+		if again := j.Snapshot(writes(acknowledged)); end != (again != nil) {
+			t.Errorf("%s fails, and the next snapshot says %v", failed, again)
+		}
+		add()
+		if err := j.Close(); err != nil {
+			t.Error(err)
+		}
+		found := mustOpen(t, dir).messages
+		for i := 0; i < len(acknowledged); i += 82 {
+			if !bytes.Contains(found, acknowledged[i:i+82]) {
+				t.Errorf("%s fails, and batch %d is lost", failed, i/82)
 			}
-			count := failSync(t, number)
-			err := j.Snapshot(func(w io.Writer) error { add(); return writes(acknowledged)(w) })
-			if last = count() <= number; last != (err == nil) {
-				t.Fatalf("%d of %d: %v", number, count(), err)
-			}
-			if last {
-				return
-			}
-			broken := add() != nil
-			again := j.Snapshot(writes(acknowledged))
-			if broken != (again != nil) {
-				t.Fatalf("appending is over: %v, and the next snapshot says %v", broken, again)
-			}
-			add()
-			mustClose(t, j)
-			found := mustOpen(t, dir).Messages()
-			for i := 0; i < len(acknowledged); i += 82 {
-				if !bytes.Contains(found, acknowledged[i:i+82]) {
-					t.Errorf("batch %d is lost", i/82)
-				}
-			}
-		})
+		}
+	}
+	for _, call := range []string{"create journal.4", "sync ", "write journal.3", "fdatasync journal.3", "create snapshot.new", "write snapshot.new", "fsync snapshot.new",
+		"rename snapshot", "remove journal.3", "write journal.4", "fdatasync journal.4"} {
+		if !seen[call] {
+			t.Errorf("%s was not tried", call)
+		}
 	}
 }
 
 // A snapshot whose name the disk may not have must not let the journals go, also where a later fsync says nothing.
 func TestAFolderThatCannotBeForcedToTheDiskIsTheEnd(t *testing.T) {
-	dir := t.TempDir()
-	j := mustOpen(t, dir)
-	mustAppend(t, j, batches(0, 3))
-	const ofTheRenamed = 3 // behind those of the journal, of the folder for the next journal, and of the new snapshot
-	failSync(t, ofTheRenamed)
-	for i := 0; i < 2; i++ {
-		if err := j.Snapshot(writes(batches(0, 3))); !errors.Is(err, errUnsureNames) || !strings.Contains(err.Error(), "start the service again") {
-			t.Errorf("snapshot %d: %v", i, err)
+	for which := 1; which <= 2; which++ {
+		dir := t.TempDir()
+		syncs, failing := 0, false
+		j := mustWatch(t, dir, func(call, _ string) error {
+			if failing && call == "sync" {
+				if syncs++; syncs == which {
+					return syscall.EIO
+				}
+			}
+			return nil
+		})
+		mustAppend(t, j, batches(0, 3))
+		failing = true
+		for i := 0; i < 2; i++ {
+			if err := j.Snapshot(writes(batches(0, 3))); !errors.Is(err, svid.ErrFolderEnded) || !strings.Contains(err.Error(), "start the service again") {
+				t.Errorf("sync %d, snapshot %d: %v", which, i, err)
+			}
 		}
-	}
-	if err := j.Append(context.Background(), batch(3)); !errors.Is(err, errUnsureNames) {
-		t.Errorf("append: %v", err)
-	}
-	if got := names(t, dir); got != "journal.1 journal.2 lock snapshot" {
-		t.Error(got)
+		if err := j.Append(context.Background(), batch(3)); !errors.Is(err, svid.ErrFolderEnded) || !errors.Is(err, syscall.EIO) {
+			t.Errorf("sync %d, append: %v", which, err)
+		}
+		if got := names(t, dir); got != "journal.2 journal.3 lock place snapshot" {
+			t.Errorf("sync %d: %s", which, got)
+		}
 	}
 }
 
 // A snapshot that can't be renamed, or can't begin, leaves all in its place, and Append goes on.
 func TestASnapshotThatCannotBeMadeLosesNothing(t *testing.T) {
-	for what, hinder := range map[string]string{"rename": "snapshot", "the next journal": "journal.2", "the new file": "snapshot.new"} {
+	for what, hinder := range map[string]string{"rename": "snapshot", "the next journal": "journal.3", "the new file": "snapshot.new"} {
 		t.Run(what, func(t *testing.T) {
 			dir := t.TempDir()
 			j := mustOpen(t, dir)
 			mustAppend(t, j, batches(0, 3))
+			os.Remove(filepath.Join(dir, hinder))
 			if err := os.MkdirAll(filepath.Join(dir, hinder, "not empty"), 0o700); err != nil {
 				t.Fatal(err)
 			}
@@ -271,207 +428,120 @@ func TestASnapshotThatCannotBeMadeLosesNothing(t *testing.T) {
 	}
 }
 
-// A Snapshot that failed behind making the next journal leaves it empty. Where the journal before it went on and was
-// torn by a crash, that is the one to mend.
-func TestCutsATornTailBeforeAnEmptyJournal(t *testing.T) {
+// What a crash leaves of a write that nobody was answered for is not read, and is told. The file stays as it is, and the next
+// journal grows.
+func TestATornTailIsNotRead(t *testing.T) {
 	dir := t.TempDir()
-	for name, content := range map[string][]byte{"journal.3": batches(0, 2), "journal.4": append(batches(2, 4), 'J', 'S'), "journal.5": nil, "journal.6": nil} {
-		if err := os.WriteFile(filepath.Join(dir, name), content, 0o600); err != nil {
-			t.Fatal(err)
+	j := mustOpen(t, dir)
+	for n := uint64(0); n < 3; n++ {
+		mustAppend(t, j, batch(n))
+	}
+	mustClose(t, j)
+	place, snapshot, text := readFile(t, dir, placeName), readFile(t, dir, snapshotName), readFile(t, dir, "journal.2")
+	if len(text) != 128+growth {
+		t.Fatalf("%d bytes", len(text))
+	}
+	whole := text[:3*128]
+	want := func(content []byte, good int) {
+		t.Helper()
+		d := newDisk()
+		d.others[placeName] = place
+		d.snapshot = settled(atRest(snapshot))
+		*d.journal(2) = journalOnDisk{atRest(content), settled(true)}
+		before := d.journal(2).file.String()
+		for i := 0; i < 2; i++ { // (and again, behind a kill)
+			j, err := begin(d)
+			if err != nil {
+				t.Fatal(err)
+			}
+			wantMessages(t, j, batches(0, uint64(good+i)))
+			torn := len(bytes.TrimRight(content[128*good:], "\x00"))
+			switch found := j.Torn(); {
+			case torn == 0 && len(found) > 0:
+				t.Errorf("%d bytes: torn at %d", len(content), found[0].At)
+			case torn > 0 && (len(found) != 1 || found[0].At != int64(128*good) || found[0].Rest != torn):
+				t.Errorf("%d bytes: torn %v, want %d bytes", len(content), *found[0], torn)
+			}
+			j.quiet = 0
+			mustAppend(t, j, batch(uint64(good+i)))
+		}
+		if now := d.journal(2).file.String(); now != before {
+			t.Error("a start has written to a journal that it found")
 		}
 	}
-	j := mustOpen(t, dir)
-	wantMessages(t, j, batches(0, 4))
-	if j.Cut() != 2 {
-		t.Errorf("%d bytes were cut", j.Cut())
-	}
-	mustAppend(t, j, batch(4))
-	mustClose(t, j)
-	wantMessages(t, mustOpen(t, dir), batches(0, 5))
-	if got := names(t, dir); got != "journal.3 journal.4 lock" {
-		t.Error(got)
-	}
-}
-
-func TestCutsATornTail(t *testing.T) {
-	whole := batches(0, 3)
 	zeros := make([]byte, 200)
 	for cut := 0; cut <= len(whole); cut++ {
-		wantMended(t, whole[:cut], cut/82*82)
+		want(whole[:cut], cut/128)
 	}
-	wantMended(t, append(batches(0, 3), zeros...), len(whole))                     // a file that grew, but not its content
-	wantMended(t, append(append(batches(0, 2), zeros[:82]...), 1), 2*82)           // a sector that is missing
-	wantMended(t, append(batches(0, 2), append(zeros[:82], batch(5)...)...), 2*82) // and one behind it that is there
-	wantMended(t, append(batches(0, 3), filler...), len(whole))                    // a journal that was not closed
-	wantMended(t, append(append(batches(0, 3), whole[:50]...), filler...), len(whole))
+	want(append(whole[:len(whole):len(whole)], zeros...), 3)                   // a file that grew, but not its content
+	want(append(append(whole[:256:256], zeros[:64]...), whole[256+64:]...), 2) // a cell that is missing
+	want(append(append(whole[:256:256], whole[:128]...), zeros...), 2)         // a frame of another number
+	want(append(whole[:256+100:256+100], make([]byte, growth)...), 2)          // a page that is missing
 }
 
-// wantMended opens a folder whose last journal has this content, and wants the first bytes of it that are good.
-func wantMended(t *testing.T, content []byte, good int) {
-	t.Helper()
-	dir := t.TempDir()
-	if err := os.WriteFile(filepath.Join(dir, "journal.9"), content, 0o600); err != nil {
-		t.Fatal(err)
-	}
-	j := mustOpen(t, dir)
-	wantMessages(t, j, content[:good])
-	if torn := len(bytes.TrimRight(content[good:], "\x00\xff")); j.Cut() != int64(torn) {
-		t.Fatalf("of %d bytes %d were cut, want %d", len(content), j.Cut(), torn)
-	}
-	mustAppend(t, j, batch(77))
-	mustClose(t, j)
-	j = mustOpen(t, dir)
-	wantMessages(t, j, append(append([]byte{}, content[:good]...), batch(77)...))
-	mustClose(t, j)
-}
-
-// TestGrowsByFiller looks at the journal's file as it grows, is followed by another one, and is closed. Only the one that
-// grows has filler behind its batches, and its length changes once for thousands of them.
-func TestGrowsByFiller(t *testing.T) {
+// TestGrowsByZeros looks at the journal's file as it grows, and is followed by another one. Its length changes once for thousands
+// of batches.
+func TestGrowsByZeros(t *testing.T) {
 	dir := t.TempDir()
 	j := mustOpen(t, dir)
-	want := func(name string, batches, behind int64) {
+	j.quiet = 0
+	want := func(name string, length int64) {
 		t.Helper()
 		info, err := os.Stat(filepath.Join(dir, name))
-		if err != nil || info.Size() != 82*batches+behind {
-			t.Fatalf("%s: %v bytes, want %d and %d behind (%v)", name, info.Size(), 82*batches, behind, err)
+		if err != nil || info.Size() != length {
+			t.Fatalf("%s: %v bytes, want %d (%v)", name, info.Size(), length, err)
 		}
 	}
-	room := int64(len(filler))
-	for n := int64(0); n < 100; n++ {
-		mustAppend(t, j, batch(uint64(n)))
-		want("journal.1", 1, room)
+	want("journal.2", 0)
+	for n := uint64(0); n < 100; n++ {
+		mustAppend(t, j, batch(n))
+		want("journal.2", 128+growth)
 	}
-	mustAppend(t, j, batches(100, 5000)) // more than there is room for
-	want("journal.1", 5000, room)
+	many := batches(100, 5000) // more than there is room for
+	mustAppend(t, j, many)
+	length := int64(100*128+32+len(many)+31)/32*32 + growth
+	want("journal.2", length)
 	if err := j.Snapshot(func(io.Writer) error { return io.ErrClosedPipe }); !errors.Is(err, io.ErrClosedPipe) {
 		t.Fatal(err)
 	}
-	want("journal.1", 5000, 0)
-	want("journal.2", 0, 0)
+	want("journal.2", length)
+	want("journal.3", 0)
 	mustAppend(t, j, batch(5000))
-	want("journal.2", 1, room)
+	want("journal.3", 128+growth)
 	mustClose(t, j)
-	want("journal.2", 1, 0)
 	j = mustOpen(t, dir)
 	wantMessages(t, j, batches(0, 5001))
-	mustAppend(t, j, batch(5001))
-	want("journal.2", 2, room)
-	mustClose(t, j)
-}
-
-// TestATornUseIsNoOther has a batch over the end of a page, and only the first of the two pages on the disk.
-func TestATornUseIsNoOther(t *testing.T) {
-	dir := t.TempDir()
-	j := mustOpen(t, dir)
-	name := filepath.Join(dir, "journal.1")
-	read := func() []byte {
-		content, err := os.ReadFile(name)
-		if err != nil {
-			t.Fatal(err)
-		}
-		return content
-	}
-	const page, whole = 4096, 4096 / 82 * 82
-	mustAppend(t, j, batches(0, whole/82))
-	before := read()
-	last := batch(whole / 82)
-	copy(last[57:73], "another place...") // the page ends behind its first use's key, and before the place's end
-	mustAppend(t, j, last)
-	torn := append(read()[:page:page], before[page:]...)
-	mustClose(t, j)
-	if err := os.WriteFile(name, torn, 0o600); err != nil {
-		t.Fatal(err)
-	}
-	j = mustOpen(t, dir)
-	wantMessages(t, j, batches(0, whole/82))
-	mustClose(t, j)
-}
-
-// TestOpenWritesAgainWhatItRead wants the journal written before it is forced to the disk: a page whose write failed counts
-// as clean.
-func TestOpenWritesAgainWhatItRead(t *testing.T) {
-	dir := t.TempDir()
-	j := mustOpen(t, dir)
-	mustAppend(t, j, batches(0, 100))
-	mustClose(t, j)
-	old := time.Unix(1, 0)
-	if err := os.Chtimes(filepath.Join(dir, "journal.1"), old, old); err != nil {
-		t.Fatal(err)
-	}
-	written, real := false, syncFile
-	defer func() { syncFile = real }()
-	syncFile = func(f *os.File) error {
-		if info, err := f.Stat(); err == nil && info.Name() == "journal.1" {
-			written = !info.ModTime().Equal(old)
-		}
-		return real(f)
-	}
-	wantMessages(t, mustOpen(t, dir), batches(0, 100))
-	if !written {
-		t.Error("fsync of what was only read forces nothing to the disk")
+	if torn := j.Torn(); len(torn) > 0 {
+		t.Error(torn[0])
 	}
 }
 
-// TestANextJournalWithoutASureNameIsTheEnd: nothing is appended to a journal whose name the disk may not have, also where a
-// later fsync of the folder goes well.
-func TestANextJournalWithoutASureNameIsTheEnd(t *testing.T) {
-	j := mustOpen(t, t.TempDir())
-	mustAppend(t, j, batches(0, 3))
-	failSync(t, 1) // that of the folder, behind that of journal.1
-	if err := j.Snapshot(writes(batches(0, 3))); !errors.Is(err, errUnsureNames) {
-		t.Fatal(err)
-	}
-	if err := j.Snapshot(writes(batches(0, 3))); !errors.Is(err, errUnsureNames) {
-		t.Error(err)
-	}
-	if err := j.Append(context.Background(), batch(3)); !errors.Is(err, errUnsureNames) {
-		t.Error(err)
-	}
-}
-
-// TestTooManyOpenFilesAreNotTheEnd has others take all files that are free while a snapshot is forced to the disk.
+// TestTooManyOpenFilesAreNotTheEnd has others take all files that are free, at each call of a snapshot.
 func TestTooManyOpenFilesAreNotTheEnd(t *testing.T) {
-	j := mustOpen(t, t.TempDir())
-	mustAppend(t, j, batches(0, 3))
 	var before syscall.Rlimit
 	if err := syscall.Getrlimit(syscall.RLIMIT_NOFILE, &before); err != nil {
 		t.Fatal(err)
 	}
-	real := syncFile
-	syncFile = func(f *os.File) error {
-		if filepath.Base(f.Name()) == "snapshot.new" {
-			syscall.Setrlimit(syscall.RLIMIT_NOFILE, &syscall.Rlimit{Cur: 3, Max: before.Max})
-		}
-		return real(f)
-	}
-	err := j.Snapshot(writes(batches(0, 3)))
-	syscall.Setrlimit(syscall.RLIMIT_NOFILE, &before)
-	syncFile = real
-	if !errors.Is(err, syscall.EMFILE) {
-		t.Error(err)
-	}
-	mustAppend(t, j, batch(3))
-	if err := j.Snapshot(writes(batches(0, 4))); err != nil {
-		t.Error(err)
-	}
-}
-
-func TestRefusesDamageThatNoCrashLeaves(t *testing.T) {
-	flipped := batches(0, 3)
-	flipped[82+17+64] = 9
-	for _, row := range []struct{ damaged, other, says string }{
-		{"snapshot", "journal.1", "snapshot is damaged at byte 82"},
-		{"journal.1", "journal.2", "journal.1 is damaged at byte 82"},
-	} {
-		dir := t.TempDir()
-		for name, content := range map[string][]byte{row.damaged: flipped, row.other: batches(3, 6)} {
-			if err := os.WriteFile(filepath.Join(dir, name), content, 0o600); err != nil {
-				t.Fatal(err)
+	for number, last := 0, false; !last; number++ {
+		n := -1 << 20
+		j := mustWatch(t, t.TempDir(), func(string, string) error {
+			if n++; n-1 == number {
+				syscall.Setrlimit(syscall.RLIMIT_NOFILE, &syscall.Rlimit{Cur: 3, Max: before.Max})
 			}
+			return nil
+		})
+		mustAppend(t, j, batches(0, 3))
+		n = 0
+		err := j.Snapshot(writes(batches(0, 3)))
+		syscall.Setrlimit(syscall.RLIMIT_NOFILE, &before)
+		if err != nil && !errors.Is(err, syscall.EMFILE) {
+			t.Error(err)
 		}
-		if _, err := Open(dir); err == nil || !strings.Contains(err.Error(), row.says) {
-			t.Errorf("%v, want %q", err, row.says)
+		last = n <= number
+		n = -1 << 20
+		mustAppend(t, j, batch(3))
+		if err := j.Snapshot(writes(batches(0, 4))); err != nil {
+			t.Error(err)
 		}
 	}
 }
@@ -480,7 +550,7 @@ func TestRefusesDamageThatNoCrashLeaves(t *testing.T) {
 func TestAPipeInTheFolder(t *testing.T) {
 	for _, name := range []string{"lock", "place", "snapshot", "journal.3", "journal.4", "snapshot.new", "place.new"} {
 		dir := t.TempDir()
-		for name, content := range map[string][]byte{"journal.3": batches(0, 2), "journal.4": batches(2, 3)} {
+		for name, content := range map[string][]byte{"place": []byte(strings.Repeat("0f", 16)), "journal.3": batches(0, 2), "journal.4": batches(2, 3)} {
 			if err := os.WriteFile(filepath.Join(dir, name), content, 0o600); err != nil {
 				t.Fatal(err)
 			}
@@ -491,9 +561,8 @@ func TestAPipeInTheFolder(t *testing.T) {
 		}
 		result := make(chan error)
 		go func() {
-			j, err := Open(dir)
+			j, err := load(Open(dir))
 			if err == nil {
-				_, err = j.Place()
 				j.Close()
 			}
 			result <- err
@@ -511,20 +580,20 @@ func TestAPipeInTheFolder(t *testing.T) {
 
 func TestRemovesWhatWasUnfinished(t *testing.T) {
 	dir := t.TempDir()
-	for _, name := range []string{"snapshot.new", "place.new"} {
+	for _, name := range []string{"snapshot.new", "place.new", "frames.new"} {
 		if err := os.WriteFile(filepath.Join(dir, name), []byte("half"), 0o600); err != nil {
 			t.Fatal(err)
 		}
 	}
 	mustOpen(t, dir)
-	if got := names(t, dir); got != "journal.1 lock" {
+	if got := names(t, dir); got != "journal.2 lock place snapshot" {
 		t.Fatal(got)
 	}
 }
 
 // What can't be removed is an error: it would be in the way of a later snapshot.
 func TestWhatWasUnfinishedAndStays(t *testing.T) {
-	for _, name := range []string{"snapshot.new", "place.new"} {
+	for _, name := range []string{"snapshot.new", "place.new", "frames.new"} {
 		dir := t.TempDir()
 		if err := os.MkdirAll(filepath.Join(dir, name, "not empty"), 0o700); err != nil {
 			t.Fatal(err)
@@ -535,24 +604,18 @@ func TestWhatWasUnfinishedAndStays(t *testing.T) {
 	}
 }
 
-func TestAppendRefusesWhatOpenWouldCut(t *testing.T) {
-	late, early := batch(1), batch(1)
-	binary.BigEndian.PutUint64(late[73:], 101)  // accepted after the batch's moment
-	binary.BigEndian.PutUint64(early[17:], 100) // expired by then
-	many := append([]byte{}, batch(1)...)
-	binary.BigEndian.PutUint32(many[13:], mostUses+1)
-	double := append(batch(1), batch(1)[17:]...)
-	binary.BigEndian.PutUint32(double[13:], 2)
+func TestAppendRefusesWhatNoFrameBears(t *testing.T) {
 	dir := t.TempDir()
 	j := mustOpen(t, dir)
-	for _, bad := range [][]byte{[]byte("x"), batch(1)[:81], late, early, many, double, append([]byte("JSR\x02\x02"), make([]byte, 8200)...)} {
-		if err := j.Append(context.Background(), bad); err == nil {
-			t.Errorf("%d bytes that are no batch were appended", len(bad))
-		}
+	if err := j.Append(context.Background(), make([]byte, svid.MaxPayload+1)); !errors.Is(err, svid.ErrPayload) {
+		t.Error(err)
 	}
+	mustAppend(t, j, nil) // (there is nothing to keep)
 	mustAppend(t, j, batch(2))
+	long := batches(3, 3+svid.MaxPayload/82)
+	mustAppend(t, j, long)
 	mustClose(t, j)
-	wantMessages(t, mustOpen(t, dir), batch(2))
+	wantMessages(t, mustOpen(t, dir), append(batch(2), long...))
 }
 
 func TestOneProcessHoldsTheFolder(t *testing.T) {
@@ -569,8 +632,7 @@ func TestOneProcessHoldsTheFolder(t *testing.T) {
 func TestClosed(t *testing.T) {
 	j := mustOpen(t, t.TempDir())
 	mustClose(t, j)
-	_, place := j.Place()
-	for _, err := range []error{j.Append(context.Background(), batch(1)), j.Snapshot(writes(nil)), place, j.Close()} {
+	for _, err := range []error{j.Append(context.Background(), batch(1)), j.Snapshot(writes(nil)), j.Close()} {
 		if err != ErrClosed {
 			t.Error(err)
 		}
@@ -579,16 +641,17 @@ func TestClosed(t *testing.T) {
 
 func TestManyCallersShareOneSync(t *testing.T) {
 	dir := t.TempDir()
-	j := mustOpen(t, dir)
-	mustAppend(t, j, batch(1000)) // (the file has grown)
-	syncs, begun, proceed := 0, make(chan bool), make(chan bool)
-	j.datasync = func(fd int) error {
-		if syncs++; syncs == 1 {
-			begun <- true
-			<-proceed
+	syncs, begun, proceed := -1, make(chan bool), make(chan bool)
+	j := mustWatch(t, dir, func(call, _ string) error {
+		if call == "fdatasync" {
+			if syncs++; syncs == 1 {
+				begun <- true
+				<-proceed
+			}
 		}
-		return syscall.Fdatasync(fd)
-	}
+		return nil
+	})
+	mustAppend(t, j, batch(1000)) // (the file has grown)
 	var all sync.WaitGroup
 	appends := func(n uint64) {
 		defer all.Done()
@@ -618,44 +681,58 @@ func TestManyCallersShareOneSync(t *testing.T) {
 		t.Errorf("%d syncs for 1 caller and then %d at once, want 2", syncs, callers)
 	}
 	mustClose(t, j)
-	if got := len(mustOpen(t, dir).Messages()); got != (callers+2)*82 {
+	if got := len(mustOpen(t, dir).messages); got != (callers+2)*82 {
 		t.Errorf("%d bytes", got)
+	}
+	found, err := Check(dir)
+	if err != nil || found.Files[1].Frames != 3 || found.Files[1].Marks != 1 {
+		t.Errorf("%v (%v), want 3 frames and a mark", found.Files[1], err)
 	}
 }
 
 func TestFailedSyncIsTheEnd(t *testing.T) {
-	j := mustOpen(t, t.TempDir())
-	j.datasync = func(int) error { return syscall.EIO }
+	fails := true
+	dir := t.TempDir()
+	j := mustWatch(t, dir, func(call, _ string) error {
+		if call == "fdatasync" && fails {
+			return syscall.EIO
+		}
+		return nil
+	})
 	if err := j.Append(context.Background(), batch(1)); !errors.Is(err, syscall.EIO) {
 		t.Fatal(err)
 	}
-	j.datasync = syscall.Fdatasync // What the kernel says next is worth nothing.
+	fails = false // What the kernel says next is worth nothing.
 	if err := j.Append(context.Background(), batch(2)); !errors.Is(err, syscall.EIO) {
 		t.Fatal(err)
 	}
 	if err := j.Snapshot(writes(nil)); !errors.Is(err, syscall.EIO) {
 		t.Fatal(err)
 	}
+	mustClose(t, j)
+	mustAppend(t, mustOpen(t, dir), batch(3)) // The next start goes on.
 }
 
-// hang lets each fdatasync of a journal wait until it is let go. begun hears of each one.
-func hang(j *Journal) (begun <-chan bool, let func()) {
-	begins, ahead := make(chan bool, 100), make(chan struct{})
-	j.datasync = func(fd int) error {
-		begins <- true
-		<-ahead
-		return syscall.Fdatasync(fd)
-	}
-	return begins, func() { close(ahead) }
+// hang opens a folder in which each fdatasync waits until it is let go. begun hears of each one.
+func hang(t *testing.T, dir string) (j *opened, begun <-chan bool, let func()) {
+	begins, ahead, hangs := make(chan bool, 100), make(chan struct{}), false
+	j = mustWatch(t, dir, func(call, _ string) error {
+		if call == "fdatasync" && hangs {
+			begins <- true
+			<-ahead
+		}
+		return nil
+	})
+	mustAppend(t, j, batch(1000)) // (the file has grown)
+	hangs = true
+	return j, begins, func() { close(ahead) }
 }
 
 // Where the disk hangs, nobody waits for longer than it wants, and Size not at all. What was given up is there in the end, if
 // the disk comes back, and all that comes then goes on as before.
 func TestADiskThatHangs(t *testing.T) {
 	dir := t.TempDir()
-	j := mustOpen(t, dir)
-	mustAppend(t, j, batch(1000)) // (the file has grown)
-	begun, let := hang(j)
+	j, begun, let := hang(t, dir)
 	for n := uint64(0); n < 3; n++ { // the first is being written, the others wait
 		ctx, giveUp := context.WithCancel(context.Background())
 		answer := make(chan error)
@@ -668,14 +745,14 @@ func TestADiskThatHangs(t *testing.T) {
 			t.Errorf("batch %d: %v", n, err)
 		}
 	}
-	if n := j.Size(); n != 82 {
+	if n := j.Size(); n != 128 {
 		t.Errorf("the size is %d", n)
 	}
 	// Those that wait for the disk have a bound.
 	ctx, giveUp := context.WithCancel(context.Background())
 	giveUp()
-	big, last := batches(2000, 2000+mostUses), error(nil)
-	for i := 0; i < 2+mostGathered/len(big) && last == nil; i++ {
+	big, last := batches(2000, 2000+1<<16), error(nil)
+	for i := 0; i < 2+svid.MaxPayload/len(big) && last == nil; i++ {
 		if err := j.Append(ctx, big); !errors.Is(err, context.Canceled) {
 			last = err
 		}
@@ -690,7 +767,7 @@ func TestADiskThatHangs(t *testing.T) {
 	}
 	mustAppend(t, j, batch(1002))
 	mustClose(t, j)
-	found := mustOpen(t, dir).Messages()
+	found := mustOpen(t, dir).messages
 	for _, n := range []uint64{1000, 0, 1, 2, 2000, 1001, 1002} {
 		if bytes.Count(found, batch(n)) == 0 {
 			t.Errorf("batch %d is not there", n)
@@ -700,9 +777,7 @@ func TestADiskThatHangs(t *testing.T) {
 
 // Who gives up holds nobody up: the write that it began goes on, and so does the next one.
 func TestWhoGaveUpHoldsNobodyUp(t *testing.T) {
-	j := mustOpen(t, t.TempDir())
-	mustAppend(t, j, batch(0))
-	begun, let := hang(j)
+	j, begun, let := hang(t, t.TempDir())
 	gone, giveUp := context.WithCancel(context.Background())
 	first, second := make(chan error), make(chan error)
 	go func() { first <- j.Append(gone, batch(1)) }()
@@ -716,7 +791,7 @@ func TestWhoGaveUpHoldsNobodyUp(t *testing.T) {
 	if err := <-second; err != nil {
 		t.Error(err)
 	}
-	if n := j.Size(); n != 3*82 {
+	if n := j.Size(); n != 3*128 {
 		t.Errorf("the size is %d", n)
 	}
 }
@@ -724,43 +799,45 @@ func TestWhoGaveUpHoldsNobodyUp(t *testing.T) {
 func TestPlaceIsMadeOnce(t *testing.T) {
 	dir := t.TempDir()
 	j := mustOpen(t, dir)
-	place, err := j.Place()
-	if err != nil || place == [16]byte{} {
-		t.Fatal(place, err)
+	place := j.Place()
+	if place == (svid.Place{}) {
+		t.Fatal("there is none")
 	}
+	mustAppend(t, j, batch(1))
 	mustClose(t, j)
 	j = mustOpen(t, dir)
-	if again, err := j.Place(); again != place || err != nil {
-		t.Fatal(again, err)
+	if again := j.Place(); again != place {
+		t.Fatal(again)
 	}
-	text, err := os.ReadFile(filepath.Join(dir, "place"))
-	if want := fmt.Sprintf("%x\n", place); string(text) != want || err != nil {
+	mustClose(t, j)
+	name := filepath.Join(dir, placeName)
+	text, err := os.ReadFile(name)
+	if want := place.String() + "\n"; string(text) != want || err != nil {
 		t.Fatal(text, err)
 	}
-	if err := os.WriteFile(filepath.Join(dir, "place"), text[:31], 0o600); err != nil {
+	if other := mustOpen(t, t.TempDir()).Place(); other == place {
+		t.Fatal("two folders have one place")
+	}
+	if err := os.WriteFile(name, text[:31], 0o600); err != nil {
 		t.Fatal(err)
 	}
-	if _, err := j.Place(); err == nil {
-		t.Fatal("half a place was read")
+	if _, err := Open(dir); err == nil || !strings.Contains(err.Error(), "place is not 32 hexadecimal digits: put back a copy") {
+		t.Fatal(err)
 	}
-	if other, err := mustOpen(t, t.TempDir()).Place(); other == place || err != nil {
-		t.Fatal("two folders have one place", err)
+	// Without it no frame can be read, and no other one is made.
+	if err := os.Remove(name); err != nil {
+		t.Fatal(err)
+	}
+	if _, err := Open(dir); err == nil || !strings.Contains(err.Error(), "the file place is missing in "+dir+", and "+dir+"/snapshot can't be read without it: put back a copy") {
+		t.Fatal(err)
+	}
+	if got := names(t, dir); got != "journal.2 journal.3 lock snapshot" {
+		t.Error(got)
 	}
 }
 
 // childRole names what this test binary does when a test started it as a process of its own.
 const childRole = "JOURNAL_TEST_CHILD"
-
-func TestMain(m *testing.M) {
-	switch os.Getenv(childRole) {
-	case "":
-		os.Exit(m.Run())
-	case "appender":
-		os.Exit(appender(os.Args[1]))
-	case "full disk":
-		os.Exit(fullDisk(os.Args[1]))
-	}
-}
 
 func child(role, dir string) *exec.Cmd {
 	c := exec.Command(os.Args[0], dir)
@@ -772,13 +849,13 @@ func child(role, dir string) *exec.Cmd {
 // appender appends from several goroutines, takes one snapshot after another, and prints a letter and the number of a
 // batch once the batch was appended.
 func appender(dir string) int {
-	j, err := Open(dir)
+	j, err := load(Open(dir))
 	if err != nil {
 		fmt.Fprintln(os.Stderr, err)
 		return 1
 	}
 	var mu sync.Mutex
-	record := j.Messages() // As the validator does, it holds a batch before the journal does.
+	record := j.messages // As the validator does, it holds a batch before the journal does.
 	next := uint64(len(record) / 82)
 	take := func() uint64 {
 		mu.Lock()
@@ -820,7 +897,10 @@ func appender(dir string) int {
 // was ever acknowledged each time.
 func TestKilledAtAnyMoment(t *testing.T) {
 	rounds := 40
-	if testing.Short() {
+	switch {
+	case *long:
+		rounds = 200
+	case testing.Short():
 		rounds = 5
 	}
 	dir := t.TempDir()
@@ -864,13 +944,13 @@ func TestKilledAtAnyMoment(t *testing.T) {
 
 func wantAll(t *testing.T, dir string, acknowledged map[uint64]bool) {
 	t.Helper()
-	j, err := Open(dir)
+	j, err := load(Open(dir))
 	if err != nil {
 		t.Fatal(err)
 	}
 	defer j.Close()
 	found := map[uint64]bool{}
-	for m := j.Messages(); len(m) > 0; m = m[82:] {
+	for m := j.messages; len(m) > 0; m = m[82:] {
 		found[binary.BigEndian.Uint64(m[25:])] = true
 	}
 	for n := range acknowledged {
@@ -882,7 +962,7 @@ func wantAll(t *testing.T, dir string, acknowledged map[uint64]bool) {
 
 // fullDisk appends until the file may not grow any more, then lets it grow and appends again.
 func fullDisk(dir string) int {
-	j, err := Open(dir)
+	j, err := load(Open(dir))
 	if err != nil {
 		fmt.Fprintln(os.Stderr, err)
 		return 1
@@ -910,18 +990,18 @@ func fullDisk(dir string) int {
 func TestFullDiskTakesNothingHalf(t *testing.T) {
 	dir := t.TempDir()
 	out, err := child("full disk", dir).Output()
-	if want := "12 true true <nil>"; string(out) != want || err != nil {
+	if want := "7 true true <nil>"; string(out) != want || err != nil {
 		t.Fatalf("%q %v, want %q", out, err, want)
 	}
 	j := mustOpen(t, dir)
-	wantMessages(t, j, batches(0, 13))
-	if j.Cut() != 0 {
-		t.Fatalf("%d bytes were left half", j.Cut())
+	wantMessages(t, j, batches(0, 8))
+	if torn := j.Torn(); len(torn) > 0 {
+		t.Fatalf("%d bytes were left half", torn[0].Rest)
 	}
 }
 
 func BenchmarkAppend(b *testing.B) {
-	j, err := Open(b.TempDir())
+	j, err := load(Open(b.TempDir()))
 	if err != nil {
 		b.Fatal(err)
 	}
@@ -942,9 +1022,6 @@ func TestModesOfTheFiles(t *testing.T) {
 	defer syscall.Umask(syscall.Umask(0))
 	dir := filepath.Join(t.TempDir(), "state")
 	j := mustOpen(t, dir)
-	if _, err := j.Place(); err != nil {
-		t.Fatal(err)
-	}
 	mustAppend(t, j, batch(1))
 	modes := func() map[string]os.FileMode {
 		found := map[string]os.FileMode{}
@@ -968,7 +1045,7 @@ func TestModesOfTheFiles(t *testing.T) {
 	if err != nil {
 		t.Fatal(err)
 	}
-	for name, want := range map[string]os.FileMode{"state": 0o700, "lock": 0o600, "place": 0o600, "snapshot": 0o600, "journal.2": 0o600} {
+	for name, want := range map[string]os.FileMode{"state": 0o700, "lock": 0o600, "place": 0o600, "snapshot": 0o600, "journal.3": 0o600} {
 		if got := modes()[name]; got != want {
 			t.Errorf("%s has mode %v, want %v", name, got, want)
 		}
@@ -990,27 +1067,217 @@ func TestTheNameOfANewFolderLasts(t *testing.T) {
 		t.Errorf("forced to the disk: %q", synced)
 	}
 	mustClose(t, j)
-	failSync(t, 0)
-	if _, err := Open(filepath.Join(above, "another")); !errors.Is(err, errUnsureNames) {
+	syncFile = func(*os.File) error { return syscall.EIO }
+	if _, err := Open(filepath.Join(above, "another")); !errors.Is(err, syscall.EIO) {
 		t.Errorf("its name may be lost: %v", err)
 	}
 }
 
-// An fsync that fails at the start is an error: what was read may not be on the disk.
-func TestEachFailedSyncOfAStartIsAnError(t *testing.T) {
+// Any call that fails at a start is an error, and the next start goes on.
+func TestEachFailedCallOfAStartIsAnError(t *testing.T) {
 	for number, last := 0, false; !last; number++ {
 		dir := t.TempDir()
-		if err := os.WriteFile(filepath.Join(dir, "journal.1"), batches(0, 2), 0o600); err != nil {
+		f := &fuse{}
+		f.from(number)
+		j, err := openWith(dir, func(s system) system { return &watched{s, f.before} })
+		if err == nil {
+			f.mu.Lock()
+			f.set = false
+			f.mu.Unlock()
+			mustClose(t, j)
+		}
+		if last = f.failed == ""; last != (err == nil) {
+			t.Errorf("%s fails: %v", f.failed, err)
+		}
+		mustAppend(t, mustOpen(t, dir), batch(1))
+	}
+}
+
+// Starts that are killed leave a journal each, and lose nothing. So many are a reason for a snapshot, which replaces them.
+func TestStartsAfterStarts(t *testing.T) {
+	dir := t.TempDir()
+	mustClose(t, mustOpen(t, dir))
+	const starts = 2 * manyJournals
+	for n := uint64(0); n < starts; n++ {
+		dir = killed(t, dir)
+		j := mustOpen(t, dir)
+		wantMessages(t, j, batches(0, n))
+		if wants, _ := j.WantsSnapshot(); wants != (n+1 >= manyJournals) {
+			t.Errorf("start %d: it wants a snapshot: %v", n, wants)
+		}
+		mustAppend(t, j, batch(n))
+	}
+	dir = killed(t, dir)
+	j := mustOpen(t, dir)
+	if err := j.Snapshot(writes(batches(0, starts))); err != nil {
+		t.Fatal(err)
+	}
+	if got, want := names(t, dir), fmt.Sprintf("journal.%d lock place snapshot", starts+4); got != want {
+		t.Errorf("%s, want %s", got, want)
+	}
+	wantMessages(t, mustOpen(t, killed(t, dir)), batches(0, starts))
+}
+
+// killed is a copy of a folder, as it is behind a kill of the process that has it.
+func killed(t *testing.T, dir string) string {
+	t.Helper()
+	files := map[string][]byte{}
+	for _, name := range strings.Fields(names(t, dir)) {
+		files[name] = readFile(t, dir, name)
+	}
+	return laid(t, files)
+}
+
+// A number between two journals may have none: crashes leave names each on its own. A snapshot passes it over.
+func TestAJournalThatIsNotThere(t *testing.T) {
+	dir := t.TempDir()
+	for n := uint64(0); n < 3; n++ {
+		j := mustOpen(t, dir)
+		mustAppend(t, j, batch(n))
+		mustClose(t, j)
+	}
+	if err := os.Remove(filepath.Join(dir, "journal.3")); err != nil {
+		t.Fatal(err)
+	}
+	j := mustOpen(t, dir)
+	wantMessages(t, j, append(batch(0), batch(2)...))
+	if err := j.Snapshot(writes(j.messages)); err != nil {
+		t.Fatal(err)
+	}
+	if got := names(t, dir); got != "journal.6 lock place snapshot" {
+		t.Error(got)
+	}
+}
+
+func readFile(t *testing.T, dir, name string) []byte {
+	t.Helper()
+	content, err := os.ReadFile(filepath.Join(dir, name))
+	if err != nil {
+		t.Fatal(err)
+	}
+	return content
+}
+
+// Before Load nothing is kept. A taker that fails ends the start: nothing is made, and the folder is as it was.
+func TestLoadEndsWhereATakerFails(t *testing.T) {
+	dir := t.TempDir()
+	j := mustOpen(t, dir)
+	for n := uint64(0); n < 3; n++ { // (more than a piece each)
+		if err := j.Append(context.Background(), batches(20000*n, 20000*(n+1))); err != nil {
 			t.Fatal(err)
 		}
-		count := failSync(t, number)
-		j, err := Open(dir)
-		if err == nil {
-			_, err = j.Place()
-			j.Close()
+	}
+	mustClose(t, j)
+	before := names(t, dir)
+	unread, err := Open(dir)
+	if err != nil {
+		t.Fatal(err)
+	}
+	defer unread.Close()
+	for _, err := range []error{unread.Append(context.Background(), batch(1)), unread.Snapshot(writes(nil))} {
+		if err != errUnread {
+			t.Error(err)
 		}
-		if last = count() <= number; last != (err == nil) {
-			t.Errorf("fsync %d of %d fails: %v", number, count(), err)
+	}
+	taken := 0
+	err = unread.Load(func([]byte) error { taken++; return io.ErrShortBuffer })
+	if err != io.ErrShortBuffer || taken != 1 {
+		t.Errorf("%v, and %d pieces were taken", err, taken)
+	}
+	for _, err := range []error{unread.Append(context.Background(), batch(1)), unread.Snapshot(writes(nil)), unread.Load(func([]byte) error { return nil })} {
+		if err != io.ErrShortBuffer {
+			t.Error(err)
+		}
+	}
+	if got := names(t, dir); got != before {
+		t.Errorf("%s is there, and was %s", got, before)
+	}
+	if err := unread.Close(); err != nil {
+		t.Error(err)
+	}
+	wantMessages(t, mustOpen(t, dir), batches(0, 60000))
+}
+
+// A file that is made is new: what had its name, and what a link with its name leads to, stay as they were.
+func TestAFileThatIsMadeIsNew(t *testing.T) {
+	dir := t.TempDir()
+	f, err := openFolder(dir)
+	if err != nil {
+		t.Fatal(err)
+	}
+	defer f.Close()
+	other := filepath.Join(dir, "other")
+	for what, make := range map[string]func(name string) error{
+		"a file":   func(name string) error { return os.Link(other, name) },
+		"a link":   func(name string) error { return os.Symlink(other, name) },
+		"a pipe":   func(name string) error { return syscall.Mkfifo(name, 0o600) },
+		"no file":  func(string) error { return nil },
+		"a folder": func(name string) error { return os.Mkdir(name, 0o700) },
+	} {
+		if err := os.WriteFile(other, []byte("before"), 0o600); err != nil {
+			t.Fatal(err)
+		}
+		if err := make(filepath.Join(dir, "journal.1")); err != nil {
+			t.Fatal(err)
+		}
+		made, err := f.create("journal.1")
+		if err != nil {
+			t.Fatalf("%s: %v", what, err)
+		}
+		if _, err := made.WriteAt([]byte("new"), 0); err != nil {
+			t.Fatal(err)
+		}
+		made.Close()
+		if got := readFile(t, dir, "other"); string(got) != "before" {
+			t.Errorf("%s: the other one is now %q", what, got)
+		}
+		if got := readFile(t, dir, "journal.1"); string(got) != "new" {
+			t.Errorf("%s: %q", what, got)
+		}
+		os.Remove(filepath.Join(dir, "journal.1"))
+	}
+}
+
+// A mark comes behind a burst, once, and nobody waits for it.
+func TestAMarkEndsABurst(t *testing.T) {
+	dir := t.TempDir()
+	marks := make(chan int, 10)
+	n := 0
+	j := mustWatch(t, dir, func(call, _ string) error {
+		if call == "fdatasync" {
+			n++
+			marks <- n
+		}
+		return nil
+	})
+	j.quiet = time.Millisecond
+	mustAppend(t, j, batch(0))
+	for <-marks < 2 { // the append, and the mark
+	}
+	mustAppend(t, j, batch(1))
+	for <-marks < 4 {
+	}
+	// A journal that is followed by another one has a mark, too, and one without a batch needs none.
+	j.write.Lock()
+	j.quiet = 0
+	j.write.Unlock()
+	mustAppend(t, j, batch(2))
+	for i := 0; i < 2; i++ {
+		if err := j.Snapshot(func(io.Writer) error { return io.ErrClosedPipe }); !errors.Is(err, io.ErrClosedPipe) {
+			t.Fatal(err)
+		}
+	}
+	mustClose(t, j)
+	if n != 6 {
+		t.Errorf("%d syncs", n)
+	}
+	found, err := Check(dir)
+	if err != nil || found.Fault != nil {
+		t.Fatal(found, err)
+	}
+	for i, want := range [][2]int{{0, 1}, {3, 3}, {0, 0}, {0, 0}} {
+		if f := found.Files[i]; f.Frames != want[0] || f.Marks != want[1] {
+			t.Errorf("%s: %d frames and %d marks, want %v", f.Name, f.Frames, f.Marks, want)
 		}
 	}
 }
@@ -1033,26 +1300,24 @@ func TestNoFileStaysOpen(t *testing.T) {
 		if _, err := Open(dir); !errors.Is(err, ErrHeld) {
 			t.Fatal(err)
 		}
-		if _, err := j.Place(); err != nil {
-			t.Fatal(err)
-		}
 		for n := 0; n < 5; n++ {
 			mustAppend(t, j, batch(1))
 			if err := j.Snapshot(writes(batch(1))); err != nil {
 				t.Fatal(err)
 			}
-			if err := j.Snapshot(writes([]byte("no batch"))); err == nil {
-				t.Fatal("a snapshot that is none")
+			if err := j.Snapshot(writes(make([]byte, svid.MaxPayload+1))); err == nil {
+				t.Fatal("a snapshot that no frame bears")
 			}
 		}
 		mustClose(t, j)
-		if err := os.WriteFile(filepath.Join(dir, "snapshot"), []byte("no batch"), 0o600); err != nil {
+		good := readFile(t, dir, snapshotName)
+		if err := os.WriteFile(filepath.Join(dir, snapshotName), []byte("no batch"), 0o600); err != nil {
 			t.Fatal(err)
 		}
-		if _, err := Open(dir); err == nil {
+		if _, err := load(Open(dir)); err == nil {
 			t.Fatal("a damaged snapshot")
 		}
-		if err := os.WriteFile(filepath.Join(dir, "snapshot"), batch(1), 0o600); err != nil {
+		if err := os.WriteFile(filepath.Join(dir, snapshotName), good, 0o600); err != nil {
 			t.Fatal(err)
 		}
 	}
@@ -1096,14 +1361,10 @@ func TestAllMethodsAtOnce(t *testing.T) {
 				}
 			},
 			"place": func(uint64) {
-				place, err := j.Place()
-				if err != nil {
-					t.Error(err)
-				}
-				places <- place
+				places <- j.Place()
 			},
-			"size":     func(uint64) { j.Size(); j.Cut() },
-			"messages": func(uint64) { j.Messages() },
+			"size": func(uint64) { j.Size(); j.Torn() },
+			"load": func(uint64) { j.Load(func([]byte) error { return io.EOF }) },
 		} {
 			all.Add(1)
 			go func(g uint64, what string, do func(uint64)) {
@@ -1122,7 +1383,7 @@ func TestAllMethodsAtOnce(t *testing.T) {
 		}
 	}
 	mustClose(t, j)
-	found := mustOpen(t, dir).Messages()
+	found := mustOpen(t, dir).messages
 	for n := uint64(1); n <= 2*each; n++ {
 		if !bytes.Contains(found, batch(n)) {
 			t.Errorf("batch %d is lost", n)

@@ -66,6 +66,9 @@ func TestNobodyWaitsForASnapshot(t *testing.T) {
 		t.Fatal(err)
 	}
 	e := ready(t, engine(t, Options{Mode: Once, Journal: kept, Wait: 50 * time.Millisecond}))
+	if err := kept.Load(e.Feed); err != nil {
+		t.Fatal(err)
+	}
 	if err := check(e, token("before")); err != nil {
 		t.Fatal(err)
 	}
@@ -82,7 +85,7 @@ func TestNobodyWaitsForASnapshot(t *testing.T) {
 	if err := check(e, token("meanwhile")); err != nil {
 		t.Error(err)
 	}
-	if w := request(e.Handler(), "GET", "/metrics"); !strings.Contains(w.Body.String(), "svidd_journal_bytes 82\n") {
+	if w := request(e.Handler(), "GET", "/metrics"); !strings.Contains(w.Body.String(), "svidd_journal_bytes 128\n") {
 		t.Errorf("/metrics: %s", w.Body)
 	}
 	close(goOn)
@@ -105,7 +108,10 @@ func TestNobodyWaitsForASnapshot(t *testing.T) {
 	if err := again.SetBundles(map[string]json.RawMessage{"example.org": example.JWKSet()}); err != nil {
 		t.Fatal(err)
 	}
-	if err := again.Load(kept.Messages()); err != nil {
+	if err := kept.Load(again.Feed); err != nil {
+		t.Fatal(err)
+	}
+	if err := again.Load(nil); err != nil {
 		t.Fatal(err)
 	}
 	for _, id := range []string{"before", "meanwhile"} {

@@ -69,6 +69,7 @@ type Options struct {
 	Mode      Mode
 	Audiences []string
 	Domains   []string // trust domains that are to have a bundle: until one has, its tokens can't be judged
+	RSABits   int      // at most so many has an RSA key, as svid.KeyringOptions has it
 	Longest   uint64   // seconds past now that a token may live
 	Ahead     uint64   // seconds that clocks of the group may differ
 	Step      uint64   // seconds that the clock may go ahead between two ticks; 0 for any
@@ -126,7 +127,7 @@ func NewEngine(o Options) (*Engine, error) {
 	if o.Step == 0 {
 		o.Step = svid.NoLimit
 	}
-	keyring, err := svid.NewKeyring(noBundles)
+	keyring, err := svid.OpenKeyring(svid.KeyringOptions{Bundles: noBundles, RSABits: o.RSABits})
 	if err != nil {
 		return nil, err
 	}
@@ -163,16 +164,7 @@ func (e *Engine) SetBundles(domains map[string]json.RawMessage) error {
 	if len(domains) == 0 {
 		e.bundles.Store(nil) // No token can be accepted from here on, and it is not the tokens' fault.
 	}
-	// The validator first: a key that only the keyring has would be asked for,
-	// and its answer not be believed.
-	if err := e.validator.SetBundles(bundles); err != nil {
-		e.bundles.Store(old)
-		return err
-	}
-	if err := e.keyring.SetBundles(bundles); err != nil {
-		if old != nil {
-			_ = e.validator.SetBundles(*old) // if that fails too, keys that both have still work
-		}
+	if err := e.validator.Renew(e.keyring, bundles); err != nil {
 		e.bundles.Store(old)
 		return err
 	}

@@ -45,6 +45,18 @@ const (
 // further in the future than Options.Ahead is an error: a token that it has as
 // used could be accepted again without it.
 func (e *Engine) Load(messages []byte) error {
+	if err := e.Feed(messages); err != nil {
+		return err
+	}
+	if err := e.validator.Tick(e.Now()); err != nil {
+		return err
+	}
+	e.loaded.Store(true)
+	return nil
+}
+
+// Feed gives the record a part of these messages. Load follows with the last ones, or none.
+func (e *Engine) Feed(messages []byte) error {
 	for _, piece := range svid.Split(messages, takePiece) {
 		err := e.validator.Take(e.Now(), piece)
 		if errors.Is(err, svid.ErrTooFar) {
@@ -55,10 +67,6 @@ func (e *Engine) Load(messages []byte) error {
 			return fmt.Errorf("the record of the state folder: %w", err)
 		}
 	}
-	if err := e.validator.Tick(e.Now()); err != nil {
-		return err
-	}
-	e.loaded.Store(true)
 	return nil
 }
 

@@ -1,4 +1,4 @@
-// A box taken apart into its pointer and its allocator, for the module above to see.
+// A box taken apart into its pointer and its allocator, for the handles to see.
 ghost use Rattle.std.specs.Prelude.{◌≡◌};
 ghost use Rattle.std.specs.Box.Ownership.{box_owns};
 
@@ -6,8 +6,8 @@ use std::alloc::Allocator;
 use std::marker::Model;
 
 pub struct Parts<T, A: Allocator> {
-    pub(super) ptr: *mut T,
-    pub(super) alloc: A,
+    pub(crate) ptr: *mut T,
+    pub(crate) alloc: A,
     pub ghost value: { T },
 }
 

@@ -62,6 +62,71 @@ pub struct Part {
     pub place: [u8; 16],
 }
 
+#[repr(C)]
+#[derive(Default, Debug, Clone, Copy, PartialEq)]
+pub struct Mark {
+    pub passed: u64,
+    pub begun: usize,
+    pub deaf: u64,
+}
+
+#[repr(C)]
+#[derive(Default, Debug, Clone, Copy, PartialEq)]
+pub struct Fate {
+    pub used: Use,
+    pub fate: u64,
+}
+
+#[repr(C)]
+#[derive(Default, Debug, Clone, Copy, PartialEq)]
+pub struct Reading {
+    pub order: u64,
+    pub from: usize,
+    pub count: usize,
+}
+
+#[repr(C)]
+#[derive(Default, Debug, Clone, Copy, PartialEq)]
+pub struct Folder {
+    pub step: u64,
+    pub oldest: u64,
+    pub newest: u64,
+    pub ended: u64,
+    pub count: u64,
+    pub end: u64,
+    pub flying: u64,
+    pub pieces: u64,
+}
+
+#[repr(C)]
+#[derive(Default, Debug, Clone, Copy, PartialEq)]
+pub struct Place {
+    pub bytes: [u8; 16],
+}
+
+#[repr(C)]
+#[derive(Default, Debug, Clone, Copy, PartialEq)]
+pub struct Due {
+    pub call: u64,
+    pub journal: u64,
+}
+
+#[repr(C)]
+#[derive(Default, Debug, Clone, Copy, PartialEq)]
+pub struct Reader {
+    pub count: u64,
+    pub at: u64,
+    pub marked: u64,
+}
+
+#[repr(C)]
+#[derive(Default, Debug, Clone, Copy, PartialEq)]
+pub struct Frame {
+    pub payload: usize,
+    pub len: usize,
+    pub format: u64,
+}
+
 type One = unsafe extern "C" fn(*const u8, usize, u64, *mut u8, usize, *mut Told) -> u32;
 type Two = unsafe extern "C" fn(*const u8, usize, *const u8, usize, u64, *mut u8, usize, *mut Told) -> u32;
 

@@ -7,4 +7,4 @@ returns-in-Err c = not_called _ _ _ _ _ _ _ _ c.in-Err.ensures.not_taken c.only.
 
 pub returns : goal.returns
 returns c =
-    called _ _ _ _ _ _ _ _ _ _ _ c.in-Ok.ensures.taken c.deref_mut.ensures.value c.put.ensures c.reply-status.ensures.step c.reply-status.ensures.does
+    called _ _ _ _ _ _ _ _ _ _ _ c.in-Ok.ensures.taken c.deref_mut.ensures.value c.put.ensures c.reply-status.ensures.rest c.reply-status.ensures.does

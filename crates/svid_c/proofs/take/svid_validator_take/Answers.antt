@@ -6,4 +6,4 @@ returns-in-Err c = not_called _ _ _ _ _ _ _ _ c.in-Err.ensures.not_taken c.only.
 
 pub returns : goal.returns
 returns c =
-    called _ _ _ _ _ _ _ _ _ _ _ c.in-Ok.ensures.taken c.deref_mut.ensures.value c.put.ensures c.take-status.ensures.step c.take-status.ensures.does
+    called _ _ _ _ _ _ _ _ _ _ _ c.in-Ok.ensures.taken c.deref_mut.ensures.value c.put.ensures c.take-status.ensures.rest c.take-status.ensures.does

@@ -1,0 +1,83 @@
+-- What the calls on trust bundles that C keeps do.
+use Rattle.std.specs.Prelude.{◌≡◌, ℕ, nat_lt, List, ◌++◌, length, take, Option, None, Some, Ok, Err}
+use Rattle.std.specs.List.{flat_map, slice_get}
+use Rattle.svid_token.specs.Alg.{name_of}
+use Rattle.svid_token.specs.Rows.{Refuses}
+use Rattle.svid_token.specs.declared.alg.Alg.{Alg}
+use Rattle.svid_token.specs.declared.refusal.Refusal.{Refusal}
+use Rattle.svid_token.specs.declared.refusal.Refusal.TheVariants.{NoKey, OutOfMemory}
+use Rattle.svid_keys.specs.Bundles.{Bundle}
+use Rattle.svid_keys.specs.Key.{KeyData}
+use Rattle.svid_keys.specs.Question.{field, question_of}
+use Rattle.svid_check.specs.Said.{Said, reading_of}
+use Rattle.svid_check.specs.Setting.{with_bundles}
+use Rattle.svid_check.specs.Verdict.{keys_due}
+use Rattle.svid_share.specs.declared.tool_fault.ToolFault.{ToolFault}
+use Rattle.svid_c.specs.Checked.{RefusesAs, refusal_number}
+use Rattle.svid_c.specs.Inputs.{AreBundles, AreNoBundles}
+use Rattle.svid_c.specs.Live.{Kept}
+use Rattle.svid_c.specs.Status.{fault_number, told_fault, told_length, told_rows}
+use Rattle.svid_c.specs.Written.{IsPut}
+use Rattle.svid_c.specs.declared.bundles_question.SvidQuestion.{SvidQuestion}
+use Rattle.svid_c.specs.declared.told.SvidTold.{SvidTold}
+use Rattle.svid_c.specs.declared.trust.Trust.{Trust}
+
+-- the trust bundles that a handle holds, if it is open
+abbrev pub trusted : Option Trust → Option (List Bundle)
+trusted None = None
+trusted (Some trust) = trust.bundles
+
+-- a handle holds the trust bundles that a text is
+pub record HasRead (text : List ℕ) (new : Option Trust) : Type 0 where
+  pub kept : List Bundle
+  pub are : AreBundles text kept
+  pub held : trusted new ≡ Some kept
+
+-- what opening answers: the handle was open, and stays as it was; or it was closed, and holds the bundles that the text is; or they are
+-- refused, and it is closed
+pub data OpensBundles (text : List ℕ) (status : ℕ) (told : SvidTold) (old new : Option Trust) : Type 0 where
+  held_already : (trust : Trust) → old ≡ Some trust → new ≡ old → status ≡ 6 → told ≡ told_length 0 → OpensBundles text status told old new
+  opened : old ≡ None → HasRead text new → status ≡ 0 → told ≡ told_length 0 → OpensBundles text status told old new
+  unopened : (why : ToolFault) → old ≡ None → new ≡ None → AreNoBundles text why → status ≡ fault_number why → told ≡ told_fault why → OpensBundles text status told old new
+
+-- what a call does with what is held: it does what it is for; or nothing is held, this is told, and all is as it was
+pub data ReadsHeld (IsAsBefore : Type 0) (Does : List Bundle → Type 0) (status : ℕ) (told : SvidTold) (held : Option (List Bundle)) : Type 0 where
+  none_read : held ≡ None → status ≡ 5 → told ≡ told_length 0 → IsAsBefore → ReadsHeld IsAsBefore Does status told held
+  reads : (bundles : List Bundle) → held ≡ Some bundles → Does bundles → ReadsHeld IsAsBefore Does status told held
+
+-- a call that reads what a handle holds, which stays as it was
+pub record Reads (IsAsBefore : Type 0) (Does : List Bundle → Type 0) (status : ℕ) (told : SvidTold) (old new : Option Trust) : Type 0 where
+  pub stays : new ≡ old
+  pub does : ReadsHeld IsAsBefore Does status told (trusted old)
+
+-- the row of a candidate: the algorithm's name, and the key
+abbrev pub key_row : Alg → KeyData → List ℕ
+key_row alg key = field (name_of alg) ++ field key.text
+
+-- The rows of the first candidates of a token, so many at the most, are put, or have no room, and it is told whether there are more; or
+-- the token is refused by itself, or for its keys; or memory was refused for the rows.
+pub data ListsKeys (token : List ℕ) (most : ℕ) (status : ℕ) (told : SvidTold) (old_out new_out : List ℕ) (bundles : List Bundle) : Type 0 where
+  listed : (t : Said) (keys : List KeyData) (text : List ℕ) → reading_of token ≡ Ok (Some t) → keys_due bundles t ≡ Ok keys → text ≡ flat_map (key_row t.alg) (take most keys)
+      → IsPut text status old_out new_out → told ≡ told_rows (length text) (nat_lt most (length keys)) → ListsKeys token most status told old_out new_out bundles
+  unread : (why : Refusal) → Refuses why (reading_of token) → RefusesAs token why → status ≡ refusal_number why → told ≡ told_length 0 → new_out ≡ old_out → ListsKeys token most status told old_out new_out bundles
+  unknown : (t : Said) (why : Refusal) → reading_of token ≡ Ok (Some t) → keys_due bundles t ≡ Err why → status ≡ refusal_number why → told ≡ told_length 0 → new_out ≡ old_out → ListsKeys token most status told old_out new_out bundles
+  no_memory : (t : Said) (keys : List KeyData) → reading_of token ≡ Ok (Some t) → keys_due bundles t ≡ Ok keys → status ≡ refusal_number OutOfMemory → told ≡ told_length 0 → new_out ≡ old_out → ListsKeys token most status told old_out new_out bundles
+
+-- The question of the candidate with this number, counted from 0, is told; or there are no more candidates than the number says; or the
+-- token is refused by itself, or for its keys.
+pub data AsksOne (token : List ℕ) (number : ℕ) (status : ℕ) (told : SvidTold) (old_asked new_asked : SvidQuestion) (bundles : List Bundle) : Type 0 where
+  asked : (t : Said) (keys : List KeyData) (key : KeyData) → reading_of token ≡ Ok (Some t) → keys_due bundles t ≡ Ok keys → slice_get keys number ≡ Some key
+      → status ≡ 0 → told ≡ told_length 0 → new_asked ≡ record { bytes = question_of key t.alg t.input t.signature } → AsksOne token number status told old_asked new_asked bundles
+  past : (t : Said) (keys : List KeyData) → reading_of token ≡ Ok (Some t) → keys_due bundles t ≡ Ok keys → slice_get keys number ≡ None
+      → status ≡ refusal_number NoKey → told ≡ told_length 0 → new_asked ≡ old_asked → AsksOne token number status told old_asked new_asked bundles
+  unasked : (why : Refusal) → Refuses why (reading_of token) → RefusesAs token why → status ≡ refusal_number why → told ≡ told_length 0 → new_asked ≡ old_asked → AsksOne token number status told old_asked new_asked bundles
+  keyless : (t : Said) (why : Refusal) → reading_of token ≡ Ok (Some t) → keys_due bundles t ≡ Err why → status ≡ refusal_number why → told ≡ told_length 0 → new_asked ≡ old_asked → AsksOne token number status told old_asked new_asked bundles
+
+-- a validator and what is held exchange their trust bundles, where some are held; else this is told, and all is as it was
+pub data Exchanges (status : ℕ) (told : SvidTold) (old_held new_held : Option (List Bundle)) (old new : Kept) : Type 0 where
+  exchanged : (bundles : List Bundle) → old_held ≡ Some bundles → new_held ≡ Some old.bundles → new ≡ with_bundles old bundles → status ≡ 0 → told ≡ told_length 0 → Exchanges status told old_held new_held old new
+  none_held : old_held ≡ None → new_held ≡ old_held → new ≡ old → status ≡ 5 → told ≡ told_length 0 → Exchanges status told old_held new_held old new
+
+-- the same of what a handle holds
+abbrev pub ExchangesHeld : ℕ → SvidTold → Option Trust → Option Trust → Kept → Kept → Type 0
+ExchangesHeld status told old_trust new_trust old new = Exchanges status told (trusted old_trust) (trusted new_trust) old new

@@ -1,0 +1,34 @@
+ghost use Rattle.std.specs.Prelude.{◌+◌, length};
+ghost use Rattle.svid_journal.specs.Folder.{flown, journal_title, put_fault};
+ghost use Rattle.svid_c.specs.Journal.{Frames};
+
+use crate::journal::{SvidFolder, SvidPlace, refuse_frame};
+use crate::told::{SvidTold, told_length};
+use crate::validator::only;
+
+/// Puts the frame of a payload first into `out`; an empty payload is a mark. 0, and `told.len` is its length: it is to be written at `f.end`
+/// of the journal `f.newest`. 1 where it is longer than `out`: then `told.len` is its length. 42 after a sync that failed; 43 where no
+/// journal grows yet; 46 while the frame before it is not synced; 50 where the payload has more than 16,777,215 bytes; 51 where a number of
+/// the folder has come to its end; 41 where the numbers are those of no folder. Then `f` and `out` stay as they were.
+#[unsafe(no_mangle)]
+pub extern "C" fn svid_journal_put(
+    f: &mut SvidFolder,
+    place: &SvidPlace,
+    payload: &[u8],
+    out: &mut [u8],
+    told: &mut SvidTold,
+) -> u32
+    ensures { Frames (λ f. put_fault f (length payload.now)) (λ f. journal_title f place.now.bytes) (λ f. 1 + f.count) (λ f. flown f (length payload.now)) payload.now result told.new out.old out.new f.old f.new }
+{
+    let Some(mut folder) = f.folder() else {
+        return only(41, told);
+    };
+    match folder.put(out, place.bytes, payload) {
+        Ok(len) => {
+            *told = told_length(len);
+            *f = SvidFolder::of(&folder);
+            0
+        }
+        Err(fault) => refuse_frame(fault, told),
+    }
+}

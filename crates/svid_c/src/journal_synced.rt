@@ -1,0 +1,23 @@
+ghost use Rattle.svid_journal.specs.Folder.{landed, landed_fault};
+ghost use Rattle.svid_c.specs.Journal.{Moves};
+
+use crate::journal::{SvidFolder, folder_number};
+
+/// Tells that the frame of [`svid_journal_put`](crate::journal_put::svid_journal_put) was written and synced: it is acknowledged, and the
+/// next one goes behind it. 42 after a sync that failed; 47 where no frame was handed out; 41 where the numbers are those of no folder. Then
+/// `f` stays as it was.
+#[unsafe(no_mangle)]
+pub extern "C" fn svid_journal_synced(f: &mut SvidFolder) -> u32
+    ensures { Moves landed_fault landed result f.old f.new }
+{
+    let Some(mut folder) = f.folder() else {
+        return 41;
+    };
+    match folder.synced() {
+        Ok(()) => {
+            *f = SvidFolder::of(&folder);
+            0
+        }
+        Err(fault) => folder_number(fault),
+    }
+}

@@ -1,0 +1,13 @@
+pub mod ChangesLemmas
+pub mod HistoryLemmas
+pub mod LaterLemmas
+pub mod MadeLemmas
+pub mod OnceLemmas
+pub mod RangesLemmas
+pub mod ReadersLemmas
+pub mod ReadsLemmas
+pub mod ReportsLemmas
+pub mod SendsLemmas
+pub mod StandsLemmas
+pub mod ToldLemmas
+pub mod VerdictsLemmas

@@ -1,0 +1,6 @@
+pub mod History
+pub mod Once
+pub mod Reads
+pub mod Told
+pub mod Verdicts
+pub mod World

@@ -1,0 +1,63 @@
+use std::io::Write;
+use svid_log::{Fate, Reading};
+use svid_script_base::out::Out;
+use svid_script_base::stop::Stop;
+
+/// How a call of the log went on, and where it began.
+pub fn say_reading(
+    out: &mut Out<'_>,
+    reading: &Reading,
+    from: usize,
+    count: usize,
+) -> Result<(), Stop> {
+    let order = reading.order;
+    let rest = reading.rest;
+    Ok(writeln!(out, "= {order:?} {from} {count} {rest:?}")?)
+}
+
+fn say_fate(out: &mut Out<'_>, fate: Fate, times: u64) -> Result<(), Stop> {
+    match times {
+        0 => {}
+        1 => writeln!(out, "= {fate:?}")?,
+        _ => writeln!(out, "= {fate:?}*{times}")?,
+    }
+    Ok(())
+}
+
+/// Prints fates, those that are equal in a row on one line.
+pub fn say_fates(out: &mut Out<'_>, fates: &[Fate]) -> Result<(), Stop> {
+    let mut last = Fate::Expired;
+    let mut times = 0u64;
+    for fate in fates {
+        if *fate != last {
+            say_fate(out, last, times)?;
+            last = *fate;
+            times = 0;
+        }
+        times = times.saturating_add(1);
+    }
+    say_fate(out, last, times)
+}
+
+fn say_decided(out: &mut Out<'_>, fate: Fate) -> Result<(), Stop> {
+    let accepted = fate.decided(true);
+    let not = fate.decided(false);
+    Ok(writeln!(out, "= {fate:?} {accepted:?} {not:?}")?)
+}
+
+/// `fates`
+pub fn fates(out: &mut Out<'_>) -> Result<(), Stop> {
+    let all = [
+        Fate::Accepted,
+        Fate::First,
+        Fate::Expired,
+        Fate::TooFarAhead,
+        Fate::Withdrawal,
+        Fate::Withdrawn,
+        Fate::Replayed,
+    ];
+    for fate in all {
+        say_decided(out, fate)?;
+    }
+    Ok(())
+}

@@ -1,0 +1,103 @@
+package main
+
+import (
+	"errors"
+	"flag"
+	"fmt"
+	"path/filepath"
+
+	"svid.example/go/internal/journal"
+	"svid.example/go/svid"
+)
+
+// checkState says what a state folder holds, and where it is damaged. It changes nothing.
+func checkState(args []string, std stdio) int {
+	f := flag.NewFlagSet("svidd check-state", flag.ContinueOnError)
+	f.SetOutput(std.err)
+	asMessages := f.Bool("messages", false, "write the messages of the folder to standard output, for svid report")
+	if err := parse(f, &options{}, args); err != nil {
+		return fail(std, err)
+	}
+	dir := f.Arg(0)
+	if f.NArg() > 1 { // (options may stand behind the folder)
+		if err := f.Parse(f.Args()[1:]); err != nil {
+			return fail(std, err)
+		}
+	}
+	if dir == "" || f.NArg() > 1 || f.NArg() == 1 && f.Arg(0) != dir {
+		return fail(std, errors.New("check-state wants one argument: the folder that serve has as --state"))
+	}
+	found, err := journal.Check(dir)
+	if err != nil {
+		return fail(std, err)
+	}
+	write := writeState
+	if *asMessages {
+		write = writeMessages
+	}
+	damaged, err := write(std, found)
+	if err != nil {
+		return fail(std, err)
+	}
+	if found.Fault != nil {
+		_ = fail(std, found.Fault)
+		if !errors.Is(found.Fault, svid.ErrDamaged) {
+			return exitFailed
+		}
+		damaged = true
+	}
+	if damaged {
+		return exitDamaged
+	}
+	return exitYes
+}
+
+// writeState writes a line for the place and one for each file. It tells whether one of them holds what is no message.
+func writeState(std stdio, found *journal.Report) (damaged bool, err error) {
+	place := found.Place.String()
+	if !found.Placed {
+		place = "is missing"
+	}
+	if _, err := fmt.Fprintf(std.out, "place %s\n", place); err != nil || !found.Placed && found.Fault != nil {
+		return false, err
+	}
+	for _, f := range found.Files {
+		_, uses, err := svid.Uses(f.Messages)
+		says := fmt.Sprintf("%d uses", len(uses))
+		if err != nil {
+			says, damaged = fmt.Sprintf("what it bears is no message: %v", err), true
+		}
+		if _, err := fmt.Fprintf(std.out, "%s: %s: %s, %d bytes\n", filepath.Base(f.Name), stateOf(f), says, f.Length); err != nil {
+			return false, err
+		}
+	}
+	return damaged, nil
+}
+
+// stateOf is how a file ends, and what it consists of.
+func stateOf(f *journal.File) string {
+	end := "whole"
+	var newer *svid.FormatError
+	switch {
+	case f.Torn():
+		end = fmt.Sprintf("torn at byte %d, and nobody was answered for the %d bytes there", f.At, f.Rest)
+	case errors.As(f.Fault, &newer):
+		end = fmt.Sprintf("format %d at byte %d", newer.Format, f.At)
+	case f.Fault != nil:
+		end = fmt.Sprintf("damaged at byte %d", f.At)
+	}
+	if f.Old {
+		return end + ": the format of older versions"
+	}
+	return fmt.Sprintf("%s: %d frames, %d marks", end, f.Frames, f.Marks)
+}
+
+// writeMessages writes all messages.
+func writeMessages(std stdio, found *journal.Report) (damaged bool, err error) {
+	for _, f := range found.Files {
+		if _, err := std.out.Write(f.Messages); err != nil {
+			return false, err
+		}
+	}
+	return false, nil
+}

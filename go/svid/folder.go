@@ -1,0 +1,281 @@
+package svid
+
+// #include "svid.h"
+import "C"
+
+import (
+	"errors"
+	"fmt"
+	"io"
+	"sync"
+	"unsafe"
+)
+
+// MaxPayload is the greatest number of bytes that one frame of a state folder bears.
+const MaxPayload = C.SVID_PAYLOAD_MOST
+
+// Errors of a Folder. After each of them it is as it was.
+var (
+	// ErrFolderEnded: a sync failed before.
+	ErrFolderEnded = errors.New("svid: a sync failed, so nobody knows what the disk holds: mend the disk, and start anew")
+	// ErrFolderFull: a number of the folder has come to its end.
+	ErrFolderFull = errors.New("svid: a number of the state folder has come to its end: go on in a new folder, which takes the messages of this one")
+	// ErrFolderOrder: the call is not one that may come now.
+	ErrFolderOrder = errors.New("svid: this call of the state folder may not come now")
+	// ErrPayload: a payload is too long for a frame.
+	ErrPayload = errors.New("svid: a payload has more than 16777215 bytes: append less at once")
+)
+
+// What FileReader.Next returns where no frame stands, beside io.EOF and a *FormatError.
+var (
+	// ErrTorn: a write was cut off. Nobody was told that it is on the disk.
+	ErrTorn = errors.New("svid: a write was cut off here, of which nobody was told that it is on the disk")
+	// ErrDamaged: what was synced has changed.
+	ErrDamaged = errors.New("svid: what was synced here has changed")
+)
+
+// A FormatError says that a frame has a newer format than this library reads.
+type FormatError struct{ Format int }
+
+// Error names the format.
+func (e *FormatError) Error() string {
+	return fmt.Sprintf("svid: format %d, and this library reads format 1: take the version that wrote it, or a later one", e.Format)
+}
+
+// A Call of the system that is due in a state folder.
+type Call uint64
+
+// The calls.
+const (
+	NoCall         Call = C.SVID_CALL_NOTHING
+	CreateJournal  Call = C.SVID_CALL_CREATE_JOURNAL  // make an empty journal of the number: remove a file that has its name, then make it (O_EXCL)
+	SyncFolder     Call = C.SVID_CALL_SYNC_FOLDER     // fsync the folder
+	WriteSnapshot  Call = C.SVID_CALL_WRITE_SNAPSHOT  // make a file beside the snapshot, and write the pieces to it, the last one empty
+	SyncSnapshot   Call = C.SVID_CALL_SYNC_SNAPSHOT   // sync that file
+	RenameSnapshot Call = C.SVID_CALL_RENAME_SNAPSHOT // rename it over the snapshot
+	RemoveJournal  Call = C.SVID_CALL_REMOVE_JOURNAL  // remove the journal of the number: one that is not there is a success
+)
+
+// A Folder says which call of the system is due in a state folder, and makes the frames that its files consist of. It reads
+// and writes no file itself: docs/FORMATS.md ("State folder") has the files. Its methods may be called by many goroutines
+// at once.
+type Folder struct {
+	mu     sync.Mutex
+	place  C.svid_place
+	folder C.svid_folder
+	due    C.svid_due
+	told   C.svid_told
+}
+
+// OpenFolder begins a start in a folder whose files were read: no journal has a number below oldest or above newest. Without
+// journals these are 1 and 0. place tells the folder from each other one. Make the calls that are due: then a new journal
+// grows. Errors: ErrFolderFull, ErrFolderOrder.
+func OpenFolder(place Place, oldest, newest uint64) (*Folder, error) {
+	f := &Folder{place: placeOf(place)}
+	if err := folderFailure(C.svid_journal_open(&f.folder, C.uint64_t(oldest), C.uint64_t(newest))); err != nil {
+		return nil, err
+	}
+	return f, nil
+}
+
+func placeOf(place Place) (p C.svid_place) {
+	*(*Place)(unsafe.Pointer(&p)) = place
+	return p
+}
+
+// Begin begins a new journal and a new snapshot: make the calls that are due. Errors: ErrFolderEnded, ErrFolderFull, and
+// ErrFolderOrder while a call is due.
+func (f *Folder) Begin() error {
+	f.mu.Lock()
+	defer f.mu.Unlock()
+	return folderFailure(C.svid_journal_begin(&f.folder))
+}
+
+// Due returns the call that is due, and for CreateJournal and RemoveJournal the number of the journal. Errors: ErrFolderEnded.
+func (f *Folder) Due() (call Call, journal uint64, err error) {
+	f.mu.Lock()
+	defer f.mu.Unlock()
+	err = folderFailure(C.svid_journal_due(&f.folder, &f.due))
+	return Call(f.due.call), uint64(f.due.journal), err
+}
+
+// Answer tells whether the call that was due succeeded. A sync of the folder that fails ends the folder. So does any call of a
+// start. Another call that fails ends the switch alone, and a later Begin begins it anew. Errors: ErrFolderEnded, and
+// ErrFolderOrder where no call is due, where the next journal would grow while a frame is not synced, or where a snapshot has
+// no empty piece at its end.
+func (f *Folder) Answer(ok bool) error {
+	f.mu.Lock()
+	defer f.mu.Unlock()
+	var answer C.uint32_t
+	if ok {
+		answer = 1
+	}
+	return folderFailure(C.svid_journal_answer(&f.folder, answer))
+}
+
+// Growing returns the number of the journal that grows, and how many bytes its synced frames take: the next one goes there.
+func (f *Folder) Growing() (journal uint64, end int64) {
+	f.mu.Lock()
+	defer f.mu.Unlock()
+	return uint64(f.folder.newest), int64(f.folder.end)
+}
+
+// Put appends the frame of a payload to out. Write it to the journal that grows, at its end, and sync that: then call Synced. Call
+// Unwritten if the write failed, and Failed if the sync did. An empty payload is a mark: it carries nothing, and makes damage
+// of the frame in front of it visible. Errors: ErrFolderEnded, ErrPayload, ErrFolderFull, and ErrFolderOrder before a start is
+// through, and while a frame is not synced.
+func (f *Folder) Put(out, payload []byte) ([]byte, error) {
+	return f.frame(out, payload, func(at *C.uint8_t, room C.size_t) C.uint32_t {
+		return C.svid_journal_put(&f.folder, &f.place, start(payload), C.size_t(len(payload)), at, room, &f.told)
+	})
+}
+
+// Piece appends the frame of the next piece of a snapshot to out, while WriteSnapshot is due. An empty payload ends the
+// snapshot. Errors: ErrFolderEnded, ErrPayload, ErrFolderFull, and ErrFolderOrder where no snapshot is being written.
+func (f *Folder) Piece(out, payload []byte) ([]byte, error) {
+	return f.frame(out, payload, func(at *C.uint8_t, room C.size_t) C.uint32_t {
+		return C.svid_journal_piece(&f.folder, &f.place, start(payload), C.size_t(len(payload)), at, room, &f.told)
+	})
+}
+
+func (f *Folder) frame(out, payload []byte, call func(at *C.uint8_t, room C.size_t) C.uint32_t) ([]byte, error) {
+	if len(payload) > MaxPayload {
+		return nil, ErrPayload
+	}
+	out = withRoom(out, len(payload)+C.SVID_FRAME_MORE)
+	room := out[len(out):cap(out)]
+	f.mu.Lock()
+	defer f.mu.Unlock()
+	if err := folderFailure(call(start(room), C.size_t(len(room)))); err != nil {
+		return nil, err
+	}
+	return out[:len(out)+int(f.told.len)], nil
+}
+
+// withRoom is b with room for so many bytes behind it.
+func withRoom(b []byte, more int) []byte {
+	if cap(b)-len(b) >= more {
+		return b
+	}
+	return append(make([]byte, 0, len(b)+more), b...)
+}
+
+// Synced tells that the frame of Put is on the disk: now acknowledge what it says. Errors: ErrFolderEnded, and ErrFolderOrder
+// where there is no frame.
+func (f *Folder) Synced() error {
+	f.mu.Lock()
+	defer f.mu.Unlock()
+	return folderFailure(C.svid_journal_synced(&f.folder))
+}
+
+// Unwritten tells that the write of the frame failed. Nothing ends: the next frame goes to the same place. Errors: as Synced.
+func (f *Folder) Unwritten() error {
+	f.mu.Lock()
+	defer f.mu.Unlock()
+	return folderFailure(C.svid_journal_unwritten(&f.folder))
+}
+
+// Failed tells that a sync of the journal that grows failed: each later call answers ErrFolderEnded.
+func (f *Folder) Failed() error {
+	f.mu.Lock()
+	defer f.mu.Unlock()
+	return folderFailure(C.svid_journal_failed(&f.folder))
+}
+
+// A FileReader reads the frames of a snapshot or a journal, one after the other.
+type FileReader struct {
+	place   C.svid_place
+	journal C.uint64_t
+	reader  C.svid_reader
+	frame   C.svid_frame
+}
+
+// NewFileReader returns a reader of the journal of this number, or with 0 of the snapshot, in the folder of this place.
+func NewFileReader(place Place, journal uint64) *FileReader {
+	return &FileReader{place: placeOf(place), journal: C.uint64_t(journal)}
+}
+
+// Next returns the next payload of the file, whose whole content it is given. The payload is a part of that, and empty for a
+// mark. The bytes in front of At need not stay.
+//
+// Where no frame stands, it returns io.EOF at the end, ErrTorn, ErrDamaged or a *FormatError. At is the place.
+func (r *FileReader) Next(content []byte) (payload []byte, err error) {
+	status := C.svid_journal_read(&r.place, r.journal, start(content), C.size_t(len(content)), &r.reader, &r.frame)
+	switch status {
+	case C.SVID_OK:
+		return content[r.frame.payload : r.frame.payload+r.frame.len], nil
+	case C.SVID_FILE_END:
+		return nil, io.EOF
+	case C.SVID_FILE_TEAR:
+		return nil, ErrTorn
+	case C.SVID_FILE_DAMAGE:
+		return nil, ErrDamaged
+	case C.SVID_FILE_NEWER:
+		return nil, &FormatError{int(r.frame.format)}
+	}
+	return nil, folderFailure(status)
+}
+
+// At is how many bytes the frames take that were read: the place of the next one.
+func (r *FileReader) At() int64 { return int64(r.reader.at) }
+
+// Whole returns how many of the bytes are whole messages, from the first one on. It is nil where they all are, and else a
+// *MessageError, which counts from the first one, or ErrNoMemory.
+func Whole(messages []byte) (int, error) {
+	whole, number := 0, 0
+	for _, piece := range Split(messages, MaxMessages) {
+		err := areMessages(piece)
+		var fault *MessageError
+		if errors.As(err, &fault) {
+			for _, one := range Split(piece, 0)[:fault.Message-1] {
+				whole += len(one)
+			}
+			return whole, &MessageError{fault.Reason, number + fault.Message, fault.Place}
+		}
+		if err != nil {
+			return whole, err
+		}
+		whole, number = whole+len(piece), number+len(Split(piece, 0))
+	}
+	return whole, nil
+}
+
+// areMessages asks for the summary of what the messages tell, and gives it no room.
+func areMessages(messages []byte) error {
+	var told C.svid_told
+	status := C.svid_summary(start(messages), C.size_t(len(messages)), 0, nil, 0, &told)
+	if status == C.SVID_TOO_SHORT {
+		return nil
+	}
+	return failure(status, &told)
+}
+
+// orders say why a call may not come now.
+var orders = map[C.uint32_t]string{
+	C.SVID_FOLDER_UNFIT:       "the numbers are not those of a folder, or of the file that is read",
+	C.SVID_FOLDER_NOT_GROWING: "no journal grows yet: make the calls that are due",
+	C.SVID_FOLDER_BUSY:        "a call is due: make it first",
+	C.SVID_FOLDER_NOTHING_DUE: "no call is due",
+	C.SVID_FOLDER_FLYING:      "a frame is not synced yet: sync it first",
+	C.SVID_FOLDER_NOT_FLYING:  "there is no frame to sync",
+	C.SVID_FOLDER_NOT_WRITING: "no snapshot is being written",
+	C.SVID_FOLDER_NO_MARK:     "the snapshot has no mark at its end: put an empty piece behind it",
+}
+
+// folderFailure is the error of a status of a folder, or nil for SVID_OK.
+func folderFailure(status C.uint32_t) error {
+	switch status {
+	case C.SVID_OK:
+		return nil
+	case C.SVID_FOLDER_ENDED:
+		return ErrFolderEnded
+	case C.SVID_FOLDER_FULL:
+		return ErrFolderFull
+	case C.SVID_FOLDER_TOO_LONG:
+		return ErrPayload
+	}
+	if why, ok := orders[status]; ok {
+		return fmt.Errorf("%w: %s", ErrFolderOrder, why)
+	}
+	return fmt.Errorf("svid: the library answered status %d", uint32(status))
+}

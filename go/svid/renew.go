@@ -1,0 +1,118 @@
+package svid
+
+/*
+#include "svid.h"
+
+static uint32_t first(svid_validator *v, _GoString_ token, uint8_t *out, size_t out_len, svid_told *told) {
+    return svid_validator_ask(v, (const uint8_t *)_GoStringPtr(token), _GoStringLen(token), SVID_MOST_CANDIDATES, out, out_len, told);
+}
+*/
+import "C"
+
+import "runtime"
+
+// SetBundles replaces the trust bundles. The record stays, so a token that was
+// used before is still rejected. On an error the old bundles stay. The bundles are
+// read before the lock is taken, which is held for microseconds.
+//
+// A service that has a Keyring too calls Renew.
+func (v *Validator) SetBundles(bundles []byte) error {
+	var b C.svid_bundles
+	var told C.svid_told
+	if err := failure(C.svid_bundles_open(&b, start(bundles), C.size_t(len(bundles)), &told), &told); err != nil {
+		return err
+	}
+	defer C.svid_bundles_close(&b) // Frees the old ones, without the lock.
+	v.mu.Lock()
+	defer v.mu.Unlock()
+	return v.renew(&b, len(bundles))
+}
+
+// Renew replaces the trust bundles of the validator and of its keyring as one: no
+// token is verified by the ones and judged by the others, except those that are
+// verified just then. On an error both keep the old bundles. The bundles are read
+// before any lock is taken.
+func (v *Validator) Renew(k *Keyring, bundles []byte) error {
+	var b C.svid_bundles
+	var told C.svid_told
+	if err := failure(C.svid_bundles_open(&b, start(bundles), C.size_t(len(bundles)), &told), &told); err != nil {
+		return err
+	}
+	defer C.svid_bundles_close(&b)
+	askers, err := openAskers(bundles)
+	if err != nil {
+		return err
+	}
+	defer func() { closeAskers(askers) }()
+	k.mu.Lock()
+	defer k.mu.Unlock()
+	v.mu.Lock()
+	defer v.mu.Unlock()
+	if err := v.renew(&b, len(bundles)); err != nil {
+		return err
+	}
+	askers = k.replace(askers)
+	return nil
+}
+
+// renew exchanges the bundles for those of an open handle, which were so many bytes of JSON. The caller holds the lock.
+func (v *Validator) renew(b *C.svid_bundles, size int) error {
+	status := C.svid_validator_renew_by(&v.handle, b, &v.told)
+	if err := failure(status, &v.told); err != nil {
+		return err
+	}
+	v.bundles++
+	v.large = size > largeBundles
+	return nil
+}
+
+// largeBundles is how many bytes bundles have that may have more than a hundred keys.
+const largeBundles = 4096
+
+// answered is yes, or nothing if none of these questions is of a key that is tried for the token (MaxCandidates). That is
+// so if the bundles were replaced since: the check would hash the token for each of its candidates, to find none. The
+// caller holds the lock.
+func (v *Validator) answered(token string, yes []Question) []Question {
+	if len(yes) == 0 || !v.large {
+		return yes
+	}
+	var status C.uint32_t
+	for {
+		status = C.first(&v.handle, token, start(v.rows), C.size_t(len(v.rows)), &v.told)
+		if status != C.SVID_TOO_SHORT {
+			break
+		}
+		v.rows = make([]byte, v.told.len)
+	}
+	if status != C.SVID_OK {
+		return nil
+	}
+	for rows := v.rows[:v.told.len]; len(rows) > 0; {
+		var asked Question
+		rows = rows[copy(asked[:], rows):]
+		_, rows = field(rows)
+		_, rows = field(rows)
+		for _, one := range yes {
+			if one == asked {
+				return yes
+			}
+		}
+	}
+	return nil
+}
+
+// mostAskedBytes is how many bytes of bundles the handles of a keyring read together, if they are more than one. A handle
+// takes ten times as much memory.
+const mostAskedBytes = 1 << 20
+
+// handles is how many handles a keyring has of bundles: one for each processor, and fewer of large bundles.
+func handles(bundles []byte) int {
+	most := mostAskedBytes / (len(bundles) + 1)
+	if processors := runtime.GOMAXPROCS(0); most > processors {
+		return processors
+	}
+	if most < 1 {
+		return 1
+	}
+	return most
+}

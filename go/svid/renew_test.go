@@ -1,0 +1,259 @@
+package svid
+
+import (
+	"bytes"
+	"errors"
+	"fmt"
+	"os"
+	"os/exec"
+	"strconv"
+	"strings"
+	"testing"
+	"time"
+)
+
+// manyKeys are a mebibyte of bundles, as much as svidd reads: 26,000 keys of one trust domain.
+func manyKeys() []byte {
+	const one, size = `{"kty":"EC","use":"jwt-svid","kid":""}`, 1 << 20
+	text := []byte(`{"many.example":{"keys":[` + one)
+	for len(text)+1+len(one)+3 <= size {
+		text = append(append(text, ','), one...)
+	}
+	return append(text, "]}}"...)
+}
+
+// Bundles are read before the lock of the validator or of the keyring is taken: what is wrong with them is answered while
+// another call holds it.
+func TestBundlesAreReadWithoutALock(t *testing.T) {
+	v, k := openValidator(t, []byte("{}")), openKeyring(t, "{}")
+	v.mu.Lock()
+	k.mu.Lock()
+	defer v.mu.Unlock()
+	defer k.mu.Unlock()
+	for name, call := range map[string]func() error{
+		"Validator.SetBundles": func() error { return v.SetBundles([]byte("[]")) },
+		"Keyring.SetBundles":   func() error { return k.SetBundles([]byte("[]")) },
+		"Renew":                func() error { return v.Renew(k, []byte("[]")) },
+	} {
+		done := make(chan error, 1)
+		go func() { done <- call() }()
+		select {
+		case err := <-done:
+			if err != ErrBundles {
+				t.Errorf("%s: %v", name, err)
+			}
+		case <-time.After(20 * time.Second):
+			t.Errorf("%s waits for a lock", name)
+		}
+	}
+}
+
+// beside makes a renewal, and returns how long it took, and the longest check that was made meanwhile.
+func beside(v *Validator, renew func() error) (renewal, check time.Duration, err error) {
+	done := make(chan error, 1)
+	began := time.Now()
+	go func() { done <- renew() }()
+	for {
+		select {
+		case err := <-done:
+			return time.Since(began), check, err
+		default:
+		}
+		from := time.Now()
+		if _, err := v.Check(0, "a.b.c", nil); err != HeaderNotObject && err != HeaderSpelling {
+			return 0, 0, fmt.Errorf("a check: %w", err)
+		}
+		if took := time.Since(from); took > check {
+			check = took
+		}
+	}
+}
+
+// A check is not held up by a renewal, however many keys the bundles have. (Other work on the machine may hold it up: so
+// one of several tries is to show it. A check that waited for the bundles to be read would wait for half of the renewal or
+// all of it, each time.)
+func TestARenewalHoldsUpNoCheck(t *testing.T) {
+	many := manyKeys()
+	v, k := openValidator(t, many), openKeyring(t, string(many))
+	for name, renew := range map[string]func() error{
+		"SetBundles": func() error { return v.SetBundles(many) },
+		"Renew":      func() error { return v.Renew(k, many) },
+	} {
+		held := true
+		for try := 0; try < 10 && held; try++ {
+			renewal, check, err := beside(v, renew)
+			if err != nil {
+				t.Fatal(err)
+			}
+			t.Logf("%s: the longest check %v, the renewal %v", name, check, renewal)
+			held = check > renewal/5
+		}
+		if held {
+			t.Errorf("%s holds up a check", name)
+		}
+	}
+}
+
+// A renewal of a mebibyte of bundles takes less than 100 MB of memory, with all that the process has.
+func TestTheMemoryOfARenewal(t *testing.T) {
+	const told = "SVID_TEST_OF_MEMORY"
+	if os.Getenv(told) == "" {
+		cmd := exec.Command(os.Args[0], "-test.run", "^TestTheMemoryOfARenewal$")
+		cmd.Env = append(os.Environ(), told+"=1")
+		out, err := cmd.CombinedOutput()
+		_, peak, found := bytes.Cut(out, []byte("VmHWM:"))
+		kib, bad := strconv.Atoi(strings.Fields(string(peak) + " ?")[0])
+		if err != nil || !found || bad != nil {
+			t.Fatalf("%v: %s", err, out)
+		}
+		t.Logf("%d KiB", kib)
+		if kib > 100_000_000/1024 {
+			t.Errorf("%d KiB", kib)
+		}
+		return
+	}
+	many := manyKeys()
+	v, k := openValidator(t, many), openKeyring(t, string(many))
+	for i := 0; i < 5; i++ {
+		if err := v.Renew(k, many); err != nil {
+			t.Fatal(err)
+		}
+	}
+	status, err := os.ReadFile("/proc/self/status")
+	if err != nil {
+		t.Fatal(err)
+	}
+	_, peak, _ := bytes.Cut(status, []byte("VmHWM:"))
+	fmt.Println("VmHWM:" + string(peak[:bytes.IndexByte(peak, '\n')]))
+}
+
+// A question is asked of the bundles that its candidate was of, or not at all.
+func TestAQuestionIsOfItsBundles(t *testing.T) {
+	one := issuerOfLocks(t)
+	k := openKeyring(t, string(one.Bundles()))
+	token := one.Token("ES256", map[string]any{"sub": "spiffe://example.org/web", "aud": "ledger", "exp": 2_000_000_000, "jti": "a"})
+	candidates, keys, err := k.candidates(token)
+	if err != nil || len(candidates) == 0 {
+		t.Fatal(err)
+	}
+	all, err := k.Candidates(token)
+	if err != nil {
+		t.Fatal(err)
+	}
+	for i := range candidates {
+		if asked, same, err := k.question(token, i, keys); asked != all[i].Question || !same || err != nil {
+			t.Errorf("%d: %v %v %v", i, asked, same, err)
+		}
+	}
+	if err := k.SetBundles(one.Bundles()); err != nil {
+		t.Fatal(err)
+	}
+	if asked, same, err := k.question(token, 0, keys); asked != (Question{}) || same || err != nil {
+		t.Errorf("behind a renewal: %v %v %v", asked, same, err)
+	}
+}
+
+// Validator and keyring get the same bundles, or both keep what they had.
+func TestRenewIsOfBoth(t *testing.T) {
+	const now = 1_767_225_600
+	one := issuerOfLocks(t)
+	v, k := openValidator(t, []byte("{}")), openKeyring(t, "{}")
+	accept := func(jti string) error {
+		_, err := v.Accept(k, now, one.Token("ES256", map[string]any{"sub": "spiffe://example.org/web", "aud": "ledger", "exp": now + 300, "jti": jti}))
+		return err
+	}
+	if err := accept("a"); err != UnknownDomain {
+		t.Error(err)
+	}
+	if err := v.Renew(k, one.Bundles()); err != nil {
+		t.Fatal(err)
+	}
+	if err := accept("a"); err != nil {
+		t.Error(err)
+	}
+	for _, bad := range []string{"", "[]", `{"a":{}}`} {
+		if err := v.Renew(k, []byte(bad)); err == nil {
+			t.Errorf("%q is taken", bad)
+		}
+		if err := accept("b" + bad); err != nil {
+			t.Errorf("behind %q: %v", bad, err)
+		}
+	}
+	if err := accept("a"); err != Replayed {
+		t.Error(err)
+	}
+	if err := v.Renew(k, []byte("{}")); err != nil {
+		t.Fatal(err)
+	}
+	if err := accept("c"); err != UnknownDomain {
+		t.Error(err)
+	}
+	closed := openValidator(t, []byte("{}"))
+	closed.Close()
+	if err := closed.Renew(k, one.Bundles()); err != ErrClosed {
+		t.Error(err)
+	}
+	if err := accept("d"); err != UnknownDomain {
+		t.Errorf("the keyring of a closed validator has other bundles: %v", err)
+	}
+}
+
+// An answer of a key that the bundles have no more costs little, also where they have thousands.
+func TestAnOldAnswerCostsLittle(t *testing.T) {
+	const now = 1_767_225_600
+	one := issuerOfLocks(t)
+	token := one.Token("ES256", map[string]any{"sub": "spiffe://many.example/web", "aud": "ledger", "exp": now + 300, "jti": "a", "pad": strings.Repeat("a", 4_000)})
+	header, rest, _ := strings.Cut(token, ".")
+	_ = header
+	token = "eyJhbGciOiJFUzI1NiJ9." + rest // it names no key
+	v := openValidator(t, manyKeys())
+	calls := map[string]func() error{
+		"Check": func() error { _, err := v.Check(now, token, []Question{{1}}); return err },
+		"Judge": func() error { _, err := v.Judge(now, token, []Question{{1}, {2}}); return err },
+	}
+	for name, call := range calls {
+		for try := 0; ; try++ {
+			from := time.Now()
+			if err := call(); !errors.Is(err, BadSignature) {
+				t.Fatalf("%s: %v", name, err)
+			}
+			// (With each key it would be 26,000 hashes of the token: half a second.)
+			took := time.Since(from)
+			if took < 50*time.Millisecond {
+				break
+			}
+			if try == 5 {
+				t.Errorf("%s takes %v", name, took)
+				break
+			}
+		}
+	}
+}
+
+// The answer of a key counts wherever it stands among those that are tried.
+func TestEachAnswerThatIsTriedCounts(t *testing.T) {
+	const now = 1_767_225_600
+	one := issuerOfLocks(t)
+	for place := 0; place < MaxCandidates; place++ {
+		keys := make([]string, 0, 200)
+		for i := 0; i < 200; i++ {
+			keys = append(keys, `{"kty":"EC","use":"jwt-svid","kid":"`+strconv.Itoa(i)+`"}`)
+		}
+		text := string(one.Bundles())
+		begin, end := strings.Index(text, `"keys":[`)+len(`"keys":[`), strings.LastIndex(text, "]")
+		own := text[begin:end]
+		bundles := text[:begin] + strings.Join(append(keys[:place:place], append([]string{own}, keys[place:]...)...), ",") + text[end:]
+		v, k := openValidator(t, []byte(bundles)), openKeyring(t, bundles)
+		if !v.large {
+			t.Fatal("the bundles are small")
+		}
+		token := one.Sign("ES256", `{"alg":"ES256"}`, fmt.Sprintf(`{"sub":"spiffe://example.org/web","aud":"ledger","exp":%d,"jti":"%d"}`, now+300, place))
+		yes, err := k.Verify(token)
+		if err != nil {
+			t.Fatal(err)
+		}
+		if _, err := v.Check(now, token, yes); err != nil {
+			t.Errorf("%d: %v, with %d answers", place, err, len(yes))
+		}
+	}
+}

@@ -1,0 +1,110 @@
+//go:build cgo && !gocrypto
+
+package svid
+
+import (
+	"encoding/json"
+	"errors"
+	"testing"
+
+	"svid.example/go/internal/issuer"
+	"svid.example/go/internal/refusing"
+)
+
+// Where OpenSSL is refused memory, no key is taken for one that can't be used, no good signature for a bad one, and no bad
+// one for a good one.
+func TestEachAllocationOfOpenSSLRefused(t *testing.T) {
+	if !refusing.Works() {
+		t.Fatal("OpenSSL does not take the allocations of this test")
+	}
+	one, err := issuer.New("example.org")
+	if err != nil {
+		t.Fatal(err)
+	}
+	var set struct{ Keys []map[string]string }
+	if err := json.Unmarshal(one.JWKSet(), &set); err != nil {
+		t.Fatal(err)
+	}
+	for _, algorithm := range issuer.Algorithms {
+		s, _ := cutToken(one.Token(algorithm, map[string]any{"sub": "spiffe://example.org/web", "aud": "ledger", "exp": 2_000_000_000}))
+		good, err := s.signatureBytes()
+		if err != nil {
+			t.Fatal(err)
+		}
+		bad := append([]byte(nil), good...)
+		bad[len(bad)-1] ^= 1
+		var jwk []byte
+		for _, key := range set.Keys {
+			if key["kid"] == issuer.KeyID(algorithm) {
+				jwk, _ = json.Marshal(key)
+			}
+		}
+		for _, all := range []bool{false, true} {
+			parsed, verified := 0, 0
+			for n := 0; ; n++ {
+				var key *Key
+				if refusing.During(n, all, func() { key = parseKey(jwk, UsualRSABits) }) == 0 {
+					break
+				}
+				if parsed++; key.fault != nil && !errors.Is(key.fault, ErrNoMemory) {
+					t.Errorf("%s, allocation %d of parsing, all behind it %v: %v", algorithm, n, all, key.fault)
+				}
+			}
+			for n := 0; ; n++ {
+				key := parseKey(jwk, UsualRSABits)
+				if key.fault != nil {
+					t.Fatal(key.fault)
+				}
+				var isGood, isBad error
+				refused := refusing.During(n, all, func() { isBad = key.Verify(algorithm, s.signed, bad) })
+				if refused += refusing.During(n, all, func() { isGood = key.Verify(algorithm, s.signed, good) }); refused == 0 {
+					break
+				}
+				if verified++; isGood != nil && isGood != ErrNoMemory || isBad != ErrSignature && isBad != ErrNoMemory {
+					t.Errorf("%s, allocation %d of verifying, all behind it %v: a good signature is %v, a bad one %v", algorithm, n, all, isGood, isBad)
+				}
+			}
+			if parsed == 0 || verified == 0 {
+				t.Errorf("%s: %d and %d allocations were refused", algorithm, parsed, verified)
+			}
+		}
+	}
+}
+
+// A keyring that OpenSSL's want of memory keeps from a verdict says so, and keeps no key for one that can't be used.
+func TestAKeyringIsRefusedMemory(t *testing.T) {
+	one, err := issuer.New("example.org")
+	if err != nil {
+		t.Fatal(err)
+	}
+	for _, algorithm := range []string{"PS256", "ES384"} {
+		// (the second time by a plan)
+		for _, known := range []bool{false, true} {
+			for n, refused := 0, 1; refused > 0; n++ {
+				keyring, err := NewKeyring(one.Bundles())
+				if err != nil {
+					t.Fatal(err)
+				}
+				token := func(jti string) string {
+					return one.Token(algorithm, map[string]any{"sub": "spiffe://example.org/web", "aud": "ledger", "exp": 2_000_000_000, "jti": jti})
+				}
+				verify := func(jti string) (yes []Question, err error) { return keyring.Verify(token(jti)) }
+				if known {
+					if yes, err := verify("first"); err != nil || len(yes) != 1 {
+						t.Fatal(yes, err)
+					}
+				}
+				tried := token("tried")
+				refused = refusing.During(n, true, func() {
+					if yes, err := keyring.Verify(tried); err == nil && len(yes) != 1 || err != nil && (err != ErrNoMemory || len(yes) != 0) {
+						t.Errorf("%s, known %v, allocation %d: %d questions, and %v", algorithm, known, n, len(yes), err)
+					}
+				})
+				if yes, err := verify("later"); err != nil || len(yes) != 1 {
+					t.Errorf("%s, known %v, behind allocation %d: %d questions, and %v", algorithm, known, n, len(yes), err)
+				}
+				keyring.Close()
+			}
+		}
+	}
+}

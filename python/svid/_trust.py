@@ -1,0 +1,107 @@
+"""Trust bundles in the C library: which keys may have signed a token, apart from any record."""
+
+from __future__ import annotations
+
+import binascii
+import ctypes
+import struct
+import threading
+import weakref
+from typing import Any
+
+from . import _library as lib
+from ._signatures import Verifies
+
+_ROW = struct.Struct(">4x5sI")  # the algorithm, and the length of the key
+_URL_SAFE = bytes.maketrans(b"-_", b"+/")
+_ROOM = 65_536
+_ROOM_SIZE = lib.size(_ROOM)
+_MOST = lib.size(lib.MOST_CANDIDATES)
+_NUMBERS = [lib.size(number) for number in range(lib.MOST_CANDIDATES)]
+
+
+class Trust:
+    """Trust bundles: a `svid_bundles` of the C library, with the lock that orders its calls.
+
+    Any number of threads may use it. A validator's lock has no part in it.
+    """
+
+    def __init__(self, bundles: bytes) -> None:
+        """Reads the bundles, while other threads run. `status` says whether they are good."""
+        self._lock: Any = threading.Lock()
+        self._words = (ctypes.c_uint64 * 2)()
+        self.told = lib.Told()
+        self.at = lib.address(self._words)
+        self._told_at = lib.address(self.told)
+        self._room = bytearray(_ROOM)
+        self._view = memoryview(self._room)
+        self._room_at = lib.address(self._room)
+        self._asked = bytearray(32)
+        self._asked_at = lib.address(self._asked)
+        size = len(bundles)
+        self.status = lib.library.svid_bundles_open(self.at, bundles, size, self._told_at)
+        self._freeing = weakref.finalize(self, _close, self._words)
+        self._freeing.atexit = False  # a thread that outlives the interpreter may be in a call
+
+    def close(self) -> None:
+        """Frees the bundles. Does nothing to closed ones, and nothing in a fork."""
+        if self._freeing.alive:
+            with self._lock:
+                self._freeing()
+
+    def leave(self, lock: Any) -> None:
+        """Leaves them to the parent process, with another lock in the place of theirs."""
+        self._freeing.detach()
+        self._lock = lock
+
+    def answer(self, token: bytes, size: Any, verifies: Verifies) -> tuple[int, bytes]:
+        """The status of listing the keys that may have signed the token, and the question of the
+        first of them that did, if there is one. The token is hashed for that one alone.
+
+        The lock is free while a signature is verified. Other threads run in the meantime.
+        """
+        library, told = lib.library, self._told_at
+        with self._lock:
+            lent = (self.at, token, size, _MOST)
+            status = library.svid_bundles_ask(*lent, self._room_at, _ROOM_SIZE, told)
+            rows = self._view[: self.told.len] if status == lib.OK else b""
+            if status == lib.TOO_SHORT:
+                rows = bytearray(self.told.len)
+                long = (lib.address(rows), lib.size(len(rows)))
+                status = library.svid_bundles_ask(*lent, *long, told)
+            rows = bytes(rows)
+        found = first(_ROW, rows, token, verifies) if rows else None
+        if not found:
+            return status, b""
+        with self._lock:
+            lent = (self.at, token, size, lib.size(found[0]))
+            status = library.svid_bundles_question(*lent, self._asked_at, told)
+            return status, bytes(self._asked)
+
+
+def _close(words: ctypes.Array[ctypes.c_uint64]) -> None:
+    lib.library.svid_bundles_close(lib.address(words))
+
+
+def first(
+    form: struct.Struct, rows: bytes, token: bytes, verifies: Verifies
+) -> tuple[int, int] | None:
+    """The number of the first row whose key made the token's signature, and where it begins.
+
+    A row has this form, of which the algorithm and the length of the key are the last, and the key.
+    """
+    signed, _, signature = token.rpartition(b".")
+    signature = decoded(signature)
+    begins = number = 0
+    while begins < len(rows):
+        *_, alg, size = form.unpack_from(rows, begins)
+        ends = begins + form.size + size
+        if verifies(alg.decode(), rows[ends - size : ends], signed, signature):
+            return number, begins
+        number, begins = number + 1, ends
+    return None
+
+
+def decoded(part: bytes) -> bytes:
+    """The bytes of a part of a token whose spelling the library has judged."""
+    return binascii.a2b_base64(part.translate(_URL_SAFE) + b"==")
