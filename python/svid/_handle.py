@@ -198,10 +198,8 @@ class Handle:
             if status == lib.OK:
                 rows = self._view[: self._told.len].tobytes()
             elif status in REFUSALS:
-                return (
-                    trust,
-                    b"",
-                )  # (another reason may come before this one, and `now` is to be told)
+                # Another reason may come before this one, and `now` is to be told.
+                return trust, b""
             else:
                 rows = self._rest(status, _ASK, *lent)
         found = first(_ROW, rows, token, verifies)
