@@ -15,7 +15,6 @@ import "C"
 import (
 	"encoding/binary"
 	"errors"
-	"runtime"
 	"sync"
 	"unsafe"
 )

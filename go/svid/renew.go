@@ -2,6 +2,13 @@ package svid
 
 /*
 #include "svid.h"
+#include <stdlib.h>
+#ifdef __GLIBC__
+#include <malloc.h>
+static void trim(void) { malloc_trim(0); }
+#else
+static void trim(void) {}
+#endif
 
 static uint32_t first(svid_validator *v, _GoString_ token, uint8_t *out, size_t out_len, svid_told *told) {
     return svid_validator_ask(v, (const uint8_t *)_GoStringPtr(token), _GoStringLen(token), SVID_MOST_CANDIDATES, out, out_len, told);
@@ -22,7 +29,7 @@ func (v *Validator) SetBundles(bundles []byte) error {
 	if err := failure(C.svid_bundles_open(&b, start(bundles), C.size_t(len(bundles)), &told), &told); err != nil {
 		return err
 	}
-	defer C.svid_bundles_close(&b) // Frees the old ones, without the lock.
+	defer freed(&b, len(bundles))
 	v.mu.Lock()
 	defer v.mu.Unlock()
 	return v.renew(&b, len(bundles))
@@ -38,7 +45,7 @@ func (v *Validator) Renew(k *Keyring, bundles []byte) error {
 	if err := failure(C.svid_bundles_open(&b, start(bundles), C.size_t(len(bundles)), &told), &told); err != nil {
 		return err
 	}
-	defer C.svid_bundles_close(&b)
+	defer freed(&b, len(bundles))
 	askers, err := openAskers(bundles)
 	if err != nil {
 		return err
@@ -54,6 +61,19 @@ func (v *Validator) Renew(k *Keyring, bundles []byte) error {
 	askers = k.replace(askers)
 	return nil
 }
+
+// freed gives back the memory of bundles, and what it took to read the ones in their place, of so many bytes. (C keeps what
+// is freed for the thread that asked for it, and a renewal may run in any. So each thread would keep the room in which it
+// read large bundles.)
+func freed(b *C.svid_bundles, size int) {
+	C.svid_bundles_close(b)
+	if size > trimmedBundles {
+		C.trim()
+	}
+}
+
+// trimmedBundles is how many bytes bundles have that take megabytes to read.
+const trimmedBundles = 1 << 16
 
 // renew exchanges the bundles for those of an open handle, which were so many bytes of JSON. The caller holds the lock.
 func (v *Validator) renew(b *C.svid_bundles, size int) error {

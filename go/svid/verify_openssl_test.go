@@ -49,7 +49,7 @@ func TestKeysOfOpenSSLAreFreed(t *testing.T) {
 	}
 	keyring.Close()
 	keyring = nil
-	for end := time.Now().Add(30 * time.Second); openHandles.Load() != before; {
+	for end := time.Now().Add(30 * time.Second); openHandles.Load() > before; { // (keys of earlier tests may go meanwhile)
 		if time.Now().After(end) {
 			t.Fatalf("OpenSSL holds %d keys of a keyring that is gone", openHandles.Load()-before)
 		}

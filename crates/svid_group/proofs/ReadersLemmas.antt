@@ -178,24 +178,29 @@ module _ (group : ℕ → Terms) where
     pub silent : (key : List ℕ) → AddsNoUseOf group key w e → AllByRecursion (TellsNoUseOf key) events
 
   -- an event that is one validator's tells what its record gained
-  tells : (w : World) (v : ℕ) (given : Option Renewal) (after : check.World) → Changes w.group v w.group.saves given after → IsTold (after.members v) → IsLater (w.group.members v).held (after.members v).held
-      → as_readers (record { group = after; log = w.log; asides = w.asides; saved = w.saved })
-      ≡ log.happens (as_terms group) (as_readers w) (log.Tell v (news (w.group.members v).held (after.members v).held))
-  tells w v given after c is later =
-      let old = w.group.members v in
-      let new = after.members v in
-      let told : log.Reader = log.told (reader_at w v) (news old.held new.held) in
-      ap (λ (saves : List Saved). record { members = λ n. reader (after.members n) (w.asides n); log = w.log; saves = saves_of saves w.saved }) c.saves
-      ∙ ap (λ (members : ℕ → log.Reader). record { members = members; log = w.log; saves = saves_of w.group.saves w.saved }) (fun_ext (λ n. elim (cases_eq n v) [
-        | inl e ↦ by_own n e
-        | inr d ↦ ap (λ (x : Member). reader x (w.asides n)) (c.others n d) ∙ sym (cond-false (n == v) (log.told (reader_at w v) (news (w.group.members v).held (after.members v).held)) (reader_at w n) (ne_eqb n v d))
-      ]))
-    where
-      by_own : (n : ℕ) → n ≡ v → reader (after.members n) (w.asides n) ≡ (if n == v then log.told (reader_at w v) (news (w.group.members v).held (after.members v).held) else reader_at w n)
-      by_own n e =
-          ap (λ i. reader (after.members i) (w.asides i)) e
-          ∙ ap (λ (h : State). reader (record { held = h; told = (after.members v).told; log = (after.members v).log; renewal = (after.members v).renewal }) (w.asides v)) (sym (news_join (w.group.members v).held (after.members v) is later))
-          ∙ sym (cond-true (n == v) (log.told (reader_at w v) (news (w.group.members v).held (after.members v).held)) (reader_at w n) (eq-eqb n v e))
+  module _ (w : World) (v : ℕ) (given : Option Renewal) (after : check.World) (c : Changes w.group v w.group.saves given after) (is : IsTold (after.members v)) (later : IsLater (w.group.members v).held (after.members v).held) where
+    abbrev gained : State
+    gained = news (w.group.members v).held (after.members v).held
+
+    abbrev told : log.Reader
+    told = log.told (reader_at w v) gained
+
+    own_tells : (n : ℕ) → n ≡ v → reader (after.members n) (w.asides n) ≡ (if n == v then told else reader_at w n)
+    own_tells n e =
+        ap (λ i. reader (after.members i) (w.asides i)) e
+        ∙ ap (λ (h : State). reader (record { held = h; told = (after.members v).told; log = (after.members v).log; renewal = (after.members v).renewal }) (w.asides v)) (sym (news_join (w.group.members v).held (after.members v) is later))
+        ∙ sym (cond-true (n == v) told (reader_at w n) (eq-eqb n v e))
+
+    each_tells : (n : ℕ) → reader (after.members n) (w.asides n) ≡ (if n == v then told else reader_at w n)
+    each_tells n = elim (cases_eq n v) [
+      | inl e ↦ own_tells n e
+      | inr d ↦ ap (λ (x : Member). reader x (w.asides n)) (c.others n d) ∙ sym (cond-false (n == v) told (reader_at w n) (ne_eqb n v d))
+    ]
+
+    tells : as_readers (record { group = after; log = w.log; asides = w.asides; saved = w.saved }) ≡ log.happens (as_terms group) (as_readers w) (log.Tell v gained)
+    tells =
+        ap (λ (saves : List Saved). record { members = λ n. reader (after.members n) (w.asides n); log = w.log; saves = saves_of saves w.saved }) c.saves
+        ∙ ap (λ (members : ℕ → log.Reader). record { members = members; log = w.log; saves = saves_of w.group.saves w.saved }) (fun_ext each_tells)
 
   silent_news : (x y : State) (key : List ℕ) → ((u : Use) → IsTrue (holds y.uses u) → u.key ≡ key → IsTrue (holds x.uses u)) → (u : Use) → IsTrue (holds (news x y).uses u) → u.key ≡ key → ⊥
   silent_news x y key none u h same =

@@ -1,12 +1,13 @@
 use std::alloc::Global;
-use svid_log::{Claims, Fate, Member, Value};
+use svid_log::{Claims, Fate, Member, Order, Value};
 use svid_replay::RunUses;
 use svid_script_base::named::Named;
 
-/// A member, and the fates that a line wrote before memory was refused for the next use.
+/// A member, and what a line answered before memory was refused for the next use: the order and the fates.
 #[derive(Drop)]
 pub struct Reader {
     pub member: Member<RunUses>,
+    pub order: Option<Order>,
     pub before: Vec<Fate>,
 }
 
@@ -14,6 +15,7 @@ impl Reader {
     pub fn new(alloc: Global, member: Member<RunUses>) -> Reader {
         Reader {
             member,
+            order: None,
             before: Vec::new(alloc),
         }
     }

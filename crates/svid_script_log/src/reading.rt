@@ -50,12 +50,14 @@ fn say_read(
     reading: &Reading,
     fates: Vec<Fate>,
 ) -> Result<(), Stop> {
+    let order = reader.order.take().unwrap_or(reading.order);
     let from = reading.from.saturating_sub(reader.before.len());
     keep(reader, reading, fates)?;
     if reading.rest == Rest::NoMemory {
+        reader.order = Some(order);
         return Err(Stop::OutOfMemory);
     }
-    say_reading(out, reading, from, reader.before.len())?;
+    say_reading(out, order, from, reader.before.len(), reading.rest)?;
     say_fates(out, &reader.before)?;
     reader.before.clear();
     Ok(())

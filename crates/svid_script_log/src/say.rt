@@ -1,17 +1,16 @@
 use std::io::Write;
-use svid_log::{Fate, Reading};
+use svid_log::{Fate, Order, Rest};
 use svid_script_base::out::Out;
 use svid_script_base::stop::Stop;
 
-/// How a call of the log went on, and where it began.
+/// Prints how a value was read.
 pub fn say_reading(
     out: &mut Out<'_>,
-    reading: &Reading,
+    order: Order,
     from: usize,
     count: usize,
+    rest: Rest,
 ) -> Result<(), Stop> {
-    let order = reading.order;
-    let rest = reading.rest;
     Ok(writeln!(out, "= {order:?} {from} {count} {rest:?}")?)
 }
 

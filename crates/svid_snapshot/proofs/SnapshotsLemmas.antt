@@ -1,0 +1,33 @@
+use Rattle.std.proofs.Common.{◌≡◌, ◌⊎◌, inl, inr, ℕ, max, Bool, true, ◌||◌, nat_lt, List, [], ◌∷◌, IsTrue, map, sym, ap, ◌∙◌}
+use Rattle.std.specs.List.{list_any}
+use Rattle.std.proofs.lemmas.Bool.{and_parts, false≢true, or_cases, or_left, or_right}
+use Rattle.svid_replay.specs.declared.token_use.Use.{Use}
+use Rattle.svid_replay.specs.Batches.{BatchData}
+use Rattle.svid_replay.specs.Parts.{join_all}
+use Rattle.svid_replay.specs.Records.{State, batch_state, join, state_of}
+use Rattle.svid_replay.specs.Sets.{holds}
+use Rattle.svid_replay.proofs.RecordsLemmas.{holds-join}
+use Rattle.svid_replay.proofs.UsesLemmas.{holds-uses_in}
+use Rattle.svid_wire.specs.BatchText.{batch_text}
+use Rattle.svid_check.proofs.LaterLemmas.{saves_lose_nothing}
+use Rattle.svid_snapshot.specs.Snapshots.{PiecesAreAllowed, SeesIn}
+
+-- a use of what batches were joined to was there before, or is seen in one of their texts
+seen : (has : List ℕ → Bool) (u : Use) (sees : SeesIn has u) (r : State) (bs : List BatchData) → IsTrue (holds (join_all r bs).uses u) → IsTrue (holds r.uses u) ⊎ (list_any has (map batch_text bs) ≡ true)
+seen has u sees r [] h = inl h
+seen has u sees r (b ∷ bs) h =
+    let s = batch_state b in
+    elim (seen has u sees (join r s) bs h) [
+      | inl joined ↦ elim (or_cases (holds s.uses u) (holds r.uses u) (and_parts (nat_lt (max r.moment s.moment) u.exp) (holds s.uses u || holds r.uses u) (sym (holds-join r s u) ∙ joined)).1) [
+        | inl here ↦ inr (or_left (has (batch_text b)) (list_any has (map batch_text bs)) (sees b here))
+        | inr was ↦ inl was
+      ]
+      | inr later ↦ inr (or_right (has (batch_text b)) (list_any has (map batch_text bs)) later)
+    ]
+
+pub pieces_are_allowed : PiecesAreAllowed
+pieces_are_allowed has t w u a z batches sees had saved live parts ok landed none noted =
+    elim (seen has u sees (state_of 0 []) batches (saves_lose_nothing a z batches u saved (had noted) live)) [
+      | inl nothing ↦ absurd (false≢true (sym (holds-uses_in [] u) ∙ nothing))
+      | inr found ↦ ap (list_any has) parts ∙ found
+    ]
