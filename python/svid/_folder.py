@@ -16,6 +16,8 @@ from .errors import Held
 LOCK = "lock"
 PLACE = "place"
 SNAPSHOT = "snapshot"
+FRAMES = "frames"
+"""It is there while a folder of an older svidd has no snapshot of frames yet."""
 UNFINISHED = ".new"
 _JOURNAL = re.compile(r"journal\.([1-9][0-9]{0,19})")
 _PLACE_TEXT = re.compile(rb"([0-9A-Fa-f]{32})\n?")

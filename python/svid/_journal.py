@@ -17,7 +17,7 @@ from collections.abc import Callable, Iterable
 
 from . import _library as lib
 from ._bundles import Path
-from ._folder import PLACE, SNAPSHOT, UNFINISHED, Folder, journal_name, write
+from ._folder import FRAMES, PLACE, SNAPSHOT, UNFINISHED, Folder, journal_name, write
 from ._frames import File, Numbers
 from .errors import Closed, Error, Forked, Unavailable
 
@@ -226,8 +226,10 @@ class _Keeper:
     def _read(self) -> Numbers:
         """Reads the folder, as a start does."""
         folder = self._folder
-        for name in SNAPSHOT, PLACE:
+        for name in SNAPSHOT, PLACE, FRAMES:
             folder.remove(name + UNFINISHED)
+        if (folder.path / FRAMES).exists():
+            raise ValueError(f"{folder.path} is of an older svidd: start a newer one in it once")
         place, journals = folder.place(), folder.journals()
         files = [File(folder, journal_name(it), it, place) for it in journals]
         self._older = sum(it.at for it in files)

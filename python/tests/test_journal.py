@@ -542,6 +542,12 @@ def test_a_folder_of_an_older_version(tmp_path):
         with pytest.raises(ValueError, match="older svidd"):
             svid.Journal(tmp_path)
         (tmp_path / name).unlink()
+    (tmp_path / "frames.new").write_text("7")
+    svid.Journal(tmp_path).close()
+    assert "frames.new" not in names(tmp_path)
+    (tmp_path / "frames").write_text("7\n")
+    with pytest.raises(ValueError, match="older svidd"):
+        svid.Journal(tmp_path)
 
 
 def test_a_place_that_is_lost_or_bad(tmp_path):
