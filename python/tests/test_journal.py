@@ -83,15 +83,17 @@ def test_a_place_beside_a_folder(tmp_path):
 
 
 def test_a_validator_that_is_not_made_lets_go_of_the_folder(tmp_path):
-    with pytest.raises(svid.BadBundles):
+    """At once, though its error refers to it."""
+    with pytest.raises(svid.BadBundles) as raised:
         validator(b"", state=tmp_path)
     with validator(state=tmp_path) as checks, validator() as ahead:
         checks.check(fresh())
         checks.take(ahead.check(fresh(jti="1"), time.time() + 9).use.message)
         checks._journal.snapshot(checks.parts)
-    with pytest.raises(svid.TooFar):
+    with pytest.raises(svid.TooFar) as raised_later:
         validator(state=tmp_path, ahead=0)
     validator(state=tmp_path).close()
+    assert raised.value and raised_later.value
 
 
 def test_the_files_of_a_folder(tmp_path):
