@@ -33,6 +33,7 @@ type junk struct {
 	key             func(kid string) map[string]string
 	oneKid          bool // all keys have the token's kid, and else the token names none
 	fresh           bool // each token names other keys, which nobody tried before: four with one kid
+	few             bool // there are no more keys than are tried, in place of a mebibyte
 	pad             int
 }
 
@@ -87,7 +88,7 @@ func junks(t testing.TB) []junk {
 	return all
 }
 
-// bundles has a mebibyte of the keys at junk.example, and the issuer's at example.org.
+// bundles has a mebibyte of the keys, or a few, at junk.example, and the issuer's at example.org.
 func (j junk) bundles(t testing.TB) []byte {
 	var keys []json.RawMessage
 	for size, i := 0, 0; ; i++ {
@@ -98,7 +99,7 @@ func (j junk) bundles(t testing.TB) []byte {
 		members := j.key(fmt.Sprint(kid))
 		members["number"] = fmt.Sprint(i)
 		key := mustJSON(members)
-		if size += len(key) + 1; size > mebibyte-10 {
+		if size += len(key) + 1; size > mebibyte-10 || j.few && i == svid.MaxCandidates {
 			break
 		}
 		keys = append(keys, key)
@@ -151,11 +152,11 @@ func processorTime(t testing.TB) time.Duration {
 
 // A token of a stranger costs no more where its trust domain has thousands of keys.
 func TestAJunkTokenCostsLittle(t *testing.T) {
-	for _, j := range junks(t) {
-		if j.pad == 0 || j.fresh || j.algorithm[0] != 'E' {
-			continue // they cost less
-		}
+	// each is the time of a processor that such a token takes.
+	each := func(j junk) time.Duration {
 		v, k := j.open(t)
+		defer v.Close()
+		defer k.Close()
 		from := processorTime(t)
 		const tokens = 3
 		for i := 0; i < tokens; i++ {
@@ -163,12 +164,18 @@ func TestAJunkTokenCostsLittle(t *testing.T) {
 				t.Fatalf("%s: %v", j.name, err)
 			}
 		}
-		// (With each key it would be 26,000 hashes of the token, or thousands of verifications.)
-		if each := (processorTime(t) - from) / tokens; each > 100*time.Millisecond {
-			t.Errorf("%s: a junk token takes %v of a processor", j.name, each)
+		return (processorTime(t) - from) / tokens
+	}
+	for _, j := range junks(t) {
+		if j.pad == 0 || j.fresh || j.algorithm[0] != 'E' {
+			continue // they cost less
 		}
-		v.Close()
-		k.Close()
+		few := j
+		few.few = true
+		// (With each key it would be 26,000 hashes of the token, or thousands of verifications.)
+		if few, many := each(few), each(j); many > 4*few+20*time.Millisecond {
+			t.Errorf("%s: a junk token takes %v of a processor with a mebibyte of keys, and %v with %d keys", j.name, many, few, svid.MaxCandidates)
+		}
 	}
 }
 

@@ -5,6 +5,7 @@ package svid
 import (
 	"encoding/json"
 	"errors"
+	"fmt"
 	"testing"
 
 	"svid.example/go/internal/issuer"
@@ -77,33 +78,34 @@ func TestAKeyringIsRefusedMemory(t *testing.T) {
 	if err != nil {
 		t.Fatal(err)
 	}
+	keyring, err := NewKeyring(one.Bundles())
+	if err != nil {
+		t.Fatal(err)
+	}
+	defer keyring.Close()
 	for _, algorithm := range []string{"PS256", "ES384"} {
-		// (the second time by a plan)
+		var tokens [3]string
+		for i := range tokens {
+			tokens[i] = one.Token(algorithm, map[string]any{"sub": "spiffe://example.org/web", "aud": "ledger", "exp": 2_000_000_000, "jti": fmt.Sprint(i)})
+		}
+		verify := func(what, token string) {
+			if yes, err := keyring.Verify(token); err != nil || len(yes) != 1 {
+				t.Errorf("%s, %s: %d questions, and %v", algorithm, what, len(yes), err)
+			}
+		}
+		// (known: the keyring has a plan for the token)
 		for _, known := range []bool{false, true} {
 			for n, refused := 0, 1; refused > 0; n++ {
-				keyring, err := NewKeyring(one.Bundles())
-				if err != nil {
-					t.Fatal(err)
-				}
-				token := func(jti string) string {
-					return one.Token(algorithm, map[string]any{"sub": "spiffe://example.org/web", "aud": "ledger", "exp": 2_000_000_000, "jti": jti})
-				}
-				verify := func(jti string) (yes []Question, err error) { return keyring.Verify(token(jti)) }
+				keyring.keys = newKeyCache(UsualRSABits)
 				if known {
-					if yes, err := verify("first"); err != nil || len(yes) != 1 {
-						t.Fatal(yes, err)
-					}
+					verify("at first", tokens[0])
 				}
-				tried := token("tried")
 				refused = refusing.During(n, true, func() {
-					if yes, err := keyring.Verify(tried); err == nil && len(yes) != 1 || err != nil && (err != ErrNoMemory || len(yes) != 0) {
+					if yes, err := keyring.Verify(tokens[1]); err == nil && len(yes) != 1 || err != nil && (err != ErrNoMemory || len(yes) != 0) {
 						t.Errorf("%s, known %v, allocation %d: %d questions, and %v", algorithm, known, n, len(yes), err)
 					}
 				})
-				if yes, err := verify("later"); err != nil || len(yes) != 1 {
-					t.Errorf("%s, known %v, behind allocation %d: %d questions, and %v", algorithm, known, n, len(yes), err)
-				}
-				keyring.Close()
+				verify(fmt.Sprintf("known %v, behind allocation %d", known, n), tokens[2])
 			}
 		}
 	}

@@ -1,6 +1,6 @@
 use crate::logs::{Logs, Reader};
 use crate::values::uses_at;
-use std::alloc::AllocError;
+use std::alloc::{AllocError, Global};
 use std::io::Write;
 use svid_check::Validator;
 use svid_log::{Mark, Member};
@@ -65,12 +65,13 @@ pub fn restore(env: &Env, logs: &mut Logs, words: &[&str]) -> Result<(), Stop> {
 }
 
 fn member_of<S: UseStore>(
+    alloc: Global,
     validator: &Validator<AnyVerifier, S>,
-    store: RunUses,
     terms: Terms,
     mark: Mark,
     beside: &[Use],
 ) -> Result<Member<RunUses>, AllocError> {
+    let store = RunUses::new(alloc);
     validator.member(store, terms.lasts, mark, terms.ready, beside)
 }
 
@@ -86,8 +87,8 @@ pub fn of_validator(
     let uses = uses_at(env.alloc, logs, words, 8)?;
     logs.members.make_room(word(words, 1))?;
     let validator = validators.get(word(words, 2))?;
-    let store = RunUses::new(env.alloc);
-    let made = over_any!(AnyValidator, validator, v => member_of(v, store, terms, mark, &uses))?;
+    let alloc = env.alloc;
+    let made = over_any!(AnyValidator, validator, v => member_of(alloc, v, terms, mark, &uses))?;
     keep(env, logs, word(words, 1), made)
 }
 

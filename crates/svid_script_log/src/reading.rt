@@ -36,6 +36,13 @@ fn asked_in(alloc: Global, logs: &Logs, words: &[&str], at: usize) -> Result<Ask
     })
 }
 
+// Leaves out of the room what the line before wrote, and makes room to keep the rest.
+fn make_room(reader: &mut Reader, fates: &mut Vec<Fate>) -> Result<(), Stop> {
+    let left = fates.len().saturating_sub(reader.before.len());
+    fates.truncate(left);
+    Ok(reader.before.reserve(left)?)
+}
+
 // Keeps the fates that a call wrote. (there is room for them)
 fn keep(reader: &mut Reader, reading: &Reading, fates: Vec<Fate>) -> Result<(), Stop> {
     let mut fates = fates;
@@ -91,7 +98,7 @@ pub fn member(
     let ahead = number(word(words, 4))?;
     let mut asked = asked_in(env.alloc, logs, words, 5)?;
     let reader = logs.members.get_mut(word(words, 1))?;
-    reader.before.reserve(asked.fates.len())?;
+    make_room(reader, &mut asked.fates)?;
     let record = env.records.get_mut(word(words, 2))?;
     let reading = over_any!(AnyRecord, record, r => read_by(reader, r, now, ahead, &mut asked));
     say_read(out, reader, &reading, asked.fates)
@@ -123,7 +130,7 @@ pub fn validator(
     let now = number(word(words, 3))?;
     let mut asked = asked_in(alloc, logs, words, 4)?;
     let reader = logs.members.get_mut(word(words, 2))?;
-    reader.before.reserve(asked.fates.len())?;
+    make_room(reader, &mut asked.fates)?;
     let validator = validators.get_mut(word(words, 1))?;
     let reading = over_any!(AnyValidator, validator, v => read_log_by(reader, v, now, &mut asked));
     say_read(out, reader, &reading, asked.fates)

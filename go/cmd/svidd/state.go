@@ -63,11 +63,11 @@ func writeState(std stdio, found *journal.Report) (damaged bool, err error) {
 	}
 	for _, f := range found.Files {
 		_, uses, err := svid.Uses(f.Messages)
-		says := fmt.Sprintf("%d uses", len(uses))
+		says := counted(len(uses), "use")
 		if err != nil {
 			says, damaged = fmt.Sprintf("what it bears is no message: %v", err), true
 		}
-		if _, err := fmt.Fprintf(std.out, "%s: %s: %s, %d bytes\n", filepath.Base(f.Name), stateOf(f), says, f.Length); err != nil {
+		if _, err := fmt.Fprintf(std.out, "%s: %s: %s, %s\n", filepath.Base(f.Name), stateOf(f), says, counted(f.Length, "byte")); err != nil {
 			return false, err
 		}
 	}
@@ -80,7 +80,7 @@ func stateOf(f *journal.File) string {
 	var newer *svid.FormatError
 	switch {
 	case f.Torn():
-		end = fmt.Sprintf("torn at byte %d, and nobody was answered for the %d bytes there", f.At, f.Rest)
+		end = fmt.Sprintf("torn at byte %d, and nobody was answered for the %s there", f.At, counted(f.Rest, "byte"))
 	case errors.As(f.Fault, &newer):
 		end = fmt.Sprintf("format %d at byte %d", newer.Format, f.At)
 	case f.Fault != nil:
@@ -89,7 +89,15 @@ func stateOf(f *journal.File) string {
 	if f.Old {
 		return end + ": the format of older versions"
 	}
-	return fmt.Sprintf("%s: %d frames, %d marks", end, f.Frames, f.Marks)
+	return fmt.Sprintf("%s: %s, %s", end, counted(f.Frames, "frame"), counted(f.Marks, "mark"))
+}
+
+// counted is a number of things, as "1 frame" or "2 frames".
+func counted(n int, thing string) string {
+	if n == 1 {
+		return "1 " + thing
+	}
+	return fmt.Sprintf("%d %ss", n, thing)
 }
 
 // writeMessages writes all messages.

@@ -65,7 +65,7 @@ func TestNobodyWaitsForASnapshot(t *testing.T) {
 	if err != nil {
 		t.Fatal(err)
 	}
-	e := ready(t, engine(t, Options{Mode: Once, Journal: kept, Wait: 50 * time.Millisecond}))
+	e := ready(t, engine(t, Options{Mode: Once, Journal: kept, Wait: 10 * time.Second}))
 	if err := kept.Load(e.Feed); err != nil {
 		t.Fatal(err)
 	}
