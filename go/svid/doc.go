@@ -16,6 +16,10 @@
 // It verifies signatures in parallel (Keyring.Verify), and then holds the
 // validator's lock for the verdict (Validator.Check).
 //
+// A group that must accept each token once shares a log: values in one order,
+// which all of its validators read. There a token is judged (Validator.Judge), its
+// use goes into the log, and Validator.Read says whether the token is accepted.
+//
 // An error that is a [Refusal] says why the token is rejected, and
 // errors.Is(err, svid.Replayed) tests for one reason. Any other error means
 // that the token could not be judged: it was not accepted, and the caller may

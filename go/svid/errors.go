@@ -55,12 +55,15 @@ func (e *BundleError) Error() string {
 // A MessageError says why bytes are no row of messages.
 type MessageError struct {
 	Reason  string // as docs/FORMATS.md names it: "Magic" to "Truncated"
-	Message int    // which message is at fault, from 1
+	Message int    // which message is at fault, from 1; 0 for one of Read or OpenLog
 	Place   int    // the byte of that message at which the faulty field begins, from 0
 }
 
 // Error names the reason and where it is.
 func (e *MessageError) Error() string {
+	if e.Message == 0 {
+		return fmt.Sprintf("svid: byte %d of a message: %s", e.Place, e.Reason)
+	}
 	return fmt.Sprintf("svid: message %d, byte %d: %s", e.Message, e.Place, e.Reason)
 }
 
@@ -78,6 +81,8 @@ var messageReasons = map[C.uint32_t]string{
 var statusErrors = map[C.uint32_t]error{
 	C.SVID_NO_MEMORY:          ErrNoMemory,
 	C.SVID_CLOSED:             ErrClosed,
+	C.SVID_NO_LOG:             ErrNoLog,
+	C.SVID_HAS_LOG:            ErrHasLog,
 	C.SVID_GONE:               ErrGone,
 	C.SVID_TOO_FAR:            ErrTooFar,
 	C.SVID_JUMP:               ErrJump,

@@ -6,7 +6,6 @@ import (
 	"crypto/elliptic"
 	"crypto/rand"
 	"encoding/base64"
-	"encoding/binary"
 	"encoding/json"
 	"errors"
 	"fmt"
@@ -690,37 +689,6 @@ func TestSaveWritesALargeRecordInPieces(t *testing.T) {
 	}
 }
 
-func TestWithout(t *testing.T) {
-	use := func(n byte) svid.Use { return svid.Use{Key: svid.TokenKey{n}, Expires: 9, At: 7} }
-	// A batch of these uses: the first one's head, and the text of each.
-	batch := func(numbers ...byte) []byte {
-		b := append([]byte(nil), use(0).Batch()[:17]...)
-		b[16] = byte(len(numbers))
-		for _, n := range numbers {
-			b = append(b, use(n).Batch()[17:]...)
-		}
-		return b
-	}
-	join := func(parts ...[]byte) []byte { return bytes.Join(parts, nil) }
-	for _, row := range []struct{ messages, want []byte }{
-		{nil, nil},
-		{batch(1, 2, 3), batch(1, 3)},
-		{batch(2), batch()},
-		{batch(1, 3), batch(1, 3)},
-		{join(batch(2, 4), batch(), batch(1, 2)), join(batch(4), batch(), batch(1))},
-		{join(batch(1, 2), batch(2)[:60]), join(batch(1), batch(2)[:60])},
-		{join([]byte("no head"), batch(2)), join([]byte("no head"), batch(2))},
-	} {
-		before := append([]byte(nil), row.messages...)
-		if got := svid.Without(row.messages, func(u svid.Use) bool { return u == use(2) }); !bytes.Equal(got, row.want) {
-			t.Errorf("% X: % X, want % X", row.messages, got, row.want)
-		}
-		if !bytes.Equal(before, row.messages) {
-			t.Errorf("% X was changed", before)
-		}
-	}
-}
-
 func TestAreBatches(t *testing.T) {
 	one := svid.Use{Expires: 2, At: 1}.Batch()
 	none, two := append([]byte(nil), one[:17]...), append(append([]byte(nil), one...), one[17:]...)
@@ -802,85 +770,6 @@ func TestSplitLeavesWhatIsNoMessageToTake(t *testing.T) {
 		}
 		if fmt.Sprint(got) != fmt.Sprint(row.want) {
 			t.Errorf("%s: %v", row.what, got)
-		}
-	}
-}
-
-// Pieces of batches are whole batches with the same uses in the same order, which a validator takes as it takes the whole.
-func TestPieces(t *testing.T) {
-	use := func(at, n uint64) svid.Use {
-		return svid.Use{Key: svid.TokenKey{byte(n >> 8), byte(n)}, Expires: moment + 50, At: moment - at, Place: svid.Place{7}}
-	}
-	// A batch for each count, the last one of moment, and the others before it.
-	batches := func(counts ...int) (out []byte) {
-		for i, count := range counts {
-			at := uint64(len(counts) - 1 - i)
-			b := append([]byte(nil), use(at, 0).Batch()[:17]...)
-			binary.BigEndian.PutUint32(b[13:], uint32(count))
-			for n := 0; n < count; n++ {
-				b = append(b, use(at, uint64(n)).Batch()[17:]...)
-			}
-			out = append(out, b...)
-		}
-		return out
-	}
-	for _, row := range []struct {
-		counts []int
-		most   int
-		want   string // for each piece, how many uses each of its batches has
-	}{
-		{nil, 16, "[]"},
-		{[]int{0}, 16, "[[0]]"},
-		{[]int{1}, 1, "[[1]]"},
-		{[]int{16}, 16, "[[16]]"},
-		{[]int{17}, 16, "[[16] [1]]"},
-		{[]int{512}, 200, "[[200] [200] [112]]"},
-		{[]int{3, 2}, 5, "[[3 2]]"},
-		{[]int{3, 2}, 4, "[[3 1] [1]]"},
-		{[]int{3, 2}, 3, "[[3] [2]]"},
-		{[]int{3, 7, 2}, 4, "[[3 1] [4] [2 2]]"},
-		{[]int{0, 2, 0, 0, 2, 0}, 2, "[[0 2 0 0] [2 0]]"},
-		{[]int{0, 0, 3}, 2, "[[0 0 2] [1]]"},
-		{[]int{3}, 0, "[[1] [1] [1]]"},
-		{[]int{2}, -1, "[[1] [1]]"},
-	} {
-		whole := batches(row.counts...)
-		before := append([]byte(nil), whole...)
-		pieces := svid.Pieces(whole, row.most)
-		got := make([][]int, len(pieces))
-		together, apart := open(t, 1), open(t, 1)
-		if err := together.Take(moment, whole); err != nil {
-			t.Fatal(err)
-		}
-		for i, piece := range pieces {
-			if !svid.AreBatches(piece) || cap(piece) != len(piece) && i < len(pieces)-1 {
-				t.Errorf("%v by %d: piece %d is no whole batches, or has room behind it", row.counts, row.most, i)
-			}
-			for _, b := range svid.Split(piece, 0) {
-				got[i] = append(got[i], (len(b)-17)/65)
-			}
-			if err := apart.Take(moment, piece); err != nil {
-				t.Errorf("%v by %d: piece %d: %v", row.counts, row.most, i, err)
-			}
-		}
-		if fmt.Sprint(got) != row.want {
-			t.Errorf("%v by %d: %v, want %s", row.counts, row.most, got, row.want)
-		}
-		_, uses, _ := svid.Uses(whole)
-		_, inPieces, err := svid.Uses(bytes.Join(pieces, nil))
-		if err != nil || fmt.Sprint(inPieces) != fmt.Sprint(uses) {
-			t.Errorf("%v by %d: other uses, or in another order (%v)", row.counts, row.most, err)
-		}
-		if len(whole) > 0 && !bytes.Equal(save(t, apart), save(t, together)) {
-			t.Errorf("%v by %d: the records differ", row.counts, row.most)
-		}
-		if !bytes.Equal(whole, before) {
-			t.Errorf("%v by %d: the batches were changed", row.counts, row.most)
-		}
-	}
-	for _, message := range [][]byte{[]byte("garbage"), batches(3)[:100], append(batches(3), 0), batches(3)[:5]} {
-		if pieces := svid.Pieces(message, 1); len(pieces) != 1 || !bytes.Equal(pieces[0], message) {
-			t.Errorf("what is no whole batches is cut: % X", pieces)
 		}
 	}
 }

@@ -151,26 +151,6 @@ func AreBatches(messages []byte) bool {
 	return true
 }
 
-// Without returns messages without those uses of their batches that drop says. What is no batch stays as it is.
-func Without(messages []byte, drop func(Use) bool) []byte {
-	kept := make([]byte, 0, len(messages))
-	for _, m := range Split(messages, 0) {
-		head := len(kept)
-		if !AreBatches(m) {
-			kept = append(kept, m...)
-			continue
-		}
-		kept = append(kept, m[:batchHeadLen]...)
-		for text := m[batchHeadLen:]; len(text) > 0; text = text[useLen:] {
-			if !drop(readUse(text)) {
-				kept = append(kept, text[:useLen]...)
-			}
-		}
-		binary.BigEndian.PutUint32(kept[head+countAt:], uint32((len(kept)-head-batchHeadLen)/useLen))
-	}
-	return kept
-}
-
 // Split cuts messages between two of them, into pieces of at most most bytes
 // each, in their order. A message that is longer than that is a piece of its
 // own. It looks only at lengths: bytes that end within a message, or begin with
@@ -191,59 +171,6 @@ func Split(messages []byte, most int) [][]byte {
 	}
 	return pieces
 }
-
-// Pieces cuts batches into pieces of most uses each, and what is left into a last one. The pieces have the uses in the order
-// of Uses. Each piece is whole batches: where a cut goes through a batch, both sides have its head.
-//
-// Batches of at most most uses are one piece, as they are. So are bytes that are no whole batches, which AreBatches denies,
-// for Validator.Take to reject. No bytes are no piece. A most below 1 counts as 1.
-func Pieces(batches []byte, most int) [][]byte {
-	if most < 1 {
-		most = 1
-	}
-	if len(batches) == 0 {
-		return nil
-	}
-	if !AreBatches(batches) {
-		return [][]byte{batches}
-	}
-	all := 0
-	for rest := batches; len(rest) > 0; rest = rest[messageLen(rest):] {
-		all += batchCount(rest)
-	}
-	if all <= most {
-		return [][]byte{batches}
-	}
-	cuts := (all - 1) / most
-	pieces := make([][]byte, 0, cuts+1)
-	out := make([]byte, 0, len(batches)+cuts*batchHeadLen) // all pieces, one after the other
-	begin, room := 0, most                                 // of the piece that is being written
-	for len(batches) > 0 {
-		count, length := batchCount(batches), messageLen(batches)
-		head, uses := batches[:batchHeadLen], batches[batchHeadLen:length]
-		batches = batches[length:]
-		for {
-			if room == 0 && count > 0 {
-				pieces = append(pieces, out[begin:len(out):len(out)])
-				begin, room = len(out), most
-			}
-			n := count
-			if n > room {
-				n = room
-			}
-			out = binary.BigEndian.AppendUint32(append(out, head[:countAt]...), uint32(n))
-			out = append(out, uses[:n*useLen]...)
-			uses, count, room = uses[n*useLen:], count-n, room-n
-			if count == 0 {
-				break
-			}
-		}
-	}
-	return append(pieces, out[begin:])
-}
-
-// batchCount is how many uses the first batch has.
-func batchCount(batches []byte) int { return int(binary.BigEndian.Uint32(batches[countAt:])) }
 
 // messageLen is the length of the first message, or all that is there where
 // that is no whole message.

@@ -77,6 +77,9 @@ type Validator struct {
 	used C.svid_use
 	key  C.svid_key
 	id   [C.SVID_ID_ROOM]byte
+	// And of a log.
+	fates   []C.svid_fate
+	reading C.svid_reading
 
 	bundles uint64 // how often there were other bundles, the first included; guarded by mu
 	large   bool   // they may have more keys than may be tried under the lock; guarded by mu
@@ -220,15 +223,7 @@ func (v *Validator) accepted(status C.uint32_t) (Accepted, error) {
 	return Accepted{ID: string(v.id[:v.told.len]), Use: v.use(false), by: v, bundles: v.bundles}, nil
 }
 
-func (v *Validator) use(withdrawn bool) Use {
-	return Use{
-		Key:       *(*TokenKey)(unsafe.Pointer(&v.used.key)),
-		Expires:   uint64(v.used.exp),
-		At:        uint64(v.used.at),
-		Place:     *(*Place)(unsafe.Pointer(&v.used.place)),
-		Withdrawn: withdrawn,
-	}
-}
+func (v *Validator) use(withdrawn bool) Use { return useOf(&v.used, withdrawn) }
 
 // questions is the address of the first question, and nil where there is none.
 func questions(yes []Question) *C.svid_question {

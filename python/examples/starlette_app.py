@@ -3,6 +3,7 @@
     SVID_BUNDLES=bundles uvicorn starlette_app:app
 
 The validator is made when the server starts. Run one worker process: each would have its own.
+Where SVID_STATE names a folder, that keeps the record over restarts.
 """
 
 from __future__ import annotations
@@ -18,7 +19,12 @@ from starlette.routing import Route
 import svid
 from svid.asgi import SvidMiddleware
 
-validator = svid.Validator(audiences="ledger", bundles=os.environ["SVID_BUNDLES"], longest=3600)
+validator = svid.Validator(
+    audiences="ledger",
+    bundles=os.environ["SVID_BUNDLES"],
+    longest=3600,
+    state=os.environ.get("SVID_STATE"),
+)
 
 
 async def hello(request: Request) -> PlainTextResponse:

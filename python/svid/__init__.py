@@ -10,13 +10,17 @@
     except svid.Refused as why:
         print("refused:", why)
 
-`Validator` is the whole of it. `Refused` has a subclass for each of the 25 reasons to refuse a
-token. `svid.asgi` and `svid.wsgi` are middlewares for web services.
+`Validator` is the whole of it for one process, and `Validator(state=..)` keeps its record over
+restarts. Several processes are each a `Member` of one log. `Refused` has a subclass for each of the
+25 reasons to refuse a token. `svid.asgi` and `svid.wsgi` are middlewares for web services.
 """
 
 from __future__ import annotations
 
 from ._bundles import Bundle, Bundles, from_workload_api
+from ._journal import Journal
+from ._log import Log, OtherLog
+from ._member import Member
 from ._signatures import Verifies
 from ._validator import Validator
 from .errors import (
@@ -27,6 +31,7 @@ from .errors import (
     BadSignature,
     Closed,
     Crit,
+    Damaged,
     Error,
     Exp,
     Expired,
@@ -34,10 +39,12 @@ from .errors import (
     Gone,
     HeaderNotObject,
     HeaderSpelling,
+    Held,
     Jti,
     Jump,
     Kid,
     Nbf,
+    Newer,
     NoKey,
     NotAudience,
     NotThreeParts,
@@ -52,6 +59,7 @@ from .errors import (
     TooLong,
     TooLongLived,
     Typ,
+    Unavailable,
     UnknownDomain,
     Withdrawn,
 )
@@ -68,6 +76,7 @@ __all__ = [
     "Bundles",
     "Closed",
     "Crit",
+    "Damaged",
     "Error",
     "Exp",
     "Expired",
@@ -75,14 +84,20 @@ __all__ = [
     "Gone",
     "HeaderNotObject",
     "HeaderSpelling",
+    "Held",
+    "Journal",
     "Jti",
     "Jump",
     "Kid",
+    "Log",
+    "Member",
     "Nbf",
+    "Newer",
     "NoKey",
     "NotAudience",
     "NotThreeParts",
     "NotYet",
+    "OtherLog",
     "PayloadNotObject",
     "PayloadSpelling",
     "Refused",
@@ -94,6 +109,7 @@ __all__ = [
     "TooLong",
     "TooLongLived",
     "Typ",
+    "Unavailable",
     "UnknownDomain",
     "Use",
     "Validator",

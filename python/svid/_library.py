@@ -38,6 +38,43 @@ MESSAGE_FAULTS = {
 }
 """Why bytes are no messages, by status."""
 
+HAS_LOG = 10
+NO_LOG = 19
+FATE_ACCEPTED = 0
+FATE_FIRST = 1
+FATE_WITHDRAWAL = 2
+FATE_TOO_FAR_AHEAD = 8
+"""The other fates are refusals, by their numbers."""
+ORDER_GAP = 2
+
+FOLDER_FAULTS = {
+    41: "the numbers are not those of a folder",
+    42: "a sync failed",
+    43: "no journal grows yet",
+    44: "a call is due already",
+    45: "no call is due",
+    46: "a frame is not synced yet",
+    47: "no frame was handed out",
+    48: "no snapshot is being written",
+    49: "the snapshot has no mark at its end",
+    50: "a payload has more than 16,777,215 bytes",
+    51: "a number of the folder has come to its end",
+}
+"""Why a state folder takes no call, by status."""
+FOLDER_ENDED = 42
+FILE_END = 52
+FILE_TEAR = 53
+FILE_DAMAGE = 54
+FILE_NEWER = 55
+
+CALL_NOTHING = 0
+CALL_CREATE_JOURNAL = 1
+CALL_SYNC_FOLDER = 2
+CALL_WRITE_SNAPSHOT = 3
+CALL_SYNC_SNAPSHOT = 4
+CALL_RENAME_SNAPSHOT = 5
+CALL_REMOVE_JOURNAL = 6
+
 BUNDLE_FAULTS = {
     31: "the bundles are no JSON object",
     32: "the name of a trust domain is none: number {} (from 0) of the names in rising order",
@@ -53,6 +90,10 @@ USE_LEN = 65
 USES_IN_A_BATCH = 65_536
 INPUT_MOST = 67_108_864
 NO_LIMIT = 2**64 - 1
+PAYLOAD_MOST = 16_777_215
+"""The most bytes that one frame of a state folder bears."""
+FRAME_MORE = 63
+"""How many bytes a frame has at most beside its payload."""
 
 
 class Told(ctypes.Structure):
@@ -98,19 +139,94 @@ class Part(ctypes.Structure):
     done: int
 
 
+class Mark(ctypes.Structure):
+    """`svid_mark`: where a validator is in a log."""
+
+    _fields_ = [("passed", c_uint64), ("begun", c_size_t), ("deaf", c_uint64)]
+    passed: int
+    begun: int
+    deaf: int
+
+
+class Reading(ctypes.Structure):
+    """`svid_reading`: what a call did that read a value of a log."""
+
+    _fields_ = [("order", c_uint64), ("from", c_size_t), ("count", c_size_t)]
+    order: int
+    count: int
+
+
+class Folder(ctypes.Structure):
+    """`svid_folder`: how a state folder stands."""
+
+    _fields_ = [
+        ("step", c_uint64),
+        ("oldest", c_uint64),
+        ("newest", c_uint64),
+        ("ended", c_uint64),
+        ("count", c_uint64),
+        ("end", c_uint64),
+        ("flying", c_uint64),
+        ("pieces", c_uint64),
+    ]
+    newest: int
+    end: int
+
+
+class Due(ctypes.Structure):
+    """`svid_due`: a call of the system, and the number of a journal."""
+
+    _fields_ = [("call", c_uint64), ("journal", c_uint64)]
+    call: int
+    journal: int
+
+
+class Reader(ctypes.Structure):
+    """`svid_reader`: how far a file is read."""
+
+    _fields_ = [("count", c_uint64), ("at", c_uint64), ("marked", c_uint64)]
+    at: int
+
+
+class Frame(ctypes.Structure):
+    """`svid_frame`: where in the bytes of a file a payload stands."""
+
+    _fields_ = [("payload", c_size_t), ("len", c_size_t), ("format", c_uint64)]
+    payload: int
+    len: int
+    format: int
+
+
 _MAJOR = 2
 _LENT = [c_char_p, c_size_t]
 _OUT = [c_void_p, c_size_t]
 _TOLD = [c_void_p]
 _VALIDATOR = [c_void_p]
 _NOW = [c_uint64]
+_FOLDER = [c_void_p]
+_PLACE = [c_char_p]
 _CALLS = {
     "svid_bundles_open": [*_VALIDATOR, *_LENT, *_TOLD],
+    "svid_journal_answer": [*_FOLDER, c_uint32],
+    "svid_journal_begin": _FOLDER,
+    "svid_journal_due": [*_FOLDER, c_void_p],
+    "svid_journal_failed": _FOLDER,
+    "svid_journal_open": [*_FOLDER, c_uint64, c_uint64],
+    "svid_journal_piece": [*_FOLDER, *_PLACE, *_LENT, *_OUT, *_TOLD],
+    "svid_journal_put": [*_FOLDER, *_PLACE, *_LENT, *_OUT, *_TOLD],
+    "svid_journal_read": [*_PLACE, c_uint64, *_LENT, c_void_p, c_void_p],
+    "svid_journal_synced": _FOLDER,
+    "svid_journal_unwritten": _FOLDER,
     "svid_report": [*_LENT, *_NOW, *_OUT, *_TOLD],
     "svid_validator_answer": [*_VALIDATOR, *_NOW, *_LENT, *_OUT, *_TOLD],
+    "svid_validator_beside": [*_VALIDATOR, *_OUT, *_TOLD],
+    "svid_validator_go_on": [*_VALIDATOR, *_TOLD],
+    "svid_validator_log": [*_VALIDATOR, c_void_p, c_uint64, c_uint64, *_LENT, *_TOLD],
+    "svid_validator_mark": [*_VALIDATOR, c_void_p, *_TOLD],
     "svid_validator_open": [*_VALIDATOR, c_void_p, *_LENT, *_LENT, *_TOLD],
     "svid_validator_renew_by": [*_VALIDATOR, *_VALIDATOR, *_TOLD],
     "svid_validator_parts": [*_VALIDATOR, c_void_p, *_OUT, *_TOLD],
+    "svid_validator_read": [*_VALIDATOR, *_NOW, c_uint64, *_LENT, *_OUT, c_void_p, *_TOLD],
     "svid_validator_summary": [*_VALIDATOR, *_OUT, *_TOLD],
     "svid_validator_take": [*_VALIDATOR, *_NOW, *_LENT, *_TOLD],
     "svid_validator_tick": [*_VALIDATOR, *_NOW, *_TOLD],
@@ -155,18 +271,21 @@ def _load(path: str, kind: type[_Library]) -> _Library:
             f"the C library of svid can't be loaded: {error}. Install the wheel for your machine, "
             "or let LIBSVID name libsvid.so"
         ) from error
-    for name, takes in _CALLS.items():
-        call = getattr(library, name)
-        call.argtypes = takes
-        call.restype = c_uint32
-    for name in _CALLS_OF_A_CHECK:
-        getattr(library, name).restype = c_uint32
-    for close in (library.svid_bundles_close, library.svid_validator_close):
-        close.argtypes = _VALIDATOR
-        close.restype = None
     version: int = library.svid_version()
     if version // 10_000 != _MAJOR:
         raise ImportError(f"{path} has version {version}, and this package needs {_MAJOR}xxxx")
+    try:
+        for name, takes in _CALLS.items():
+            call = getattr(library, name)
+            call.argtypes = takes
+            call.restype = c_uint32
+        for name in _CALLS_OF_A_CHECK:
+            getattr(library, name).restype = c_uint32
+        for close in (library.svid_bundles_close, library.svid_validator_close):
+            close.argtypes = _VALIDATOR
+            close.restype = None
+    except AttributeError as error:
+        raise ImportError(f"{path} has version {version}, which is too old: {error}") from error
     return library
 
 

@@ -12,11 +12,12 @@ import tempfile
 import threading
 import time
 from collections.abc import Iterable, Iterator
-from typing import Union
+from typing import TypeVar, Union
 
 from . import _library as lib
 from ._bundles import Bundles, Path, Source
 from ._handle import CHECK, JUDGE, Calls, Handle, fault
+from ._journal import Journal
 from ._signatures import USUAL_RSA_BITS, Verifier, Verifies
 from ._trust import decoded
 from .errors import Error, NoKey, UnknownDomain
@@ -26,6 +27,7 @@ _LOG = logging.getLogger("svid")
 _YEAR_5138 = 100_000_000_000
 
 Token = Union[str, bytes]
+Self = TypeVar("Self", bound="Validator")
 
 
 class Validator:
@@ -62,8 +64,10 @@ class Validator:
         refresh: float | None = 10.0,
         verifies: Verifies | None = None,
         rsa_bits: int = USUAL_RSA_BITS,
+        state: Path | None = None,
+        wait: float = 2.0,
     ) -> None:
-        """Makes a validator whose record is empty.
+        """Makes a validator whose record is empty, or is that of `state`.
 
         audiences: this service's own names. A token is for it where one of them is in `aud`.
         bundles: the keys of each trust domain; see `svid.Bundles`.
@@ -82,47 +86,79 @@ class Validator:
         verifies: verifies signatures in place of the package `cryptography`; see `svid.Verifies`.
         rsa_bits: how many bits an RSA key may have, 2,048 to 16,384. A longer one verifies nothing,
             so that a token of a stranger costs little. It is not for `verifies`.
+        state: a folder that keeps the record, so that no token that `check` returned is accepted
+            again behind a crash, a restart or a loss of power. The validator has the place that is
+            in it. `check` and `withdraw` return once the disk has the use. What `take` got is kept
+            from the next snapshot on. See `svid.Journal`.
+        wait: for how many seconds `check` and `withdraw` wait for that, until they raise
+            Unavailable.
 
         Raises BadBundles, OSError for a file of bundles, and ValueError and TypeError for arguments
-        that can't be.
+        that can't be. With `state` it raises what `svid.Journal` does, and TooFar where the clock
+        is behind the record that was kept.
         """
-        place = os.urandom(16) if place is None else place
-        if len(place) != 16:
-            raise ValueError("place has 16 bytes")
+        if place is not None and (len(place) != 16 or state is not None):
+            raise ValueError("place has 16 bytes, and a folder of state has its own")
         if refresh is not None and not refresh >= 0:
             raise ValueError("refresh is a number of seconds, or None")
+        if not wait >= 0:
+            raise ValueError("wait is a number of seconds")
         self._verifies = verifies or Verifier(rsa_bits)
         self._source = Source(bundles)
         self._stamp = self._source.stamp()
         self._refresh = math.inf if refresh is None else refresh
         self._look_at = time.monotonic() + self._refresh
         self._renewing = threading.Lock()
-        self._handle = Handle(
-            longest=_limit("longest", longest),
-            ahead=_limit("ahead", ahead),
-            step=_limit("step", step),
-            place=place,
-            own=_lines(audiences),
-            bundles=self._source.read(),
-        )
+        self._wait = wait
+        terms = {
+            "longest": _limit("longest", longest),
+            "ahead": _limit("ahead", ahead),
+            "step": _limit("step", step),
+        }
+        own, text = _lines(audiences), self._source.read()
+        self._journal = None if state is None else Journal(state)
+        if self._journal is not None:
+            place = self._journal.place
+        elif place is None:
+            place = os.urandom(16)
+        try:
+            self._handle = Handle(**terms, place=place, own=own, bundles=text)
+            self._start()
+        except BaseException:
+            if self._journal is not None:
+                self._journal.close()
+            raise
 
-    def __enter__(self) -> Validator:
+    def __enter__(self: Self) -> Self:
         return self
 
     def __exit__(self, *_: object) -> None:
         self.close()
 
+    @property
+    def waits(self) -> bool:
+        """Whether `check` waits for a disk, or for others: an event loop needs a thread for it."""
+        return self._journal is not None
+
     def close(self) -> None:
         """Frees the record and the bundles. Closing twice does nothing."""
+        if self._journal is not None:
+            self._journal.close()
         self._handle.close()
 
     def check(self, token: Token, now: float | None = None) -> Accepted:
-        """Accepts a token, once. Raises the subclass of Refused that says why not."""
-        return self._checked(CHECK, token, now)
+        """Accepts a token, once. Raises the subclass of Refused that says why not.
+
+        With `state` it returns once the disk has the use, and raises Unavailable where that fails.
+        """
+        accepted, _ = self._checked(CHECK, token, now)
+        self._keep(accepted.use)
+        return accepted
 
     def judge(self, token: Token, now: float | None = None) -> Accepted:
         """Answers what `check` would, but the record gains no use: `check` may still accept it."""
-        return self._checked(JUDGE, token, now)
+        accepted, _ = self._checked(JUDGE, token, now)
+        return accepted
 
     def withdraw(self, token: Token, now: float | None = None) -> Use:
         """Withdraws a token until it expires: from now on it is refused as Withdrawn.
@@ -145,7 +181,9 @@ class Validator:
         """
         if len(key) != 32:
             raise ValueError("a key has 32 bytes")
-        return self._handle.withdraw(_seconds(now), _lent(key), _limit("expires", expires))
+        use = self._handle.withdraw(_seconds(now), _lent(key), _limit("expires", expires))
+        self._keep(use)
+        return use
 
     def tick(self, now: float | None = None) -> None:
         """Advances the record to `now`, and drops what has expired by then."""
@@ -226,8 +264,26 @@ class Validator:
             if isinstance(self._verifies, Verifier):
                 self._verifies.forget()
 
-    def _checked(self, calls: Calls, token: Token, now: float | None) -> Accepted:
-        """What `check` or `judge` answers, by these calls of the C library."""
+    def _start(self) -> None:
+        """Takes the record that the state folder has."""
+        if self._journal is None:
+            return
+        for name in self._journal.torn:
+            _LOG.warning("a crash cut off a write at the end of %s: nobody had an answer", name)
+        self._journal.load(self.take)
+        if self._journal.wants_snapshot:
+            self._journal.snapshot(self.parts)
+
+    def _keep(self, use: Use) -> None:
+        """Returns once the state folder has a use that the record has gained."""
+        if self._journal is None:
+            return
+        self._journal.append(use.message, self._wait)
+        if self._journal.wants_snapshot:
+            self._journal.snapshot_soon(self.parts)
+
+    def _checked(self, calls: Calls, token: Token, now: float | None) -> tuple[Accepted, int]:
+        """What `check` or `judge` answers by these calls, and the edition of the bundles."""
         if self._stamp and time.monotonic() >= self._look_at:
             self._look()
         seconds = int(time.time()) if now is None else _seconds(now)

@@ -2,7 +2,9 @@
 
 from __future__ import annotations
 
+import asyncio
 from collections.abc import Awaitable, Callable, MutableMapping
+from http import HTTPStatus
 from typing import Any
 
 from ._bearer import admit
@@ -19,11 +21,13 @@ class SvidMiddleware:
     """Checks the bearer token of each request and each websocket, and calls `app` if it is good.
 
     There `scope["spiffe_id"]` is the SPIFFE ID of the token's subject, a str. Any other request is
-    answered with status 401, and any other websocket is closed before it is accepted. A check runs
-    on the event loop: it takes little more than to verify one signature.
+    answered with status 401, and any other websocket is closed before it is accepted. Where a check
+    is Unavailable, the status is 503. A check runs on the event loop: it takes little more than to
+    verify one signature. One that waits for a disk or for other workers runs in a thread.
 
-    Run one process: a server with several workers accepts a token once in each of them. For
-    several, put the sidecar svidd in front of the service (docs/SIDECAR.md).
+    Run one process with a `Validator`: a server with several workers accepts a token once in each
+    of them. For several, give each worker a `Member` of one log, or put the sidecar svidd in front
+    of the service (docs/SIDECAR.md).
     """
 
     def __init__(self, app: App, validator: Validator) -> None:
@@ -35,12 +39,19 @@ class SvidMiddleware:
             return await self.app(scope, receive, send)
         given = [value for name, value in scope["headers"] if name.lower() == b"authorization"]
         header = given[0].decode("latin-1") if len(given) == 1 else None
-        spiffe_id, challenge = admit(self.validator, header)
-        if spiffe_id is not None:
-            await self.app({**scope, "spiffe_id": spiffe_id}, receive, send)
-        elif scope["type"] == "websocket":
-            await send({"type": "websocket.close", "code": 1008})
+        if self.validator.waits:
+            admission = await asyncio.to_thread(admit, self.validator, header)
         else:
-            headers = [(b"www-authenticate", challenge.encode()), (b"content-length", b"0")]
-            await send({"type": "http.response.start", "status": 401, "headers": headers})
+            admission = admit(self.validator, header)
+        if admission.spiffe_id is not None:
+            await self.app({**scope, "spiffe_id": admission.spiffe_id}, receive, send)
+        elif scope["type"] == "websocket":
+            code = 1008 if admission.status == HTTPStatus.UNAUTHORIZED else 1013
+            await send({"type": "websocket.close", "code": code})
+        else:
+            headers = [(b"content-length", b"0")]
+            if admission.challenge:
+                headers.append((b"www-authenticate", admission.challenge.encode()))
+            start = {"type": "http.response.start", "status": int(admission.status)}
+            await send({**start, "headers": headers})
             await send({"type": "http.response.body"})

@@ -10,7 +10,11 @@
     ├── Gone             the token to withdraw has expired
     ├── TooFar           a message's moment is further past `now` than `ahead` allows
     ├── BadBundles       the trust bundles can't be read
-    └── BadMessages      bytes of another validator are no messages
+    ├── BadMessages      bytes of another validator are no messages
+    ├── Unavailable      it is not known whether the token counts as used: answer status 503
+    ├── Held             another process has the state folder
+    ├── Damaged          a file of the state folder is damaged
+    └── Newer            a file of the state folder has a newer format
 
 A call that has no memory raises `MemoryError`. It accepted no token, and you can make it again.
 """
@@ -88,6 +92,59 @@ class BadMessages(Error, ValueError):
         if self.message == 0:
             return self.reason
         return f"{self.reason} in message {self.message} at byte {self.place}"
+
+
+class Unavailable(Error):
+    """Nobody accepts the token: the disk, or the group's log, did not keep its use in time.
+
+    Answer with status 503. The token may be used up all the same, and its client needs a new one.
+    """
+
+
+class Held(Error):
+    """Another process has the state folder. Stop it, or give this one a folder of its own."""
+
+    def __init__(self, folder: str, holder: str) -> None:
+        super().__init__(folder, holder)
+        self.folder = folder
+        self.holder = holder
+
+    def __str__(self) -> str:
+        return (
+            f"the state folder {self.folder} is held by {self.holder}: stop it, or give this one a "
+            "folder of its own"
+        )
+
+
+class Damaged(Error):
+    """A file of the state folder is damaged at this byte (`place`). No crash leaves such a file.
+
+    Look for a failing disk, and put back a copy of the file of the same day. Without one,
+    docs/SIDECAR.md says what to do ("A damaged state folder").
+    """
+
+    def __init__(self, file: str, place: int) -> None:
+        super().__init__(file, place)
+        self.file = file
+        self.place = place
+
+    def __str__(self) -> str:
+        return (
+            f"{self.file} is damaged at byte {self.place}: look for a failing disk, and put back a "
+            "copy of the file of the same day"
+        )
+
+
+class Newer(Error):
+    """A file of the state folder has a newer format: run the version that wrote it, or a later."""
+
+    def __init__(self, file: str, format: int) -> None:
+        super().__init__(file, format)
+        self.file = file
+        self.format = format
+
+    def __str__(self) -> str:
+        return f"{self.file} has format {self.format}: run the version that wrote it"
 
 
 class Refused(Error):

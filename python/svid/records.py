@@ -3,9 +3,11 @@
 from __future__ import annotations
 
 import struct
+from collections.abc import Iterable
 from dataclasses import dataclass
 
 _BATCH_OF_ONE = struct.Struct(">4sBQIQ32s16sQB")
+_BATCH_HEAD = struct.Struct(">4sBQI")
 _MAGIC = b"JSR\x02"
 _BATCH = 1
 
@@ -31,6 +33,15 @@ class Use:
         kind = int(self.withdrawn)
         use = (self.expires, self.key, self.place, self.at, kind)
         return _BATCH_OF_ONE.pack(_MAGIC, _BATCH, self.at, 1, *use)
+
+
+def batches(uses: Iterable[Use]) -> bytes:
+    """Uses as messages: those that were made at one moment share a batch."""
+    made: dict[int, list[bytes]] = {}
+    for use in uses:
+        made.setdefault(use.at, []).append(use.message[_BATCH_HEAD.size :])
+    heads = {at: _BATCH_HEAD.pack(_MAGIC, _BATCH, at, len(texts)) for at, texts in made.items()}
+    return b"".join(heads[at] + b"".join(sorted(texts)) for at, texts in made.items())
 
 
 @dataclass(slots=True, unsafe_hash=True)

@@ -17,10 +17,12 @@ class SvidMiddleware:
     """Checks the bearer token of each request, and calls `app` if it is good.
 
     There `environ["svid.spiffe_id"]` is the SPIFFE ID of the token's subject, a str. Any other
-    request is answered with status 401. Servers with several threads may use it.
+    request is answered with status 401, and with 503 where a check is Unavailable. Servers with
+    several threads may use it.
 
-    Run one process: a server with several workers accepts a token once in each of them. For
-    several, put the sidecar svidd in front of the service (docs/SIDECAR.md).
+    Run one process with a `Validator`: a server with several workers accepts a token once in each
+    of them. For several, give each worker a `Member` of one log, or put the sidecar svidd in front
+    of the service (docs/SIDECAR.md).
     """
 
     def __init__(self, app: App, validator: Validator) -> None:
@@ -28,10 +30,11 @@ class SvidMiddleware:
         self.validator = validator
 
     def __call__(self, environ: Environ, start_response: StartResponse) -> Iterable[bytes]:
-        spiffe_id, challenge = admit(self.validator, environ.get("HTTP_AUTHORIZATION"))
-        if spiffe_id is not None:
-            return self.app({**environ, "svid.spiffe_id": spiffe_id}, start_response)
-        start_response(
-            "401 Unauthorized", [("WWW-Authenticate", challenge), ("Content-Length", "0")]
-        )
+        admission = admit(self.validator, environ.get("HTTP_AUTHORIZATION"))
+        if admission.spiffe_id is not None:
+            return self.app({**environ, "svid.spiffe_id": admission.spiffe_id}, start_response)
+        headers = [("Content-Length", "0")]
+        if admission.challenge:
+            headers.append(("WWW-Authenticate", admission.challenge))
+        start_response(f"{admission.status.value} {admission.status.phrase}", headers)
         return []

@@ -9,6 +9,7 @@ import os
 import struct
 import subprocess
 import tempfile
+import time
 
 import jwt
 from cryptography import x509
@@ -98,6 +99,11 @@ def token(alg="ES256", key=None, header=None, **members):
     """A token of PyJWT."""
     key = key or private_key(alg)
     return jwt.encode(claims(**members), key, alg, headers={"kid": "k1", **(header or {})})
+
+
+def fresh(**members):
+    """A token of now."""
+    return token(**{"exp": int(time.time()) + 300, "jti": None, **members})
 
 
 def signed(alg, key, header, payload):

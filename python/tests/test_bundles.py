@@ -4,14 +4,17 @@ import json
 import logging
 import os
 import pathlib
+import signal
 import subprocess
 import sys
 import threading
 import time
+import types
 
 import pytest
 import svid
 from making import NOW, bundle, entry, private_key, token, validator, verdict
+from svid._bundles import Source
 
 KEY = private_key("ES256")
 JWKS = {"keys": [entry(KEY, "k1")]}
@@ -135,8 +138,17 @@ def test_a_file_that_is_missing(tmp_path):
             validator(given)
 
 
+@pytest.fixture
+def at_most_a_minute():
+    """A test that waits for longer fails."""
+    signal.signal(signal.SIGALRM, lambda *_: pytest.fail("it waits"))
+    signal.alarm(60)
+    yield
+    signal.alarm(0)
+
+
 @pytest.mark.parametrize("linked", [False, True])
-def test_a_pipe_is_not_waited_for(tmp_path, linked):
+def test_a_pipe_is_not_waited_for(tmp_path, linked, at_most_a_minute):
     pipe = tmp_path / "other.example.json"
     os.mkfifo(tmp_path / "pipe")
     pipe.symlink_to("pipe") if linked else os.mkfifo(pipe)
@@ -157,6 +169,43 @@ def test_renewing():
         checks.renew(json.dumps(bundle(entry(KEY, "k1"))).encode())
         assert verdict(checks, made) == "refused Replayed"
         assert verdict(checks, token(jti="2")) == ACCEPTED
+
+
+def test_renewing_by_another_file(tmp_path):
+    """From then on it is that file which is read again."""
+    first, second = tmp_path / "first", tmp_path / "second"
+    for path in first, second:
+        path.mkdir()
+        (path / "example.org.json").write_text(json.dumps({"keys": []}))
+    with validator(first, refresh=None) as checks:
+        checks.renew(second)
+        rewrite(second / "example.org.json", json.dumps(SPIRE))
+        checks.renew()
+        assert verdict(checks, token()) == ACCEPTED
+
+
+def test_keys_of_replaced_bundles_are_freed():
+    """Each bundle has four keys of 60 kB: those of 300 bundles that stayed would be 72 MB."""
+    text = """
+import base64, json, svid
+from making import NOW, bundle, entry, private_key, token
+key, made = entry(private_key("ES256", 1), "k1"), token()
+def bundles(which):
+    return bundle(*({**key, "note": f"{which} {it}".ljust(60_000)} for it in range(4)))
+with svid.Validator(audiences="ledger", bundles=bundles(0)) as checks:
+    for which in range(300):
+        checks.renew(bundles(which))
+        try:
+            checks.check(made, NOW)
+        except svid.BadSignature:
+            continue
+        raise AssertionError
+print(open("/proc/self/status").read().partition("VmHWM:")[2].split()[0])
+"""
+    environment = {**os.environ, "PYTHONPATH": os.pathsep.join(sys.path)}
+    words = [sys.executable, "-c", text]
+    ran = subprocess.run(words, env=environment, capture_output=True, timeout=60, check=True)
+    assert int(ran.stdout) < 100_000  # kilobytes, the most that this process had
 
 
 def many_keys():
@@ -321,6 +370,43 @@ def test_a_rotation_that_differs_in_one_thing_is_seen(tmp_path, rotate):
         assert same.count(False) == 1
         assert verdict(checks, token(jti="2")) == "refused BadSignature"
         assert verdict(checks, token(jti="2", key=private_key("ES256", 1))) == ACCEPTED
+
+
+def test_a_file_that_changes_while_it_is_read_is_read_again(tmp_path, monkeypatch):
+    """When the validator is made, and when it is renewed."""
+    path, read, texts = tmp_path / "example.org.json", Source.read, []
+
+    def changing(source):
+        found = read(source)
+        if texts:
+            rewrite(path, texts.pop())
+        return found
+
+    monkeypatch.setattr(Source, "read", changing)
+    path.write_text(json.dumps({"keys": []}))
+    texts.append(json.dumps(SPIRE))
+    with validator(path, refresh=0) as checks:
+        assert verdict(checks, token()) == ACCEPTED
+        texts.append(rotation(0))
+        rewrite(path, json.dumps({"keys": []}))
+        assert verdict(checks, token(jti="1")) == "refused NoKey"
+        assert verdict(checks, token(jti="1")) == ACCEPTED
+
+
+def test_files_are_looked_at_every_ten_seconds(tmp_path, monkeypatch):
+    clock = types.SimpleNamespace(now=1000.0)
+    at = types.SimpleNamespace(monotonic=lambda: clock.now, time=lambda: NOW)
+    monkeypatch.setattr(svid._validator, "time", at)
+    path = tmp_path / "example.org.json"
+    path.write_text(json.dumps({"keys": []}))
+    with validator(path) as checks:
+        for which in range(3):
+            rewrite(path, json.dumps([SPIRE, {"keys": []}][which % 2]))
+            clock.now += 9.9
+            before, after = (ACCEPTED, "refused NoKey")[:: 1 if which % 2 else -1]
+            assert verdict(checks, token(jti=f"{which} before")) == before
+            clock.now += 0.1
+            assert verdict(checks, token(jti=f"{which} after")) == after
 
 
 @pytest.mark.parametrize("refresh", [None, 3600])

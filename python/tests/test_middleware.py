@@ -1,16 +1,18 @@
 """The middlewares, by the examples, each with a client of its own."""
 
 import asyncio
+import errno
 import http.client
 import importlib.util
 import json
+import os
 import pathlib
 import subprocess
 import sys
-import time
+import threading
 
 import pytest
-from making import bundle, entry, private_key, token, validator
+from making import bundle, entry, fresh, private_key, token, validator
 from starlette.applications import Starlette
 from starlette.responses import PlainTextResponse
 from starlette.routing import Route, WebSocketRoute
@@ -23,11 +25,6 @@ from svid.wsgi import SvidMiddleware as WsgiMiddleware
 
 EXAMPLES = pathlib.Path(__file__).parent.parent / "examples"
 HELLO = "hello spiffe://example.org/billing/api"
-
-
-def fresh(**members):
-    """A token of now."""
-    return token(**{"exp": int(time.time()) + 300, "jti": None, **members})
 
 
 @pytest.fixture
@@ -63,7 +60,10 @@ def load(name):
     return module
 
 
-def test_starlette(bundles):
+@pytest.mark.parametrize("keeps", [False, True])
+def test_starlette(bundles, keeps, tmp_path, monkeypatch):
+    if keeps:
+        monkeypatch.setenv("SVID_STATE", str(tmp_path / "state"))
     with TestClient(load("starlette_app").app) as client:
         made = "bearer " + fresh(jti="1")
         answer = client.get("/", headers={"Authorization": made})
@@ -136,6 +136,65 @@ def test_two_tokens_in_one_request_are_none():
         assert checks.report().uses == ()
 
 
+@pytest.mark.parametrize("between", [",", ", ", ",Bearer ", ", Bearer ", " ", " Bearer "])
+def test_two_tokens_in_one_header_are_none(between):
+    """As a server joins two headers, and as a client may write them."""
+    made = f"Bearer {fresh(jti='1')}{between}{fresh(jti='2')}"
+    with validator() as checks:
+        headers = [(b"authorization", made.encode())]
+        sent = run(SvidMiddleware(None, checks), {"type": "http", "headers": headers})
+        assert sent[0]["status"] == 401
+        said = []
+        WsgiMiddleware(None, checks)({"HTTP_AUTHORIZATION": made}, lambda *it: said.append(it))
+        assert [status for status, _ in said] == ["401 Unauthorized"]
+        assert checks.report().uses == ()
+
+
+def test_an_id_that_was_there_before_is_replaced():
+    """A server or another middleware may have put it there, by whatever the caller said."""
+    seen, other = [], "spiffe://example.org/root"
+
+    async def app(scope, receive, send):
+        seen.append(scope["spiffe_id"])
+
+    def wsgi(environ, start_response):
+        seen.append(environ["svid.spiffe_id"])
+        return []
+
+    with validator() as checks:
+        headers = [(b"authorization", b"Bearer " + fresh(jti="1").encode())]
+        scope = {"type": "http", "headers": headers, "spiffe_id": other}
+        assert run(SvidMiddleware(app, checks), scope) == []
+        made = "Bearer " + fresh(jti="2")
+        WsgiMiddleware(wsgi, checks)({"HTTP_AUTHORIZATION": made, "svid.spiffe_id": other}, None)
+    assert seen == [HELLO[6:]] * 2
+
+
+@pytest.mark.parametrize("token", [b"\x80.\xff.\xfe", b"\xc3\xa9", "\u00e9.\u20ac.a".encode()])
+def test_a_header_of_any_bytes_is_answered(token):
+    """It is no UTF-8, or is, and has no good token either way."""
+    with validator() as checks:
+        headers = [(b"authorization", b"Bearer " + token)]
+        sent = run(SvidMiddleware(None, checks), {"type": "http", "headers": headers})
+        assert sent[0]["status"] == 401
+        said, given = [], {"HTTP_AUTHORIZATION": "Bearer " + token.decode("latin-1")}
+        WsgiMiddleware(None, checks)(given, lambda *it: said.append(it[0]))
+        assert said == ["401 Unauthorized"]
+
+
+def test_a_name_of_a_header_has_any_case():
+    seen = []
+
+    async def app(scope, receive, send):
+        seen.append(scope["spiffe_id"])
+
+    with validator() as checks:
+        for name in b"authorization", b"Authorization", b"AUTHORIZATION":
+            headers = [(name, b"Bearer " + fresh(jti=name.decode()).encode())]
+            run(SvidMiddleware(app, checks), {"type": "http", "headers": headers})
+    assert seen == [HELLO[6:]] * 3
+
+
 def test_the_server_starts_and_stops_without_a_token():
     seen = []
 
@@ -181,3 +240,48 @@ def test_a_closed_validator_lets_nobody_in():
     client = TestClient(SvidMiddleware(app, checks), raise_server_exceptions=False)
     answer = client.get("/", headers={"Authorization": "Bearer " + fresh()})
     assert (answer.status_code, answer.text) == (500, "")
+
+
+def test_a_check_that_is_unavailable_is_answered_503(tmp_path, monkeypatch):
+    def fails(_):
+        raise OSError(errno.EIO, "no disk")
+
+    with validator(state=tmp_path) as checks:
+        monkeypatch.setattr(os, "fdatasync", fails)
+
+        def header():
+            return "Bearer " + fresh(jti=os.urandom(8).hex())
+
+        scope = {"type": "http", "headers": [(b"authorization", header().encode())]}
+        start, _ = run(SvidMiddleware(None, checks), scope)
+        assert (start["status"], start["headers"]) == (503, [(b"content-length", b"0")])
+        scope = {"type": "websocket", "headers": [(b"authorization", header().encode())]}
+        assert run(SvidMiddleware(None, checks), scope) == [
+            {"type": "websocket.close", "code": 1013}
+        ]
+        said = []
+        WsgiMiddleware(None, checks)({"HTTP_AUTHORIZATION": header()}, lambda *it: said.append(it))
+        assert said == [("503 Service Unavailable", [("Content-Length", "0")])]
+
+
+def test_a_check_that_waits_does_not_hold_up_the_event_loop(tmp_path, monkeypatch):
+    seen, go, real = [], threading.Event(), os.fdatasync
+
+    def fdatasync(file):
+        go.wait(20)
+        real(file)
+
+    async def app(scope, receive, send):
+        seen.append(scope["spiffe_id"])
+
+    async def main(checks):
+        scope = {"type": "http", "headers": [(b"authorization", b"Bearer " + fresh().encode())]}
+        request = asyncio.create_task(SvidMiddleware(app, checks)(scope, None, None))
+        await asyncio.sleep(0)
+        go.set()  # (this comes behind the request, which would wait for ever on the event loop)
+        await request
+
+    with validator(state=tmp_path, wait=10) as checks:
+        monkeypatch.setattr(os, "fdatasync", fdatasync)
+        asyncio.run(main(checks))
+    assert seen == [HELLO[6:]]

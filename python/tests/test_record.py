@@ -1,6 +1,7 @@
 """The record: what it gains, how it is shared and kept, and what the clock does to it."""
 
 import dataclasses
+import os
 import time
 
 import pytest
@@ -46,6 +47,27 @@ def test_the_clock_of_the_system_is_the_default():
     assert soon <= use.at <= soon + 60
 
 
+def test_the_clock_of_the_system_is_the_default_of_each_call(tmp_path):
+    soon = int(time.time())
+    with validator() as kept:
+        made = kept.check(token(exp=soon + 300)).use
+        kept.save(tmp_path / "kept")
+        summary = kept.summary()
+    calls = [
+        lambda it: it.tick(),
+        lambda it: it.take(b""),
+        lambda it: it.load(tmp_path / "kept"),
+        lambda it: it.answer(summary),
+        lambda it: it.withdraw(token(exp=soon + 300, jti="1")),
+        lambda it: it.withdraw_key(made.key, made.expires),
+        lambda it: it.judge(token(exp=soon + 300)),
+    ]
+    for call in calls:
+        with validator() as checks:
+            call(checks)
+            assert soon <= checks.report().moment <= soon + 60
+
+
 @pytest.mark.parametrize(
     "now", [NOW * 1000, -1, 1e11, float("nan"), float("inf"), 2**64, 10**30]
 )
@@ -82,6 +104,63 @@ def test_a_clock_that_is_set_back_judges_at_the_record():
     with validator() as checks:
         checks.tick(NOW + 300)
         assert verdict(checks, token()) == "refused Expired"
+
+
+def test_a_use_has_the_moment_of_the_record():
+    """And not the time of the call, if the clock was set back."""
+    with validator() as checks, validator() as other:
+        checks.tick(NOW + 100)
+        used, withdrawn = checks.check(token(jti="1"), NOW), checks.withdraw(token(jti="2"), NOW)
+        assert (used.use.at, withdrawn.at) == (NOW + 100, NOW + 100)
+        for use in used.use, withdrawn:
+            other.take(use.message, NOW + 100)
+        assert other.report() == checks.report()
+
+
+def test_times_of_more_than_32_bits():
+    late, last = 2**33, 2**64 - 1
+    with validator() as checks:
+        assert checks.check(token(exp=late + 300), late).use.at == late
+        assert checks.withdraw(token(exp=last, jti="1"), late).expires == last
+        assert checks.withdraw_key(bytes(32), last, late).expires == last
+        checks.tick(late + 1)
+        report = checks.report()
+        assert [it.expires for it in report.uses] == [late + 300, last, last]
+        assert report.moment == late + 1
+
+
+def test_a_limit_of_0_is_a_limit():
+    with validator(longest=0) as checks:
+        assert verdict(checks, token(exp=NOW + 1)) == "refused TooLongLived"
+    with validator(ahead=0) as checks, validator() as other:
+        message = other.check(token(), NOW + 1).use.message
+        with pytest.raises(svid.TooFar):
+            checks.take(message, NOW)
+        checks.take(message, NOW + 1)
+    with validator(step=0) as checks:
+        checks.tick(NOW)
+        with pytest.raises(svid.Jump):
+            checks.tick(NOW + 1)
+
+
+def test_without_limits_a_token_and_a_clock_may_go_far():
+    last = 2**64 - 1
+    with validator() as checks:
+        assert verdict(checks, token(exp=last), 1).startswith("accepted")
+        assert verdict(checks, token(exp=last, jti="1"), NOW).startswith("accepted")
+
+
+def test_messages_may_lie_ten_seconds_ahead():
+    with validator() as checks, validator() as other:
+        message = other.check(token(), NOW + 10).use.message
+        with pytest.raises(svid.TooFar):
+            checks.take(message, NOW - 1)
+        checks.take(message, NOW)
+
+
+def test_validators_have_places_of_their_own():
+    with validator() as a, validator() as b:
+        assert a.check(token(), NOW).use.place != b.check(token(), NOW).use.place
 
 
 def test_a_token_that_is_none_tells_the_time_too():
@@ -319,6 +398,37 @@ def test_a_save_of_several_batches(tmp_path):
         kept.write_bytes(b"".join(a.parts(2)))
         b.load(kept, NOW)
         assert a.report() == b.report()
+
+
+def test_a_save_of_a_full_batch(tmp_path):
+    """A batch has up to 65,536 uses, and the file may go on behind it."""
+    uses = [svid.Use(NOW + 300, it.to_bytes(32, "big"), bytes(16), NOW) for it in range(65_537)]
+    texts = [it.message[17:] for it in uses]
+    full = b"JSR\x02\x01" + NOW.to_bytes(8, "big") + (65_536).to_bytes(4, "big")
+    kept = tmp_path / "kept"
+    kept.write_bytes(full + b"".join(texts[:-1]) + uses[-1].message)
+    with validator() as a, validator() as b:
+        a.load(kept, NOW)
+        assert a.report().uses == tuple(uses)
+        a.save(kept)
+        b.load(kept, NOW)
+        assert b.report().uses == tuple(uses)
+
+
+def test_a_save_is_synced_before_it_has_its_name(tmp_path, monkeypatch):
+    calls = []
+    for name in "fsync", "replace":
+        real = getattr(os, name)
+
+        def told(*given, name=name, real=real):
+            calls.append((name, [it.stat().st_size for it in tmp_path.iterdir()]))
+            return real(*given)
+
+        monkeypatch.setattr(os, name, told)
+    with validator() as checks:
+        use = checks.check(token(), NOW).use
+        checks.save(tmp_path / "kept")
+    assert calls == [("fsync", [len(use.message)]), ("replace", [len(use.message)])]
 
 
 @pytest.mark.parametrize(

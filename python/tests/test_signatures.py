@@ -1,6 +1,5 @@
 """Signatures: tokens of four other libraries, of nine algorithms, and keys of every kind."""
 
-import functools
 import hashlib
 import itertools
 import json
@@ -189,6 +188,15 @@ def test_a_secret_is_no_key():
             assert verdict(checks, made) == "refused Alg"
 
 
+def test_one_key_verifies_by_each_of_its_algorithms():
+    key = private_key("RS256")
+    with validator(bundle(entry(key, "k1"))) as checks:
+        for turn in range(2):
+            for alg in ALGORITHMS:
+                if alg[0] != "E":
+                    assert verdict(checks, token(alg, key, jti=f"{alg} {turn}")) == ACCEPTED
+
+
 ES = entry(private_key("ES256"), "k1")
 RS = entry(private_key("RS256"), "k1")
 ODD = {
@@ -308,14 +316,18 @@ def test_an_rsa_key_has_2048_bits_or_more(bits):
         (4097, 4097, ACCEPTED),
         (8192, None, BAD_SIGNATURE),
         (16_384, 16_384, ACCEPTED),
+        (16_385, 16_384, BAD_SIGNATURE),
     ],
 )
 def test_an_rsa_key_has_4096_bits_or_fewer_unless_more_are_allowed(bits, most, expected):
-    modulus, private = many_primes(bits)
-    jwk, size = {**RS, "n": number(modulus)}, (bits + 7) // 8
+    primes, size = PRIMES[bits], (bits + 7) // 8
+    modulus = math.prod(primes)
+    assert modulus.bit_length() == bits
     signed = token("RS256").rpartition(".")[0]
-    made = pow(int.from_bytes(padded(signed.encode(), size), "big"), private, modulus)
-    with validator(bundle(jwk), **({} if most is None else {"rsa_bits": most})) as checks:
+    made = power(int.from_bytes(padded(signed.encode(), size), "big"), primes)
+    with validator(
+        bundle({**RS, "n": number(modulus)}), **({} if most is None else {"rsa_bits": most})
+    ) as checks:
         assert verdict(checks, f"{signed}.{b64(made.to_bytes(size, 'big'))}") == expected
 
 
@@ -325,17 +337,27 @@ def test_the_bound_of_rsa_keys_has_bounds(most):
         validator(bundle(RS), rsa_bits=most)
 
 
-@functools.cache
-def many_primes(bits):
-    """A modulus of so many bits and its private exponent, of primes that are soon found."""
-    while True:
-        modulus, phi = 1, 1
-        for _ in range(bits // 2048):
-            numbers = rsa.generate_private_key(65537, 2048).private_numbers()
-            modulus, phi = modulus * numbers.p * numbers.q, phi * (numbers.p - 1) * (numbers.q - 1)
-        for small in 1, 3, 5, 7, 13, 23, 43, 83, 163, 317, 631:
-            if (modulus * small).bit_length() == bits:
-                return modulus * small, pow(65537, -1, phi * max(small - 1, 1))
+# Primes of moduli of so many bits: such of Mersenne (2^521-1), and a small one.
+PRIMES = {
+    bits: [*(2**it - 1 for it in exponents), last]
+    for bits, exponents, last in (
+        (4096, (2281, 1279, 521), 32_749),
+        (4097, (2281, 1279, 521), 65_521),
+        (8192, (4423, 3217, 521), 2**31 - 1),
+        (16_384, (4423, 4253, 3217, 2281, 2203), 83),
+        (16_385, (4423, 4253, 3217, 2281, 2203), 163),
+    )
+}
+
+
+def power(value, primes):
+    """A value to the private exponent of a modulus with these primes (RFC 8017, section 5.1.2)."""
+    made, modulus = 0, 1
+    for prime in primes:
+        part = pow(value, pow(65537, -1, prime - 1), prime)
+        made += modulus * ((part - made) * pow(modulus, -1, prime) % prime)
+        modulus *= prime
+    return made
 
 
 def padded(signed, size):

@@ -1,14 +1,16 @@
 """Threads, forks and the end of a program."""
 
+import json
 import multiprocessing
 import os
 import subprocess
 import sys
 import threading
+import time
 
 import pytest
 import svid
-from making import NOW, SUBJECT, bundle, entry, private_key, token, validator, verdict
+from making import NOW, SUBJECT, bundle, entry, private_key, token, unb64, validator, verdict
 
 THREADS = 8
 
@@ -60,6 +62,55 @@ def test_threads_get_their_own_answers():
         assert len(checks.report().uses) == THREADS * 50
 
 
+class Yielding:
+    """A lock whose holder lets other threads run as soon as it has freed it."""
+
+    def __init__(self, lock):
+        self._lock = lock
+
+    def __enter__(self):
+        self._lock.acquire()
+
+    def __exit__(self, *_):
+        self._lock.release()
+        time.sleep(1e-4)
+
+
+def test_no_thread_gets_the_answer_of_another():
+    subjects = [f"spiffe://example.org/{'a' * (100 * it + 1)}" for it in range(THREADS)]
+    entries = [entry(private_key("ES256"), f"k{it}", note="n" * 100 * it) for it in range(THREADS)]
+    tokens = [
+        [token(sub=subject, header={"kid": f"k{which}"}, jti=f"{which} {it}") for it in range(100)]
+        for which, subject in enumerate(subjects)
+    ]
+
+    def verifies(_alg, key, signed, _signature):
+        kid = json.loads(unb64(signed.split(b".")[0].decode()))["kid"]
+        return json.loads(key)["kid"] == kid
+
+    with validator(bundle(*entries), verifies=verifies) as checks:
+        checks._handle._lock = Yielding(checks._handle._lock)
+
+        def work(number):
+            for it in tokens[number]:
+                assert checks.check(it, NOW).spiffe_id == subjects[number]
+
+        in_threads(work)
+        assert len(checks.report().uses) == THREADS * 100
+
+
+def test_closing_waits_for_a_call():
+    """Else the call would read what was freed."""
+    checks = validator()
+    with checks._handle._lock:  # as a call that is under way
+        thread = threading.Thread(target=checks.close)
+        thread.start()
+        thread.join(0.5)
+        assert thread.is_alive()
+    thread.join(60)
+    assert not thread.is_alive()
+
+
 def test_all_calls_at_once(tmp_path):
     first, second = (bundle(entry(private_key("ES256", it), "k1")) for it in range(2))
     with validator(first) as checks, validator(first) as other:
@@ -101,7 +152,12 @@ def test_closing_while_others_check():
 
 def test_a_verifier_that_uses_the_validator():
     """The lock is free while a signature is verified."""
-    with validator(verifies=lambda *_: len(checks.report().uses) == 0) as checks:
+
+    def verifies(*_):
+        assert not checks._handle._lock.locked()
+        return len(checks.report().uses) == 0
+
+    with validator(verifies=verifies) as checks:
         checks.check(token(), NOW)
         with pytest.raises(svid.BadSignature):
             checks.check(token(jti="2"), NOW)
@@ -179,6 +235,19 @@ print("end")
 """
     ran = subprocess.run([sys.executable, "-c", text], capture_output=True, timeout=60, check=False)
     assert (ran.returncode, ran.stdout, ran.stderr) == (0, b"end\n", b"")
+
+
+def test_a_program_that_ends_frees_nothing():
+    """A thread that outlives the interpreter may be in a call."""
+    text = """
+import svid
+svid._handle._close = lambda _: print("freed")
+svid.Validator(audiences="a", bundles=b"{}")
+kept = svid.Validator(audiences="a", bundles=b"{}")
+print("end")
+"""
+    ran = subprocess.run([sys.executable, "-c", text], capture_output=True, timeout=60, check=True)
+    assert ran.stdout == b"freed\nend\n"
 
 
 def test_validators_that_are_dropped_are_freed():

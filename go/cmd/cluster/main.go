@@ -30,6 +30,7 @@ var scenarios = []scenario{
 	{"liar", false, liar},
 	{"split", false, split},
 	{"strict-kills", true, strictKills},
+	{"strict-restarts", true, strictRestarts},
 	{"once-many", true, onceMany},
 	{"kills", true, kills},
 }

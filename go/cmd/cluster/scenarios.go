@@ -349,16 +349,43 @@ func strictKills(c *cluster) error {
 	if err := c.start(three, c.group("strict")...); err != nil {
 		return err
 	}
-	sent := c.mint(manyTokens)
-	steps := map[int]func() error{
-		len(sent) * 2 / 8: func() error { return c.killFor(c.sidecars[0], time.Second) },
-		len(sent) * 4 / 8: func() error { return c.killLeaderFor(3 * time.Second) },
-		len(sent) * 6 / 8: func() error { return c.killFor(c.sidecars[1], time.Second) },
+	return c.onceDuring("two of these and a NATS server were killed", []func() error{
+		func() error { return c.killFor(c.sidecars[0], time.Second) },
+		func() error { return c.killLeaderFor(3 * time.Second) },
+		func() error { return c.killFor(c.sidecars[1], time.Second) },
+	})
+}
+
+// strictRestarts: each NATS server is restarted, as for an upgrade. No value is lost.
+func strictRestarts(c *cluster) error {
+	if err := c.start(three, c.group("strict")...); err != nil {
+		return err
 	}
+	var steps []func() error
+	for i := range c.brokers {
+		i := i
+		steps = append(steps, func() error { return c.restart(i, time.Second) })
+	}
+	return c.onceDuring("each NATS server was restarted", steps)
+}
+
+// onceDuring sends tokens to three sidecars of mode strict while steps are done, one behind the other: no token is accepted twice,
+// the records are equal, and no sidecar misses a value.
+func (c *cluster) onceDuring(what string, steps []func() error) error {
+	sent := c.mint(manyTokens)
 	killed := make(chan error, len(steps))
+	begun := make(chan func() error, len(steps))
+	go func() {
+		for step := range begun {
+			killed <- step()
+		}
+	}()
+	defer close(begun)
+	next := 0
 	progress := func(i int) {
-		if step := steps[i]; step != nil {
-			go func() { killed <- step() }()
+		if next < len(steps) && i == len(sent)*(next+1)/(len(steps)+1) {
+			begun <- steps[next]
+			next++
 		}
 	}
 	won, burnt := 0, 0
@@ -381,12 +408,48 @@ func strictKills(c *cluster) error {
 	if err != nil {
 		return err
 	}
-	c.say("%d tokens, each sent to three sidecars at the same instant, while two of these and a NATS server were killed: "+
-		"one 200 each for %d, and none for %d whose answer was lost or 503 first", len(sent), won, burnt)
+	c.say("%d tokens, each sent to three sidecars at the same instant, while %s: one 200 each for %d, and none for %d whose answer was "+
+		"lost or 503 first", len(sent), what, won, burnt)
 	if _, err := c.sameRecords(); err != nil {
 		return err
 	}
+	for _, s := range c.sidecars {
+		if n, err := s.metric("svidd_log_gaps_total"); err != nil || n != 0 {
+			return fmt.Errorf("%s has missed values %v times (%v)", s.name, n, err)
+		}
+	}
 	return c.noneAgain(sent)
+}
+
+// restart ends a NATS server as an operator does, starts it again after a while, and waits until it has the bucket.
+func (c *cluster) restart(i int, while time.Duration) error {
+	c.brokers[i].Stop()
+	c.say("stopped NATS server %d for %v", i+1, while)
+	time.Sleep(while)
+	if err := c.brokers[i].Start(); err != nil {
+		return err
+	}
+	nc, err := nats.Connect(strings.Join(broker.URLs(c.brokers), ","))
+	if err != nil {
+		return err
+	}
+	defer nc.Close()
+	js, err := nc.JetStream()
+	if err != nil {
+		return err
+	}
+	return await("all servers to have the bucket", func() error {
+		info, err := js.StreamInfo("KV_" + c.name)
+		if err != nil || info.Cluster == nil || info.Cluster.Leader == "" {
+			return fmt.Errorf("no leader: %v", err)
+		}
+		for _, peer := range info.Cluster.Replicas {
+			if !peer.Current || peer.Offline {
+				return fmt.Errorf("%s is behind", peer.Name)
+			}
+		}
+		return nil
+	})
 }
 
 // killFor kills a sidecar, and starts it again after a while.

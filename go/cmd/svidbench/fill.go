@@ -16,6 +16,7 @@ import (
 // A deaf sink takes nothing, so that a bucket can be made and filled without a record.
 type deaf struct{}
 
+func (deaf) Begin(group.Log)            {}
 func (deaf) Take([]group.Value) []error { return nil }
 
 // fill puts random uses into a group's bucket, each as a value of its own, as a sidecar does at a quiet time: of all

@@ -102,6 +102,43 @@ func report(args []string, std stdio) int {
 	return exitYes
 }
 
+// resume says what a sidecar risks that goes on though values of the group's bucket are missing, and lets it.
+func resume(args []string, std stdio) int {
+	f := flag.NewFlagSet("svidd resume", flag.ContinueOnError)
+	f.SetOutput(std.err)
+	socket := f.String("admin", "", "unix socket `PATH` of the sidecar")
+	anyway := f.Bool("anyway", false, "go on; else only say what that risks")
+	if err := parse(f, &options{}, args); err != nil {
+		return fail(std, err)
+	}
+	if *socket == "" || f.NArg() > 0 {
+		return fail(std, errors.New("resume wants --admin, and no argument"))
+	}
+	method := http.MethodGet
+	if *anyway {
+		method = http.MethodPost
+	}
+	answer, err := ask(*socket, method, "/resume", nil)
+	if err != nil {
+		return fail(std, err)
+	}
+	var missing server.Missing
+	if err := json.Unmarshal(answer, &missing); err != nil {
+		return fail(std, err)
+	}
+	switch {
+	case missing.Until == 0:
+		fmt.Fprintln(std.out, "no values are missing: the sidecar accepts tokens")
+	case !*anyway:
+		fmt.Fprintf(std.out, "values of the bucket are missing, and the sidecar accepts nothing until %d\n"+
+			"if it goes on before, a token that one of them claims can be accepted a second time: svidd resume --anyway\n", missing.Until)
+		return exitRefused
+	default:
+		fmt.Fprintf(std.out, "resumed: until %d a token that a missing value claims can be accepted a second time\n", missing.Until)
+	}
+	return exitYes
+}
+
 // ready says by its exit status whether a sidecar is ready: for a container's probe, which can't reach an address of
 // loopback in another way.
 func ready(args []string, std stdio) int {

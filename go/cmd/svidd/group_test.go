@@ -99,7 +99,16 @@ func TestStrictAcceptsOnceInTheWholeGroup(t *testing.T) {
 		t.Errorf("accepted %s; unjudged %s", got, count(unjudged))
 	}
 	t.Logf("%d tokens to 3 sidecars at once: accepted %s, not judged %s", n, count(accepted), count(unjudged))
-	equalRecords(t, all)
+	// Each sidecar has claimed by a place of its own, and the first claims are in all records.
+	places := map[string]bool{}
+	for _, line := range strings.Split(equalRecords(t, all), "\n") {
+		if words := strings.Fields(line); len(words) == 4 {
+			places[words[2]] = true
+		}
+	}
+	if len(places) != len(all) {
+		t.Errorf("the uses are of %d places", len(places))
+	}
 }
 
 // In mode once a token may be accepted by each sidecar, and then every report says so.
@@ -196,7 +205,7 @@ func TestTheBrokerIsAway(t *testing.T) {
 	})
 }
 
-// What others write to the bucket is put aside where it is no use of a token, and nobody is accepted by it.
+// What others write to the bucket is put aside where it is no use of a token or too far ahead, and nobody is accepted by it.
 func TestAMemberThatLies(t *testing.T) {
 	server := natstest.Start(t)
 	p := several(t, 1, "strict", server.URL)[0]
@@ -216,32 +225,120 @@ func TestAMemberThatLies(t *testing.T) {
 		t.Fatal(err)
 	}
 	p.await("the claim aside", func() bool { return p.metric("svidd_messages_aside_total") == "3" })
-	if status, _, body := p.check(victim); status != 503 || !strings.Contains(body, "NotClaimed") {
-		t.Errorf("claimed from far ahead: %d %q", status, body)
-	}
+	p.want(victim, 401, "Replayed")
 	p.want(token(t, "other", time.Minute), 200, "")
 	if status, _, err := svidd(t, "", "report", "--admin", admin); status != 0 {
 		t.Error(err)
 	}
 }
 
-// bucket is the group's bucket, as any member can write to it.
-func bucket(t *testing.T, url string) nats.KeyValue {
+// stream is JetStream, as an operator asks it.
+func stream(t *testing.T, url string) nats.JetStreamContext {
 	t.Helper()
 	conn, err := nats.Connect(url)
 	if err != nil {
 		t.Fatal(err)
 	}
 	t.Cleanup(conn.Close)
-	stream, err := conn.JetStream()
+	js, err := conn.JetStream()
 	if err != nil {
 		t.Fatal(err)
 	}
-	kv, err := stream.KeyValue("svid")
+	return js
+}
+
+// bucket is the group's bucket, as any member can write to it.
+func bucket(t *testing.T, url string) nats.KeyValue {
+	t.Helper()
+	kv, err := stream(t, url).KeyValue("svid")
 	if err != nil {
 		t.Fatal(err)
 	}
 	return kv
+}
+
+// A sidecar that has missed values of the bucket accepts nothing until they must have expired, or an operator lets it go on. One
+// that has read them accepts tokens all the while.
+func TestValuesThatAreMissing(t *testing.T) {
+	server := natstest.Start(t)
+	first := several(t, 1, "strict", server.URL)[0]
+	lost := token(t, "lost", 30*time.Minute)
+	first.want(lost, 200, "")
+	first.want(token(t, "kept", 30*time.Minute), 200, "")
+	js := stream(t, server.URL)
+	info, err := js.StreamInfo("KV_svid")
+	if err != nil {
+		t.Fatal(err)
+	}
+	before := info.Config
+	fewer := before
+	fewer.MaxMsgs = 1
+	if _, err := js.UpdateStream(&fewer); err != nil {
+		t.Fatal(err)
+	}
+	first.await("a value to go", func() bool {
+		info, err := js.StreamInfo("KV_svid")
+		return err == nil && info.State.Msgs == 1
+	})
+	if _, err := js.UpdateStream(&before); err != nil {
+		t.Fatal(err)
+	}
+	second := prepare(t, nil, bundleOption(bundleFile(t, example)), "--replay", "strict", "--nats", server.URL, "--log", "errors",
+		"--admin", filepath.Join(t.TempDir(), "admin.sock"))
+	second.launch()
+	second.await("the bucket", func() bool {
+		_, why := second.get("/readyz")
+		return strings.Contains(why, "svidd resume")
+	})
+	if n := second.metric("svidd_log_gaps_total"); n != "1" {
+		t.Errorf("%s gaps", n)
+	}
+	resume := func(p *process, more ...string) (int, string) {
+		status, out, errors := svidd(t, "", append([]string{"resume", "--admin", p.option("--admin")}, more...)...)
+		if errors != "" {
+			t.Errorf("resume: %s", errors)
+		}
+		return status, out
+	}
+	second.want(lost, 503, "ValuesMissing")
+	if status, out := resume(second); status != 1 || !strings.Contains(out, "a second time") {
+		t.Errorf("resume: %d %q", status, out)
+	}
+	second.want(token(t, "another", time.Minute), 503, "ValuesMissing")
+	first.want(token(t, "third", time.Minute), 200, "")
+	if status, out := resume(first); status != 0 || !strings.Contains(out, "no values are missing") {
+		t.Errorf("resume: %d %q", status, out)
+	}
+	if status, out := resume(second, "--anyway"); status != 0 || !strings.HasPrefix(out, "resumed: until ") {
+		t.Errorf("resume: %d %q", status, out)
+	}
+	// That is the risk: nothing in the bucket names the token any more.
+	second.want(lost, 200, "")
+	if status, out := resume(second, "--anyway"); status != 0 || !strings.Contains(out, "no values are missing") {
+		t.Errorf("resume: %d %q", status, out)
+	}
+}
+
+// A state folder is given to the record behind the bucket. What the bucket has lost it still has.
+func TestAStateFolderBesideABucket(t *testing.T) {
+	server := natstest.Start(t)
+	p := several(t, 1, "strict", server.URL, "--state", filepath.Join(t.TempDir(), "state"))[0]
+	one, two := token(t, "one", 30*time.Minute), token(t, "two", 30*time.Minute)
+	p.want(one, 200, "")
+	p.end()
+	if err := stream(t, server.URL).DeleteStream("KV_svid"); err != nil {
+		t.Fatal(err)
+	}
+	for n := 1; n < 3; n++ {
+		p.start()
+		p.want(one, 401, "Replayed")
+		if n == 1 {
+			p.want(two, 200, "")
+		}
+		p.want(two, 401, "Replayed")
+		p.await("the uses to be counted", func() bool { return p.metric("svidd_record_uses") == "2" })
+		p.kill()
+	}
 }
 
 // keyOf is the key by which the record names a token.

@@ -24,7 +24,7 @@ const version = "0.1.0"
 // The exit statuses, which are those of the program svid.
 const (
 	exitYes     = 0
-	exitRefused = 1 // a token was rejected
+	exitRefused = 1 // a token was rejected, or the sidecar does not go on
 	exitDamaged = 1 // a state folder is damaged
 	exitFailed  = 2 // usage, a file, the network or memory
 )
@@ -34,6 +34,7 @@ const usage = `usage:
   svidd verify   --audience NAME.. BUNDLES [--longest SECONDS] < token
   svidd withdraw --admin SOCKET (- < token | --key HEX --exp SECONDS | TOKEN)
   svidd report   --admin SOCKET [--json]
+  svidd resume   --admin SOCKET [--anyway]
   svidd ready    [--listen ADDRESS]
   svidd check-state DIR [--messages]
   svidd version
@@ -45,7 +46,8 @@ BUNDLES: --workload-api unix:///run/spire/agent.sock, --bundle DOMAIN=FILE|https
 
 // commands by name. Each returns the exit status.
 var commands = map[string]func(args []string, std stdio) int{
-	"serve": serve, "verify": verify, "withdraw": withdraw, "report": report, "ready": ready, "check-state": checkState, "version": printVersion,
+	"serve": serve, "verify": verify, "withdraw": withdraw, "report": report, "resume": resume, "ready": ready,
+	"check-state": checkState, "version": printVersion,
 }
 
 // stdio is what a command reads and writes.

@@ -103,7 +103,7 @@ func (o *options) addServe(f *flag.FlagSet) {
 	o.ahead = seconds{value: aheadDefault, given: true}
 	f.Var(&o.ahead, "ahead", "the most `SECONDS` that clocks of the group may differ")
 	f.StringVar(&o.listen, "listen", listenDefault, "`ADDRESS` to answer /check on: HOST:PORT or unix:PATH")
-	f.StringVar(&o.admin, "admin", "", "unix socket `PATH` for withdraw, report and reload; none without")
+	f.StringVar(&o.admin, "admin", "", "unix socket `PATH` for withdraw, report, resume and reload; none without")
 	f.StringVar(&o.replay, "replay", string(server.Once), "`MODE`: once, strict or reuse")
 	f.Var(&o.nats, "nats", "NATS server `URL` of the group, nats://HOST:PORT; may be repeated, or several with commas")
 	f.StringVar(&o.files.CA, "nats-ca", "", "`FILE` of the authorities (PEM) of the NATS servers' certificates; the system's without")

@@ -120,8 +120,11 @@ func (s *sidecar) run(signals chan os.Signal) error {
 	if err != nil {
 		return err
 	}
-	if goOn, err := s.begin(signals, s.load); !goOn {
-		return err
+	// In mode strict the bucket is read first. A claim that the record has already would be kept a second time, as a lost one.
+	if s.replay != string(server.Strict) {
+		if goOn, err := s.begin(signals, s.load); !goOn {
+			return err
+		}
 	}
 	var keeping sync.WaitGroup
 	keeping.Add(1)
@@ -329,11 +332,30 @@ func (s *sidecar) join(ctx context.Context) {
 	s.group = g
 	s.joining.Unlock()
 	s.engine.Join(g)
-	g.Summaries(s.summaries, s.engine.Summary, s.engine.Answer)
+	strict := s.replay == string(server.Strict)
+	if !strict { // else each reads all values, and an answer would tell of a claim before its value is read: that burns the token
+		g.Summaries(s.summaries, s.engine.Summary, s.engine.Answer)
+	}
 	select {
 	case <-g.Ready():
 		s.log.Event("group", "name", s.options.group, "taken", g.Taken(), "aside", g.Aside())
 	case <-ctx.Done():
+		return
+	}
+	if strict {
+		s.loadBehind(ctx)
+	}
+}
+
+// loadBehind gives the engine what the state folder has, behind the bucket. The end waits for it.
+func (s *sidecar) loadBehind(ctx context.Context) {
+	s.joining.Lock()
+	defer s.joining.Unlock()
+	if ctx.Err() != nil {
+		return
+	}
+	if err := s.load(); err != nil {
+		s.fail(err)
 	}
 }
 

@@ -8,6 +8,7 @@ import (
 	"os/exec"
 	"path/filepath"
 	"strings"
+	"syscall"
 	"time"
 
 	"github.com/nats-io/nats.go"
@@ -69,6 +70,15 @@ func (s *Server) Start() error {
 func (s *Server) Kill() {
 	if s.run != nil {
 		s.run.Process.Kill()
+		s.run.Wait()
+		s.run = nil
+	}
+}
+
+// Stop ends the server as SIGTERM does, and waits until it has ended.
+func (s *Server) Stop() {
+	if s.run != nil {
+		s.run.Process.Signal(syscall.SIGTERM)
 		s.run.Wait()
 		s.run = nil
 	}

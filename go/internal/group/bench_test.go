@@ -13,6 +13,7 @@ import (
 // A counter is a sink that does nothing, so that the bucket alone is measured.
 type counter struct{}
 
+func (counter) Begin(Log)            {}
 func (counter) Take([]Value) []error { return nil }
 
 // BenchmarkCatchUp reads a bucket of N uses, from Join to Ready.

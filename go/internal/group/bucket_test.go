@@ -189,7 +189,7 @@ func TestAnOldBucketIsMended(t *testing.T) {
 		"discard_new_per_subject is missing and must be true: change them (nats stream edit)", "docs/SIDECAR.md")
 	by.edit(asDue)
 	a := join(t, options(2, s.URL))
-	wantValues(t, a, Value{Kind: Uses, Message: kept})
+	wantValues(t, a, Value{Kind: Uses, Position: 1, Message: kept})
 	awaitHeld(t, a, tell(t, a, 2))
 	if err := newLiar(t, s.URL).put("u.0123456789abcdef0123456789abcdef.1", batchOf(), nil); err == nil {
 		t.Error("a second value of a key is not refused")

@@ -83,21 +83,30 @@ const (
 
 // A Value is what a Sink is given.
 type Value struct {
-	Kind    Kind
-	Message []byte // whole batches, if its sender is honest
-	Own     uint64 // the number by which this member has Put it; 0 for all other values
-	Gap     bool   // values that stood in front of it were gone before this member could read them
+	Kind     Kind
+	Position uint64 // its place in the bucket: 1 for the first, and one more for each; 0 for an Answer
+	Message  []byte // whole batches, if its sender is honest
 
-	from   string // its key, or what else to log
-	number uint64 // its place in the bucket
+	from string // its key, or what else to log
 }
 
-// A Sink is what values are given to, in the order that they have in the bucket: a validator. Take is called by one
+// A Log is the bucket, as a member begins to read it.
+type Log struct {
+	Passed uint64 // the position of the last value in front of the first one that will come; 0 if all will come
+	Ready  uint64 // of the last value that the bucket has; an earlier life of this member has read no value behind it
+	Missed bool   // values are gone that may still live, and that this member has not read
+}
+
+// A Sink is what values are given to, in the order that they have in the bucket: a validator. Its methods are called by one
 // goroutine at a time.
-//
-// It returns nil if it took all of them. Else it returns as many errors as there are values, and one that isn't nil says
-// that the value is put aside: the group counts it, logs its key and goes on. The bucket still has it.
 type Sink interface {
+	// Begin comes before the first value of a bucket. It comes again where the values that come next don't stand behind
+	// those that came last: the values in between have expired, or it is another bucket, or one that has lost its last values.
+	Begin(log Log)
+	// Take returns nil if it took all values. Else it returns as many errors as there are values, and one that isn't nil
+	// says that the value is put aside: the group counts it, logs its key and goes on. The bucket still has it.
+	//
+	// Positions rise. Where one is missing, someone removed the value, or the broker lost it.
 	Take(values []Value) []error
 }
 
@@ -316,6 +325,13 @@ func (g *Group) Close() error {
 	return nil
 }
 
+// begin lets the sink begin to read a bucket.
+func (g *Group) begin(log Log) {
+	g.taking.Lock()
+	defer g.taking.Unlock()
+	g.sink.Begin(log)
+}
+
 // take gives values to the sink.
 func (g *Group) take(values []Value) {
 	if len(values) == 0 {
@@ -333,7 +349,7 @@ func (g *Group) take(values []Value) {
 		n := g.aside.Add(1)
 		if held, ok := g.quiet.speak(time.Now()); ok {
 			v := values[i]
-			g.log("put aside", "from", v.from, "number", v.number, "bytes", len(v.Message), "why", err, "aside", n, "unlogged", held)
+			g.log("put aside", "from", v.from, "number", v.Position, "bytes", len(v.Message), "why", err, "aside", n, "unlogged", held)
 		}
 	}
 	g.taken.Add(taken)

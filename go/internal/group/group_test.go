@@ -45,9 +45,23 @@ func key(n int) (k [32]byte) {
 // A sink keeps values in their order, and puts aside what does not begin as a batch.
 type sink struct {
 	mu    sync.Mutex
+	begun []Log
 	held  map[string]bool
 	order []Value
 	most  int // values at once
+}
+
+func (s *sink) Begin(log Log) {
+	s.mu.Lock()
+	defer s.mu.Unlock()
+	s.begun = append(s.begun, log)
+}
+
+// begins are the beginnings so far.
+func (s *sink) begins() []Log {
+	s.mu.Lock()
+	defer s.mu.Unlock()
+	return append([]Log(nil), s.begun...)
 }
 
 func (s *sink) Take(values []Value) (errs []error) {
@@ -168,8 +182,9 @@ func TestTellsTheOthers(t *testing.T) {
 	}
 	awaitHeld(t, a, claimed)
 	awaitHeld(t, b, claimed)
-	wantValues(t, a, Value{Kind: Uses, Message: use, Own: 1}, Value{Kind: Claims, Message: claimed})
-	wantValues(t, b, Value{Kind: Uses, Message: use}, Value{Kind: Claims, Message: claimed, Own: 7})
+	for _, m := range []*member{a, b} {
+		wantValues(t, m, Value{Kind: Uses, Position: 1, Message: use}, Value{Kind: Claims, Position: 2, Message: claimed})
+	}
 	for n := 10; n < 200; n++ {
 		use = tell(t, a, n)
 	}
@@ -177,6 +192,8 @@ func TestTellsTheOthers(t *testing.T) {
 	if got := c.Taken(); got != 192 || !c.has(use) {
 		t.Fatalf("a member that came anew was ready with %d values, want 192", got)
 	}
+	wantBegins(t, a, Log{})
+	wantBegins(t, c, Log{Ready: 192})
 	if a.Aside() != 0 {
 		t.Error(a.Aside(), a.lines)
 	}
@@ -187,10 +204,18 @@ func wantValues(t *testing.T, m *member, want ...Value) {
 	t.Helper()
 	got := m.inOrder()
 	for i := range got {
-		got[i].from, got[i].number = "", 0
+		got[i].from = ""
 	}
 	if fmt.Sprint(got) != fmt.Sprint(want) {
 		t.Errorf("%v, want %v", got, want)
+	}
+}
+
+// wantBegins wants what a member was told of the buckets that it has read.
+func wantBegins(t *testing.T, m *member, want ...Log) {
+	t.Helper()
+	if got := m.begins(); fmt.Sprint(got) != fmt.Sprint(want) {
+		t.Errorf("began %+v, want %+v", got, want)
 	}
 }
 
@@ -244,21 +269,15 @@ func putAtOnce(t *testing.T, members []*member, n int) {
 	}
 }
 
-// wantOneOrder waits until each member has so many values, and wants the same ones in the same order, without a gap; and
-// that each knows its own ones.
+// wantOneOrder waits until each member has so many values, and wants the same ones in the same order, without a gap.
 func wantOneOrder(t *testing.T, members []*member, want int) {
 	t.Helper()
 	var first []Value
 	for i, m := range members {
 		natstest.Await(t, "all values", func() bool { return len(m.inOrder()) >= want })
 		got := m.inOrder()
-		own := make(map[uint64]bool)
-		for _, v := range got {
-			isOwn := bytes.Equal(v.Message[headLen+40:headLen+56], m.place[:])
-			if v.Gap || isOwn != (v.Own != 0) || own[v.Own] && isOwn {
-				t.Fatalf("member %d: %+v", i, v)
-			}
-			own[v.Own] = true
+		if n := len(m.begins()); n != 1 {
+			t.Fatalf("member %d began %d times: %v", i, n, m.lines)
 		}
 		if first == nil {
 			first = got
@@ -267,7 +286,7 @@ func wantOneOrder(t *testing.T, members []*member, want int) {
 			t.Fatalf("member %d has %d values, want %d", i, len(got), want)
 		}
 		for j, v := range got {
-			if !bytes.Equal(v.Message, first[j].Message) || v.number != first[j].number {
+			if !bytes.Equal(v.Message, first[j].Message) || v.Position != uint64(j+1) {
 				t.Fatalf("member %d: value %d is another one", i, j)
 			}
 		}
@@ -384,7 +403,7 @@ func TestAPutWhoseAnswerIsLost(t *testing.T) {
 				t.Fatal(err)
 			}
 			awaitHeld(t, a, tell(t, a, 9))
-			wantValues(t, a, Value{Kind: Claims, Message: b, Own: 1}, Value{Kind: Uses, Message: batch(key(9), a.place), Own: 1})
+			wantValues(t, a, Value{Kind: Claims, Position: 1, Message: b}, Value{Kind: Uses, Position: 2, Message: batch(key(9), a.place)})
 		})
 	}
 }
@@ -513,7 +532,9 @@ func TestAGapIsTold(t *testing.T) {
 	last := tell(t, a, 3)
 	p.hold(false)
 	awaitHeld(t, b, last)
-	wantValues(t, b, Value{Kind: Uses, Message: batch(key(1), a.place)}, Value{Kind: Uses, Message: other, Gap: true}, Value{Kind: Uses, Message: last})
+	wantValues(t, b, Value{Kind: Uses, Position: 1, Message: batch(key(1), a.place)}, Value{Kind: Uses, Position: 3, Message: other},
+		Value{Kind: Uses, Position: 4, Message: last})
+	wantBegins(t, b, Log{})
 	if !b.logged("values are gonefrom2to2") {
 		t.Error(b.lines)
 	}
@@ -544,13 +565,15 @@ func TestAGapInFrontOfTheFirstValueIsTold(t *testing.T) {
 		by.removeAllBut(1)
 		p.hold(false)
 		awaitHeld(t, b, last)
-		wantValues(t, b, Value{Kind: Uses, Message: last, Gap: true})
 		if !b.logged("values are gone") || !b.logged(errGone.Error()) {
 			t.Error(b.lines)
 		}
 		next := tell(t, a, 3+10*round)
 		awaitHeld(t, b, next)
-		wantValues(t, b, Value{Kind: Uses, Message: last, Gap: true}, Value{Kind: Uses, Message: next})
+		at := uint64(6*round + 2) // (round 0 put three values, and round 1 three before its first member)
+		wantValues(t, b, Value{Kind: Uses, Position: at, Message: last}, Value{Kind: Uses, Position: at + 1, Message: next})
+		// (None of the bucket's values can have expired. So a member misses what was gone when it joined, too.)
+		wantBegins(t, b, Log{Passed: at - 2, Ready: at - 2, Missed: round > 0})
 		b.Close()
 		by.removeAll()
 	}
@@ -569,11 +592,11 @@ func TestAGapOfAllValuesIsTold(t *testing.T) {
 	natstest.Await(t, "the gap", func() bool { return b.logged("values are gonefrom1to1") }) // by idle
 	last := tell(t, a, 2)
 	awaitHeld(t, b, last)
-	wantValues(t, b, Value{Kind: Uses, Message: last, Gap: true})
+	wantValues(t, b, Value{Kind: Uses, Position: 2, Message: last})
+	wantBegins(t, b, Log{})
 }
 
-// What is gone when a member joins is told to the operator: as a fault, unless it may have expired. No request waits for
-// anything then, so no value has a gap in front of it.
+// What is gone when a member joins is told to the operator and to the sink: as a fault, unless it may have expired.
 func TestWhatIsGoneBeforeAMemberJoins(t *testing.T) {
 	s := natstest.Start(t)
 	a := join(t, options(1, s.URL))
@@ -583,7 +606,8 @@ func TestWhatIsGoneBeforeAMemberJoins(t *testing.T) {
 	by := operator{t, a.js}
 	by.removeAllBut(1)
 	b := join(t, options(2, s.URL))
-	wantValues(t, b, Value{Kind: Uses, Message: batch(key(3), a.place)})
+	wantValues(t, b, Value{Kind: Uses, Position: 3, Message: batch(key(3), a.place)})
+	wantBegins(t, b, Log{Passed: 2, Ready: 3, Missed: true})
 	const front = "values in front of the first one are gone"
 	if !b.logged(front) || !b.logged(errGone.Error()) || a.logged(front) {
 		t.Error(b.lines, a.lines)
@@ -595,6 +619,32 @@ func TestWhatIsGoneBeforeAMemberJoins(t *testing.T) {
 	c := join(t, o)
 	if !c.logged(front) || c.logged(errGone.Error()) {
 		t.Error(c.lines)
+	}
+	wantBegins(t, c, Log{Passed: 3, Ready: 3})
+}
+
+// Values that a member had no time to read are missed only if they may still live: where each of them must have expired, it
+// begins anew behind them.
+func TestWhatExpiresBeforeItIsRead(t *testing.T) {
+	now := time.Now()
+	for name, row := range map[string]struct {
+		bucket bucket
+		since  time.Time
+		want   bool
+	}{
+		"it keeps for ever":           {bucket{created: now.Add(-3 * time.Hour)}, time.Time{}, false},
+		"it is too young":             {bucket{created: now.Add(-time.Minute), keeps: time.Hour}, time.Time{}, false},
+		"nothing was read":            {bucket{created: now.Add(-3 * time.Hour), keeps: time.Hour}, time.Time{}, true},
+		"one in front was just read":  {bucket{created: now.Add(-3 * time.Hour), keeps: time.Hour}, now.Add(-time.Minute), false},
+		"the one in front is expired": {bucket{created: now.Add(-3 * time.Hour), keeps: time.Hour}, now.Add(-2 * time.Hour), true},
+	} {
+		s := &sink{}
+		r := reader{group: &Group{sink: s, ready: make(chan struct{})}, bucket: row.bucket, seen: 4, since: row.since}
+		r.bucket.last = 9
+		r.missing(7)
+		if got := len(s.begun) == 1 && s.begun[0] == (Log{Passed: 7, Ready: 9}); got != row.want || r.seen != 7 {
+			t.Errorf("%s: began %+v, seen %d", name, s.begun, r.seen)
+		}
 	}
 }
 
@@ -612,7 +662,7 @@ func TestValuesThatWereReadAreNoGap(t *testing.T) {
 	last := tell(t, a, 3)
 	for _, m := range []*member{a, b, c} {
 		awaitHeld(t, m, last)
-		if got := m.inOrder(); got[len(got)-1].Gap || m.logged("values are gone") {
+		if got := m.inOrder(); got[len(got)-1].Position != 4 || m.logged("values are gone") || len(m.begins()) != 1 {
 			t.Errorf("%+v %v", got, m.lines)
 		}
 	}
@@ -660,8 +710,9 @@ func TestValuesAtPlacesThatWereReadBefore(t *testing.T) {
 	for n := 10; n < 13; n++ {
 		awaitHeld(t, b, batch(key(n), c.place))
 	}
-	if got := b.inOrder(); !got[3].Gap || !b.logged("the broker has lost values") {
-		t.Errorf("%+v %v", got, b.lines)
+	wantBegins(t, b, Log{}, Log{Ready: 4, Missed: true})
+	if !b.logged("the broker has lost values") {
+		t.Error(b.lines)
 	}
 }
 
@@ -673,9 +724,16 @@ func copyDir(t *testing.T, from, to string) {
 	}
 }
 
-// TestValuesWhileServersAreKilled has a cluster of three brokers, and kills each of them in turn while the members put
+// Nothing is missing, and nobody begins anew, while each of three brokers is killed in turn, or restarted, and the members put
 // values at the same instant.
-func TestValuesWhileServersAreKilled(t *testing.T) {
+func TestValuesWhileServersAreRestarted(t *testing.T) {
+	for name, end := range map[string]func(*broker.Server){"killed": (*broker.Server).Kill, "stopped": (*broker.Server).Stop} {
+		end := end
+		t.Run(name, func(t *testing.T) { whileEnded(t, end) })
+	}
+}
+
+func whileEnded(t *testing.T, end func(*broker.Server)) {
 	servers := natstest.Cluster(t, 3)
 	var members []*member
 	for i := range servers {
@@ -687,7 +745,7 @@ func TestValuesWhileServersAreKilled(t *testing.T) {
 	go func() {
 		defer close(killed)
 		for _, s := range servers {
-			s.Kill()
+			end(s)
 			time.Sleep(time.Second)
 			restart(t, s)
 			for replicas(members[0]) < 3 && !t.Failed() {
@@ -705,6 +763,11 @@ func TestValuesWhileServersAreKilled(t *testing.T) {
 		putAtOnce(t, members, n)
 	}
 	wantOneOrder(t, members, 6*n)
+	for _, m := range members {
+		if m.logged("values are gone") || m.logged("lost values") {
+			t.Error(m.lines)
+		}
+	}
 	t.Logf("%d values, read by three members in one order", 6*n)
 }
 
@@ -983,8 +1046,8 @@ func TestValuesBeforeALossAreTaken(t *testing.T) {
 		if err == nil {
 			err = r.values(f, m, about)
 		}
-		if err != errLost || len(s.order) != 2 || r.seen != 2 || r.gap {
-			t.Errorf("%s: %v, %d values, seen %d", name, err, len(s.order), r.seen)
+		if err != errLost || len(s.order) != 2 || r.seen != 2 || len(s.begun) != 0 {
+			t.Errorf("%s: %v, %d values, seen %d, began %v", name, err, len(s.order), r.seen, s.begun)
 		}
 	}
 }
@@ -998,7 +1061,7 @@ func TestPlacesThatWereReadBefore(t *testing.T) {
 		want  error
 		order int
 		seen  uint64
-		gap   bool
+		anew  bool
 	}{
 		"a server behind":    {at, nil, 1, 6, false},
 		"another last value": {at.Add(1), errAnother, 0, 0, true},
@@ -1015,9 +1078,55 @@ func TestPlacesThatWereReadBefore(t *testing.T) {
 		if err == nil {
 			err = r.values(f, m, about)
 		}
-		if err != row.want || len(s.order) != row.order || r.seen != row.seen || r.gap != row.gap {
-			t.Errorf("%s: %v, %d values, seen %d, gap %v", name, err, len(s.order), r.seen, r.gap)
+		if anew := len(s.begun) == 1 && s.begun[0].Missed; err != row.want || len(s.order) != row.order || r.seen != row.seen || anew != row.anew {
+			t.Errorf("%s: %v, %d values, seen %d, began %v", name, err, len(s.order), r.seen, s.begun)
 		}
+	}
+}
+
+// A server that was just elected may say at first that the bucket has less than it has. That is no loss; what it says for a while
+// is one.
+func TestWhatABrokerSaysOfALoss(t *testing.T) {
+	made := time.Now()
+	says := func(last uint64, created time.Time) (info streamInfo) {
+		info.Created, info.State.First, info.State.Last = created, 1, last
+		return info
+	}
+	right, behind, another := says(5, made), says(4, made), says(9, made.Add(time.Second))
+	away := errors.New("away")
+	for name, row := range map[string]struct {
+		first  streamInfo
+		then   []streamInfo // by turns, and then no answer
+		always bool         // the last one again and again
+		lost   bool
+		err    error
+	}{
+		"as it was":             {right, nil, false, false, nil},
+		"behind, for a moment":  {behind, []streamInfo{behind, right}, false, false, nil},
+		"another, for a moment": {another, []streamInfo{right}, false, false, nil},
+		"behind, and then away": {behind, []streamInfo{behind}, false, false, away},
+		"behind for long":       {behind, []streamInfo{behind}, true, true, errAnother},
+		"another for long":      {another, []streamInfo{another}, true, true, errAnother},
+	} {
+		row := row
+		t.Run(name, func(t *testing.T) {
+			t.Parallel()
+			s := &sink{}
+			r := reader{group: &Group{sink: s, ready: make(chan struct{}), life: context.Background()}, bucket: bucket{first: 1, last: 5, created: made}, seen: 5}
+			lost, err := r.isLost(&row.first, func() (streamInfo, error) {
+				if len(row.then) == 0 {
+					return streamInfo{}, away
+				}
+				next := row.then[0]
+				if len(row.then) > 1 || !row.always {
+					row.then = row.then[1:]
+				}
+				return next, nil
+			})
+			if lost != row.lost || err != row.err || len(s.begun) == 1 != row.lost || row.lost && !s.begun[0].Missed {
+				t.Errorf("lost %v, %v, began %+v", lost, err, s.begun)
+			}
+		})
 	}
 }
 
@@ -1026,6 +1135,8 @@ type slow struct {
 	begun, free chan struct{}
 	once        sync.Once
 }
+
+func (s *slow) Begin(Log) {}
 
 func (s *slow) Take([]Value) []error {
 	s.once.Do(func() { close(s.begun) })

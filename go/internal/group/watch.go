@@ -4,7 +4,6 @@ import (
 	"context"
 	"errors"
 	"fmt"
-	"strconv"
 	"strings"
 	"time"
 
@@ -17,13 +16,15 @@ const (
 	ownWait         = time.Second / 2  // without a value though an own one is stored, before reading begins again: a claim waits for it
 	stallWait       = 10 * time.Second // without a value that is there, before reading begins anew; longer after each time in vain
 	mostAnewWait    = time.Second / 4  // between two beginnings
+	lossWait        = 3 * time.Second  // for which the broker must say that values are lost, before they are
+	lossPause       = time.Second / 4  // between two questions about that
 	mostAtOnce      = 256              // values are given to the sink
 	mostBytesAtOnce = 1 << 20          // of these, before the last
 )
 
 var (
-	errGone = errors.New("someone removed them, or the broker lost them: a token that one of them names can be accepted again by " +
-		"sidecars that have not read it")
+	errGone = errors.New("someone removed them, or the broker lost them: whether they claim a token is unknown to sidecars that " +
+		"have not read them")
 	errAnother = errors.New("the bucket is another one than before, or has lost values")
 )
 
@@ -34,10 +35,11 @@ type reader struct {
 	bucket bucket
 	seen   uint64    // the place of the last value that was read, or of the last one that was gone before
 	stamp  time.Time // when the broker stored that value; zero if it was not read
+	since  time.Time // no value behind that one was stored before; zero if nothing is known
 	last   time.Time // when a value came, or reading began
 
-	gap    bool      // values behind that one are gone
 	look   time.Time // when idle asked for the bucket's state last
+	gone   time.Time // since when idle finds that all values behind the last one are gone; zero if it does not
 	lack   int       // how often in a row idle found an own value stored that has not come
 	forget string    // what was said about settings by which the bucket may lose values
 
@@ -51,8 +53,8 @@ type reader struct {
 // watch reads until the group is closed.
 func (g *Group) watch(b bucket) {
 	defer g.tasks.Done()
-	r := reader{group: g, bucket: b, seen: b.first - 1, wait: readWait}
-	r.front()
+	r := reader{group: g, wait: readWait}
+	r.begin(b, false)
 	said, behind, rest := "", uint64(0), attemptPause
 	for g.life.Err() == nil {
 		err := r.read()
@@ -73,17 +75,24 @@ func (g *Group) watch(b bucket) {
 	}
 }
 
-// front says that values are gone which the bucket had before this member joined. No claim of this member is open then.
-func (r *reader) front() {
+// front says that values are gone which the bucket had before this member read it, and whether they may still live.
+func (r *reader) front() (missed bool) {
 	b := r.bucket
 	if b.first == 1 {
-		return
+		return false
 	}
 	fields := []any{"first", b.first, "made", b.created.UTC().Format(time.RFC3339), "keeps", b.keeps.String()}
-	if b.keeps == 0 || time.Since(b.created) < b.keeps { // None can have expired.
+	if missed = !r.mayHaveExpired(); missed {
 		fields = append(fields, "why", errGone)
 	}
 	r.group.log("values in front of the first one are gone", fields...)
+	return missed
+}
+
+// mayHaveExpired says whether the values behind the last one may be gone since the bucket kept them for its time.
+func (r *reader) mayHaveExpired() bool {
+	b := r.bucket
+	return b.keeps > 0 && time.Since(b.created) >= b.keeps && (r.since.IsZero() || time.Since(r.since) >= b.keeps)
 }
 
 // pause returns after d, or when ctx ends.
@@ -146,14 +155,15 @@ func (r *reader) values(f *feed, m *nats.Msg, about *nats.MsgMetadata) error {
 		}
 		if place <= r.seen {
 			wrong = errAnother
-			r.begin(r.bucket)
 			break
 		}
-		r.missing(place - 1)
-		r.seen, r.stamp, r.last, r.vain, r.lack = place, about.Timestamp, time.Now(), 0, 0
-		v := r.group.valueOf(m, place)
-		v.Gap, r.gap = r.gap, false
-		all = append(all, v)
+		if place-1 > r.seen {
+			r.group.take(all)
+			all = all[:0]
+			r.missing(place - 1)
+		}
+		r.seen, r.stamp, r.since, r.gone, r.last, r.vain, r.lack = place, about.Timestamp, about.Timestamp, time.Time{}, time.Now(), 0, 0
+		all = append(all, r.group.valueOf(m, place))
 		// The sink is told of all that is there, so that none waits for the broker.
 		if size += len(m.Data); len(all) == mostAtOnce || size > mostBytesAtOnce {
 			break
@@ -164,6 +174,9 @@ func (r *reader) values(f *feed, m *nats.Msg, about *nats.MsgMetadata) error {
 	r.room = all
 	for i := range all {
 		all[i] = Value{} // The room keeps no message alive.
+	}
+	if wrong == errAnother {
+		r.begin(r.bucket, true)
 	}
 	r.catchUp()
 	if errors.Is(wrong, errNoValue) {
@@ -178,17 +191,22 @@ func (r *reader) wasRead(place uint64, stamp time.Time) bool {
 	return !r.stamp.IsZero() && (place < r.seen || place == r.seen && stamp.Equal(r.stamp))
 }
 
-// missing notes that values behind the last one, up to this place, were gone before they were read.
+// missing passes over values behind the last one, up to this place, that were gone before they were read. The sink sees that by
+// the position of the next value, unless they may have expired: then it begins anew behind them.
 func (r *reader) missing(to uint64) {
 	if to <= r.seen {
 		return
 	}
 	fields := []any{"from", r.seen + 1, "to", to}
-	if r.isReady() { // else the first ones may expire while reading begins
+	expired := r.mayHaveExpired()
+	if !expired {
 		fields = append(fields, "why", errGone)
 	}
 	r.group.log("values are gone", fields...)
-	r.gap, r.seen, r.stamp = true, to, time.Time{}
+	r.seen, r.stamp = to, time.Time{}
+	if expired {
+		r.group.begin(Log{Passed: to, Ready: r.bucket.last})
+	}
 }
 
 // isSame returns nil if the bucket still has the value that was read last, at its place: then what comes behind it goes on
@@ -196,14 +214,13 @@ func (r *reader) missing(to uint64) {
 // passed over, so all is read again then.
 func (r *reader) isSame() error {
 	g := r.group
-	info, err := g.info(g.life, readWait)
+	info, err := r.ask()
 	if err != nil {
 		return err
 	}
 	r.mind(info.Config)
-	if !info.Created.Equal(r.bucket.created) || info.State.Last < r.seen {
-		r.begin(bucketOf(info))
-		return errAnother
+	if lost, err := r.isLost(&info, r.ask); err != nil || lost {
+		return err
 	}
 	if r.stamp.IsZero() {
 		return nil
@@ -215,11 +232,34 @@ func (r *reader) isSame() error {
 	case err != nil:
 		return err
 	case !m.Time.Equal(r.stamp):
-		r.begin(bucketOf(info))
+		r.begin(bucketOf(info), true)
 		return errors.New("the bucket has another value than before at the place of the last one: the broker has lost values")
 	}
 	return nil
 }
+
+// isOther says whether the bucket is another one than before, or has no value any more at the place of the last one.
+func (r *reader) isOther(info streamInfo) bool {
+	return !info.Created.Equal(r.bucket.created) || info.State.Last < r.seen
+}
+
+// isLost says whether the bucket is another one, or has lost its last values: then reading begins anew, and the error says so. A
+// server that was just elected may not have read yet all that it has, so the broker must say the same for a while.
+func (r *reader) isLost(info *streamInfo, ask func() (streamInfo, error)) (lost bool, err error) {
+	for from := time.Now(); r.isOther(*info); {
+		if time.Since(from) > lossWait {
+			r.begin(bucketOf(*info), true)
+			return true, errAnother
+		}
+		pause(r.group.life, lossPause)
+		if *info, err = ask(); err != nil {
+			return false, err
+		}
+	}
+	return false, nil
+}
+
+func (r *reader) ask() (streamInfo, error) { return r.group.info(r.group.life, readWait) }
 
 // mind says that someone changed the bucket, so that it may lose values. Who has read them goes on: the next one to join
 // does not.
@@ -234,16 +274,9 @@ func (r *reader) mind(c config) {
 
 // valueOf reads a value's key. One that no member wrote is taken as uses, and put aside if it is none.
 func (g *Group) valueOf(m *nats.Msg, place uint64) Value {
-	v := Value{Kind: Uses, Message: m.Data, from: m.Subject, number: place}
-	key := strings.TrimPrefix(m.Subject, g.subject)
-	if strings.HasPrefix(key, "c.") {
+	v := Value{Kind: Uses, Position: place, Message: m.Data, from: m.Subject}
+	if strings.HasPrefix(strings.TrimPrefix(m.Subject, g.subject), "c.") {
 		v.Kind = Claims
-	}
-	if parts := strings.Split(key, "."); len(parts) == 4 && parts[1] == g.member {
-		number, _ := strconv.ParseUint(parts[2], 10, 64)
-		if key == g.keyOf(v.Kind, number) {
-			v.Own = number
-		}
 	}
 	return v
 }
@@ -285,18 +318,26 @@ func (r *reader) idle(f *feed) error {
 		return nil // The broker is away, which the connection's handlers log.
 	}
 	r.mind(info.Config)
+	if lost, err := r.isLost(&info, r.ask); lost {
+		return err
+	} else if err != nil {
+		return nil
+	}
+	if info.State.Last > r.seen && (info.State.First > info.State.Last || r.isLast()) {
+		// All values behind the last one are gone, if the broker says so for a while.
+		if r.gone.IsZero() {
+			r.gone = time.Now()
+		}
+		if time.Since(r.gone) > lossWait {
+			r.missing(info.State.Last)
+			r.catchUp()
+		}
+		return nil
+	}
+	r.gone = time.Time{}
 	switch {
-	case !info.Created.Equal(r.bucket.created) || info.State.Last < r.seen:
-		r.begin(bucketOf(info))
-		return errAnother
-	case info.State.First > info.State.Last: // All values are gone.
-		r.missing(info.State.Last)
-		r.catchUp()
-		return nil
-	case info.State.Last > r.seen && r.isLast(): // Someone removed the last values.
-		r.missing(info.State.Last)
-		r.catchUp()
-		return nil
+	case info.State.Last == r.seen && !isLate:
+		r.since = time.Now()
 	case info.State.Last > r.seen && (isLate || time.Since(r.last) > stallWait<<r.vain):
 		r.lack = 0
 		if r.vain < 3 {
@@ -322,13 +363,21 @@ func (r *reader) reopen() error {
 	if err != nil {
 		return err
 	}
-	r.begin(b)
+	if b.created.Equal(r.bucket.created) && b.last >= r.seen {
+		return errors.New("the bucket was not found, and is there again")
+	}
+	r.begin(b, true)
 	return errors.New("the bucket was gone, and was made anew")
 }
 
-// begin lets the reader read a bucket from its beginning.
-func (r *reader) begin(b bucket) {
+// begin lets the reader read a bucket from its beginning. lost says that it read another one before, or values that are lost:
+// there may have been more of them.
+func (r *reader) begin(b bucket, lost bool) {
 	r.group.stored.Store(0)
-	r.bucket, r.seen, r.stamp, r.gap, r.vain, r.lack = b, b.first-1, time.Time{}, true, 0, 0
-	r.front()
+	r.bucket, r.seen, r.stamp, r.since, r.gone, r.vain, r.lack = b, b.first-1, time.Time{}, time.Time{}, time.Time{}, 0, 0
+	missed := r.front()
+	if b.last < b.first {
+		r.since = time.Now()
+	}
+	r.group.begin(Log{Passed: r.seen, Ready: b.last, Missed: missed || lost})
 }

@@ -1,6 +1,7 @@
 package server
 
 import (
+	"context"
 	"fmt"
 	"sync"
 	"sync/atomic"
@@ -23,40 +24,45 @@ const (
 	mostClaims = 512
 )
 
-// claims are the claims of tokens: this sidecar's own ones, on their way through the bucket, and which tokens others have
-// claimed. Its methods may be called by many goroutines at once.
+// claims are those of this sidecar's requests, on their way through the bucket. What becomes of them is for the validator to
+// say. Its methods may be called by many goroutines at once.
 type claims struct {
 	requests atomic.Int64   // that are being worked on, or wait for an outcome
 	failed   *atomic.Uint64 // counts claims whose outcome stays unknown
 
-	mu     sync.Mutex
-	open   map[svid.TokenKey]*claim // whose outcome is open, one a token
-	gather []*claim                 // these wait for a value to go out
-	sent   map[uint64][]*claim      // those of values that are on their way, by the value's number
-	number uint64                   // of the last value
-	at     time.Time                // when that went out
-	flying bool                     // the broker has not answered to it
-	timer  *time.Timer              // asks for the next value, where one waits
-	due    time.Time                // when it does
+	mu       sync.Mutex
+	open     map[svid.TokenKey]*claim // whose outcome is open, one a token
+	editions map[uint64]int           // of the bundles by which those were judged, and how many by each
+	gather   []*claim                 // these wait for a value to go out
+	sent     map[uint64]*value        // those that are on their way, by their numbers
+	number   uint64                   // of the last value
+	at       time.Time                // when that went out
+	flying   bool                     // the broker has not answered to it
+	timer    *time.Timer              // asks for the next value, where one waits
+	due      time.Time                // when it does
+}
 
-	claimed recent
-	aside   map[svid.TokenKey]uint64 // tokens that were claimed by values which the record did not take, and when they expire
-	swept   int                      // how many of these were left when those that have expired went out
+// A value has claims that go into the bucket together.
+type value struct {
+	claims []*claim
+	open   int // of these
 }
 
 // A claim is that of one request. Its outcome is there once done is closed.
 type claim struct {
-	use      svid.Use
-	token    string
-	yes      []svid.Question
-	done     chan struct{}
-	accepted svid.Accepted
+	use    svid.Use
+	token  string
+	yes    []svid.Question
+	done   chan struct{}
+	number uint64 // of its value, 0 until that goes out; guarded by claims.mu
+	ended  bool   // nobody ends it any more; guarded by claims.mu
+
+	accepted svid.Accepted // is written by who judges the claim, in one goroutine, and read once it is done
 	err      error
-	decided  bool // the outcome is there, or is being made: nobody gives the claim up any more; guarded by claims.mu
 }
 
 func newClaims(failed *atomic.Uint64) claims {
-	return claims{failed: failed, open: make(map[svid.TokenKey]*claim), sent: make(map[uint64][]*claim), aside: make(map[svid.TokenKey]uint64)}
+	return claims{failed: failed, open: make(map[svid.TokenKey]*claim), editions: make(map[uint64]int), sent: make(map[uint64]*value)}
 }
 
 // begin opens a claim, or returns the one that is open for the same token.
@@ -67,6 +73,7 @@ func (c *claims) begin(mine *claim) (other *claim) {
 		return other
 	}
 	c.open[mine.use.Key] = mine
+	c.editions[mine.accepted.Edition()]++
 	c.gather = append(c.gather, mine)
 	return nil
 }
@@ -96,12 +103,13 @@ func (c *claims) next(again func()) (number uint64, uses []svid.Use) {
 	}
 	c.gather = append([]*claim(nil), c.gather[len(these):]...)
 	c.number++
-	c.sent[c.number] = these
+	c.sent[c.number] = &value{these, len(these)}
 	c.at, c.flying = now, true
 	if len(c.gather) > 0 {
 		c.arm(now.Add(claimFlight), again)
 	}
 	for _, mine := range these {
+		mine.number = c.number
 		uses = append(uses, mine.use)
 	}
 	return c.number, uses
@@ -127,30 +135,27 @@ func (c *claims) arm(due time.Time, again func()) {
 	c.timer, c.due = timer, due
 }
 
-// landed records that the broker has stored a value, or else why not. In the second case its claims end. A value that has
-// come back already has none.
+// landed records that the broker has stored a value, or else why not. In the second case its claims end that are still open.
 func (c *claims) landed(number uint64, err error) {
 	c.mu.Lock()
 	defer c.mu.Unlock()
 	if number == c.number {
 		c.flying = false
 	}
-	if err != nil {
-		c.fail(number, fmt.Errorf("the token could not be claimed: %w", err))
+	if err != nil && c.sent[number] != nil {
+		c.fail(c.sent[number].claims, fmt.Errorf("the token could not be claimed: %w", err))
 	}
 }
 
-// fail ends the claims of a value whose outcome stays unknown, and says how many these are. The caller holds mu.
-func (c *claims) fail(number uint64, err error) (failed int) {
-	for _, mine := range c.sent[number] {
-		if !mine.decided {
-			mine.err = err
+// fail ends those of claims that are open, and whose outcome stays unknown, and says how many these are. The caller holds mu.
+func (c *claims) fail(these []*claim, err error) (failed int) {
+	for _, mine := range these {
+		if !mine.ended {
 			c.failed.Add(1) // (before its answer goes out)
-			c.finish(mine)
+			c.finish(mine, err)
 			failed++
 		}
 	}
-	delete(c.sent, number)
 	return failed
 }
 
@@ -158,20 +163,20 @@ func (c *claims) fail(number uint64, err error) (failed int) {
 func (c *claims) failAll(err error) (failed int) {
 	c.mu.Lock()
 	defer c.mu.Unlock()
-	for number := range c.sent {
-		failed += c.fail(number, err)
+	for _, v := range c.sent {
+		failed += c.fail(v.claims, err)
 	}
 	return failed
 }
 
-// giveUp takes a claim back whose time is up, and says whether that went: else its outcome is there, or will be at once.
+// giveUp takes a claim back whose time is up, and says whether that went: else its outcome is there.
 func (c *claims) giveUp(mine *claim) bool {
 	c.mu.Lock()
 	defer c.mu.Unlock()
-	if mine.decided {
+	if mine.ended {
 		return false
 	}
-	c.finish(mine)
+	c.finish(mine, context.DeadlineExceeded)
 	for i, other := range c.gather {
 		if other == mine {
 			c.gather = append(c.gather[:i], c.gather[i+1:]...) // so it is not sent
@@ -181,110 +186,79 @@ func (c *claims) giveUp(mine *claim) bool {
 	return true
 }
 
-// arrived returns the claims of an own value that has come back, as far as they are open. Each is to be ended.
-func (c *claims) arrived(number uint64) (open []*claim) {
-	c.mu.Lock()
-	defer c.mu.Unlock()
-	for _, mine := range c.sent[number] {
-		if !mine.decided {
-			mine.decided = true
-			open = append(open, mine)
+// finish ends an open claim, and lets the requests go on that wait for it. The caller holds mu.
+func (c *claims) finish(mine *claim, err error) {
+	mine.ended, mine.err = true, err
+	delete(c.open, mine.use.Key)
+	c.unjudged(mine)
+	if v := c.sent[mine.number]; v != nil {
+		if v.open--; v.open == 0 {
+			delete(c.sent, mine.number)
 		}
 	}
-	delete(c.sent, number)
-	if number == c.number {
-		c.flying = false // The broker has stored it, though its answer may come later.
-	}
-	return open
-}
-
-// end ends claims that arrived has returned. Their outcome is set.
-func (c *claims) end(all ...*claim) {
-	c.mu.Lock()
-	defer c.mu.Unlock()
-	for _, mine := range all {
-		c.finish(mine)
-	}
-}
-
-// finish lets the requests go on that wait for a claim. The caller holds mu.
-func (c *claims) finish(mine *claim) {
-	mine.decided = true
-	delete(c.open, mine.use.Key)
 	close(mine.done)
 }
 
-// firsts returns a value of claims without those uses whose token was claimed before in the bucket. So a record holds the
-// use of the sidecar that accepted a token, and none of those that lost.
-func (c *claims) firsts(message []byte) []byte {
+// end ends claims whose uses were read in the bucket, each as outcome says, and returns how many. Only a claim that is on its
+// way ends so: one whose value has not gone out is open still.
+func (c *claims) end(read []svid.LogUse, place svid.Place, outcome func(svid.Fate) error) (ended int) {
 	c.mu.Lock()
 	defer c.mu.Unlock()
-	return svid.Without(message, func(use svid.Use) bool {
-		if use.Withdrawn {
-			return false
+	for i := range read {
+		use := &read[i].Use
+		if use.Place != place {
+			continue
 		}
-		_, isAside := c.aside[use.Key]
-		return isAside || !c.claimed.add(use.Key)
-	})
+		if mine := c.open[use.Key]; mine != nil && mine.number != 0 && mine.use == *use {
+			if mine.number == c.number {
+				c.flying = false // The broker has stored its value, though the answer may come later.
+			}
+			c.finish(mine, outcome(read[i].Fate))
+			ended++
+		}
+	}
+	return ended
 }
 
-// putAside remembers the tokens of claims that the record did not take, so that they are claimed all the same.
-func (c *claims) putAside(message []byte, now uint64) {
-	_, uses, err := svid.Uses(message)
-	if err != nil {
-		return // It claims nothing.
-	}
+// judgedBefore returns the claims that are on their way and were judged by other bundles than these.
+func (c *claims) judgedBefore(edition uint64) (all []*claim) {
 	c.mu.Lock()
 	defer c.mu.Unlock()
-	for _, use := range uses {
-		if use.Expires > c.aside[use.Key] {
-			c.aside[use.Key] = use.Expires
-		}
+	if n := len(c.editions); n == 0 || n == 1 && c.editions[edition] > 0 {
+		return nil
 	}
-	if len(c.aside) > 2*c.swept+1024 {
-		for key, expires := range c.aside {
-			if expires <= now {
-				delete(c.aside, key)
+	for _, v := range c.sent {
+		for _, mine := range v.claims {
+			if !mine.ended && mine.accepted.Edition() != edition {
+				all = append(all, mine)
 			}
 		}
-		c.swept = len(c.aside)
 	}
+	return all
 }
 
-// without returns messages without the uses of open claims. An answer to a summary tells of them if another sidecar has
-// read the claim already. The record gains them at the claim's own place.
-func (c *claims) without(message []byte) []byte {
+// judged records what a second judgment of a claim says: another verdict, or an error that ends it.
+func (c *claims) judged(mine *claim, again svid.Accepted, err error, count func(error)) {
 	c.mu.Lock()
 	defer c.mu.Unlock()
-	if len(c.open) == 0 {
-		return message
+	if mine.ended {
+		return
 	}
-	return svid.Without(message, func(use svid.Use) bool {
-		open := c.open[use.Key]
-		return open != nil && use == open.use
-	})
+	if err != nil {
+		count(err)
+		c.finish(mine, err)
+		return
+	}
+	c.unjudged(mine)
+	again.Use = mine.use // with the time of the claim, as the bucket has it
+	mine.accepted = again
+	c.editions[again.Edition()]++
 }
 
-// mostRecent is how many claimed tokens are surely remembered, and half of how many at the most: 8 MB. Behind that the
-// record alone knows of a claim, and one that comes so late stands in reports as if its token had been accepted twice.
-const mostRecent = 1 << 16
-
-// recent are the tokens that were claimed last.
-type recent struct {
-	now, before map[svid.TokenKey]struct{}
-}
-
-// add adds a token, and says whether it was not there.
-func (r *recent) add(key svid.TokenKey) bool {
-	if _, is := r.now[key]; is {
-		return false
+// unjudged takes a claim out of the count of those that were judged by its bundles. The caller holds mu.
+func (c *claims) unjudged(mine *claim) {
+	edition := mine.accepted.Edition()
+	if c.editions[edition]--; c.editions[edition] == 0 {
+		delete(c.editions, edition)
 	}
-	if _, is := r.before[key]; is {
-		return false
-	}
-	if r.now == nil || len(r.now) == mostRecent {
-		r.now, r.before = make(map[svid.TokenKey]struct{}, mostRecent), r.now
-	}
-	r.now[key] = struct{}{}
-	return true
 }

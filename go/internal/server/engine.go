@@ -104,6 +104,13 @@ type Engine struct {
 	began    uint64      // when the engine was made
 	mixedAt  time.Time   // when it was last logged that the group's modes differ; Take alone uses it
 
+	// Of mode strict. Begin and Take alone use those that are not atomic.
+	deaf    atomic.Uint64 // the moment before which the validator accepts nothing
+	right   atomic.Uint64 // the last time that was no jump
+	room    []svid.LogUse // for what it reads
+	stuckAt time.Time     // when it was last logged that it can't read
+	ended   chan struct{} // closed as Run ends
+
 	renewing sync.Mutex // held while bundles are replaced
 	bundles  atomic.Pointer[[]byte]
 }
@@ -139,7 +146,8 @@ func NewEngine(o Options) (*Engine, error) {
 		keyring.Close()
 		return nil, err
 	}
-	e := &Engine{Options: o, keyring: keyring, validator: validator, untold: make(chan svid.Use, mostUntold), began: o.Now()}
+	e := &Engine{Options: o, keyring: keyring, validator: validator, untold: make(chan svid.Use, mostUntold), began: o.Now(),
+		room: make([]svid.LogUse, readRoom), ended: make(chan struct{})}
 	e.claims = newClaims(&e.Metrics.ClaimsFailed)
 	e.keeper.idle = sync.NewCond(&e.keeper.mu)
 	return e, nil
@@ -193,6 +201,9 @@ func (e *Engine) Ready() error {
 	}
 	if e.Mode == Once && e.unkept.Load() != nil {
 		return errKeepsNothing
+	}
+	if until := e.deafUntil(); until > 0 {
+		return fmt.Errorf("%w: no token is accepted until %d, unless svidd resume says so", ErrMissed, until)
 	}
 	return e.canJudge()
 }

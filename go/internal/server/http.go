@@ -124,6 +124,8 @@ func (e *Engine) reasonOf(err error) string {
 		return "NotReady"
 	case errors.Is(err, ErrNoBundle):
 		return "NoBundle"
+	case errors.Is(err, ErrMissed):
+		return "ValuesMissing"
 	case errors.Is(err, svid.ErrJump):
 		return "ClockJump"
 	case errors.Is(err, svid.ErrNoMemory):

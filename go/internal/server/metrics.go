@@ -31,6 +31,7 @@ type Metrics struct {
 	Snapshots, JournalFailures          atomic.Uint64
 	Uses, Moment                        atomic.Uint64
 	OtherMode                           atomic.Uint64
+	Gaps                                atomic.Uint64
 
 	// BundleAges returns the seconds since each trust domain's bundle was read.
 	// It is set before the first request, or stays nil.
@@ -87,6 +88,10 @@ func (e *Engine) WriteMetrics(w io.Writer) error {
 		p.counter("svidd_messages_taken_total", "Messages of the group that the record took.", g.Taken())
 		p.counter("svidd_messages_aside_total", "Messages of the group that were put aside.", g.Aside())
 		p.counter("svidd_messages_of_other_mode_total", "Messages of sidecars of the group that run in another mode.", m.OtherMode.Load())
+		if e.Mode == Strict {
+			p.counter("svidd_log_gaps_total", "Times that values of the group's bucket were missing.", m.Gaps.Load())
+			p.gauge("svidd_log_missed_until_timestamp_seconds", "Until this time the sidecar accepts nothing, since values of the bucket are missing; 0 if it accepts tokens.", float64(e.deafUntil()))
+		}
 		p.gauge("svidd_broker_connected", "1 if the group's broker is there.", truth(g.Connected()))
 	}
 	p.gauge("svidd_record_uses", "Uses and withdrawals in the record, counted every 15 seconds.", float64(m.Uses.Load()))

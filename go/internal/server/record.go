@@ -73,125 +73,108 @@ func (e *Engine) Feed(messages []byte) error {
 // Take gives the record values of the group, in their order. An error says that a value is put aside: it is no message, or
 // of a time further ahead than Options.Ahead.
 //
-// A value of claims that this engine has sent is where those are decided (taking.decide): with all values in front of it
-// in the record, and none behind it.
+// In mode strict the validator reads them as its log, and the claims of this engine end that stand in them.
 func (e *Engine) Take(values []group.Value) []error {
-	t := taking{engine: e, values: values, messages: make([][]byte, len(values))}
-	for i, v := range values {
-		t.messages[i] = v.Message
-		if v.Gap {
-			if failed := e.claims.failAll(errGap); failed > 0 {
-				e.Log.Error("claims", errGap, "claims", failed)
-			}
-		}
-		e.noteMode(v)
-		switch v.Kind {
-		case group.Answer:
-			t.messages[i] = e.claims.without(v.Message)
-		case group.Claims:
-			t.messages[i] = e.claims.firsts(v.Message)
-			if open := e.claims.arrived(v.Own); len(open) > 0 {
-				t.decide(i, open)
-			}
-		}
+	t := taking{engine: e, values: values}
+	if e.Mode != Strict {
+		t.all()
+		return t.errs
 	}
-	t.upTo(len(values))
+	for i, v := range values {
+		t.note(i, e.read(v))
+	}
 	return t.errs
 }
 
 // errMixed: a sidecar of the group runs in another mode.
 var errMixed = errors.New("another sidecar of the group accepts tokens in another mode, so a token can be accepted twice: run all in one mode")
 
-// noteMode logs, once a minute, that another sidecar of the group runs in another mode, and counts such values. In mode strict
-// no sidecar tells of uses; in once none claims a token, and in reuse none does either. Values from before this sidecar began
-// may be of another mode.
+// noteMode logs that another sidecar of the group runs in another mode, and counts such values.
 func (e *Engine) noteMode(v group.Value) {
-	other := v.Kind == group.Claims
-	switch e.Mode {
-	case Strict:
-		other = v.Kind == group.Uses
-	case Reuse:
-		other = v.Kind != group.Answer
-	}
-	if !other {
+	if !e.isOfOtherMode(v.Kind) {
 		return
 	}
 	_, uses, err := svid.Uses(v.Message)
 	if err != nil {
 		return // It will be put aside.
 	}
-	for _, use := range uses {
-		if use.Withdrawn || use.At <= e.began+e.Ahead {
-			continue
+	for i := range uses {
+		if e.saysMode(&uses[i]) {
+			e.sayMixed(&uses[i])
+			return
 		}
-		e.Metrics.OtherMode.Add(1)
-		if now := time.Now(); now.Sub(e.mixedAt) > time.Minute {
-			e.mixedAt = now
-			e.Log.Error("mode", errMixed, "mode", string(e.Mode), "other", use.Place.String())
-		}
-		return
+	}
+}
+
+// isOfOtherMode says whether a sidecar of another mode tells uses by a value of this kind. In mode strict no sidecar tells of uses;
+// in once none claims a token, and in reuse none does either.
+func (e *Engine) isOfOtherMode(kind group.Kind) bool {
+	switch e.Mode {
+	case Strict:
+		return kind == group.Uses
+	case Reuse:
+		return kind != group.Answer
+	}
+	return kind == group.Claims
+}
+
+// saysMode says whether a use tells the mode of who made it: a withdrawal is of every mode, and before this sidecar began, the
+// group may have been in another one.
+func (e *Engine) saysMode(use *svid.Use) bool { return !use.Withdrawn && use.At > e.began+e.Ahead }
+
+// sayMixed counts a value of another mode, and logs that once a minute.
+func (e *Engine) sayMixed(use *svid.Use) {
+	e.Metrics.OtherMode.Add(1)
+	if now := time.Now(); now.Sub(e.mixedAt) > time.Minute {
+		e.mixedAt = now
+		e.Log.Error("mode", errMixed, "mode", string(e.Mode), "other", use.Place.String())
 	}
 }
 
 // taking is a call of Take.
 type taking struct {
-	engine   *Engine
-	values   []group.Value
-	messages [][]byte // what the record is to take of each
-	done     int      // so many were taken, or put aside
-	errs     []error  // nil, or one for each value
+	engine *Engine
+	values []group.Value
+	errs   []error // nil, or one for each value
 }
 
-// upTo gives the record the messages that it has not been given yet, up to one of them. To take several at once takes half
-// the time.
+// all gives the record all values. To take several at once takes half the time.
 //
 // Only messages that are whole batches are put together: else one that a member cut off on purpose would swallow the
 // beginning of the next one, which is another member's.
-func (t *taking) upTo(end int) {
-	e, from := t.engine, t.done
-	t.done = end
-	if from+1 < end {
-		var together []byte
-		whole := true
-		for _, m := range t.messages[from:end] {
-			whole = whole && svid.AreBatches(m)
-			together = append(together, m...)
-		}
-		if whole && (len(together) == 0 || e.validator.Take(e.Now(), together) == nil) {
-			return
-		}
+func (t *taking) all() {
+	e := t.engine
+	var together []byte
+	whole := true
+	for _, v := range t.values {
+		e.noteMode(v)
+		whole = whole && svid.AreBatches(v.Message)
+		together = append(together, v.Message...)
 	}
-	for i := from; i < end; i++ {
-		err := e.validator.Take(e.Now(), t.messages[i])
+	if len(t.values) > 1 && whole && (len(together) == 0 || e.validator.Take(e.Now(), together) == nil) {
+		return
+	}
+	for i, v := range t.values {
+		err := e.validator.Take(e.Now(), v.Message)
 		if e.Log.Writes(All) {
-			e.Log.Detail("message", "bytes", len(t.messages[i]), "error", err)
+			e.Log.Detail("message", "bytes", len(v.Message), "error", err)
 		}
-		if err != nil {
-			t.putAside(i, err, t.messages[i])
+		if errors.Is(err, svid.ErrJump) {
+			e.late.add([][]byte{v.Message})
 		}
+		t.note(i, err)
 	}
 }
 
-// putAside records why the record did not take a value, or these messages of it.
-func (t *taking) putAside(i int, err error, messages ...[]byte) {
+// note records why a value is put aside, if it is.
+func (t *taking) note(i int, err error) {
+	if err == nil {
+		return
+	}
 	if t.errs == nil {
 		t.errs = make([]error, len(t.values))
 	}
 	t.errs[i] = err
-	e := t.engine
-	if errors.Is(err, svid.ErrJump) {
-		e.late.add(messages)
-	}
-	if t.values[i].Kind != group.Claims {
-		return
-	}
-	now := e.Now()
-	if e.validator.Tick(now) != nil {
-		now = 0 // By a time that the record has not reached, no token has expired.
-	}
-	for _, m := range messages {
-		e.claims.putAside(m, now)
-	}
 }
 
 // late are messages that came while the clock was too far ahead. The record takes them once it is right again.
@@ -273,6 +256,7 @@ func (e *Engine) Run(ctx context.Context) {
 		}
 	})
 	tasks.Wait()
+	close(e.ended)
 	timer := time.AfterFunc(tellWait, giveUp)
 	<-told
 	timer.Stop()
@@ -358,21 +342,23 @@ func (e *Engine) tellMany(last context.Context, uses []svid.Use) {
 // until the clock is right again, or has stayed there for so long that it seems to be right: Options.Jumped then lets the
 // sidecar begin anew, with the record of the disk and of the group.
 func (e *Engine) tick() {
-	err := e.validator.Tick(e.Now())
+	now := e.Now()
+	err := e.validator.Tick(now)
 	jumped := errors.Is(err, svid.ErrJump)
 	switch before := e.jumped.Swap(jumped); {
 	case jumped && !before:
 		e.jumpedAt = time.Now()
-		e.Log.Error("clock", err, "now", e.Now())
+		e.Log.Error("clock", err, "now", now)
 	case jumped && e.Jumped != nil && time.Since(e.jumpedAt) > jumpPatience:
 		e.Jumped()
 	case before && !jumped:
-		e.Log.Event("clock", "now", e.Now())
+		e.Log.Event("clock", "now", now)
 	}
 	if err != nil && !jumped {
 		e.Log.Error("tick", err)
 	}
 	if !jumped {
+		e.right.Store(now)
 		e.takeLate()
 	}
 }

@@ -3,7 +3,6 @@ package server
 import (
 	"bytes"
 	"context"
-	"encoding/binary"
 	"encoding/json"
 	"errors"
 	"fmt"
@@ -130,7 +129,7 @@ type tie struct {
 	// Of reading the log, guarded by broker.mu.
 	held bool
 	done int
-	gap  bool // values are gone in front of the next one
+	gap  uint64 // so many values are gone in front of the next one
 }
 
 func (t *tie) Ready() <-chan struct{} { return t.ready }
@@ -139,9 +138,11 @@ func (t *tie) Aside() uint64          { return 0 }
 func (t *tie) Connected() bool        { return true }
 
 func (t *tie) Put(ctx context.Context, kind group.Kind, number uint64, message []byte) error {
+	t.mu.Lock()
 	if t.forged != nil {
 		message = t.forged
 	}
+	t.mu.Unlock()
 	t.put(stored{t, kind, number, message})
 	if t.answer != nil {
 		select {
@@ -172,13 +173,8 @@ func (t *tie) read() {
 		return
 	}
 	var values []group.Value
-	for _, v := range t.log[t.done:] {
-		value := group.Value{Kind: v.kind, Message: v.message, Gap: t.gap}
-		if v.by == t {
-			value.Own = v.number
-		}
-		t.gap = false
-		values = append(values, value)
+	for i, v := range t.log[t.done:] {
+		values = append(values, group.Value{Kind: v.kind, Position: uint64(t.done+i+1) + t.gap, Message: v.message})
 	}
 	t.done = len(t.log)
 	for _, err := range t.engine.Take(values) {
@@ -193,6 +189,7 @@ func (b *broker) join(e *Engine) *tie {
 	m := &tie{broker: b, engine: e, ready: make(chan struct{})}
 	close(m.ready)
 	b.members = append(b.members, m)
+	e.Begin(group.Log{})
 	e.Join(m)
 	return m
 }
@@ -415,14 +412,14 @@ func TestStrictAddsTheClaimedUse(t *testing.T) {
 func TestAClaimOfUnknownOutcomeAcceptsNobody(t *testing.T) {
 	for what, lose := range map[string]func(m *tie) error{
 		"the broker says no more": func(m *tie) error { m.fault = errors.New("time is up"); return m.fault },
-		"values are gone":         func(m *tie) error { m.gap = true; return errGap },
+		"values are gone":         func(m *tie) error { m.gap = 1; return ErrMissed },
 		"the value stays away":    func(m *tie) error { m.engine.Wait = 30 * time.Millisecond; return context.DeadlineExceeded },
 	} {
 		all, b := strict(t, 2)
 		m := b.members[0]
 		want := lose(m)
 		answer := claimed(m, token("a"))
-		if want == errGap {
+		if want == ErrMissed {
 			m.hold(false)
 		}
 		if err := <-answer; !errors.Is(err, want) {
@@ -450,21 +447,27 @@ func TestAClaimOfUnknownOutcomeAcceptsNobody(t *testing.T) {
 	}
 }
 
-// A second claim, of a token whose first one was given up, loses against that.
+// A second claim, of a token whose first one was given up: the use that stands in front answers it if it is the same, and else it
+// loses against that. Nobody else was answered 200.
 func TestAClaimThatWasGivenUpIsNotTakenUpAgain(t *testing.T) {
-	all, b := strict(t, 1)
-	m := b.members[0]
-	all[0].Wait = 30 * time.Millisecond
-	if err := <-claimed(m, token("a")); !errors.Is(err, context.DeadlineExceeded) {
-		t.Error(err)
+	for later, want := range map[uint64]error{0: nil, 1: svid.Replayed} {
+		all, b := strict(t, 1)
+		m := b.members[0]
+		all[0].Wait = 30 * time.Millisecond
+		if err := <-claimed(m, token("a")); !errors.Is(err, context.DeadlineExceeded) {
+			t.Error(err)
+		}
+		all[0].Wait, all[0].Now = time.Minute, func() uint64 { return moment + later }
+		again := claimed(m, token("a"))
+		m.hold(false)
+		if err := <-again; err != want {
+			t.Errorf("%d seconds later: %v, want %v", later, err, want)
+		}
+		if err := check(all[0], token("a")); err != svid.Replayed {
+			t.Errorf("%d seconds later, and again: %v", later, err)
+		}
+		wantUses(t, all, 1)
 	}
-	all[0].Wait = time.Minute
-	again := claimed(m, token("a"))
-	m.hold(false)
-	if err := <-again; err != svid.Replayed {
-		t.Error(err)
-	}
-	wantUses(t, all, 1)
 }
 
 // Requests that come while a claim is open wait for it, and cost the broker nothing.
@@ -660,29 +663,30 @@ func wantClaims(t *testing.T, e *Engine, won, lost, failed uint64) {
 	}
 }
 
-// The claims of a value end piece by piece, each one before the next one is judged, and each use is in the record once.
+// A value is read whole, piece by piece, and the claims of a piece end before the next one is read. Each use is in the record
+// once.
 func TestAValueIsAnsweredInPieces(t *testing.T) {
 	all, b := strict(t, 2)
 	e, m := all[0], b.members[0]
 	e.Wait = time.Minute
-	const pieces, many = 3, 2*claimPiece + 5
+	const pieces, many = 3, 2*readRoom + 5
 	tokens, uses := inOrderOf(t, e, many)
 	var reading atomic.Bool
-	var answered, judged atomic.Int32
+	var answered, pieced atomic.Int32
 	e.Now = func() uint64 {
-		if reading.Load() { // Each piece asks once for the time, before its claims are judged.
-			piece := judged.Add(1) - 1
-			for end := time.Now().Add(30 * time.Second); answered.Load() < piece*claimPiece; time.Sleep(time.Millisecond) {
+		if reading.Load() { // Each piece asks once for the time, before it is read.
+			piece := pieced.Add(1) - 1
+			for end := time.Now().Add(30 * time.Second); answered.Load() < piece*readRoom; time.Sleep(time.Millisecond) {
 				if time.Now().After(end) {
-					t.Errorf("piece %d is judged, and %d claims are answered", piece, answered.Load())
+					t.Errorf("piece %d is read, and %d claims are answered", piece, answered.Load())
 					break
 				}
 			}
-			if n := answered.Load(); n > piece*claimPiece {
-				t.Errorf("piece %d is not judged, and %d claims are answered", piece, n)
+			if n := answered.Load(); n > piece*readRoom {
+				t.Errorf("piece %d is not read, and %d claims are answered", piece, n)
 			}
-			if _, got, err := svid.Uses(saved(t, e)); err != nil || piece >= pieces || fmt.Sprint(got) != fmt.Sprint(uses[:piece*claimPiece]) {
-				t.Errorf("piece %d is judged, and the record has %d uses (%v)", piece, len(got), err)
+			if _, got, err := svid.Uses(saved(t, e)); err != nil || piece >= pieces || fmt.Sprint(got) != fmt.Sprint(uses[:piece*readRoom]) {
+				t.Errorf("piece %d is read, and the record has %d uses (%v)", piece, len(got), err)
 			}
 		}
 		return moment
@@ -705,7 +709,7 @@ func TestAValueIsAnsweredInPieces(t *testing.T) {
 			t.Errorf("claim %d: %v", i, err)
 		}
 	}
-	if n := judged.Load(); n != pieces {
+	if n := pieced.Load(); n != pieces {
 		t.Errorf("%d pieces", n)
 	}
 	wantClaims(t, e, many, 0, 0)
@@ -719,7 +723,7 @@ func TestAValueIsAnsweredInPieces(t *testing.T) {
 
 // A claim of any piece loses against what stands in front of it, in another value or in the same one. Others of its value win.
 func TestAClaimOfALaterPieceLoses(t *testing.T) {
-	const many = 3 * claimPiece
+	const many = 2*readRoom + 9
 	for what, row := range map[string]struct {
 		front func(mine svid.Use) svid.Use // this stands in front of the claims
 		kind  group.Kind                   // in a value of its own, or in that of the claims where this is 0
@@ -728,10 +732,10 @@ func TestAClaimOfALaterPieceLoses(t *testing.T) {
 		"another sidecar's claim":       {func(u svid.Use) svid.Use { u.Place = svid.Place{9}; return u }, group.Claims, svid.Replayed},
 		"a use that was told":           {func(u svid.Use) svid.Use { u.Place = svid.Place{9}; return u }, group.Uses, svid.Replayed},
 		"a withdrawal":                  {func(u svid.Use) svid.Use { u.Withdrawn = true; return u }, group.Uses, svid.Withdrawn},
-		"a claim that is put aside":     {func(u svid.Use) svid.Use { u.At += 200; return u }, group.Claims, ErrClaimed},
+		"a claim from too far ahead":    {func(u svid.Use) svid.Use { u.At += 200; return u }, group.Claims, svid.Replayed},
 		"a withdrawal of its own value": {func(u svid.Use) svid.Use { u.Withdrawn, u.Expires = true, u.Expires-1; return u }, 0, svid.Withdrawn},
 	} {
-		for _, place := range []int{claimPiece, 2*claimPiece + 3, many - 1} {
+		for _, place := range []int{0, readRoom, many - 1} {
 			all, b := strict(t, 1)
 			e, m := all[0], b.members[0]
 			e.Wait = time.Minute
@@ -758,111 +762,114 @@ func TestAClaimOfALaterPieceLoses(t *testing.T) {
 	}
 }
 
-// The first piece that the record does not take, and those behind it, are put aside: their claims fail, and their tokens are
-// claimed. Claims of the pieces in front have won. A sidecar that puts the whole value aside accepts none of its tokens.
-func TestAPieceThatTheRecordRefuses(t *testing.T) {
-	const early, many = claimPiece + 4, 3 * claimPiece
-	for what, row := range map[string]struct {
-		late  uint64 // the second batch of the value is so many seconds ahead of a clock that has gone back meanwhile
-		forge func(message []byte)
-		is    func(err error) bool // what the refused claims end with
-	}{
-		"too far ahead": {100, nil, func(err error) bool { return errors.Is(err, svid.ErrTooFar) }},
-		// The third piece would be good alone.
-		"a bad use": {0, func(message []byte) { message[17+65*early-1] = 7 }, func(err error) bool {
-			var bad *svid.MessageError
-			return errors.As(err, &bad) && bad.Reason == "UseKind"
-		}},
-	} {
-		var now atomic.Uint64
-		now.Store(moment)
-		b, d := &broker{}, &disk{}
-		e := ready(t, engine(t, Options{Mode: Strict, Grouped: true, Journal: d, Now: now.Load, Wait: time.Minute}))
-		m := b.join(e)
-		other := b.join(ready(t, engine(t, Options{Mode: Strict, Grouped: true, Place: svid.Place{2}})))
-		tokens, uses := inOrderOf(t, e, many)
-		if row.forge != nil {
-			m.forged = svid.Batches(uses)
-			row.forge(m.forged)
+// A claim that is from too far ahead, for a clock that has gone back, is not accepted, and its token is claimed. The others of
+// its value win.
+func TestClaimsOfAClockThatGoesBack(t *testing.T) {
+	const early, many = readRoom + 4, 2 * readRoom
+	var now atomic.Uint64
+	now.Store(moment)
+	b, d := &broker{}, &disk{}
+	e := ready(t, engine(t, Options{Mode: Strict, Grouped: true, Journal: d, Now: now.Load, Wait: time.Minute}))
+	m := b.join(e)
+	other := b.join(ready(t, engine(t, Options{Mode: Strict, Grouped: true, Place: svid.Place{2}})))
+	tokens, uses := inOrderOf(t, e, many)
+	answers := gather(t, m, tokens[:early])
+	now.Store(moment + 100)
+	answers = append(answers, gather(t, m, tokens[early:])...)
+	send(t, m)
+	// (The record has seen the later time. One that has not, as the other sidecar's, finds the claims too far ahead.)
+	now.Store(moment)
+	m.hold(false)
+	for i, answer := range answers {
+		if err := <-answer; err != nil {
+			t.Errorf("claim %d: %v", i, err)
 		}
-		answers := gather(t, m, tokens[:early])
-		now.Store(moment + row.late)
-		answers = append(answers, gather(t, m, tokens[early:])...)
-		send(t, m)
-		m.forged = nil
-		now.Store(moment)
-		m.hold(false)
-		for i, answer := range answers {
-			if err := <-answer; i < claimPiece && err != nil || i >= claimPiece && !row.is(err) {
-				t.Errorf("%s: claim %d: %v", what, i, err)
-			}
-		}
-		wantClaims(t, e, claimPiece, 0, many-claimPiece)
-		if m.aside != 1 || len(e.claims.aside) != many-claimPiece || other.aside != 1 || len(other.engine.claims.aside) != many {
-			t.Errorf("%s: %d and %d values aside, with %d and %d tokens", what, m.aside, other.aside, len(e.claims.aside), len(other.engine.claims.aside))
-		}
-		e.keeper.wait()
-		for where, messages := range map[string][]byte{"the record": saved(t, e), "the disk": d.kept} {
-			if _, got, err := svid.Uses(messages); err != nil || fmt.Sprint(got) != fmt.Sprint(uses[:claimPiece]) {
-				t.Errorf("%s: %s has %d uses (%v)", what, where, len(got), err)
-			}
-		}
-		for i, one := range tokens {
-			want := ErrClaimed
-			if i < claimPiece {
-				want = svid.Replayed
-			}
-			if err := check(e, one); err != want {
-				t.Errorf("%s: token %d, again: %v, want %v", what, i, err, want)
-			}
-			if i%claimPiece == 0 {
-				if err := check(other.engine, one); err != ErrClaimed {
-					t.Errorf("%s: token %d at the other sidecar: %v", what, i, err)
-				}
-			}
+	}
+	wantClaims(t, e, many, 0, 0)
+	e.keeper.wait()
+	if _, got, err := svid.Uses(d.kept); err != nil || len(got) != many || fmt.Sprint(got[:early]) != fmt.Sprint(uses[:early]) {
+		t.Errorf("the disk has %d uses (%v)", len(got), err)
+	}
+	if m.aside != 0 || other.aside != 1 {
+		t.Errorf("%d and %d values aside", m.aside, other.aside)
+	}
+	if _, got, err := svid.Uses(saved(t, other.engine)); err != nil || fmt.Sprint(got) != fmt.Sprint(uses[:early]) {
+		t.Errorf("the other record has %d uses (%v)", len(got), err)
+	}
+	for i, one := range tokens {
+		if err := check(other.engine, one); err != svid.Replayed {
+			t.Errorf("token %d at the other sidecar: %v", i, err)
 		}
 	}
 }
 
-// While the clock jumps ahead the record takes no piece: all claims end with that.
+// A claim whose own sidecar finds it too far ahead fails, and its token stays claimed.
+func TestAnOwnClaimFromTooFarAhead(t *testing.T) {
+	all, b := strict(t, 1)
+	e, m := all[0], b.members[0]
+	one := token("a")
+	mine := claimOf(t, e, one)
+	mine.use.At += 200
+	m.held = true
+	e.claims.begin(mine)
+	e.sendClaims()
+	m.hold(false)
+	if <-mine.done; mine.err != errEarly || e.reasonOf(mine.err) != "NotClaimed" {
+		t.Errorf("%v", mine.err)
+	}
+	wantClaims(t, e, 0, 0, 1)
+	if err := check(e, one); err != svid.Replayed {
+		t.Errorf("again: %v", err)
+	}
+}
+
+// claimOf is a claim of a token that is judged, and not opened.
+func claimOf(t *testing.T, e *Engine, token string) *claim {
+	t.Helper()
+	yes, err := e.verify(token)
+	if err != nil {
+		t.Fatal(err)
+	}
+	judged, err := e.validator.Judge(moment, token, yes)
+	if err != nil {
+		t.Fatal(err)
+	}
+	return &claim{use: judged.Use, token: token, yes: yes, accepted: judged, done: make(chan struct{})}
+}
+
+// While the clock has jumped ahead, values are read at the time before: claims on their way end as if it had not. No other
+// token is judged.
 func TestAClockThatJumpsWhileClaimsAreRead(t *testing.T) {
 	var now atomic.Uint64
 	now.Store(moment)
 	b := &broker{}
 	e := ready(t, engine(t, Options{Mode: Strict, Grouped: true, Now: now.Load, Step: 600, Wait: time.Minute}))
 	m := b.join(e)
-	const many = claimPiece + 1
+	const many = readRoom + 1
 	tokens, _ := inOrderOf(t, e, many)
 	answers := gather(t, m, tokens)
 	send(t, m)
 	now.Store(moment + 100_000)
 	m.hold(false)
 	for i, answer := range answers {
-		if err := <-answer; !errors.Is(err, svid.ErrJump) {
+		if err := <-answer; err != nil {
 			t.Errorf("claim %d: %v", i, err)
 		}
 	}
-	if m.aside != 1 || len(e.claims.aside) != many {
-		t.Errorf("%d values aside, with %d tokens", m.aside, len(e.claims.aside))
+	if err := check(e, token("another")); err != svid.ErrJump {
+		t.Error(err)
 	}
-	wantClaims(t, e, 0, 0, many)
+	wantClaims(t, e, many, 0, 0)
 	now.Store(moment)
 	for i, one := range tokens {
-		if err := check(e, one); err != ErrClaimed {
-			t.Errorf("token %d, once the clock is right again: %v", i, err)
-		}
-	}
-	wantClaims(t, e, 0, many, many)
-	e.tick()
-	for i, one := range tokens {
 		if err := check(e, one); err != svid.Replayed {
-			t.Errorf("token %d, a tick later: %v", i, err)
+			t.Errorf("token %d, once the clock is right again: %v", i, err)
 		}
 	}
 }
 
-// Nothing is forgotten that the group tells while a sidecar's clock is too far ahead: claims stay claimed, however many there
-// are, and the record takes what came once the clock is right again.
+// Nothing is forgotten that the group tells while a sidecar's clock is too far ahead: the record has it at once, as far as its
+// time is not too far ahead of the last right time, and else it is claimed.
 func TestWhatComesWhileTheClockIsTooFarAhead(t *testing.T) {
 	var now atomic.Uint64
 	now.Store(moment)
@@ -871,8 +878,10 @@ func TestWhatComesWhileTheClockIsTooFarAhead(t *testing.T) {
 	b.join(right)
 	e := ready(t, engine(t, Options{Mode: Strict, Grouped: true, Now: now.Load, Step: 600, Wait: time.Minute}))
 	m := b.join(e)
+	e.tick()
 	now.Store(moment + 100_000)
 	e.tick()
+	right.Now = func() uint64 { return moment + 20 }
 	used, revoked := token("used"), token("revoked")
 	if err := check(right, used); err != nil {
 		t.Fatal(err)
@@ -884,68 +893,299 @@ func TestWhatComesWhileTheClockIsTooFarAhead(t *testing.T) {
 	if _, err := right.Withdraw(context.Background(), found.Key, found.Expires); err != nil {
 		t.Fatal(err)
 	}
-	const others = 3 * mostClaims // so that those which have expired are taken out
-	for n := uint64(0); n < others; {
-		var uses []svid.Use
-		for len(uses) < mostClaims {
-			use := svid.Use{Expires: moment + 300, At: moment, Place: svid.Place{9}}
-			n++
-			binary.BigEndian.PutUint64(use.Key[:], n)
-			uses = append(uses, use)
-		}
-		b.put(stored{kind: group.Claims, message: svid.Batches(uses)})
-	}
-	if n := len(e.claims.aside); n != others+1 {
-		t.Errorf("%d tokens are remembered as claimed", n)
+	right.Now = func() uint64 { return moment + 60 }
+	late := token("late")
+	if err := check(right, late); err != nil {
+		t.Fatal(err)
 	}
 	if err := e.Ready(); err == nil {
 		t.Error("the sidecar is ready with a clock that jumped")
 	}
-	now.Store(moment)
-	if err := check(e, used); err != ErrClaimed {
-		t.Errorf("a token that was claimed meanwhile, before a tick: %v", err)
+	now.Store(moment + 21)
+	for one, want := range map[string]error{used: svid.Replayed, revoked: svid.Withdrawn, late: svid.Replayed} {
+		if err := check(e, one); err != want {
+			t.Errorf("a token that came meanwhile: %v, want %v", err, want)
+		}
 	}
 	e.tick()
-	if err := check(e, used); err != svid.Replayed {
-		t.Errorf("a token that was claimed meanwhile: %v", err)
+	if err := e.Ready(); err != nil {
+		t.Error(err)
 	}
-	if err := check(e, revoked); err != svid.Withdrawn {
-		t.Errorf("a token that was revoked meanwhile: %v", err)
-	}
-	if err := e.Ready(); err != nil || len(e.late.messages) != 0 {
-		t.Errorf("ready: %v; %d messages wait", err, len(e.late.messages))
-	}
-	wantUses(t, []*Engine{e}, others+2)
-	if m.aside != others/mostClaims+2 {
+	wantUses(t, []*Engine{e}, 2)
+	b.mu.Lock()
+	defer b.mu.Unlock()
+	if m.aside != 1 {
 		t.Errorf("%d values were put aside", m.aside)
 	}
 }
 
+// Behind a gap the validator counts by the clock until when it accepts nothing. So while that has jumped, nothing is read.
+func TestAGapWhileTheClockIsTooFarAhead(t *testing.T) {
+	var now atomic.Uint64
+	now.Store(moment)
+	e := ready(t, engine(t, Options{Mode: Strict, Grouped: true, Now: now.Load, Step: 600}))
+	(&broker{}).join(e)
+	use := svid.Use{Key: svid.TokenKey{1}, Expires: moment + 300, At: moment, Place: svid.Place{9}}
+	e.tick()
+	now.Store(moment + 100_000)
+	taken := make(chan []error)
+	go func() { taken <- e.Take([]group.Value{{Kind: group.Claims, Position: 2, Message: use.Batch()}}) }()
+	select {
+	case errs := <-taken:
+		t.Fatal("it was read", errs)
+	case <-time.After(3 * readPause):
+	}
+	now.Store(moment + 50)
+	if errs := <-taken; errs != nil {
+		t.Error(errs)
+	}
+	if got, want := e.deafUntil(), uint64(moment+50+3600+60); got != want {
+		t.Errorf("it accepts nothing until %d, want %d", got, want)
+	}
+	// And the end of the engine ends the wait.
+	now.Store(moment + 200_000)
+	go func() { taken <- e.Take([]group.Value{{Kind: group.Claims, Position: 4, Message: use.Batch()}}) }()
+	ctx, cancel := context.WithCancel(context.Background())
+	cancel()
+	e.Run(ctx)
+	if errs := <-taken; len(errs) != 1 || errs[0] != errEnded {
+		t.Error(errs)
+	}
+}
+
+// Behind values that are missing no token is claimed, since that would burn it: until they must have expired, or someone lets the
+// sidecar go on.
+func TestNothingIsClaimedBehindAGap(t *testing.T) {
+	var now atomic.Uint64
+	now.Store(moment)
+	var log bytes.Buffer
+	b := &broker{}
+	e := ready(t, engine(t, Options{Mode: Strict, Grouped: true, Now: now.Load, Log: NewLog(&log, Errors)}))
+	m := b.join(e)
+	if err := check(e, token("before")); err != nil {
+		t.Fatal(err)
+	}
+	wantGaps := func(n uint64, until uint64) {
+		t.Helper()
+		var page bytes.Buffer
+		if err := e.WriteMetrics(&page); err != nil {
+			t.Fatal(err)
+		}
+		for _, line := range []string{fmt.Sprintf("svidd_log_gaps_total %d\n", n), fmt.Sprintf("svidd_log_missed_until_timestamp_seconds %d\n", until)} {
+			if !strings.Contains(page.String(), line) {
+				t.Errorf("no %q", line)
+			}
+		}
+		if isReady := e.Ready() == nil; isReady != (until == 0) {
+			t.Errorf("ready: %v", e.Ready())
+		}
+	}
+	wantGaps(0, 0)
+	m.gap = 3
+	b.put(stored{kind: group.Claims, message: svid.Use{Key: svid.TokenKey{1}, Expires: moment + 300, At: moment, Place: svid.Place{9}}.Batch()})
+	const until = moment + 3600 + 60
+	wantGaps(1, until)
+	if n := strings.Count(log.String(), `"event":"gap"`); n != 1 || !strings.Contains(log.String(), "svidd resume") {
+		t.Error(log.String())
+	}
+	w := request(e.Handler(), "GET", "/check", "Bearer "+token("a"))
+	if want := `{"reason":"ValuesMissing","result":"unavailable"}` + "\n"; w.Code != 503 || w.Body.String() != want {
+		t.Errorf("%d %s", w.Code, w.Body)
+	}
+	if err := check(e, token("before")); err != svid.Replayed {
+		t.Errorf("a token that is surely used: %v", err)
+	}
+	if len(b.log) != 2 {
+		t.Errorf("%d values: a token was claimed", len(b.log))
+	}
+	now.Store(until)
+	wantGaps(1, 0)
+	later := example.Token("ES256", map[string]any{"sub": "spiffe://example.org/web", "aud": "ledger", "exp": until + 300, "jti": "later"})
+	if err := check(e, later); err != nil {
+		t.Errorf("once all that is missing must have expired: %v", err)
+	}
+	// Another one, behind which someone lets it go on.
+	m.gap = 4
+	b.put(stored{kind: group.Claims, message: nil})
+	wantGaps(2, until+3600+60)
+	next := example.Token("ES256", map[string]any{"sub": "spiffe://example.org/web", "aud": "ledger", "exp": until + 300, "jti": "next"})
+	if err := check(e, next); err != ErrMissed {
+		t.Error(err)
+	}
+	if got, err := e.Resume(); err != nil || got != until+3600+60 {
+		t.Errorf("resumed: %d %v", got, err)
+	}
+	wantGaps(2, 0)
+	if err := check(e, next); err != nil {
+		t.Errorf("once it goes on: %v", err)
+	}
+	if got, err := e.Resume(); err != nil || got != 0 {
+		t.Errorf("resumed again: %d %v", got, err)
+	}
+}
+
+// A bucket that has lost values, or that is another one, is read from its beginning. What was heard of the other one stays, and
+// what was missed of it may still live.
+func TestAnotherBucket(t *testing.T) {
+	var now atomic.Uint64
+	now.Store(moment)
+	b := &broker{}
+	e := ready(t, engine(t, Options{Mode: Strict, Grouped: true, Now: now.Load}))
+	b.join(e)
+	used, early := token("used"), token("early")
+	if err := check(e, used); err != nil {
+		t.Fatal(err)
+	}
+	found, err := e.Find(early)
+	if err != nil {
+		t.Fatal(err)
+	}
+	b.put(stored{kind: group.Claims, message: svid.Use{Key: found.Key, Expires: found.Expires, At: moment + 60, Place: svid.Place{9}}.Batch()})
+	e.Begin(group.Log{Ready: 1, Missed: true})
+	if got := e.deafUntil(); got != moment+3600+60 {
+		t.Errorf("it accepts nothing until %d", got)
+	}
+	for _, one := range []string{used, early} {
+		if err := check(e, one); err != svid.Replayed {
+			t.Error(err)
+		}
+	}
+	if err := check(e, token("new")); err != ErrMissed {
+		t.Error(err)
+	}
+	// Where values have expired before they were read, nothing is missed; and what was missed before stays so.
+	e.Begin(group.Log{Passed: 7, Ready: 9})
+	mark, _, err := e.validator.LogMark()
+	if want := (svid.Mark{Passed: 7, Deaf: moment + 3600 + 60}); err != nil || mark != want || e.deafUntil() != want.Deaf {
+		t.Errorf("then it is at %+v, and accepts nothing until %d (%v)", mark, e.deafUntil(), err)
+	}
+}
+
+// Of values up to the last one that was there when the engine began, it accepts nothing: an earlier life of it may have
+// answered 200 for them.
+func TestWhatAnEarlierLifeMayHaveRead(t *testing.T) {
+	for last, want := range []error{nil, ErrMissed} {
+		e := ready(t, engine(t, Options{Mode: Strict, Grouped: true}))
+		e.Begin(group.Log{Ready: uint64(last)})
+		mine := claimOf(t, e, token("a"))
+		e.claims.begin(mine)
+		if number, _ := e.claims.next(func() {}); number != 1 {
+			t.Fatal(number)
+		}
+		e.Take([]group.Value{{Kind: group.Claims, Position: 1, Message: mine.use.Batch()}})
+		if <-mine.done; mine.err != want {
+			t.Errorf("the last value was %d: %v", last, mine.err)
+		}
+	}
+}
+
+// A use that is accepted answers one request at most, and one that has put it.
+func TestAnAcceptedUseAnswersOneRequest(t *testing.T) {
+	all, b := strict(t, 1)
+	e, m := all[0], b.members[0]
+	tokens, uses := inOrderOf(t, e, 2)
+	// The value stands in the bucket twice.
+	answer := claimed(m, tokens[0])
+	b.put(b.log[0])
+	others := make(chan error, 2)
+	for i := 0; i < cap(others); i++ {
+		go func() { others <- check(e, tokens[0]) }()
+	}
+	m.hold(false)
+	if err := <-answer; err != nil {
+		t.Error(err)
+	}
+	for i := 0; i < cap(others); i++ {
+		if err := <-others; err != svid.Replayed {
+			t.Error(err)
+		}
+	}
+	// Someone has put the same use before this sidecar does.
+	waiting := gather(t, m, tokens[1:])
+	b.put(stored{kind: group.Claims, message: uses[1].Batch()})
+	m.hold(false)
+	e.claims.mu.Lock()
+	if n := len(e.claims.open); n != 1 {
+		t.Errorf("%d claims are open", n)
+	}
+	e.claims.mu.Unlock()
+	send(t, m)
+	if err := <-waiting[0]; err != svid.Replayed {
+		t.Error(err)
+	}
+	wantClaims(t, e, 1, 1, 0)
+}
+
+// A claim whose bundles were replaced since it was judged is judged by its token again, before its value is read.
+func TestAClaimWhoseBundlesAreReplaced(t *testing.T) {
+	other, err := issuer.New("example.org")
+	if err != nil {
+		t.Fatal(err)
+	}
+	for what, row := range map[string]struct {
+		bundle json.RawMessage
+		want   error
+	}{
+		"the same key":   {example.JWKSet(), nil},
+		"another key":    {other.JWKSet(), svid.BadSignature},
+		"no key":         {json.RawMessage(`{"keys":[]}`), svid.NoKey},
+		"no such domain": {nil, svid.UnknownDomain},
+	} {
+		all, b := strict(t, 1)
+		e, m := all[0], b.members[0]
+		answer := claimed(m, token("a"))
+		bundles := map[string]json.RawMessage{"example.com": json.RawMessage(`{"keys":[]}`)}
+		if row.bundle != nil {
+			bundles["example.org"] = row.bundle
+		}
+		if err := e.SetBundles(bundles); err != nil {
+			t.Fatal(err)
+		}
+		m.hold(false)
+		if err := <-answer; err != row.want {
+			t.Errorf("%s: %v, want %v", what, err, row.want)
+		}
+		lost := uint64(0)
+		if row.want != nil {
+			lost = 1
+		}
+		wantClaims(t, e, 1-lost, lost, 0)
+		if n := len(e.claims.editions); n != 0 {
+			t.Errorf("%s: %d editions are kept", what, n)
+		}
+		// Whatever becomes of it, its use is in the bucket: the token is burnt.
+		ready(t, e)
+		if err := check(e, token("a")); err != svid.Replayed {
+			t.Errorf("%s: again: %v", what, err)
+		}
+	}
+}
+
 // The disk gets what the record gained by an own value, also the uses of claims that were given up meanwhile, in batches that
-// can be read back. It gets nothing of a value that is no whole batches.
+// can be read back. It gets nothing of a value that is no messages, and the claims of that wait until their time is up.
 func TestTheDiskGetsWhatTheRecordGained(t *testing.T) {
-	const many = 2*claimPiece + 1
+	const many = 2*readRoom + 1
 	for what, row := range map[string]struct {
 		forge func(uses []svid.Use) []byte // the value's bytes, or nil for those of the claims
 		won   bool                         // what the claims do
 		kept  int
 	}{
 		"claims": {nil, true, many},
-		// Such a batch is good in each piece alone, and bad as a whole: the disk would refuse it, with all that it shares a write with.
 		"a value out of order": {func(uses []svid.Use) []byte {
-			turned := append(append([]svid.Use(nil), uses[many-claimPiece:]...), uses[:many-claimPiece]...)
+			turned := append(append([]svid.Use(nil), uses[1:]...), uses[0])
 			message := turned[0].Batch()
 			message[16] = many
 			for _, use := range turned[1:] {
 				message = append(message, use.Batch()[17:]...)
 			}
 			return message
-		}, true, many},
-		"a batch of version 1": {func(uses []svid.Use) []byte {
-			message := uses[0].Batch()
-			message[3] = 1
-			return message[:81]
 		}, false, 0},
+		"a bad use": {func(uses []svid.Use) []byte {
+			message := svid.Batches(uses)
+			message[len(message)-1] = 7
+			return message
+		}, false, 0},
+		"half a batch":         {func(uses []svid.Use) []byte { message := svid.Batches(uses); return message[:len(message)/2] }, false, 0},
 		"a batch without uses": {func(uses []svid.Use) []byte { return append(uses[0].Batch()[:13], 0, 0, 0, 0) }, false, 0},
 	} {
 		b, d := &broker{}, &disk{}
@@ -965,6 +1205,9 @@ func TestTheDiskGetsWhatTheRecordGained(t *testing.T) {
 			defer e.claims.mu.Unlock()
 			return len(e.claims.gather) == many
 		})
+		if !row.won {
+			e.Wait = 200 * time.Millisecond
+		}
 		send(t, m)
 		give()
 		if err := <-gone; !errors.Is(err, context.Canceled) {
@@ -972,7 +1215,7 @@ func TestTheDiskGetsWhatTheRecordGained(t *testing.T) {
 		}
 		m.hold(false)
 		for i, answer := range answers {
-			if err := <-answer; row.won != (err == nil) {
+			if err := <-answer; row.won != (err == nil) || !row.won && !errors.Is(err, context.DeadlineExceeded) {
 				t.Errorf("%s: claim %d: %v", what, i, err)
 			}
 		}
@@ -985,8 +1228,15 @@ func TestTheDiskGetsWhatTheRecordGained(t *testing.T) {
 			if err := again.Load(d.kept); err != nil || !bytes.Equal(saved(t, again), saved(t, e)) {
 				t.Errorf("%s: the record that the disk has is another one (%v)", what, err)
 			}
-		} else if len(d.kept) > 0 {
+			continue
+		}
+		if len(d.kept) > 0 {
 			t.Errorf("%s: the disk has %d bytes", what, len(d.kept))
+		}
+		m.forged = nil
+		e.Wait = time.Minute
+		if err := check(e, tokens[0]); err != nil {
+			t.Errorf("%s: a token that nothing in the bucket claims: %v", what, err)
 		}
 	}
 }
@@ -994,9 +1244,10 @@ func TestTheDiskGetsWhatTheRecordGained(t *testing.T) {
 // Once the last value is stored, the next one does not wait as long as for an answer that stays away. While requests are
 // being worked on, it waits for their claims.
 func TestTheNextValueGoesOutOnceTheLastOneLanded(t *testing.T) {
+	nobody := func(svid.Fate) error { return errEnded }
 	for how, land := range map[string]func(c *claims){
 		"the answer":  func(c *claims) { c.landed(1, nil) },
-		"the value":   func(c *claims) { c.end(c.arrived(1)...) },
+		"the value":   func(c *claims) { c.end([]svid.LogUse{{Use: svid.Use{Key: svid.TokenKey{1}}}}, svid.Place{}, nobody) },
 		"its failure": func(c *claims) { c.landed(1, errors.New("time is up")) },
 	} {
 		c := newClaims(new(atomic.Uint64))
@@ -1043,38 +1294,42 @@ func TestAClaimThatWaitsCanBeTakenBack(t *testing.T) {
 	if number, uses := c.next(never); number != 1 || len(uses) != 1 || uses[0] != two.use {
 		t.Errorf("value %d has %v", number, uses)
 	}
-	if open := c.arrived(1); len(open) != 1 || open[0] != two || c.giveUp(two) {
-		t.Error("a claim whose value is there is given up")
+	lost := func(svid.Fate) error { return svid.Replayed }
+	read := []svid.LogUse{{Use: one.use}, {Use: two.use}}
+	other := []svid.LogUse{{Use: svid.Use{Key: two.use.Key, At: 1}}}
+	if n := c.end(other, svid.Place{}, lost) + c.end(read, svid.Place{1}, lost); n != 0 {
+		t.Errorf("%d claims end by uses that are not theirs", n)
+	}
+	if n := c.end(read, svid.Place{}, lost); n != 1 || c.giveUp(two) {
+		t.Errorf("%d claims end, or one is given up whose outcome is there", n)
 	}
 	if c.landed(1, errors.New("late")); c.failed.Load() != 0 {
 		t.Error("a claim fails whose outcome is there")
 	}
-	c.end(two)
-	<-two.done
+	if <-two.done; two.err != svid.Replayed {
+		t.Error(two.err)
+	}
 	if n := len(c.open) + len(c.sent) + len(c.gather); n != 0 {
 		t.Errorf("%d claims are kept", n)
 	}
 }
 
-// A claim that this sidecar's validator does not take (it is from too far ahead) is a claim all the same.
+// A claim from too far ahead is a claim all the same.
 func TestALostClaimIsNeverAccepted(t *testing.T) {
-	var now atomic.Uint64
-	now.Store(moment)
 	all, b := strict(t, 1)
 	e, m := all[0], b.members[0]
-	e.Now = now.Load
 	judged, err := e.Find(token("a"))
 	if err != nil {
 		t.Fatal(err)
 	}
 	b.put(stored{kind: group.Claims, message: svid.Use{Key: judged.Key, Expires: moment + 300, At: moment + 200}.Batch()})
 	for i := 0; i < 2; i++ {
-		if err := check(e, token("a")); !errors.Is(err, ErrClaimed) {
+		if err := check(e, token("a")); err != svid.Replayed {
 			t.Errorf("%v", err)
 		}
 	}
-	if m.aside != 1 || len(e.claims.aside) != 1 {
-		t.Errorf("%d aside, and %d claims of them", m.aside, len(e.claims.aside))
+	if m.aside != 1 {
+		t.Errorf("%d aside", m.aside)
 	}
 	// Others, and garbage, make no difference to a token that they do not name.
 	for _, message := range [][]byte{[]byte("garbage"), {}, svid.Use{Expires: moment + 300, At: moment + 200}.Batch()} {
@@ -1083,13 +1338,8 @@ func TestALostClaimIsNeverAccepted(t *testing.T) {
 	if err := check(e, token("b")); err != nil {
 		t.Error(err)
 	}
-	// Tokens that have expired are forgotten, when there are many.
-	now.Store(moment + 299)
-	for i := 0; i < 3000; i++ {
-		e.claims.putAside(svid.Use{Key: svid.TokenKey{1, byte(i), byte(i >> 8)}, Expires: moment + 299, At: moment}.Batch(), now.Load())
-	}
-	if n := len(e.claims.aside); n > 1030 || e.claims.aside[judged.Key] != moment+300 {
-		t.Errorf("%d claims aside", n)
+	if m.aside != 3 {
+		t.Errorf("%d aside", m.aside)
 	}
 }
 
@@ -1098,14 +1348,25 @@ func TestALostClaimIsNeverAccepted(t *testing.T) {
 func TestAValueUnderAnotherOnesKey(t *testing.T) {
 	all, b := strict(t, 2)
 	m := b.members[0]
+	all[0].Wait = 30 * time.Millisecond
 	other := svid.Use{Key: svid.TokenKey{1}, Expires: moment + 300, At: moment, Place: svid.Place{1}}
-	for _, forged := range [][]byte{other.Batch(), []byte("garbage"), {}} {
-		m.forged = forged
-		if err := check(all[0], token("a")); !errors.Is(err, ErrClaimed) {
+	forge := func(message []byte) {
+		m.mu.Lock()
+		defer m.mu.Unlock()
+		m.forged = message
+	}
+	for i, forged := range [][]byte{other.Batch(), []byte("garbage"), {}} {
+		forge(forged)
+		if err := check(all[0], token("a")); !errors.Is(err, context.DeadlineExceeded) {
 			t.Errorf("%q: %v", forged, err)
 		}
+		await(t, "the value", func() bool {
+			m.mu.Lock()
+			defer m.mu.Unlock()
+			return len(m.log) == i+1
+		})
 	}
-	m.forged = nil
+	forge(nil)
 	if err := check(all[1], token("a")); err != nil {
 		t.Error(err)
 	}
@@ -1137,6 +1398,7 @@ func TestNothingIsJudgedBeforeAllIsRead(t *testing.T) {
 	e := engine(t, Options{Mode: Strict, Grouped: true})
 	m := &tie{broker: &broker{}, engine: e, ready: make(chan struct{})}
 	m.members = []*tie{m}
+	e.Begin(group.Log{})
 	for _, step := range []struct {
 		why string
 		do  func()
@@ -1542,7 +1804,7 @@ func TestAnotherModeInTheGroup(t *testing.T) {
 		said bool
 	}{
 		{Strict, group.Uses, use, true}, {Strict, group.Uses, old, false}, {Strict, group.Uses, revoked, false},
-		{Strict, group.Claims, use, false}, {Strict, group.Answer, use, false},
+		{Strict, group.Claims, use, false},
 		{Once, group.Claims, use, true}, {Once, group.Claims, old, false}, {Once, group.Uses, use, false},
 		{Reuse, group.Claims, use, true}, {Reuse, group.Uses, use, true}, {Reuse, group.Uses, revoked, false},
 	} {
@@ -1550,9 +1812,10 @@ func TestAnotherModeInTheGroup(t *testing.T) {
 		now := uint64(moment)
 		e := ready(t, engine(t, Options{Mode: c.mode, Now: func() uint64 { return now }, Log: NewLog(&log, Errors)}))
 		now = moment + 40
+		e.Begin(group.Log{})
 		for i := byte(0); i < 2; i++ {
 			c.use.Key[1] = i
-			if errs := e.Take([]group.Value{{Kind: c.kind, Message: c.use.Batch()}}); errs != nil {
+			if errs := e.Take([]group.Value{{Kind: c.kind, Position: uint64(i + 1), Message: c.use.Batch()}}); errs != nil {
 				t.Error(errs)
 			}
 		}
@@ -1793,71 +2056,27 @@ func TestMessagesThatAreTakenAtOnce(t *testing.T) {
 	}
 }
 
-// An answer to a summary tells of a claim that is open here, beside another use: it is held back until the claim is read.
-func TestAnAnswerWithAnOpenClaim(t *testing.T) {
-	all, b := strict(t, 2)
-	e, other := all[0], all[1]
-	outcome := claimed(b.members[0], token("mine"))
-	if err := check(other, token("theirs")); err != nil {
-		t.Fatal(err)
-	}
-	summary, err := ready(t, engine(t, Options{Mode: Strict})).Summary() // of one who has neither
-	if err != nil {
-		t.Fatal(err)
-	}
-	answer, err := other.Answer(summary)
-	if err != nil {
-		t.Fatal(err)
-	}
-	if _, uses, err := svid.Uses(answer); err != nil || len(uses) != 2 {
-		t.Fatalf("an answer with %d uses, %v", len(uses), err)
-	}
-	if aside := takeAll(e, group.Answer, answer); aside != 0 {
-		t.Fatalf("%d aside", aside)
-	}
-	b.members[0].hold(false)
-	if err := <-outcome; err != nil {
-		t.Errorf("the winner of a claim: %v", err)
-	}
-	wantUses(t, all, 2)
-}
-
-// Of the claims of a token the record has the first one in the bucket. A use that was told is no claim, and stands beside it.
+// Of the uses of a token that stand in the bucket the record has the first one, whether it was claimed or told, and withdrawals.
 func TestLaterClaimsAreNoUses(t *testing.T) {
 	use := func(place byte) svid.Use {
 		return svid.Use{Key: svid.TokenKey{1}, Expires: moment + 9, At: moment, Place: svid.Place{place}}
 	}
 	e := ready(t, engine(t, Options{Mode: Strict}))
+	e.Begin(group.Log{})
 	gone := use(4)
 	gone.Withdrawn = true
 	other := svid.Use{Key: svid.TokenKey{2}, Expires: moment + 9, At: moment}
-	if aside := takeAll(e, group.Claims, use(1).Batch(), svid.Batches([]svid.Use{use(2), other, gone})); aside != 0 {
-		t.Errorf("%d aside", aside)
-	}
-	if aside := takeAll(e, group.Uses, use(3).Batch()); aside != 0 {
-		t.Errorf("%d aside", aside)
+	errs := e.Take([]group.Value{
+		{Kind: group.Claims, Position: 1, Message: use(1).Batch()},
+		{Kind: group.Claims, Position: 2, Message: svid.Batches([]svid.Use{use(2), other, gone})},
+		{Kind: group.Uses, Position: 3, Message: use(3).Batch()},
+	})
+	if errs != nil {
+		t.Error(errs)
 	}
 	_, got, err := svid.Uses(saved(t, e))
-	if want := []svid.Use{use(1), use(3), gone, other}; err != nil || fmt.Sprint(got) != fmt.Sprint(want) {
+	if want := []svid.Use{use(1), gone, other}; err != nil || fmt.Sprint(got) != fmt.Sprint(want) {
 		t.Errorf("%v, want %v", got, want)
-	}
-}
-
-// The tokens that were claimed last are remembered, and no more than twice as many.
-func TestRecentClaimsAreRemembered(t *testing.T) {
-	key := func(i int) svid.TokenKey { return svid.TokenKey{byte(i), byte(i >> 8), byte(i >> 16)} }
-	var r recent
-	const many = 3*mostRecent + 7
-	for i := 0; i < many; i++ {
-		if !r.add(key(i)) {
-			t.Fatalf("claim %d is not the first", i)
-		}
-		if r.add(key(i)) || i >= mostRecent && r.add(key(i-mostRecent+1)) {
-			t.Fatalf("claim %d was forgotten", i)
-		}
-	}
-	if n := len(r.now) + len(r.before); n > 2*mostRecent {
-		t.Errorf("%d are remembered", n)
 	}
 }
 

@@ -10,15 +10,14 @@ import (
 	"svid.example/go/svid"
 )
 
-// ErrClaimed: another sidecar has claimed the token, by a value that this one's validator does not believe (it is put
-// aside). The token is accepted here by nobody.
-var ErrClaimed = errors.New("the token is claimed in the group by a value that is no use of it")
+// ErrMissed: values of the group's bucket are gone that this sidecar has not read, and a claim of the token may be among them.
+var ErrMissed = errors.New("values of the group's bucket are missing: whether another sidecar claimed the token is unknown")
 
-// errGap is the outcome of claims that were open when values of the bucket were found missing.
-var errGap = errors.New("values of the group's bucket are gone: whether another sidecar claimed the token is unknown")
+// errEarly: the time of the own claim is further ahead than the clock may be. The clock went back.
+var errEarly = errors.New("the claim is from further in the future than clocks may differ: the clock went back")
 
 // checkStrict accepts a token once in the whole group. The bucket is a log, which all sidecars read in one order, and the
-// first claim of a token in it counts. At each step:
+// first claim of a token in it counts: the validator says which that is. At each step:
 //
 //  1. Judge says whether the token would be accepted, and adds nothing. A rejected token ends here; so only tokens with a
 //     good signature cost the broker work.
@@ -27,26 +26,25 @@ var errGap = errors.New("values of the group's bucket are gone: whether another 
 //  3. The use goes into the bucket, with other claims in one value. Once the broker has stored it, it is there for as long
 //     as the token lives, on as many servers as the bucket has replicas, and its place among all values never changes.
 //     A crash from here on burns the token.
-//  4. This sidecar reads its own value back, at its place. By then it has taken every value in front of it, and none behind
-//     it (Engine.Take). It goes through the uses of its value in their order, piece by piece (taking.decide). The validator
-//     judges each claim of a piece again (JudgeAgain, or Judge if bundles were replaced since step 1). The record has all
-//     that stands in front of the piece by then: the other values, and the earlier pieces. If one of those claims the token,
-//     this claim is lost. So is a second claim of this sidecar, and a token that has expired or was revoked meanwhile is
-//     rejected, and burnt. Then the record takes the piece, before the next one is judged, and the next value is read behind
-//     the last one. Every other sidecar finds this claim in front of its own.
-//  5. Only now the answer is 200, while the next piece is judged. So each 200 has the first claim of its token, and that is
-//     one: a value has one claim of a token at most (claims.firsts), so the claims of a piece don't meet.
-//  6. Where there is a state folder, what the record took of the value goes to the disk, behind the answers: none waits for
-//     it. It isn't what makes a token unusable (the bucket is), but it outlives the broker's disk.
+//  4. The validator reads all values in their order, this one too (Engine.Take). It answers FateAccepted for the use if that is
+//     the first claim of its token; else it says why not. If bundles were replaced since step 1, the token is judged again
+//     before the value is read.
+//  5. Only now the answer is 200.
+//  6. Where there is a state folder, the accepted uses go to the disk, behind the answers: none waits for it. It isn't what
+//     makes a token unusable (the bucket is), but it outlives the broker's disk.
 //
-// If the value does not come back in time (the broker is away), or if values in front of it are gone, the answer is 503.
+// If the value does not come back in time (the broker is away), or if values in front of it are missing, the answer is 503.
 // The token is burnt then if the value is in the bucket, now or later: who reads it takes its uses.
 func (e *Engine) checkStrict(ctx context.Context, token string, yes []svid.Question) (svid.Accepted, error) {
 	var late <-chan time.Time // Where this request goes on alone, the time of its value is enough.
 	for {
-		judged, err := e.validator.Judge(e.Now(), token, yes)
+		now := e.Now()
+		judged, err := e.validator.Judge(now, token, yes)
 		if err != nil {
 			return svid.Accepted{}, err
+		}
+		if e.deaf.Load() > now { // Its claim would only burn the token.
+			return svid.Accepted{}, ErrMissed
 		}
 		mine := &claim{use: judged.Use, token: token, yes: yes, accepted: judged, done: make(chan struct{})}
 		if other := e.claims.begin(mine); other != nil {
@@ -101,131 +99,228 @@ func (e *Engine) sendClaims() {
 	}()
 }
 
-// claimPiece is how many uses of an own value the record takes at a time. The claims among them end then: other processors
-// answer them, while this one judges the next ones.
-const claimPiece = 16
+// readRoom is how many uses of a value are read at a time. The claims among them end then: other processors answer them, while
+// this one reads the next ones.
+const readRoom = 64
 
-// decide ends the open claims of value i, which this engine has sent, and now reads at its place in the bucket. First the
-// record takes all values in front of it. Then it takes the uses of this value in their order, piece by piece. The claims
-// of a piece are judged before the record takes it, and end behind that. If the record does not take a piece, this one and
-// those behind it are put aside. Their claims fail, except where the validator rejects the token. (A value without open
-// claims is taken as those of others are, and is not kept.)
-//
-// Only what stands in the bucket wins: whoever can write there could give another value the key of this one. So a claim
-// whose use is not in the value is lost, and is judged first, to say why.
-func (t *taking) decide(i int, open []*claim) {
-	e, message := t.engine, t.messages[i]
-	t.upTo(i)
-	t.done = i + 1
-	e.keeper.begin() // Claims end before the keeper has their uses. So Run waits for this value too.
-	defer e.keeper.end()
-
-	claims, missing := inOrder(message, open)
-	for len(missing) > 0 {
-		these := missing[:atMost(claimPiece, len(missing))]
-		missing = missing[len(these):]
-		now := e.Now()
-		for _, c := range these {
-			if e.judge(now, c); c.err == nil {
-				c.err = ErrClaimed // by a value that was put aside, or is not this one: else the validator says Replayed
-			}
-		}
-		e.end(these, nil)
+// Begin lets the engine read a bucket from its first value on. In mode strict the validator reads it as its log.
+func (e *Engine) Begin(log group.Log) {
+	if e.Mode != Strict {
+		return
 	}
-
-	pieces, taken, rest := svid.Pieces(message, claimPiece), 0, claims
-	these := make([]*claim, 0, claimPiece)
-	var err error
-	for _, piece := range pieces {
-		now := e.Now()
-		n := atMost(claimPiece, len(rest))
-		these = these[:0]
-		for _, c := range rest[:n] {
-			if c != nil {
-				e.judge(now, c)
-				these = append(these, c)
-			}
-		}
-		rest = rest[n:]
-		if err == nil {
-			if err = e.validator.Take(now, piece); err == nil {
-				taken++
-			}
-		}
-		e.end(these, err)
+	// (The clocks of who claimed a token and of who reads that may both be off.)
+	next := svid.Log{Mark: svid.Mark{Passed: log.Passed}, Ready: log.Ready, Lasts: saturated(e.Longest, saturated(e.Ahead, e.Ahead))}
+	if log.Missed {
+		next.Mark.Deaf = saturated(e.Now(), next.Lasts)
 	}
-	if e.Log.Writes(All) {
-		e.Log.Detail("message", "bytes", len(message), "error", err)
+	err := e.openLog(next)
+	for err == svid.ErrNoMemory && e.pause(err) {
+		err = e.openLog(next)
 	}
 	if err != nil {
-		t.putAside(i, err, pieces[taken:]...)
+		e.Log.Error("log", err)
 	}
-	// The next value need not wait for what the broker answers to this one.
-	e.sendClaims()
-	// The pieces go to the disk, not the message: it may be bad as a whole, if another member wrote it.
-	if len(claims) > 0 { // So it is whole batches, and has uses.
-		e.keepSoon(pieces[:taken]...)
+	if log.Missed {
+		e.missed()
 	}
 }
 
-// inOrder returns for each use of an own value the open claim of that use, or nil, and the claims whose use is not there.
-func inOrder(message []byte, open []*claim) (claims, missing []*claim) {
-	byKey := make(map[svid.TokenKey]*claim, len(open))
-	for _, c := range open {
-		byKey[c.use.Key] = c
+// openLog lets the validator read a log. What it has heard of another one it keeps.
+func (e *Engine) openLog(next svid.Log) error {
+	before, _, err := e.validator.LogMark()
+	if err == nil {
+		if before.Deaf > next.Mark.Deaf {
+			next.Mark.Deaf = before.Deaf
+		}
+		next.Beside, err = e.validator.LogBeside()
 	}
-	_, uses, _ := svid.Uses(message) // It has none if it is no whole batches.
-	claims = make([]*claim, len(uses))
-	for i := range uses {
-		if c := byKey[uses[i].Key]; c != nil && c.use == uses[i] {
-			claims[i] = c
-			delete(byKey, c.use.Key)
+	if err != nil && err != svid.ErrNoLog {
+		return err
+	}
+	return e.validator.OpenLog(next)
+}
+
+// saturated is the sum, or the greatest number.
+func saturated(a, b uint64) uint64 {
+	if a+b < a {
+		return svid.NoLimit
+	}
+	return a + b
+}
+
+// read lets the validator read a value of the bucket, and ends the claims of this sidecar that stand in it. An error says that
+// the value is put aside: it is no messages, or a use in it is from too far ahead.
+func (e *Engine) read(v group.Value) (aside error) {
+	e.keeper.begin() // Claims end before the keeper has their uses. So Run waits for this value too.
+	defer e.keeper.end()
+	if e.Log.Writes(All) {
+		defer func() { e.Log.Detail("message", "bytes", len(v.Message), "error", aside) }()
+	}
+	var accepted []svid.Use
+	var other *svid.Use
+	isOther := e.isOfOtherMode(v.Kind)
+	for rest := svid.RestNoRoom; rest != svid.RestNothing; {
+		reading, err := e.readOn(v)
+		if err != nil {
+			return err
+		}
+		if reading.Fault != nil {
+			aside = reading.Fault
+		}
+		if reading.Order == svid.OrderGap {
+			e.missed()
+		}
+		read := e.room[:reading.Count]
+		for i := range read {
+			switch read[i].Fate {
+			case svid.FateAccepted:
+				accepted = append(accepted, read[i].Use)
+			case svid.FateTooFarAhead:
+				aside = svid.ErrTooFar
+				continue
+			}
+			if isOther && other == nil && e.saysMode(&read[i].Use) {
+				use := read[i].Use
+				other = &use
+			}
+		}
+		if e.claims.end(read, e.Place, e.outcome) > 0 {
+			e.sendClaims() // The next value need not wait for what the broker answers to this one.
+		}
+		if rest = reading.Rest; rest == svid.RestNoMemory && !e.pause(svid.ErrNoMemory) {
+			return errEnded
 		}
 	}
-	for _, c := range open {
-		if len(byKey) > 0 && byKey[c.use.Key] == c {
-			missing = append(missing, c)
-		}
+	if other != nil {
+		e.sayMixed(other)
 	}
-	return claims, missing
+	if len(accepted) > 0 {
+		e.keepSoon(svid.Batches(accepted))
+	}
+	return aside
 }
 
-// judge judges the token of a claim again, at the claim's place in the bucket: by its use alone, which takes a fraction of
-// the time, unless there are other bundles since.
-func (e *Engine) judge(now uint64, c *claim) {
-	if c.err = e.validator.JudgeAgain(now, c.accepted); c.err == svid.ErrRenewed {
-		c.accepted, c.err = e.validator.Judge(now, c.token, c.yes)
-		c.accepted.Use = c.use // with the time of the claim, as the bucket has it
-	}
-}
-
-// end ends claims that were judged. They have won, unless the token was rejected or is claimed by another sidecar: then
-// they are lost. Else the record could not tell, or err says why it did not take their uses: then they failed.
-func (e *Engine) end(these []*claim, err error) {
-	var won, lost, failed uint64
-	for _, c := range these {
-		_, refused := refusalOf(c.err)
+// readOn reads the next uses of a value, as many as have room. It tries until that is done, or the engine ends.
+func (e *Engine) readOn(v group.Value) (svid.Reading, error) {
+	for now := e.Now(); ; {
+		edition := e.validator.Edition()
+		e.judgeRenewed(now, edition)
+		reading, err := e.validator.Read(now, v.Position, v.Message, edition, e.room)
 		switch {
-		case refused || c.err == ErrClaimed:
-			lost++
-		case c.err != nil:
-			failed++
-		case err != nil:
-			c.err = err
-			failed++
+		case err == nil:
+			e.right.Store(now)
+			return reading, nil
+		case err == svid.ErrRenewed:
+		case err == svid.ErrJump && now != e.right.Load() && !e.isBehindGap(v):
+			now = e.right.Load() // The record has reached it, so it raises nothing.
+		case err == svid.ErrJump:
+			if !e.pause(err) {
+				return svid.Reading{}, errEnded
+			}
+			now = e.Now()
 		default:
-			won++
+			return svid.Reading{}, err
 		}
 	}
-	e.Metrics.ClaimsWon.Add(won)
-	e.Metrics.ClaimsLost.Add(lost)
-	e.Metrics.ClaimsFailed.Add(failed)
-	e.claims.end(these...)
 }
 
-func atMost(most, n int) int {
-	if n > most {
-		return most
+// judgeRenewed judges claims again, by their tokens, that were judged by other bundles than the validator has. It may refuse
+// them now. Then their uses are in the bucket all the same, and the tokens are burnt.
+func (e *Engine) judgeRenewed(now, edition uint64) {
+	for _, c := range e.claims.judgedBefore(edition) {
+		again, err := e.validator.Judge(now, c.token, c.yes)
+		e.claims.judged(c, again, err, e.count)
 	}
-	return n
+}
+
+// isBehindGap says whether values in front of this one are missing. The clock must be right then, since the validator counts from it
+// until when they may live.
+func (e *Engine) isBehindGap(v group.Value) bool {
+	mark, _, err := e.validator.LogMark()
+	return err != nil || mark.Passed+1 < v.Position
+}
+
+// outcome is what becomes of a claim whose use has this fate.
+func (e *Engine) outcome(fate svid.Fate) error {
+	err := outcomes[fate]
+	if fate != svid.FateAccepted && err == nil {
+		err = fmt.Errorf("the claim has the fate %v", fate)
+	}
+	e.count(err)
+	return err
+}
+
+// outcomes are those of claims, by their fates. A first claim that is not accepted is one behind values that are missing.
+var outcomes = map[svid.Fate]error{svid.FateFirst: ErrMissed, svid.FateTooFarAhead: errEarly, svid.FateExpired: svid.Expired,
+	svid.FateWithdrawn: svid.Withdrawn, svid.FateReplayed: svid.Replayed}
+
+// count counts the outcome of a claim.
+func (e *Engine) count(err error) {
+	switch _, refused := refusalOf(err); {
+	case err == nil:
+		e.Metrics.ClaimsWon.Add(1)
+	case refused:
+		e.Metrics.ClaimsLost.Add(1)
+	default:
+		e.Metrics.ClaimsFailed.Add(1)
+	}
+}
+
+// missed takes note of values that are missing: claims that are open have no outcome, and the validator accepts nothing for a
+// while.
+func (e *Engine) missed() {
+	mark, _, err := e.validator.LogMark()
+	if err != nil {
+		e.Log.Error("gap", err)
+		return
+	}
+	e.deaf.Store(mark.Deaf)
+	e.Metrics.Gaps.Add(1)
+	e.Log.Error("gap", ErrMissed, "claims", e.claims.failAll(ErrMissed), "behind", mark.Passed, "until", mark.Deaf,
+		"why", "until then each token is answered 503, unless svidd resume lets this sidecar go on")
+}
+
+// Resume lets the engine accept tokens though values of the bucket are missing, and returns until when these may live: 0 if none
+// is missing.
+func (e *Engine) Resume() (until uint64, err error) {
+	until = e.deafUntil()
+	if err := e.validator.GoOn(); err != nil && err != svid.ErrNoLog {
+		return 0, err
+	}
+	e.deaf.Store(0)
+	if until > 0 {
+		e.Log.Event("resumed", "until", until)
+	}
+	return until, nil
+}
+
+// deafUntil is until when the engine accepts nothing, since values of the bucket are missing: 0 if it does.
+func (e *Engine) deafUntil() uint64 {
+	until := e.deaf.Load()
+	if until == 0 || until <= e.Now() {
+		return 0
+	}
+	return until
+}
+
+// errEnded: the engine has ended before a value was read.
+var errEnded = errors.New("the sidecar has ended")
+
+const (
+	readPause = 100 * time.Millisecond // before a value is read again
+	stuckSays = time.Minute            // between two lines about that
+)
+
+// pause waits before a value is read again, and says whether it is to be: not once the engine has ended.
+func (e *Engine) pause(why error) bool {
+	if now := time.Now(); now.Sub(e.stuckAt) > stuckSays {
+		e.stuckAt = now
+		e.Log.Error("log", why)
+	}
+	select {
+	case <-e.ended:
+		return false
+	case <-time.After(readPause):
+		return true
+	}
 }

@@ -1,0 +1,153 @@
+"""The calls of the system on a state folder, and what its files are called."""
+
+from __future__ import annotations
+
+import datetime
+import fcntl
+import os
+import pathlib
+import re
+import socket
+import stat
+
+from ._bundles import Path
+from .errors import Held
+
+LOCK = "lock"
+PLACE = "place"
+SNAPSHOT = "snapshot"
+FRAMES = "frames"
+"""It is there while a folder of an older svidd has no snapshot of frames yet."""
+UNFINISHED = ".new"
+_JOURNAL = re.compile(r"journal\.([1-9][0-9]{0,19})")
+_PLACE_TEXT = re.compile(rb"([0-9A-Fa-f]{32})\n?")
+_MADE = os.O_WRONLY | os.O_CREAT | os.O_EXCL
+
+
+def journal_name(number: int) -> str:
+    """The name of the journal of this number."""
+    return f"journal.{number}"
+
+
+class Folder:
+    """A folder that this process holds, with the calls of the system on it by the names of files.
+
+    Each may raise OSError.
+    """
+
+    def __init__(self, path: Path) -> None:
+        """Makes the folder where it is not there, and locks it. Raises Held."""
+        self.path = pathlib.Path(path)
+        try:
+            os.mkdir(self.path, 0o700)
+            _sync_folder(self.path.parent)
+        except FileExistsError:
+            pass
+        self._own: list[int] = []
+        try:
+            self._own.append(os.open(self.path, os.O_RDONLY | os.O_DIRECTORY))
+            self._own.append(self._held())
+        except BaseException:
+            self.close()
+            raise
+
+    def close(self) -> None:
+        """Lets go of the folder. (A lock is there until each process has closed the file.)"""
+        while self._own:
+            os.close(self._own.pop())
+
+    def journals(self) -> list[int]:
+        """The numbers of the journals, in rising order."""
+        found = (_JOURNAL.fullmatch(name) for name in os.listdir(self.path))
+        return sorted(int(it[1]) for it in found if it and int(it[1]) < 2**64)
+
+    def read(self, name: str) -> bytes:
+        """All bytes of a file."""
+        with open(_regular(self.path / name, os.O_RDONLY), "rb") as file:
+            return file.read()
+
+    def create(self, name: str) -> int:
+        """Opens a new file, in place of one that has the name."""
+        self.remove(name)
+        return os.open(self.path / name, _MADE, 0o600)
+
+    def rename(self, old: str, new: str) -> None:
+        os.rename(self.path / old, self.path / new)
+
+    def remove(self, name: str) -> None:
+        """Removes a file. One that is not there is removed."""
+        (self.path / name).unlink(missing_ok=True)
+
+    def sync(self) -> None:
+        """Forces the names of the folder to the disk."""
+        os.fsync(self._own[0])
+
+    def place(self) -> bytes | None:
+        """The place of the folder, 16 bytes; None where it has none. Raises ValueError."""
+        try:
+            text = self.read(PLACE)
+        except FileNotFoundError:
+            return None
+        found = _PLACE_TEXT.fullmatch(text)
+        if not found:
+            raise ValueError(
+                f"{self.path / PLACE} is not 32 hexadecimal digits: put back a copy: no file of "
+                "the folder can be read without it"
+            )
+        return bytes.fromhex(found[1].decode())
+
+    def make_place(self) -> bytes:
+        """Makes a place at random, and keeps it: whole or not at all."""
+        place = os.urandom(16)
+        file = self.create(PLACE + UNFINISHED)
+        try:
+            write(file, place.hex().encode() + b"\n", 0)
+            os.fdatasync(file)
+        finally:
+            os.close(file)
+        self.rename(PLACE + UNFINISHED, PLACE)
+        self.sync()
+        return place
+
+    def _held(self) -> int:
+        """The lock file, locked, with the name of this process."""
+        file = _regular(self.path / LOCK, os.O_RDWR | os.O_CREAT)
+        try:
+            fcntl.flock(file, fcntl.LOCK_EX | fcntl.LOCK_NB)
+            now = datetime.datetime.now(datetime.timezone.utc)
+            name = f"process {os.getpid()} on {socket.gethostname()} since {now:%Y-%m-%dT%H:%M:%SZ}"
+            os.ftruncate(file, 0)
+            write(file, name.encode() + b"\n", 0)
+        except BlockingIOError as error:
+            holder = os.pread(file, 200, 0).decode(errors="replace").strip()
+            os.close(file)
+            raise Held(str(self.path), holder or "another process") from error
+        except BaseException:
+            os.close(file)
+            raise
+        return file
+
+
+def write(file: int, data: bytes, at: int) -> None:
+    """Writes all of it at a place of a file."""
+    rest = memoryview(data)
+    while rest:
+        written = os.pwrite(file, rest, at)
+        rest, at = rest[written:], at + written
+
+
+def _regular(path: pathlib.Path, how: int) -> int:
+    """Opens a regular file. (To open a pipe, or to read one, may take for ever.)"""
+    file = os.open(path, how | os.O_NONBLOCK, 0o600)
+    if not stat.S_ISREG(os.fstat(file).st_mode):
+        os.close(file)
+        raise OSError(22, "Not a regular file", str(path))
+    return file
+
+
+def _sync_folder(path: pathlib.Path) -> None:
+    folder = os.open(path, os.O_RDONLY | os.O_DIRECTORY)
+    try:
+        os.fsync(folder)
+    finally:
+        os.close(folder)

@@ -1,0 +1,129 @@
+"""What the C library says of a state folder: what is due, frames, and what a file holds."""
+
+from __future__ import annotations
+
+import threading
+from collections.abc import Callable
+
+from . import _library as lib
+from ._folder import PLACE, Folder
+from .errors import Damaged, Newer, Unavailable
+
+_OLD = b"JSR"
+"""How the files of older versions begin, which are messages without frames."""
+
+
+class Numbers:
+    """`svid_folder` of the C library, given to one call at a time."""
+
+    def __init__(self, place: bytes, oldest: int, newest: int) -> None:
+        self._lock = threading.Lock()
+        self._place = place
+        self._folder = lib.Folder()
+        self._told = lib.Told()
+        self._at = lib.address(self._folder)
+        self._run(lib.library.svid_journal_open, oldest, newest)
+
+    @property
+    def newest(self) -> int:
+        """The number of the journal that grows."""
+        return self._folder.newest
+
+    @property
+    def end(self) -> int:
+        """Where the next frame goes in it."""
+        return self._folder.end
+
+    @property
+    def ended(self) -> bool:
+        """Whether a sync failed."""
+        return bool(self._folder.ended)
+
+    def begin(self) -> None:
+        self._run(lib.library.svid_journal_begin)
+
+    def due(self) -> tuple[int, int]:
+        """The call of the system that is due, and the number of its journal."""
+        due = lib.Due()
+        self._run(lib.library.svid_journal_due, lib.address(due))
+        return due.call, due.journal
+
+    def answer(self, went_well: bool) -> None:
+        self._run(lib.library.svid_journal_answer, int(went_well))
+
+    def put(self, payload: bytes) -> bytes:
+        """The frame of a payload for the journal that grows."""
+        return self._frame(lib.library.svid_journal_put, payload)
+
+    def piece(self, payload: bytes) -> bytes:
+        """The frame of the next piece of the snapshot."""
+        return self._frame(lib.library.svid_journal_piece, payload)
+
+    def synced(self) -> None:
+        self._run(lib.library.svid_journal_synced)
+
+    def unwritten(self) -> None:
+        self._run(lib.library.svid_journal_unwritten)
+
+    def failed(self) -> None:
+        self._run(lib.library.svid_journal_failed)
+
+    def _frame(self, call: Callable[..., int], payload: bytes) -> bytes:
+        room = bytearray(len(payload) + lib.FRAME_MORE)
+        lent = (self._place, payload, len(payload), lib.address(room), len(room))
+        with self._lock:
+            _judge(call(self._at, *lent, lib.address(self._told)))
+            return bytes(room[: self._told.len])
+
+    def _run(self, call: Callable[..., int], *lent: object) -> None:
+        with self._lock:
+            _judge(call(self._at, *lent))
+
+
+def _judge(status: int) -> None:
+    if status == lib.FOLDER_ENDED:
+        raise Unavailable("a sync failed: mend the disk, and start the service again")
+    if status != lib.OK:
+        raise Unavailable(lib.FOLDER_FAULTS.get(status, f"libsvid answered {status}"))
+
+
+class File:
+    """What a file of the folder holds."""
+
+    def __init__(self, folder: Folder, name: str, number: int, place: bytes | None) -> None:
+        """Reads it: a snapshot has the number 0. Raises Damaged, Newer and OSError."""
+        self.name = str(folder.path / name)
+        self.number = number
+        self.payloads: list[bytes] = []
+        content = folder.read(name)
+        status = self._read(content, bytes(16) if place is None else place)
+        if status not in (lib.FILE_END, lib.FILE_NEWER) and not self.at and content[:3] == _OLD:
+            raise ValueError(
+                f"{self.name} is of an older svidd: start a newer one in the folder once"
+            )
+        if place is None and content.strip(b"\0"):
+            raise ValueError(
+                f"the file {PLACE} is missing in {folder.path}, and {self.name} can't be read "
+                "without it: put back a copy"
+            )
+        if status == lib.FILE_DAMAGE:
+            raise Damaged(self.name, self.at)
+        self.is_torn = status == lib.FILE_TEAR
+
+    def _read(self, content: bytes, place: bytes) -> int:
+        """Reads the frames, and gives the status that ends them."""
+        reader, frame = lib.Reader(), lib.Frame()
+        lent = (lib.address(reader), lib.address(frame))
+        read = lib.library.svid_journal_read
+        while True:
+            status: int = read(place, self.number, content, len(content), *lent)
+            self.at = reader.at
+            if status != lib.OK:
+                break
+            if frame.len:
+                self.payloads.append(content[frame.payload : frame.payload + frame.len])
+        if status == lib.FILE_NEWER:
+            raise Newer(self.name, frame.format)
+        if status in (lib.FILE_END, lib.FILE_TEAR, lib.FILE_DAMAGE):
+            return status
+        raise RuntimeError(f"libsvid answered {status}, which include/svid.h does not explain")

@@ -1,0 +1,785 @@
+"""A state folder: what it keeps over restarts, kills, losses of power, and calls that fail."""
+
+import contextlib
+import errno
+import gc
+import hashlib
+import logging
+import os
+import pathlib
+import random
+import select
+import shutil
+import signal
+import struct
+import subprocess
+import sys
+import threading
+import time
+
+import pytest
+import svid
+from making import SUBJECT, fresh, validator
+from svid import _folder, _journal
+
+BEGUN = int(time.time())
+FRAME = 128  # bytes of a frame with one use
+
+
+def use(number):
+    """A use of now, by a number."""
+    return svid.Use(BEGUN + 3600, number.to_bytes(32, "big"), b"p" * 16, BEGUN)
+
+
+def append(journal, *numbers):
+    for it in numbers:
+        journal.append(use(it).message)
+
+
+def found(folder):
+    """The numbers of the uses that a start finds in a folder."""
+    with contextlib.closing(svid.Journal(folder)) as journal, validator() as checks:
+        journal.load(checks.take)
+        return {int.from_bytes(it.key, "big") for it in checks.report().uses}
+
+
+def names(folder):
+    return sorted(it.name for it in folder.iterdir())
+
+
+def until(true):
+    """Waits until something is true."""
+    end = time.monotonic() + 20
+    while not true():
+        assert time.monotonic() < end
+        time.sleep(0.001)
+
+
+def test_a_validator_goes_on_with_its_record(tmp_path):
+    used, withdrawn, other = fresh(jti="1"), fresh(jti="2"), fresh(jti="3")
+    with validator(state=tmp_path / "state") as checks:
+        assert checks.waits
+        place = checks.check(used).use.place
+        assert checks.withdraw(withdrawn).place == place
+    with validator(state=str(tmp_path / "state")) as checks:
+        with pytest.raises(svid.Replayed):
+            checks.check(used)
+        with pytest.raises(svid.Withdrawn):
+            checks.check(withdrawn)
+        accepted = checks.check(other)
+        assert (accepted.spiffe_id, accepted.use.place) == (SUBJECT, place)
+        assert len(checks.report().uses) == 3
+    assert (tmp_path / "state" / "place").read_text() == place.hex() + "\n"
+    assert not validator().waits
+
+
+def test_a_place_beside_a_folder(tmp_path):
+    with pytest.raises(ValueError):
+        validator(state=tmp_path, place=b"p" * 16)
+    with pytest.raises(ValueError):
+        validator(wait=-1)
+    with pytest.raises(FileNotFoundError):
+        validator(state=tmp_path / "none" / "state")
+
+
+def test_a_validator_that_is_not_made_lets_go_of_the_folder(tmp_path):
+    """At once, though its error refers to it."""
+    with pytest.raises(svid.BadBundles) as raised:
+        validator(b"", state=tmp_path)
+    with validator(state=tmp_path) as checks, validator() as ahead:
+        checks.check(fresh())
+        checks.take(ahead.check(fresh(jti="1"), time.time() + 9).use.message)
+        checks._journal.snapshot(checks.parts)
+    with pytest.raises(svid.TooFar) as raised_later:
+        validator(state=tmp_path, ahead=0)
+    validator(state=tmp_path).close()
+    assert raised.value and raised_later.value
+
+
+def test_the_files_of_a_folder(tmp_path):
+    """By an own writer of the format (docs/FORMATS.md)."""
+    with contextlib.closing(svid.Journal(tmp_path)) as journal:
+        assert journal.wants_snapshot
+        append(journal, 1, 2)
+        journal.snapshot(lambda: [use(1).message, use(2).message])
+        assert not journal.wants_snapshot
+        append(journal, 3)
+        place = journal.place
+    with contextlib.closing(svid.Journal(tmp_path)) as journal:
+        assert journal.place == place and not journal.torn
+    assert names(tmp_path) == ["journal.2", "journal.3", "lock", "place", "snapshot"]
+    assert (tmp_path / "place").read_bytes() == place.hex().encode() + b"\n"
+    snapshot = frames(b"svidsnp", 0, place, use(1).message, use(2).message, b"")
+    assert (tmp_path / "snapshot").read_bytes() == snapshot
+    grown = (tmp_path / "journal.2").read_bytes()
+    assert grown.rstrip(b"\0") == frames(b"svidjnl", 2, place, use(3).message, b"").rstrip(b"\0")
+    assert (tmp_path / "journal.3").read_bytes() == b""
+    assert {it.stat().st_mode & 0o777 for it in tmp_path.iterdir()} == {0o600}
+
+
+def frame(kind, number, place, count, payload, form=1):
+    numbers = struct.pack(">QI", count, form << 24 | len(payload))
+    title = kind + number.to_bytes(8, "big") + place
+    tag = hashlib.sha256(bytes([form]) + title + numbers + payload).digest()[:20]
+    return tag + numbers + payload + b"\xff" * (-len(payload) % 32)
+
+
+def frames(kind, number, place, *payloads):
+    return b"".join(frame(kind, number, place, n, it) for n, it in enumerate(payloads, 1))
+
+
+def test_a_folder_that_another_writer_wrote(tmp_path):
+    place = b"f" * 16
+    (tmp_path / "place").write_text(place.hex().upper())
+    (tmp_path / "snapshot").write_bytes(frames(b"svidsnp", 0, place, use(1).message, b""))
+    (tmp_path / "snapshot.new").write_bytes(b"unfinished")
+    (tmp_path / "place.new").write_bytes(b"unfinished")
+    for number in 9, 10:
+        text = frames(b"svidjnl", number, place, use(number).message * 2, b"", use(50).message)
+        (tmp_path / f"journal.{number}").write_bytes(text + bytes(7))
+    for name in "journal.0", "journal.010", "journal.x", f"journal.{2**64}", "other":
+        (tmp_path / name).write_bytes(b"not a journal")
+    assert found(tmp_path) == {1, 9, 10, 50}
+    assert "journal.11" in names(tmp_path) and "snapshot.new" not in names(tmp_path)
+    assert found(tmp_path) == {1, 9, 10, 50}
+    assert "place.new" not in names(tmp_path) and "journal.12" in names(tmp_path)
+
+
+def test_a_frame_of_another_file_is_none(tmp_path):
+    """A journal that is another one's, or another folder's, is not taken for this one's."""
+    place = b"f" * 16
+    (tmp_path / "place").write_text(place.hex())
+    for number, of, whose in (1, 2, place), (3, 3, b"g" * 16):
+        text = frames(b"svidjnl", of, whose, use(number).message)
+        (tmp_path / f"journal.{number}").write_bytes(text)
+    with contextlib.closing(svid.Journal(tmp_path)) as journal:
+        assert journal.torn == tuple(str(tmp_path / f"journal.{it}") for it in (1, 3))
+    assert found(tmp_path) == set()
+
+
+def test_one_process_holds_a_folder(tmp_path):
+    journal = svid.Journal(tmp_path)
+    with pytest.raises(svid.Held) as raised:
+        svid.Journal(tmp_path)
+    assert f"held by process {os.getpid()} on " in str(raised.value)
+    words = [sys.executable, "-c", "import svid, sys; svid.Journal(sys.argv[1])", tmp_path]
+    ran = subprocess.run(words, capture_output=True, check=False)
+    assert b"svid.errors.Held" in ran.stderr
+    journal.close()
+    journal.close()
+    assert subprocess.run(words, check=True).returncode == 0
+
+
+def test_a_journal_that_is_dropped_lets_go(tmp_path):
+    journal = svid.Journal(tmp_path)
+    append(journal, 1)
+    del journal
+    gc.collect()
+
+    def is_free():
+        with contextlib.suppress(svid.Held):
+            svid.Journal(tmp_path).close()
+            return True
+
+    until(is_free)
+    assert found(tmp_path) == {1}
+
+
+def test_closed(tmp_path):
+    journal = svid.Journal(tmp_path)
+    append(journal, 1)
+    journal.close()
+    for call in (
+        lambda: append(journal, 2),
+        lambda: journal.snapshot(lambda: []),
+        lambda: journal.snapshot_soon(lambda: []),
+    ):
+        with pytest.raises(svid.Closed):
+            call()
+    checks = validator(state=tmp_path)
+    checks.close()
+    checks.close()
+    with pytest.raises(svid.Closed):
+        checks.check(fresh())
+
+
+def answer(call):
+    """What a call says, or the name of its error."""
+    try:
+        return str(call())
+    except Exception as error:
+        return type(error).__name__
+
+
+def test_a_fork_does_not_go_on_with_a_journal(tmp_path):
+    """And the lock is the parent's alone: it is free once that closes the journal."""
+    journal = svid.Journal(tmp_path)
+    append(journal, 1)
+    reader, writer = os.pipe()
+    child = os.fork()
+    if child == 0:
+        try:
+            calls = [lambda: append(journal, 2), lambda: journal.snapshot(list), journal.close]
+            os.write(writer, " ".join(map(answer, calls)).encode())
+            signal.pause()
+        finally:
+            os._exit(1)
+    try:
+        assert os.read(reader, 100) == b"Forked Forked None"
+        append(journal, 3)
+        journal.close()
+        assert found(tmp_path) == {1, 3}
+    finally:
+        os.kill(child, signal.SIGKILL)
+        os.waitpid(child, 0)
+        os.close(reader)
+        os.close(writer)
+
+
+def test_a_new_process_does_not_hold_the_folder(tmp_path):
+    """Nor one that this process starts."""
+    journal = svid.Journal(tmp_path)
+    with subprocess.Popen(["sleep", "60"]) as other:
+        journal.close()
+        svid.Journal(tmp_path).close()
+        other.kill()
+
+
+def test_messages_are_bytes_of_some_length(tmp_path):
+    with contextlib.closing(svid.Journal(tmp_path)) as journal:
+        with pytest.raises(ValueError):
+            journal.append(bytes(16_777_216))
+        journal.append(bytearray(use(1).message))
+        journal.append(memoryview(use(2).message * 200_000), wait=60)
+        journal.append(b"")
+        append(journal, 3)
+    assert found(tmp_path) == {1, 2, 3}
+
+
+# -- Threads, and the time that a disk takes
+
+
+@pytest.fixture
+def slow(monkeypatch):
+    """A disk whose syncs of files wait for `go`, or 5 seconds; `syncs` has how many came."""
+
+    class Slow:
+        syncs = 0
+        go = threading.Event()
+
+    real = os.fdatasync
+
+    def fdatasync(file):
+        slow.syncs += 1
+        slow.go.wait(5)
+        real(file)
+
+    slow = Slow()
+    monkeypatch.setattr(os, "fdatasync", fdatasync)
+    yield slow
+    slow.go.set()
+
+
+def waiting(journal):
+    """How many messages wait for the next write."""
+    commit = journal._keeper._commit
+    return len(commit.parts) if commit else 0
+
+
+def test_threads_share_a_sync(tmp_path, slow):
+    with contextlib.closing(opened(tmp_path, slow)) as journal:
+        threads = [threading.Thread(target=append, args=(journal, it)) for it in range(9)]
+        threads[0].start()
+        try:
+            until(lambda: slow.syncs == 1)
+            for it in threads[1:]:
+                it.start()
+            until(lambda: waiting(journal) == 8)
+        finally:
+            slow.go.set()
+        for it in threads:
+            it.join()
+        assert slow.syncs == 2
+    assert found(tmp_path) == set(range(9))
+
+
+def opened(folder, slow):
+    """A journal whose syncs wait from now on."""
+    slow.go.set()
+    journal = svid.Journal(folder)
+    slow.go.clear()
+    slow.syncs = 0
+    return journal
+
+
+def test_an_append_waits_no_longer_than_it_wants(tmp_path, slow):
+    with contextlib.closing(opened(tmp_path, slow)) as journal:
+        for _ in range(2):
+            begun = time.monotonic()
+            with pytest.raises(svid.Unavailable, match="in time"):
+                journal.append(use(1).message, wait=0.05)
+            assert time.monotonic() - begun < 30
+        slow.go.set()
+        append(journal, 2)
+    assert found(tmp_path) == {1, 2}
+
+
+def test_a_disk_that_does_not_answer_holds_so_much(tmp_path, slow):
+    with contextlib.closing(opened(tmp_path, slow)) as journal:
+        for _ in range(2):
+            with pytest.raises(svid.Unavailable, match="in time"):
+                journal.append(use(1).message * 200_000, wait=0.05)
+            until(lambda: slow.syncs == 1)
+        with pytest.raises(svid.Unavailable, match="too much"):
+            journal.append(use(1).message * 200_000)
+        slow.go.set()
+
+
+def test_a_check_waits_for_the_disk(tmp_path, slow):
+    """And its token is used up where the disk does not answer in time."""
+    slow.go.set()
+    with validator(state=tmp_path, wait=0.05) as checks:
+        slow.go.clear()
+        one, two = fresh(jti="1"), fresh(jti="2")
+        for call in checks.check, checks.withdraw:
+            with pytest.raises(svid.Unavailable):
+                call(one if call == checks.check else two)
+        with pytest.raises(svid.Replayed):
+            checks.check(one)
+        with pytest.raises(svid.Withdrawn):
+            checks.check(two)
+        slow.go.set()
+
+
+def test_a_mark_stands_behind_a_burst(tmp_path, monkeypatch):
+    """Once nobody has appended for a while; and behind a journal that is closed."""
+    monkeypatch.setattr(_journal, "_QUIET", 0.01)
+    with contextlib.closing(svid.Journal(tmp_path)) as journal:
+        append(journal, 1)
+        end = (tmp_path / "journal.1").read_bytes().rstrip(b"\0")
+        whole = frames(b"svidjnl", 1, journal.place, use(1).message, b"").rstrip(b"\0")
+        until(lambda: (tmp_path / "journal.1").read_bytes().rstrip(b"\0") == whole)
+        assert end in (whole, whole[: len(end)])
+
+
+# -- Snapshots
+
+
+def test_a_long_journal_becomes_a_snapshot(tmp_path, monkeypatch):
+    monkeypatch.setattr(_journal, "_SMALL", 1000)
+    tokens = [fresh(jti=str(it)) for it in range(40)]
+    with validator(state=tmp_path) as checks:
+        before = checks._journal._keeper._numbers.newest
+        for it in tokens:
+            checks.check(it)
+        until(lambda: checks._journal._keeper._numbers.newest > before)
+        until(lambda: len([it for it in names(tmp_path) if it.startswith("journal")]) == 1)
+        assert (tmp_path / "snapshot").stat().st_size > 400
+    with validator(state=tmp_path) as checks:
+        for it in tokens:
+            with pytest.raises(svid.Replayed):
+                checks.check(it)
+
+
+def test_starts_do_not_fill_the_folder(tmp_path):
+    for number in range(20):
+        with validator(state=tmp_path) as checks:
+            checks.check(fresh(jti=str(number)))
+    assert len([it for it in names(tmp_path) if it.startswith("journal")]) <= 9
+    with validator(state=tmp_path) as checks:
+        assert len(checks.report().uses) == 20
+
+
+def test_a_snapshot_that_fails_is_told_and_loses_nothing(tmp_path, monkeypatch, caplog):
+    def fails():
+        yield use(1).message
+        raise OSError(errno.EIO, "no disk")
+
+    with contextlib.closing(svid.Journal(tmp_path)) as journal:
+        append(journal, 1)
+        with pytest.raises(OSError, match="no disk"):
+            journal.snapshot(fails)
+        assert "snapshot.new" not in names(tmp_path)
+        append(journal, 2)
+        assert not journal.wants_snapshot  # for a minute
+        with caplog.at_level(logging.WARNING, "svid"):
+            journal.snapshot_soon(fails)
+            until(lambda: caplog.records)
+        append(journal, 3)
+    assert found(tmp_path) == {1, 2, 3}
+
+
+def test_an_empty_part_does_not_end_a_snapshot(tmp_path):
+    with contextlib.closing(svid.Journal(tmp_path)) as journal:
+        append(journal, 1, 2)
+        journal.snapshot(lambda: [b"", use(1).message, b"", use(2).message])
+    assert found(tmp_path) == {1, 2}
+
+
+def test_appends_go_on_while_a_snapshot_is_written(tmp_path):
+    with contextlib.closing(svid.Journal(tmp_path)) as journal:
+        append(journal, 1)
+
+        def parts():
+            append(journal, 2)
+            yield use(1).message
+            append(journal, 3)
+
+        journal.snapshot(parts)
+        append(journal, 4)
+        assert names(tmp_path) == ["journal.2", "lock", "place", "snapshot"]
+    assert found(tmp_path) == {1, 2, 3, 4}
+
+
+# -- Kills, tears, damage
+
+
+WORKER = """
+import sys, threading, svid
+from making import bundle, fresh
+from svid import _journal
+_journal._SMALL = 2000
+checks = svid.Validator(
+    audiences="ledger",
+    bundles=bundle({"kty": "EC", "use": "jwt-svid", "kid": "k1"}),
+    verifies=lambda *_: True,
+    state=sys.argv[1],
+    wait=60,
+)
+lock = threading.Lock()
+def work(which):
+    for number in range(100_000):
+        text = fresh(jti=f"{sys.argv[2]} {which} {number}")
+        checks.check(text)
+        with lock:
+            sys.stdout.write(text + "\\n")
+            sys.stdout.flush()
+for which in range(3):
+    threading.Thread(target=work, args=(which,)).start()
+"""
+
+
+def test_a_kill_at_any_time_loses_no_acceptance(tmp_path):
+    """The worker also replaces its snapshot all the while, and begins anew each time."""
+    told, state, chance = [], tmp_path / "state", random.Random(7)
+    environment = {**os.environ, "PYTHONPATH": os.pathsep.join(sys.path)}
+    for turn in range(12):
+        words = [sys.executable, "-c", WORKER, state, str(turn)]
+        with subprocess.Popen(words, env=environment, stdout=subprocess.PIPE) as ran:
+            first = ran.stdout.readline()  # (it is there: a kill while Python starts shows nothing)
+            assert first
+            time.sleep(chance.uniform(0, 0.15))
+            ran.kill()
+            rest = first + ran.stdout.read()
+        told += rest[: rest.rindex(b"\n")].decode().split("\n")
+    assert len(told) > 100
+    with validator(state=state, verifies=lambda *_: True) as checks:
+        for it in told:
+            with pytest.raises(svid.Replayed):
+                checks.check(it)
+
+
+def crashed(folder, to):
+    """A copy of the folder as it is."""
+    shutil.copytree(folder, to)
+    return to
+
+
+def test_a_write_that_was_torn_anywhere(tmp_path):
+    with contextlib.closing(svid.Journal(tmp_path / "state")) as journal:
+        append(journal, 1, 2, 3)
+        text = (tmp_path / "state" / "journal.1").read_bytes()
+        begin, end = 2 * FRAME, 3 * FRAME
+        uses = (use(it).message for it in (1, 2, 3))
+        assert text[:end] == frames(b"svidjnl", 1, journal.place, *uses)
+        for cut in range(begin, end, 3):
+            garbled = bytes([text[cut] ^ 1]) + text[cut + 1 : end]
+            for rest in b"", bytes(end - cut) + text[end:], garbled:
+                folder = crashed(tmp_path / "state", tmp_path / "crashed")
+                (folder / "journal.1").write_bytes(text[:cut] + rest)
+                with contextlib.closing(svid.Journal(folder)) as other, validator() as checks:
+                    other.load(checks.take)
+                    assert {it.key[31] for it in checks.report().uses} == {1, 2}
+                    is_blank = not (text[:cut] + rest)[begin:].strip(b"\0")
+                    assert other.torn == (() if is_blank else (str(folder / "journal.1"),))
+                shutil.rmtree(folder)
+
+
+def test_each_changed_bit_is_found_and_named(tmp_path):
+    """Up to the last mark, since nothing stands behind that."""
+    with contextlib.closing(svid.Journal(tmp_path / "state")) as journal:
+        append(journal, 1)
+        journal.snapshot(lambda: [use(1).message])
+        append(journal, 2, 3)
+    chance = random.Random(7)
+    for name, uses in ("snapshot", 1), ("journal.2", 2):
+        text = (tmp_path / "state" / name).read_bytes()
+        for at in range(uses * FRAME):
+            folder = crashed(tmp_path / "state", tmp_path / "crashed")
+            bad = bytearray(text)
+            bad[at] ^= 1 << chance.randrange(8)
+            (folder / name).write_bytes(bad)
+            with pytest.raises(svid.Damaged) as raised:
+                svid.Journal(folder)
+            assert raised.value.file == str(folder / name)
+            assert raised.value.place == at // FRAME * FRAME
+            assert f"{folder / name} is damaged at byte {raised.value.place}" in str(raised.value)
+            shutil.rmtree(folder)
+
+
+def test_a_folder_of_a_newer_version(tmp_path):
+    place = b"f" * 16
+    (tmp_path / "place").write_text(place.hex())
+    (tmp_path / "journal.3").write_bytes(frame(b"svidjnl", 3, place, 1, use(1).message, 2))
+    with pytest.raises(svid.Newer) as raised:
+        svid.Journal(tmp_path)
+    assert (raised.value.file, raised.value.format) == (str(tmp_path / "journal.3"), 2)
+    assert "has format 2" in str(raised.value)
+
+
+def test_a_folder_of_an_older_version(tmp_path):
+    """Its files are messages: they must not be taken for a write that was torn."""
+    for name in "journal.1", "snapshot":
+        (tmp_path / name).write_bytes(use(1).message)
+        with pytest.raises(ValueError, match="older svidd"):
+            svid.Journal(tmp_path)
+        (tmp_path / name).unlink()
+    (tmp_path / "frames.new").write_text("7")
+    svid.Journal(tmp_path).close()
+    assert "frames.new" not in names(tmp_path)
+    (tmp_path / "frames").write_text("7\n")
+    with pytest.raises(ValueError, match="older svidd"):
+        svid.Journal(tmp_path)
+
+
+def test_a_place_that_is_lost_or_bad(tmp_path):
+    with contextlib.closing(svid.Journal(tmp_path)) as journal:
+        append(journal, 1)
+    for bad in "", "abc", "z" * 32, " " + journal.place.hex(), journal.place.hex() + "\n\n":
+        (tmp_path / "place").write_text(bad)
+        with pytest.raises(ValueError, match="32 hexadecimal digits"):
+            svid.Journal(tmp_path)
+    (tmp_path / "place").unlink()
+    for _ in range(2):  # (each time it lets go of the folder)
+        with pytest.raises(ValueError, match="place is missing"):
+            svid.Journal(tmp_path)
+    assert "place" not in names(tmp_path)
+
+
+def test_files_that_are_none(tmp_path):
+    for name in "lock", "place", "snapshot", "journal.1":
+        os.mkfifo(tmp_path / name)
+        with pytest.raises(OSError, match=f"Not a regular file.*{name}|No such device.*{name}"):
+            svid.Journal(tmp_path)
+        (tmp_path / name).unlink()
+
+
+# -- A disk, call by call
+
+
+class Disk:
+    """The calls of the system that change a disk, as `os` of the modules under test.
+
+    Before each of them `before` is called with its number. It knows what the disk surely has: the
+    bytes of each file at its last sync, and the names at the last sync of the folder.
+    """
+
+    def __init__(self, folder, before):
+        self._folder, self._before, self.calls = folder, before, 0
+        self._synced, self.sure = {}, {}  # by inode: bytes; by name: inode
+
+    def __getattr__(self, name):
+        return getattr(os, name)
+
+    def _call(self, name, *given, **more):
+        self._before(self.calls, name)
+        self.calls += 1
+        return getattr(os, name)(*given, **more)
+
+    def open(self, path, how, *mode):
+        if how & os.O_CREAT:
+            return self._call("open", path, how, *mode)
+        return os.open(path, how, *mode)
+
+    def pwrite(self, *given):
+        return self._call("pwrite", *given)
+
+    def rename(self, *given):
+        return self._call("rename", *given)
+
+    def unlink(self, *given):
+        return self._call("unlink", *given)
+
+    def fdatasync(self, file):
+        self._call("fdatasync", file)
+        path = f"/proc/self/fd/{file}"
+        self._synced[os.stat(path).st_ino] = pathlib.Path(path).read_bytes()
+
+    def fsync(self, file):
+        self._call("fsync", file)
+        self.sure = {it.name: it.stat().st_ino for it in self._folder.iterdir()}
+
+    def lost(self, to):
+        """A folder with what a loss of power surely leaves."""
+        to.mkdir()
+        for name, inode in self.sure.items():
+            if name != "lock":
+                (to / name).write_bytes(self._synced.get(inode, b""))
+        return to
+
+
+def run(folder, kept):
+    """What a process does with a folder. `kept` gains each number that it is told to be kept."""
+    try:
+        journal = svid.Journal(folder)
+    except OSError:
+        return
+    try:
+        for number in range(8):
+            if number in (2, 5):
+                with contextlib.suppress(OSError, svid.Unavailable):
+                    have = sorted(kept)
+                    journal.snapshot(lambda: [use(it).message for it in have])
+            with contextlib.suppress(svid.Unavailable):
+                append(journal, number)
+                kept.add(number)
+    finally:
+        journal.close()
+
+
+@pytest.fixture
+def disk(tmp_path, monkeypatch):
+    """Makes a disk under the folder `state`."""
+
+    def made(before):
+        (tmp_path / "state").mkdir()
+        it = Disk(tmp_path / "state", before)
+        monkeypatch.setattr(_folder, "os", it)
+        monkeypatch.setattr(_journal, "os", it)
+        monkeypatch.setattr(pathlib.Path, "unlink", unlink(it))
+        return it
+
+    return made
+
+
+def unlink(disk):
+    def work(path, missing_ok=False):
+        try:
+            disk.unlink(path)
+        except FileNotFoundError:
+            if not missing_ok:
+                raise
+
+    return work
+
+
+def test_a_loss_of_power_at_each_call_loses_no_acceptance(tmp_path, disk, monkeypatch):
+    """Of what no sync came behind nothing is there, and of the rest all; or all is there."""
+    kept, outcomes = set(), []
+
+    def before(number, name):
+        outcomes.append((number, set(kept)))
+        made.lost(tmp_path / f"lost {number}")
+        crashed(tmp_path / "state", tmp_path / f"killed {number}")
+
+    made = disk(before)
+    run(tmp_path / "state", kept)
+    assert len(outcomes) > 40 and kept == set(range(8))
+    monkeypatch.undo()
+    for number, due in outcomes:
+        for folder in tmp_path / f"lost {number}", tmp_path / f"killed {number}":
+            for _ in range(2):
+                assert due <= found(folder) <= set(range(8)), folder
+
+
+def test_each_call_that_fails_loses_no_acceptance(tmp_path, disk, monkeypatch):
+    failing, end = 0, False
+    while not end:
+        kept, count = set(), 0
+
+        def before(number, name):
+            nonlocal count
+            count += 1
+            if number == failing:
+                raise OSError(errno.EIO, f"{name} fails")
+
+        disk(before)
+        run(tmp_path / "state", kept)
+        end = count <= failing
+        monkeypatch.undo()
+        assert kept <= found(tmp_path / "state"), failing
+        shutil.rmtree(tmp_path / "state")
+        failing += 1
+    assert failing > 40
+
+
+def test_nothing_is_kept_behind_a_sync_that_failed(tmp_path, monkeypatch):
+    with contextlib.closing(svid.Journal(tmp_path)) as journal:
+        append(journal, 1)
+        real, fails = os.fdatasync, [True]
+
+        def fdatasync(file):
+            if fails.pop() if fails else False:
+                raise OSError(errno.EIO, "no disk")
+            real(file)
+
+        monkeypatch.setattr(os, "fdatasync", fdatasync)
+        with pytest.raises(svid.Unavailable, match="no disk"):
+            append(journal, 2)
+        for _ in range(2):
+            with pytest.raises(svid.Unavailable, match="start the service again"):
+                append(journal, 3)
+            with pytest.raises(svid.Unavailable, match="start the service again"):
+                journal.snapshot(lambda: [use(1).message])
+    assert {1} <= found(tmp_path) <= {1, 2}
+
+
+def test_a_full_disk_is_a_passing_fault(tmp_path):
+    """By a limit of the process on the length of a file."""
+    text = """
+import resource, sys, svid
+from test_journal import append
+journal = svid.Journal(sys.argv[1])
+number = 0
+for most in 1000, 1500, resource.RLIM_INFINITY:
+    resource.setrlimit(resource.RLIMIT_FSIZE, (most, resource.RLIM_INFINITY))
+    try:
+        while number < 40:
+            append(journal, number)
+            print(number)
+            number += 1
+    except svid.Unavailable as why:
+        print("full at", number, "File too large" in str(why))
+        number += 1
+"""
+    environment = {
+        **os.environ,
+        "PYTHONPATH": os.pathsep.join([*sys.path, os.path.dirname(__file__)]),
+    }
+    words = [sys.executable, "-c", text, tmp_path]
+    ran = subprocess.run(words, env=environment, capture_output=True, timeout=60, check=True)
+    said = ran.stdout.decode().splitlines()
+    kept = [*range(7), *range(8, 12), *range(13, 40)]
+    full = ["full at 7 True", "full at 12 True"]
+    assert said == [
+        *map(str, kept[:7]),
+        full[0],
+        *map(str, kept[7:11]),
+        full[1],
+        *map(str, kept[11:]),
+    ]
+    assert set(kept) <= found(tmp_path)
+
+
+def test_a_killed_process_is_let_in_at_once(tmp_path):
+    """Its lock goes with it, however it ended."""
+    text = (
+        "import svid, sys, time; j = svid.Journal(sys.argv[1]); print(flush=True); time.sleep(60)"
+    )
+    with subprocess.Popen([sys.executable, "-c", text, tmp_path], stdout=subprocess.PIPE) as ran:
+        assert select.select([ran.stdout], [], [], 60)[0]
+        with pytest.raises(svid.Held):
+            svid.Journal(tmp_path)
+        ran.kill()
+        ran.wait()
+        svid.Journal(tmp_path).close()

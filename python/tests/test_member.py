@@ -1,0 +1,806 @@
+"""Members of a group that read one log: each token is accepted once in all, and nobody waits."""
+
+import asyncio
+import collections
+import contextlib
+import logging
+import os
+import random
+import signal
+import subprocess
+import sys
+import threading
+import time
+import types
+
+import pytest
+import svid
+from logs import FileLog, MemoryLog
+from making import bundle, entry, fresh, private_key
+from svid.asgi import SvidMiddleware
+from svid.records import batches
+
+LONGEST = 3600
+KNOWN = bundle(entry(private_key("ES256"), "k1"))
+
+
+def member(log, **terms):
+    given = {"audiences": "ledger", "bundles": KNOWN, "longest": LONGEST, "wait": 30}
+    return svid.Member(log=log, **{**given, **terms})
+
+
+def verdict(checks, token):
+    try:
+        return checks.check(token).use
+    except svid.Error as why:
+        return type(why).__name__
+
+
+def until(true):
+    """Waits until something is true."""
+    end = time.monotonic() + 30
+    while not true():
+        assert time.monotonic() < end
+        time.sleep(0.001)
+
+
+def in_thread(work, *given):
+    """Begins work in a thread. Calling the answer waits for what the work says."""
+    said = []
+    thread = threading.Thread(target=lambda: said.append(work(*given)), daemon=True)
+    thread.start()
+
+    def end():
+        thread.join(30)
+        assert said, "it waits"
+        return said[0]
+
+    return end
+
+
+def other_use(use, **changed):
+    """The use of another member, which claims the same token."""
+    given = {"expires": use.expires, "key": use.key, "place": b"o" * 16, "at": use.at}
+    return svid.Use(**{**given, **changed})
+
+
+def waiting(checks):
+    """How many claims wait for the next value."""
+    return len(checks._puts)
+
+
+@pytest.fixture
+def log():
+    return MemoryLog()
+
+
+def test_a_token_is_accepted_once_in_the_group(log):
+    with member(log) as a, member(log) as b:
+        assert a.waits
+        for it in range(20):
+            made = fresh(jti=str(it))
+            first, second = (a, b) if it % 2 else (b, a)
+            accepted = first.check(made)
+            assert accepted.spiffe_id == "spiffe://example.org/billing/api"
+            assert verdict(second, made) == verdict(first, made) == "Replayed"
+        for checks in a, b:
+            until(lambda: checks.is_ready)
+            assert len(checks.report().uses) == 20 and checks.report().twice == {}
+            assert checks.deaf_until == 0
+        assert len(log.values) >= 20
+
+
+def test_of_members_that_claim_at_once_one_accepts(log):
+    with contextlib.ExitStack() as stack:
+        members = [stack.enter_context(member(log)) for _ in range(4)]
+        for it in range(10):
+            made = fresh(jti=str(it))
+            log.hold()
+            answers = [in_thread(verdict, checks, made) for checks in members]
+            until(lambda: len(log.values) == 4 * (it + 1))
+            log.go()
+            said = [it() for it in answers]
+            assert said.count("Replayed") == 3
+            [use] = [it for it in said if it != "Replayed"]
+            first = log.values[4 * it]
+            assert first == use.message  # the first claim in the log
+
+
+def test_threads_of_one_member_share_a_claim(log):
+    with member(log) as checks:
+        made = fresh()
+        log.hold()
+        answers = [in_thread(verdict, checks, made) for _ in range(8)]
+        until(lambda: len(log.values) == 1)
+        log.go()
+        said = [it() for it in answers]
+        assert said.count("Replayed") == 7 and len(log.values) == 1
+
+
+def test_claims_that_come_together_share_a_value(log):
+    class Slow(MemoryLog):
+        def append(self, value):
+            assert go.wait(60)
+            super().append(value)
+
+    log, go = Slow(), threading.Event()
+    with member(log) as checks:
+        answers = [in_thread(verdict, checks, fresh(jti="first"))]
+        until(lambda: checks._open and not waiting(checks))
+        answers += [in_thread(verdict, checks, fresh(jti=str(it))) for it in range(9)]
+        until(lambda: waiting(checks) == 9)
+        go.set()
+        assert all(isinstance(it(), svid.Use) for it in answers)
+        assert len(log.values) == 2
+
+
+def test_a_value_has_so_many_uses(log, monkeypatch):
+    monkeypatch.setattr(svid._member, "_MOST_TOGETHER", 4)
+
+    class Slow(MemoryLog):
+        def append(self, value):
+            assert go.wait(60)
+            super().append(value)
+
+    log, go = Slow(), threading.Event()
+    with member(log) as checks:
+        answers = [in_thread(verdict, checks, fresh(jti=str(it))) for it in range(9)]
+        until(lambda: len(checks._open) == 9)
+        go.set()
+        assert all(isinstance(it(), svid.Use) for it in answers)
+        assert 3 <= len(log.values) <= 4
+        assert max(map(len, log.values)) <= 2 * 17 + 4 * 65
+
+
+def test_uses_as_messages():
+    """Those of one moment are one batch, in which they rise."""
+    uses = [svid.Use(9, bytes([key]) * 32, bytes(16), at) for key, at in ((2, 1), (3, 2), (1, 1))]
+    with svid.Validator(audiences="a", bundles=b"{}") as checks:
+        assert len(batches(uses)) == 2 * 17 + 3 * 65 and batches([]) == b""
+        checks.take(batches(uses), 5)
+        assert set(checks.report().uses) == set(uses)
+
+
+# -- What stands in the log
+
+
+def test_a_value_that_is_stored_twice(log):
+    class Twice(MemoryLog):
+        def append(self, value):
+            super().append(value)
+            super().append(value)
+
+    with member(Twice()) as a:
+        made = fresh()
+        assert isinstance(verdict(a, made), svid.Use)
+        assert verdict(a, made) == "Replayed"
+
+
+def test_an_answer_of_the_log_that_is_lost(log):
+    class Lossy(MemoryLog):
+        faults = 2
+
+        def append(self, value):
+            super().append(value)
+            self.faults -= 1
+            if self.faults >= 0:
+                raise ConnectionError("lost")
+
+    log = Lossy()
+    with member(log) as checks:
+        made = fresh()
+        assert isinstance(verdict(checks, made), svid.Use)
+        until(lambda: len(log.values) == 3)
+        assert verdict(checks, made) == "Replayed"
+        assert len(checks.report().uses) == 1
+
+
+def test_a_log_that_takes_nothing(log, caplog):
+    class Full(MemoryLog):
+        def append(self, value):
+            raise OSError("full")
+
+    with member(Full(), wait=0.2) as checks, caplog.at_level(logging.WARNING, "svid"):
+        assert verdict(checks, fresh(jti="1")) == "Unavailable"
+        with pytest.raises(svid.Unavailable):
+            checks.withdraw(fresh(jti="2"))
+    assert [it.getMessage() for it in caplog.records] == ["the log takes no value: full"]
+
+
+def test_a_log_that_can_not_be_read_for_a_while(log, caplog):
+    class Away(MemoryLog):
+        is_away = True
+
+        def read(self, after, wait):
+            if self.is_away:
+                raise ConnectionError("away")
+            return super().read(after, wait)
+
+    log = Away()
+    with caplog.at_level(logging.WARNING, "svid"), member(log, wait=0.2) as checks:
+        made = fresh()
+        assert verdict(checks, made) == "Unavailable"
+        log.is_away = False
+        until(lambda: checks.report().uses)
+        assert verdict(checks, made) == "Replayed"  # it is used up
+        assert isinstance(verdict(checks, fresh(jti="2")), svid.Use)
+    assert "the log can't be read: away" in caplog.messages
+
+
+def test_a_check_waits_no_longer_than_it_may(log):
+    with member(log, wait=0.2) as checks:
+        made = fresh()
+        log.hold()
+        assert in_thread(verdict, checks, made)() == "Unavailable"
+        log.go()
+        until(lambda: checks.report().uses)
+        assert verdict(checks, made) == "Replayed"
+
+
+def test_a_second_request_waits_no_longer_than_it_may(log):
+    """Though the first one waits for longer."""
+    with member(log, wait=60) as checks:
+        made = fresh()
+        log.hold()
+        first = in_thread(verdict, checks, made)
+        until(lambda: len(log.values) == 1)
+        checks._wait = 0.2
+        assert in_thread(verdict, checks, made)() == "Unavailable"
+        log.go()
+        assert isinstance(first(), svid.Use)
+
+
+def test_a_claim_that_was_given_up_is_not_sent(log):
+    class Slow(MemoryLog):
+        def append(self, value):
+            assert go.wait(60)
+            super().append(value)
+
+    log, go = Slow(), threading.Event()
+    with member(log, wait=0.2) as checks:
+        answers = [in_thread(verdict, checks, fresh(jti="1"))]
+        until(lambda: checks._open and not waiting(checks))
+        second = fresh(jti="2")
+        answers.append(in_thread(verdict, checks, second))
+        assert [it() for it in answers] == ["Unavailable"] * 2
+        go.set()
+        assert isinstance(verdict(checks, second), svid.Use)
+
+
+NOW = int(time.time())
+
+
+@pytest.mark.parametrize(
+    "change, said",
+    [
+        ({}, "Replayed"),
+        ({"withdrawn": True}, "Withdrawn"),
+        (
+            {"at": NOW + 1000, "expires": NOW + 9999},
+            "Replayed",
+        ),  # too far ahead: a claim all the same
+        ({"at": NOW - 10, "expires": NOW - 5}, None),  # expired
+    ],
+)
+def test_what_stands_in_front_of_a_claim(log, change, said):
+    with member(log) as checks:
+        made = fresh()
+        use = checks.judge(made).use
+        log.hold()
+        log.append(other_use(use, **change).message)
+        answer = in_thread(verdict, checks, made)
+        until(lambda: len(log.values) == 2)
+        log.go()
+        assert answer() == (said or use)
+
+
+def test_a_claim_in_the_name_of_this_member(log):
+    """Whoever can write to the log can burn a token, and lets nobody in twice."""
+    with member(log) as checks:
+        made = fresh()
+        log.append(checks.judge(made).use.message)
+        until(lambda: checks.report().uses)
+        assert verdict(checks, made) == "Replayed"
+
+
+def test_a_claim_that_is_in_the_log_before_its_own_value(log):
+    """The first of the two ends the request, and the other one nobody."""
+
+    class Early(MemoryLog):
+        def append(self, value):
+            super().append(value)
+            super().append(value[:4] + b"\x07")
+            super().append(value)
+
+    log = Early()
+    with member(log) as checks:
+        assert isinstance(verdict(checks, fresh()), svid.Use)
+        until(lambda: checks._position == len(log.values))
+        assert len(checks.report().uses) == 1
+
+
+@pytest.mark.parametrize(
+    "value",
+    [
+        b"",
+        b"no messages",
+        b"JSR\x02\x01",
+        b"JSR\x03\x01" + bytes(12),
+        b"JSR\x02\x07",
+        bytes(70_000),
+    ],
+)
+def test_a_value_that_is_no_messages(log, value, caplog):
+    with member(log) as a, member(log) as b, caplog.at_level(logging.WARNING, "svid"):
+        made = fresh()
+        log.append(value)
+        assert isinstance(verdict(a, made), svid.Use)
+        until(lambda: b._position == len(log.values) == 2)
+        assert verdict(b, made) == "Replayed"
+    assert bool(caplog.messages) == bool(value)
+
+
+def test_many_uses_in_a_value(log):
+    """More than are read at once; the last one is a claim of this member."""
+    with member(log) as checks:
+        made = fresh()
+        use = checks.judge(made).use
+        rest = [other_use(use, key=bytes([it, 0]) + bytes(30)) for it in range(200)]
+        log.hold()
+        answer = in_thread(verdict, checks, made)
+        until(lambda: len(log.values) == 1)
+        log.values[0] = b"".join(it.message for it in [*rest, use])
+        log.go()
+        assert answer() == use
+        assert len(checks.report().uses) == 201
+
+
+# -- Starts, gaps, other logs
+
+
+def test_a_member_that_comes_late_reads_all(log):
+    tokens = [fresh(jti=str(it)) for it in range(50)]
+    with member(log) as checks:
+        for it in tokens:
+            checks.check(it)
+        checks.withdraw(fresh(jti="withdrawn"))
+    log.hold()
+    log.held = 0
+    with member(log, wait=0.1) as late:
+        assert not late.is_ready
+        log.go()
+        until(lambda: late.is_ready)
+        for it in tokens:
+            assert verdict(late, it) == "Replayed"
+        assert verdict(late, fresh(jti="withdrawn")) == "Withdrawn"
+
+
+def test_a_claim_of_an_earlier_life_is_not_accepted(log):
+    """Of the same place: a process that ended behind its claim answered nobody."""
+    with member(log, place=b"p" * 16) as checks:
+        made = fresh()
+        use = checks.judge(made).use
+    log.append(use.message)
+    with member(log, place=b"p" * 16) as again:
+        until(lambda: again.is_ready)
+        assert verdict(again, made) == "Replayed"
+
+
+def test_a_claim_that_an_earlier_life_may_have_accepted(log):
+    """It has the place, the time and the token of a new one, and lets nobody in."""
+    now = int(time.time())
+    with member(log, place=b"p" * 16) as checks:
+        made = fresh()
+        use = checks.check(made, now).use
+    log.held = 0
+    with member(log, place=b"p" * 16) as again:
+        answer = in_thread(said_by, again, made, now)
+        until(lambda: log.values[1:] == [use.message])
+        log.go()
+        assert answer() == "Unavailable"
+        assert verdict(again, made) == "Replayed"
+
+
+def test_a_claim_that_has_not_gone_out_is_not_accepted(log):
+    """Though its very use is in the log: that is not this request's."""
+
+    class Slow(MemoryLog):
+        def append(self, value):
+            assert go.wait(60)
+            super().append(value)
+
+    log, go = Slow(), threading.Event()
+    with member(log) as checks:
+        first = in_thread(verdict, checks, fresh(jti="1"))
+        until(lambda: checks._open and not waiting(checks))
+        second = in_thread(verdict, checks, fresh(jti="2"))
+        until(lambda: waiting(checks) == 1)
+        MemoryLog.append(log, checks._puts[0].use.message)
+        until(lambda: checks.report().uses)
+        go.set()
+        assert isinstance(first(), svid.Use) and second() == "Replayed"
+
+
+def test_a_claim_behind_missing_values_is_not_accepted(log):
+    """A request may have judged its token just before they were missed."""
+    with member(log) as checks:
+        log.hold()
+        for _ in range(2):
+            log.append(b"")
+        log.remove(1)
+        log.go()
+        until(lambda: checks.deaf_until)
+        checks._deaf = 0
+        assert verdict(checks, fresh()) == "Unavailable"
+        assert len(log.values) == 2
+
+
+def test_values_that_are_removed_before_they_are_read(log, caplog):
+    with member(log) as checks, caplog.at_level(logging.WARNING, "svid"):
+        log.hold()
+        answer = in_thread(verdict, checks, fresh(jti="1"))
+        until(lambda: len(log.values) == 1)
+        log.remove(1)
+        log.append(svid.Use(int(time.time()) + 9, b"k" * 32, b"o" * 16, int(time.time())).message)
+        begun = int(time.time())
+        log.go()
+        assert answer() == "Unavailable"
+        assert begun + LONGEST + 20 <= checks.deaf_until <= int(time.time()) + LONGEST + 20
+        assert not checks.is_ready
+        count = len(log.values)
+        assert verdict(checks, fresh(jti="2")) == "Unavailable"
+        assert len(log.values) == count  # (no claim: it would only burn the token)
+        checks.go_on()
+        assert checks.deaf_until == 0 and checks.is_ready
+        assert isinstance(verdict(checks, fresh(jti="2")), svid.Use)
+    assert any("values of the log are missing" in it for it in caplog.messages)
+
+
+def test_old_values_that_are_gone_at_the_start(log):
+    """A log keeps them for as long as their uses live."""
+    for _ in range(3):
+        log.append(b"")
+    log.remove(2)
+    with member(log) as checks:
+        assert isinstance(verdict(checks, fresh()), svid.Use)
+
+
+def test_a_log_that_is_another_one(log, caplog):
+    with member(log) as checks, caplog.at_level(logging.WARNING, "svid"):
+        made = fresh(jti="1")
+        checks.check(made)
+        log.hold()
+        answer = in_thread(verdict, checks, fresh(jti="2"))
+        until(lambda: len(log.values) == 2)
+        log.replace([])
+        log.go()
+        assert answer() == "Unavailable"
+        until(lambda: checks.deaf_until)
+        assert verdict(checks, made) == "Replayed"
+        assert verdict(checks, fresh(jti="3")) == "Unavailable"
+        checks.go_on()
+        assert isinstance(verdict(checks, fresh(jti="4")), svid.Use)
+        assert verdict(checks, made) == "Replayed"
+    assert any("the log is another one" in it for it in caplog.messages)
+
+
+def test_claims_that_were_read_in_the_log_before(log):
+    """Those too that the record has not: from too far ahead."""
+    with member(log) as checks:
+        made = fresh()
+        use = checks.judge(made).use
+        log.append(other_use(use, at=NOW + 1000, expires=NOW + 2000).message)
+        until(lambda: checks._position == 1)
+        assert verdict(checks, made) == "Replayed" and not checks.report().uses
+        log.replace([])
+        until(lambda: checks.deaf_until)
+        checks.go_on()
+        assert verdict(checks, made) == "Replayed"
+
+
+def test_a_member_of_a_log_that_is_not_there():
+    class Away(MemoryLog):
+        def bounds(self):
+            raise ConnectionError("away")
+
+    with pytest.raises(ConnectionError):
+        member(Away())
+
+
+# -- Clocks, bundles, withdrawals
+
+
+@pytest.fixture
+def clock(monkeypatch):
+    """The clock of the thread that reads, which a test may set."""
+    it = types.SimpleNamespace(ahead=0)
+    told = types.SimpleNamespace(time=lambda: time.time() + it.ahead, monotonic=time.monotonic)
+    monkeypatch.setattr(svid._member, "time", told)
+    return it
+
+
+def test_a_clock_that_goes_back(log, clock):
+    """The claim is from too far ahead for who reads it: it is burnt."""
+    with member(log) as checks, member(log) as other:
+        made = fresh()
+        log.hold()
+        answer = in_thread(lambda: said_by(checks, made, time.time() + 100))
+        until(lambda: len(log.values) == 1)
+        log.go()
+        assert isinstance(answer(), svid.Use)  # its record has seen that time
+        until(lambda: other._position == 1)
+        assert verdict(other, made) == "Replayed"
+
+
+def said_by(checks, token, now):
+    try:
+        return checks.check(token, now).use
+    except svid.Error as why:
+        return type(why).__name__
+
+
+def test_a_clock_that_jumps_ahead(log, clock):
+    """What is on its way is read all the same."""
+    with member(log, step=600) as checks:
+        assert isinstance(verdict(checks, fresh(jti="1")), svid.Use)
+        clock.ahead = 10_000
+        assert isinstance(verdict(checks, fresh(jti="2")), svid.Use)
+        clock.ahead = 0
+        assert isinstance(verdict(checks, fresh(jti="3")), svid.Use)
+
+
+def test_a_gap_waits_for_the_clock(log, clock, caplog):
+    with member(log, step=600, wait=0.3) as checks, caplog.at_level(logging.WARNING, "svid"):
+        assert isinstance(verdict(checks, fresh(jti="1")), svid.Use)
+        log.hold()
+        log.append(b"")
+        log.append(b"")
+        log.remove(2)
+        clock.ahead = 10_000
+        log.go()
+        until(lambda: any("the clock is more than" in it for it in caplog.messages))
+        assert checks.deaf_until == 0
+        clock.ahead = 0
+        until(lambda: checks.deaf_until)
+
+
+def test_bundles_that_are_renewed_while_a_claim_is_on_its_way(log):
+    with member(log) as checks:
+        log.hold()
+        gone, stays = fresh(jti="1"), fresh(jti="2")
+        answer = in_thread(verdict, checks, gone)
+        until(lambda: len(log.values) == 1)
+        checks.renew(bundle(entry(private_key("ES256", 1), "k1")))
+        log.go()
+        assert answer() == "BadSignature"
+        until(lambda: checks._position == 1)
+        checks.renew(KNOWN)
+        assert verdict(checks, gone) == "Replayed"  # it is used up
+        log.hold()
+        answer = in_thread(verdict, checks, stays)
+        until(lambda: len(log.values) == 2)
+        checks.renew(
+            bundle(entry(private_key("ES256", 1), "k1"), entry(private_key("ES256"), "k1"))
+        )
+        log.go()
+        assert isinstance(answer(), svid.Use)
+
+
+def test_bundles_that_are_renewed_at_the_last_moment(log, monkeypatch):
+    """Between the second judgment and the reading of the value."""
+    with member(log) as checks:
+        real, renewals = checks._judge_renewed, [bundle(entry(private_key("ES256", 1), "k1"))]
+
+        def judge_renewed(edition):
+            real(edition)
+            if renewals and checks._open:
+                checks.renew(renewals.pop())
+
+        monkeypatch.setattr(checks, "_judge_renewed", judge_renewed)
+        assert verdict(checks, fresh()) == "BadSignature"
+
+
+def test_a_withdrawal_is_told_to_the_group(log):
+    with member(log) as a, member(log) as b:
+        made = fresh()
+        assert a.withdraw(made).withdrawn
+        until(lambda: b._position == 1)
+        assert verdict(a, made) == verdict(b, made) == "Withdrawn"
+
+
+def test_a_token_is_withdrawn_while_its_claim_is_on_its_way(log):
+    with member(log) as checks:
+        made = fresh()
+        log.hold()
+        answer = in_thread(verdict, checks, made)
+        until(lambda: len(log.values) == 1)
+        checks.withdraw(made)
+        log.go()
+        assert answer() == "Withdrawn"
+
+
+# -- The end
+
+
+def test_closing_ends_what_waits(log):
+    checks = member(log)
+    log.hold()
+    answer = in_thread(verdict, checks, fresh())
+    until(lambda: len(log.values) == 1)
+    checks.close()
+    checks.close()
+    assert answer() == "Closed"
+    for call in lambda: checks.check(fresh()), lambda: checks.withdraw(fresh()), checks.go_on:
+        with pytest.raises(svid.Closed):
+            call()
+
+
+def test_a_fork_does_not_go_on_with_a_member(log):
+    """Though a thread of the parent process may have been in a call."""
+    checks = member(log)
+    reader, writer = os.pipe()
+    held, free = threading.Event(), threading.Event()
+
+    def hold():
+        with checks._gate:
+            held.set()
+            free.wait(60)
+
+    holding = threading.Thread(target=hold)
+    holding.start()
+    held.wait(60)
+    child = os.fork()
+    if child == 0:
+        signal.alarm(20)
+        try:
+            said = [verdict(checks, fresh(jti="1")), str(checks.close())]
+            os.write(writer, " ".join(said).encode())
+        finally:
+            os._exit(1)
+    free.set()
+    holding.join()
+    os.close(writer)
+    os.waitpid(child, 0)
+    assert os.read(reader, 100) == b"Forked None"
+    os.close(reader)
+    assert isinstance(verdict(checks, fresh(jti="2")), svid.Use)
+    checks.close()
+
+
+def test_the_middleware_takes_a_member(log):
+    seen = []
+
+    async def app(scope, receive, send):
+        seen.append(scope["spiffe_id"])
+
+    async def send(message):
+        seen.append(message.get("status"))
+
+    async def main(checks):
+        for _ in range(2):
+            headers = [(b"authorization", b"Bearer " + made)]
+            await SvidMiddleware(app, checks)({"type": "http", "headers": headers}, None, send)
+
+    made = fresh().encode()
+    with member(log) as checks:
+        asyncio.run(main(checks))
+    assert seen == ["spiffe://example.org/billing/api", 401, None]
+
+
+# -- Several processes
+
+WORKER = """
+import json, os, sys, threading, svid
+from logs import FileLog
+path, bundles, threads = sys.argv[1], sys.argv[2], int(sys.argv[3])
+member = svid.Member(
+    log=FileLog(path), longest=3600, audiences="ledger", bundles=bundles.encode(), wait=30
+)
+lock, tokens = threading.Lock(), iter(sys.stdin.readline, "")
+def work():
+    while True:
+        with lock:
+            token = next(tokens, "").strip()
+        if not token:
+            return
+        try:
+            member.check(token)
+            said = "accepted"
+        except svid.Error as why:
+            said = type(why).__name__
+        with lock:
+            print(token, said, flush=True)
+all = [threading.Thread(target=work) for _ in range(threads)]
+for it in all:
+    it.start()
+for it in all:
+    it.join()
+member.close()
+"""
+
+
+@contextlib.contextmanager
+def worker(path, tokens, threads=8):
+    """A process that checks the tokens as a member of the log in a file."""
+    environment = {
+        **os.environ,
+        "PYTHONPATH": os.pathsep.join([*sys.path, os.path.dirname(__file__)]),
+    }
+    bundles = svid._bundles._joined(KNOWN)
+    words = [sys.executable, "-c", WORKER, path, bundles, str(threads)]
+    pipes = {"stdin": subprocess.PIPE, "stdout": subprocess.PIPE}
+    with subprocess.Popen(words, env=environment, text=True, **pipes) as ran:
+        writing = threading.Thread(target=fed, args=(ran, tokens))
+        writing.start()
+        try:
+            yield ran
+        finally:
+            ran.kill()
+            writing.join()
+
+
+def fed(ran, tokens):
+    with contextlib.suppress(BrokenPipeError):
+        with ran.stdin:
+            for it in tokens:
+                ran.stdin.write(it + "\n")
+
+
+def test_four_workers_accept_each_token_once(tmp_path):
+    tokens = [fresh(jti=str(it)) for it in range(1000)]
+    chance, said = random.Random(7), collections.defaultdict(list)
+    with contextlib.ExitStack() as stack:
+        workers = [
+            stack.enter_context(worker(tmp_path / "log", chance.sample(tokens, len(tokens))))
+            for _ in range(4)
+        ]
+        for it in workers:
+            for line in it.stdout:
+                token, answer = line.split()
+                said[token].append(answer)
+    assert {tuple(sorted(said[it])) for it in tokens} == {("Replayed",) * 3 + ("accepted",)}
+
+
+def test_no_token_is_accepted_twice_where_workers_are_killed(tmp_path):
+    """Each is accepted once at the most, and once if nobody was killed while it was checked."""
+    tokens = [fresh(jti=str(it)) for it in range(400)]
+    chance, said = random.Random(7), collections.defaultdict(list)
+
+    def collect(ran):
+        for line in ran.stdout:
+            if line.endswith("\n"):
+                token, answer = line.split()
+                said[token].append(answer)
+
+    for _ in range(4):
+        with contextlib.ExitStack() as stack:
+            workers = [
+                stack.enter_context(worker(tmp_path / "log", chance.sample(tokens, len(tokens))))
+                for _ in range(3)
+            ]
+            readers = [threading.Thread(target=collect, args=(it,)) for it in workers]
+            for it in readers:
+                it.start()
+            until(lambda: said)
+            time.sleep(chance.uniform(0, 0.3))
+            for it in workers:
+                it.send_signal(signal.SIGKILL)
+            for it in readers:
+                it.join()
+    with worker(tmp_path / "log", tokens) as last:
+        collect(last)
+    assert set(said) == set(tokens)
+    counts = collections.Counter(said[it].count("accepted") for it in tokens)
+    assert set(counts) <= {0, 1} and counts[1] > 300, counts
+    assert {it for row in said.values() for it in row} <= {"accepted", "Replayed"}
+
+
+def test_a_file_log(tmp_path):
+    one, two = FileLog(tmp_path / "log"), FileLog(tmp_path / "log")
+    assert one.bounds() == (0, 0) and list(one.read(0, 0)) == []
+    one.append(b"a")
+    two.append(b"")
+    assert list(two.read(0, 0)) == list(one.read(0, 0)) == [(1, b"a"), (2, b"")]
+    assert list(two.read(1, 0)) == [(2, b"")] and one.bounds() == (0, 2)
+    two.append(b"bc")
+    assert list(one.read(2, 0)) == [(3, b"bc")] and list(one.read(0, 0))[0] == (1, b"a")
