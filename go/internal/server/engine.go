@@ -99,17 +99,17 @@ type Engine struct {
 	loaded   atomic.Bool            // the state folder's record is in the validator
 	unkept   atomic.Pointer[[]byte] // what the state folder did not take last, nil where it takes all
 	draining atomic.Bool
-	jumped   atomic.Bool // the clock is further ahead than Options.Step
-	jumpedAt time.Time   // since then; tick alone uses it
-	began    uint64      // when the engine was made
-	mixedAt  time.Time   // when it was last logged that the group's modes differ; Take alone uses it
+	jumped   atomic.Bool   // the clock is further ahead than Options.Step
+	jumpedAt time.Time     // since then; tick alone uses it
+	began    uint64        // when the engine was made
+	ended    chan struct{} // closed as Run ends
+	mixedAt  time.Time     // when it was last logged that the group's modes differ; Take alone uses it
 
 	// Of mode strict. Begin and Take alone use those that are not atomic.
 	deaf    atomic.Uint64 // the moment before which the validator accepts nothing
 	right   atomic.Uint64 // the last time that was no jump
 	room    []svid.LogUse // for what it reads
 	stuckAt time.Time     // when it was last logged that it can't read
-	ended   chan struct{} // closed as Run ends
 
 	renewing sync.Mutex // held while bundles are replaced
 	bundles  atomic.Pointer[[]byte]

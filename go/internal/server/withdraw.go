@@ -32,10 +32,21 @@ func (e *Engine) tellWithdrawal(ctx context.Context, g Group, use svid.Use) erro
 	}
 	early := use.At - e.Ahead - broker
 	if early < mostEarly {
-		time.AfterFunc(time.Duration(early+1)*time.Second, func() { e.tell(use) })
+		go e.tellLater(use, time.Duration(early+1)*time.Second)
 	}
 	err = fmt.Errorf("the other sidecars take it only in %d seconds: the record here is %d seconds ahead of the broker's clock: "+
 		"revoke the token at another sidecar, and set this clock right (now %d)", early, use.At-broker, e.Now())
 	e.Log.Error("withdrawal", err, "key", use.Key.String(), "exp", use.Expires)
 	return err
+}
+
+// tellLater tells the group of a use after a while, unless the engine ends before.
+func (e *Engine) tellLater(use svid.Use, after time.Duration) {
+	timer := time.NewTimer(after)
+	defer timer.Stop()
+	select {
+	case <-timer.C:
+		e.tell(use)
+	case <-e.ended:
+	}
 }

@@ -4,6 +4,8 @@ import (
 	"bytes"
 	"context"
 	"errors"
+	"io"
+	"runtime"
 	"strings"
 	"sync"
 	"testing"
@@ -91,6 +93,24 @@ func TestAWithdrawalOfAClockThatIsAhead(t *testing.T) {
 	}
 }
 
+// A slowGroup stores what it is given, by a clock that is behind.
+type slowGroup struct{ behind time.Duration }
+
+func (slowGroup) Ready() <-chan struct{}                                { return closedChannel }
+func (slowGroup) Put(context.Context, group.Kind, uint64, []byte) error { return nil }
+func (slowGroup) Taken() uint64                                         { return 0 }
+func (slowGroup) Aside() uint64                                         { return 0 }
+func (slowGroup) Connected() bool                                       { return true }
+func (g slowGroup) Stored(context.Context, group.Kind, uint64) (time.Time, error) {
+	return time.Unix(moment, 0).Add(-g.behind), nil
+}
+
+var closedChannel = func() chan struct{} {
+	c := make(chan struct{})
+	close(c)
+	return c
+}()
+
 // Nothing is revoked before all is read, and what the group does not hear of is not answered as done.
 func TestAWithdrawalThatTheGroupDoesNotHearOf(t *testing.T) {
 	one := svid.TokenKey{1}
@@ -131,4 +151,36 @@ func TestAWithdrawalThatTheGroupDoesNotHearOf(t *testing.T) {
 	if err := withdraw(); err != nil || e.Metrics.Withdrawals.Load() != 1 {
 		t.Errorf("%v, and %d are counted", err, e.Metrics.Withdrawals.Load())
 	}
+}
+
+// What waits to be told again ends with the engine, though its time is days away: nothing holds the engine's memory then.
+func TestAWithdrawalThatWaitsEndsWithTheEngine(t *testing.T) {
+	freed := make(chan struct{})
+	func() { // so that nothing here refers to the engine
+		log := NewLog(io.Discard, Errors)
+		runtime.SetFinalizer(log, func(*Log) { close(freed) }) // (the engine refers to itself, and would have none)
+		e, err := NewEngine(Options{Mode: Reuse, Audiences: []string{"ledger"}, Longest: 3600, Ahead: 30, Place: svid.Place{1}, Grouped: true,
+			Wait: time.Second, Log: log, Now: func() uint64 { return moment }})
+		if err != nil {
+			t.Fatal(err)
+		}
+		defer e.Close()
+		ready(t, e).Join(slowGroup{behind: 3 * 24 * time.Hour})
+		_, err = e.Withdraw(context.Background(), svid.TokenKey{1}, moment+300)
+		if err == nil || !strings.Contains(err.Error(), "the other sidecars take it only in 259170 seconds") {
+			t.Error(err)
+		}
+		running, end := context.WithCancel(context.Background())
+		end()
+		e.Run(running)
+	}()
+	await(t, "the engine's memory", func() bool {
+		runtime.GC()
+		select {
+		case <-freed:
+			return true
+		default:
+			return false
+		}
+	})
 }
