@@ -33,10 +33,11 @@ func ParseAddress(text string) (Address, error) {
 		return Address{"unix", where}, nil
 	}
 	u, err := url.Parse(text)
-	if err != nil || u.Scheme != "tcp" || u.User != nil || u.Path != "" || u.RawQuery != "" || u.Fragment != "" {
+	if err != nil || u.Scheme != "tcp" || text[len("tcp"):] != "://"+u.Host { // so nothing else stands there, not even an empty part
 		return Address{}, errAddress
 	}
-	if port, err := strconv.ParseUint(u.Port(), 10, 16); err != nil || port == 0 || net.ParseIP(u.Hostname()) == nil {
+	host, port, err := net.SplitHostPort(u.Host)
+	if number, bad := strconv.ParseUint(port, 10, 16); err != nil || bad != nil || number == 0 || net.ParseIP(host) == nil {
 		return Address{}, errAddress
 	}
 	return Address{"tcp", u.Host}, nil

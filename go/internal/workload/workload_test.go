@@ -346,7 +346,8 @@ func TestAddresses(t *testing.T) {
 	}
 	for _, bad := range []string{"", "/run/agent.sock", "unix:", "unix://", "unix:run/agent.sock", "unix://host/agent.sock?a", "unix:///a#b",
 		"tcp://127.0.0.1", "tcp://localhost:1", "tcp://127.0.0.1:0", "tcp://127.0.0.1:65536", "tcp://127.0.0.1:1/", "tcp://u@127.0.0.1:1",
-		"tcp://127.0.0.1:1?a", "http://127.0.0.1:1", "tcp:127.0.0.1:1"} {
+		"tcp://127.0.0.1:1?a", "tcp://127.0.0.1:1#a", "tcp://127.0.0.1:1?", "tcp://127.0.0.1:1#", "tcp://127.0.0.1:1/#", "tcp://@127.0.0.1:1",
+		"tcp://u:p@127.0.0.1:1", "tcp:///127.0.0.1:1", "tcp://127.0.0.1:1:2", "tcp://[::1]", "tcp://[::1%25lo]:1", "tcp://::1:1", "http://127.0.0.1:1", "tcp:127.0.0.1:1"} {
 		if got, err := ParseAddress(bad); err == nil {
 			t.Errorf("%q is %v", bad, got)
 		}
