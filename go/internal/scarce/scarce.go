@@ -1,0 +1,52 @@
+//go:build cgo
+
+// Package scarce lets allocations of the C library svid fail, for tests. Only tests import it, since it gives the whole process
+// its own malloc.
+package scarce
+
+/*
+#include <stddef.h>
+
+extern void *__libc_malloc(size_t size);
+extern void *__libc_realloc(void *old, size_t size);
+
+// How many allocations of this thread go well before one is refused, or, with all, each one. -1 refuses none.
+static _Thread_local long left = -1;
+static _Thread_local int all;
+static _Thread_local long refused;
+
+static int refuse(void) {
+    if (left < 0 || left-- > 0) return 0;
+    if (all) left = 0;
+    refused++;
+    return 1;
+}
+
+void *malloc(size_t size) { return refuse() ? NULL : __libc_malloc(size); }
+void *realloc(void *old, size_t size) { return refuse() ? NULL : __libc_realloc(old, size); }
+
+static void from(long n, int every) { left = n, all = every, refused = 0; }
+static long end(void) { left = -1; return refused; }
+*/
+import "C"
+
+import "runtime"
+
+// During runs f in a thread of its own. The n-th allocation there is refused, counted from 0, and with all each one behind it. It
+// returns how many were.
+func During(n int, all bool, f func()) (refused int) {
+	every := C.int(0)
+	if all {
+		every = 1
+	}
+	done := make(chan struct{})
+	go func() {
+		defer close(done)
+		runtime.LockOSThread() // The thread ends with the goroutine.
+		C.from(C.long(n), every)
+		f()
+		refused = int(C.end())
+	}()
+	<-done
+	return refused
+}
