@@ -53,6 +53,8 @@ type Options struct {
 	Limit time.Duration
 	// Roots are the authorities for https; nil is the system's.
 	Roots *x509.CertPool
+
+	after func(time.Duration) <-chan time.Time // is time.After, except in tests of pauses
 }
 
 // A Watcher keeps bundles up to date until its context ends. Its methods may be called from many goroutines at once.
@@ -96,6 +98,9 @@ func Watch(ctx context.Context, specs []Spec, onChange func(domains map[string]j
 	}
 	if o.Limit == 0 {
 		o.Limit = usualLimit
+	}
+	if o.after == nil {
+		o.after = time.After
 	}
 	w := &Watcher{specs: specs, onChange: onChange, options: o, client: httpsOnly(o.Roots), again: map[string]chan struct{}{},
 		held: map[string]*bundle{}, faults: map[string]string{}, said: map[string]map[[sha256.Size]byte]bool{}}
@@ -305,7 +310,7 @@ func (w *Watcher) follow(ctx context.Context, s Spec) {
 		select {
 		case <-ctx.Done():
 		case <-w.again[s.Domain]:
-		case <-time.After(wait):
+		case <-w.options.after(wait):
 		}
 	}
 }

@@ -132,6 +132,13 @@ func write(t *testing.T, name, text string) {
 	}
 }
 
+func remove(t *testing.T, name string) {
+	t.Helper()
+	if err := os.Remove(name); err != nil {
+		t.Fatal(err)
+	}
+}
+
 func TestFile(t *testing.T) {
 	name := filepath.Join(t.TempDir(), "bundle.json")
 	write(t, name, spire)

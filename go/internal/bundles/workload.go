@@ -37,7 +37,7 @@ func (w *Watcher) attend(ctx context.Context, s Spec) {
 		w.lost(s, err)
 		var retry <-chan time.Time
 		if !errors.Is(err, workload.ErrForGood) {
-			retry = time.After(pause)
+			retry = w.options.after(pause)
 		}
 		select {
 		case <-ctx.Done():
