@@ -207,6 +207,22 @@ func TestWhatIsLoggedAnew(t *testing.T) {
 	o.wantLines(t, 2, "bundle not read; the last good one stays source "+name)
 }
 
+// So it is where an agent gives a bundle no more, and gives it again.
+func TestWhatIsLoggedAnewOfAnAgent(t *testing.T) {
+	const entries = `{"keys":[1]}`
+	agent := agenttest.Start(t)
+	_, o := watch(t, nil, WorkloadAPI(agent.Address))
+	for round := 1; round < 3; round++ {
+		agent.Give(t, map[string]string{"spiffe://a": bare, "spiffe://b": entries})
+		o.await(t, "both", o.calledTimes(2*round-1))
+		o.wantLines(t, round, "key passed over domain b source b of "+agent.Address)
+		agent.Give(t, map[string]string{"spiffe://a": bare})
+		o.await(t, "one", o.calledTimes(2*round))
+		o.wantLines(t, round, "bundle dropped: the Workload API has it no more domain b")
+	}
+	o.wantLines(t, 1, "bundle read domain a")
+}
+
 // A key that nobody can use is named with its reason. Where no other one is there, the log says so. Of many keys the first ones are
 // looked at.
 func TestKeysThatCannotBeUsed(t *testing.T) {
