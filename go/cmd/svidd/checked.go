@@ -24,7 +24,7 @@ func (o *options) bundleProblems() (faults, warnings problems) {
 	read := 0
 	ctx, cancel := context.WithCancel(context.Background())
 	defer cancel()
-	_, err = bundles.Watch(ctx, files, func(domains map[string]json.RawMessage) { read = len(domains) }, bundles.Options{
+	_, err = bundles.Watch(ctx, files, func(domains map[string]json.RawMessage) error { read = len(domains); return nil }, bundles.Options{
 		Check: checkBundle, Unusable: o.unusable,
 		Log: func(event string, fields ...any) {
 			sentence := fmt.Sprintf("the trust bundle can't be used: %v", unread(fields))

@@ -299,13 +299,13 @@ func (o *options) unusable(key json.RawMessage) string {
 	return ""
 }
 
-// renew runs at each change of the bundles.
-func (s *sidecar) renew(domains map[string]json.RawMessage) {
+// renew runs at each change of the bundles. The watcher logs an error, and calls it again.
+func (s *sidecar) renew(domains map[string]json.RawMessage) error {
 	if err := s.engine.SetBundles(domains); err != nil {
-		s.log.Error("bundles", err)
-		return
+		return err
 	}
 	s.log.Event("bundles", "trust_domains", len(domains))
+	return nil
 }
 
 // join joins the group, however long its broker takes to come up.

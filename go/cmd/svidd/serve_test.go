@@ -1,6 +1,7 @@
 package main
 
 import (
+	"encoding/json"
 	"net/http"
 	"os"
 	"path/filepath"
@@ -10,6 +11,7 @@ import (
 	"time"
 
 	"svid.example/go/internal/issuer"
+	"svid.example/go/internal/server"
 	"svid.example/go/svid"
 )
 
@@ -340,4 +342,22 @@ func TestAnAddressThatIsTaken(t *testing.T) {
 		t.Errorf("the same admin socket: %d %q", status, err)
 	}
 	p.want(token(t, "good", time.Minute), 200, "")
+}
+
+// Bundles that the engine does not take are an error for the watcher, which gives them again. They are no event.
+func TestBundlesThatTheEngineDoesNotTake(t *testing.T) {
+	var log lines
+	engine, err := server.NewEngine(server.Options{Mode: server.Reuse, Audiences: []string{"ledger"}, Longest: 60, Place: svid.Place{1}})
+	if err != nil {
+		t.Fatal(err)
+	}
+	s := &sidecar{engine: engine, log: server.NewLog(&log, server.All)}
+	domains := map[string]json.RawMessage{"example.org": example.JWKSet()}
+	if err := s.renew(domains); err != nil || strings.Count(log.String(), `"event":"bundles"`) != 1 {
+		t.Errorf("%v: %s", err, &log)
+	}
+	engine.Close()
+	if err := s.renew(domains); err != svid.ErrClosed || strings.Count(log.String(), "\n") != 1 {
+		t.Errorf("%v: %s", err, &log)
+	}
 }

@@ -119,12 +119,13 @@ func (o *options) readBundles(std stdio) ([]byte, error) {
 	ctx, cancel := context.WithTimeout(context.Background(), fetchWait)
 	defer cancel()
 	changes, faults := make(chan map[string]json.RawMessage, 1), make(chan error, 1)
-	watcher, err := bundles.Watch(ctx, specs, func(domains map[string]json.RawMessage) {
+	watcher, err := bundles.Watch(ctx, specs, func(domains map[string]json.RawMessage) error {
 		select {
 		case <-changes: // only the newest counts
 		default:
 		}
 		changes <- domains
+		return nil
 	}, bundles.Options{Check: checkBundle, Log: func(event string, fields ...any) {
 		if strings.HasPrefix(event, "bundle not read") {
 			select {

@@ -24,6 +24,7 @@ import (
 	"sort"
 	"strings"
 	"sync"
+	"sync/atomic"
 	"syscall"
 	"time"
 )
@@ -60,13 +61,15 @@ type Options struct {
 // A Watcher keeps bundles up to date until its context ends. Its methods may be called from many goroutines at once.
 type Watcher struct {
 	specs    []Spec
-	onChange func(map[string]json.RawMessage)
+	onChange func(map[string]json.RawMessage) error
 	options  Options
 	client   *http.Client
 	again    map[string]chan struct{} // by the domain of an address, and by "" for the Workload API: ask now
 
-	reading sync.Mutex // one look at the files at a time
-	telling sync.Mutex // one call of onChange at a time, the newest last
+	reading sync.Mutex  // one look at the files at a time
+	telling sync.Mutex  // one call of onChange at a time, the newest last
+	untaken string      // what was wrong with the last call of onChange; telling guards it
+	retell  atomic.Bool // so the next look at the files calls it again
 
 	mu     sync.Mutex // guards the fields below
 	held   map[string]*bundle
@@ -86,10 +89,10 @@ type bundle struct {
 // Watch reads the files and folders of the specs, begins to ask the addresses, and goes on until ctx ends.
 //
 // onChange receives all bundles by trust domain, at the start if one could be read, whenever one has changed, and once the
-// Workload API has answered. It
-// must not change the documents, and may not call the watcher. An error says that a spec is bad; a source that can't be
-// read is none, since it may come.
-func Watch(ctx context.Context, specs []Spec, onChange func(domains map[string]json.RawMessage), o Options) (*Watcher, error) {
+// Workload API has answered. If it returns an error, it receives them again at the next look at the files. It must not change
+// the documents, and may not call the watcher. An error of Watch says that a spec is bad; a source that can't be read is none,
+// since it may come.
+func Watch(ctx context.Context, specs []Spec, onChange func(domains map[string]json.RawMessage) error, o Options) (*Watcher, error) {
 	if err := checkAll(specs); err != nil {
 		return nil, err
 	}
@@ -179,7 +182,7 @@ func (w *Watcher) readFiles() {
 			changed = w.readFile(s.Domain, s.Source) || changed
 		}
 	}
-	if changed {
+	if changed || w.retell.Load() {
 		w.tell()
 	}
 }
@@ -428,7 +431,7 @@ func (w *Watcher) fault(source string, err error) {
 	}
 }
 
-// tell tells onChange what is held now.
+// tell tells onChange what is held now, and logs why it does not take that, once.
 func (w *Watcher) tell() {
 	w.telling.Lock()
 	defer w.telling.Unlock()
@@ -438,7 +441,16 @@ func (w *Watcher) tell() {
 		all[domain] = b.document
 	}
 	w.mu.Unlock()
-	w.onChange(all)
+	why := ""
+	err := w.onChange(all)
+	if err != nil {
+		why = err.Error()
+	}
+	w.retell.Store(err != nil)
+	if err != nil && why != w.untaken {
+		w.log("bundles not taken; those before stay", "why", err)
+	}
+	w.untaken = why
 }
 
 func (w *Watcher) log(event string, fields ...any) {

@@ -49,10 +49,11 @@ type observer struct {
 	mu    sync.Mutex
 	last  map[string]string
 	calls int
+	fault error // what the next calls answer
 	lines []string
 }
 
-func (o *observer) changed(all map[string]json.RawMessage) {
+func (o *observer) changed(all map[string]json.RawMessage) error {
 	o.mu.Lock()
 	defer o.mu.Unlock()
 	o.last = map[string]string{}
@@ -60,6 +61,7 @@ func (o *observer) changed(all map[string]json.RawMessage) {
 		o.last[domain] = string(text)
 	}
 	o.calls++
+	return o.fault
 }
 
 func (o *observer) log(event string, fields ...any) {
@@ -272,7 +274,7 @@ func TestTheEndLeavesNothing(t *testing.T) {
 	ctx, cancel := context.WithCancel(context.Background())
 	roots := x509.NewCertPool()
 	roots.AddCert(e.Certificate())
-	if _, err := Watch(ctx, []Spec{{Domain: "example.org", Source: e.URL}, Folder(t.TempDir())}, func(map[string]json.RawMessage) {}, Options{Roots: roots}); err != nil {
+	if _, err := Watch(ctx, []Spec{{Domain: "example.org", Source: e.URL}, Folder(t.TempDir())}, func(map[string]json.RawMessage) error { return nil }, Options{Roots: roots}); err != nil {
 		t.Fatal(err)
 	}
 	<-asked

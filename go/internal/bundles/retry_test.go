@@ -4,6 +4,7 @@ import (
 	"context"
 	"crypto/x509"
 	"encoding/json"
+	"errors"
 	"net/http"
 	"net/http/httptest"
 	"runtime"
@@ -140,6 +141,49 @@ func TestPausesOfAWorkloadAPI(t *testing.T) {
 		t.Errorf("behind a refusal for good there is a pause of %v", pause)
 	default:
 	}
+}
+
+// Bundles that were not taken, for want of memory, are given again at each look at the files, until they are. The log says it once.
+func TestBundlesThatWereNotTaken(t *testing.T) {
+	name := t.TempDir() + "/bundle.json"
+	write(t, name, spire)
+	agent := agenttest.Start(t)
+	agent.Give(t, map[string]string{"spiffe://example.com": bare})
+	w, o := watch(t, nil, Spec{Domain: "example.org", Source: name}, WorkloadAPI(agent.Address))
+	o.await(t, "both", o.calledTimes(2))
+	fail := func(err error) {
+		o.mu.Lock()
+		defer o.mu.Unlock()
+		o.fault = err
+	}
+	w.readFiles()
+	if o.calls != 2 {
+		t.Errorf("told %d times of what was taken", o.calls)
+	}
+	fail(errors.New("out of memory"))
+	agent.Give(t, map[string]string{"spiffe://example.com": spire})
+	o.await(t, "the other bundle", o.calledTimes(3))
+	o.await(t, "a word of it", o.says("bundles not taken; those before stay why out of memory"))
+	for i := 4; i < 7; i++ {
+		w.readFiles()
+		if o.calls != i || len(o.last) != 2 {
+			t.Errorf("call %d: told %d times, the last time of %d bundles", i, o.calls, len(o.last))
+		}
+	}
+	o.wantLines(t, 1, "bundles not taken")
+	fail(errors.New("another fault"))
+	w.readFiles()
+	o.wantLines(t, 2, "bundles not taken")
+	fail(nil)
+	w.readFiles()
+	w.readFiles()
+	if o.calls != 8 {
+		t.Errorf("told %d times", o.calls)
+	}
+	fail(errors.New("another fault"))
+	write(t, name, `{"keys":[]}`)
+	w.readFiles()
+	o.wantLines(t, 3, "bundles not taken") // it is anew
 }
 
 // The end of a watcher is no fault of its sources: the log has no line of it.
