@@ -6,8 +6,11 @@ import (
 	"crypto/rand"
 	"crypto/tls"
 	"crypto/x509"
+	"encoding/base64"
+	"encoding/json"
 	"encoding/pem"
 	"errors"
+	"fmt"
 	"math/big"
 	"net"
 	"net/url"
@@ -381,4 +384,96 @@ func decorated(jwt string, seed []byte) []byte {
 	return []byte("-----BEGIN NATS USER JWT-----\n" + jwt + "\n------END NATS USER JWT------\n\n" +
 		"************************* IMPORTANT *************************\nNKEY Seed printed below can be used to sign and prove identity.\n\n" +
 		"-----BEGIN USER NKEY SEED-----\n" + string(seed) + "\n------END USER NKEY SEED------\n")
+}
+
+// signed is a JWT of NATS, version 2: by is the key of who signs, and of that of whom it speaks.
+func signed(t *testing.T, by, of nkeys.KeyPair, says map[string]any) string {
+	t.Helper()
+	issuer, errIssuer := by.PublicKey()
+	subject, errSubject := of.PublicKey()
+	says["version"] = 2
+	claims, err := json.Marshal(map[string]any{"jti": subject, "iat": time.Now().Unix(), "iss": issuer, "sub": subject, "name": says["type"], "nats": says})
+	if errIssuer != nil || errSubject != nil || err != nil {
+		t.Fatal(errIssuer, errSubject, err)
+	}
+	text := base64.RawURLEncoding.EncodeToString([]byte(`{"typ":"JWT","alg":"ed25519-nkey"}`)) + "." + base64.RawURLEncoding.EncodeToString(claims)
+	signature, err := by.Sign([]byte(text))
+	if err != nil {
+		t.Fatal(err)
+	}
+	return text + "." + base64.RawURLEncoding.EncodeToString(signature)
+}
+
+// A server that knows users by credentials lets a member in that has them, reads them anew for each connection, and lets nobody in
+// by those of another user's key.
+func TestCredentials(t *testing.T) {
+	var pairs []nkeys.KeyPair
+	for _, make := range []func() (nkeys.KeyPair, error){nkeys.CreateOperator, nkeys.CreateAccount, nkeys.CreateUser, nkeys.CreateUser} {
+		pair, err := make()
+		if err != nil {
+			t.Fatal(err)
+		}
+		pairs = append(pairs, pair)
+	}
+	operator, account, user, other := pairs[0], pairs[1], pairs[2], pairs[3]
+	accountKey, err := account.PublicKey()
+	if err != nil {
+		t.Fatal(err)
+	}
+	ports, err := broker.FreePorts(1)
+	if err != nil {
+		t.Fatal(err)
+	}
+	none := map[string]any{}
+	dir, address := t.TempDir(), fmt.Sprintf("127.0.0.1:%d", ports[0])
+	config := fmt.Sprintf("listen: %q\noperator: %s\nresolver: MEMORY\nresolver_preload: {\n  %s: %s\n}\n", address,
+		signed(t, operator, operator, map[string]any{"type": "operator"}), accountKey,
+		signed(t, operator, account, map[string]any{"type": "account", "default_permissions": map[string]any{"pub": none, "sub": none},
+			"limits": map[string]any{"subs": -1, "data": -1, "payload": -1, "imports": -1, "exports": -1, "wildcards": true, "conn": -1, "leaf": -1}}))
+	if err := os.WriteFile(filepath.Join(dir, "nats.conf"), []byte(config), 0o600); err != nil {
+		t.Fatal(err)
+	}
+	server := exec.Command("nats-server", "-c", filepath.Join(dir, "nats.conf"), "-l", filepath.Join(dir, "log"))
+	if err := server.Start(); err != nil {
+		t.Fatal(err)
+	}
+	t.Cleanup(func() { server.Process.Kill(); server.Wait() })
+	natstest.Await(t, "the server's port", func() bool {
+		c, err := net.Dial("tcp", address)
+		if err == nil {
+			c.Close()
+		}
+		return err == nil
+	})
+
+	jwt := signed(t, account, user, map[string]any{"type": "user", "pub": none, "sub": none, "subs": -1, "data": -1, "payload": -1})
+	files := Files{Creds: filepath.Join(dir, "creds")}
+	write := func(of nkeys.KeyPair) {
+		t.Helper()
+		seed, err := of.Seed()
+		if err != nil {
+			t.Fatal(err)
+		}
+		if err := os.WriteFile(files.Creds, decorated(jwt, seed), 0o600); err != nil {
+			t.Fatal(err)
+		}
+	}
+	write(user)
+	options := append(mustConnect(t, files), nats.MaxReconnects(0))
+	for round, want := range []bool{true, false, true} {
+		write(map[bool]nkeys.KeyPair{true: user, false: other}[want])
+		nc, err := nats.Connect("nats://"+address, options...)
+		if (err == nil) != want || err != nil && !errors.Is(err, nats.ErrAuthorization) {
+			t.Errorf("round %d: %v", round, err)
+		}
+		if err == nil {
+			nc.Close()
+		}
+	}
+	if err := os.WriteFile(files.Creds, []byte(jwt), 0o600); err != nil {
+		t.Fatal(err)
+	}
+	if _, err := nats.Connect("nats://"+address, options...); err == nil || !strings.Contains(err.Error(), files.Creds) {
+		t.Errorf("without a seed: %v", err)
+	}
 }
