@@ -3,6 +3,7 @@ package main
 import (
 	"encoding/json"
 	"net/http"
+	"os"
 	"path/filepath"
 	"strings"
 	"syscall"
@@ -117,6 +118,50 @@ func TestABundleThatIsNotThereYet(t *testing.T) {
 	}
 	p.await("the bundle", func() bool { return len(p.events("bundles")) == 2 })
 	p.want(one, 200, "")
+}
+
+// A bundle that the validator itself rejects stands in nobody's way: the log names it once, its tokens can't be judged, and other
+// bundles are renewed beside it.
+func TestABundleThatTheValidatorRejects(t *testing.T) {
+	name, good := filepath.Join(t.TempDir(), "example.com.json"), bundleFile(t, example)
+	deep := `{"keys":[` + strings.Repeat("[", 500) + strings.Repeat("]", 500) + `]}`
+	if err := os.WriteFile(name, []byte(deep), 0o600); err != nil {
+		t.Fatal(err)
+	}
+	p := start(t, bundleOption(good), "--bundle", "example.com="+name, "--replay", "reuse")
+	p.want(token(t, "a", time.Hour), 200, "")
+	other, err := issuer.New("example.com")
+	if err != nil {
+		t.Fatal(err)
+	}
+	claims := map[string]any{"sub": "spiffe://example.com/web", "aud": "ledger", "exp": time.Now().Add(time.Hour).Unix(), "jti": "b"}
+	p.want(other.Token("ES256", claims), 503, "NoBundle")
+	next, err := issuer.New("example.org")
+	if err != nil {
+		t.Fatal(err)
+	}
+	for i, one := range []*issuer.Issuer{next, example, next} {
+		writeBundle(t, good, one)
+		if err := p.signal(syscall.SIGHUP); err != nil {
+			t.Fatal(err)
+		}
+		p.await("the renewal", func() bool { return len(p.events("bundles")) == i+2 })
+	}
+	p.want(token(t, "c", time.Hour), 401, "BadSignature")
+	said := p.events("bundle not read")
+	if len(said) != 1 || said[0]["source"] != name || said[0]["error"] == nil {
+		t.Errorf("the log has %v", said)
+	}
+	writeBundle(t, name, other)
+	if err := p.signal(syscall.SIGHUP); err != nil {
+		t.Fatal(err)
+	}
+	p.await("the good one", func() bool { return len(p.events("bundles")) == 5 })
+	p.want(other.Token("ES256", claims), 200, "")
+	if n := len(p.events("bundle source is well again")); n != 1 {
+		t.Errorf("it is well again %d times", n)
+	}
+	p.end()
 }
 
 func TestVerifyDoesNotWaitForAnEmptyFolder(t *testing.T) {
