@@ -290,6 +290,10 @@ func TestValuesThatAreMissing(t *testing.T) {
 		_, why := second.get("/readyz")
 		return strings.Contains(why, "svidd resume")
 	})
+	second.await("the rest of the bucket", func() bool {
+		_, _, body := second.check(lost)
+		return !strings.Contains(body, "NotReady")
+	})
 	if n := second.metric("svidd_log_gaps_total"); n != "1" {
 		t.Errorf("%s gaps", n)
 	}
