@@ -4,7 +4,7 @@ import os
 import sys
 
 OK, TOO_SHORT = 0, 1
-MOST_CANDIDATES = 4  # how many keys are tried for a token: SVID_MOST_CANDIDATES of the header
+MOST_CANDIDATES = 3  # how many keys are tried for a token: SVID_MOST_CANDIDATES of the header
 
 
 class Id(c.Structure):

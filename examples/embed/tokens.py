@@ -51,8 +51,7 @@ def as_der(raw, _):
 
 def main(folder):
     curves = {"ES256": ec.SECP256R1(), "ES384": ec.SECP384R1(), "ES512": ec.SECP521R1()}
-    of = {alg: ec.generate_private_key(curve) for alg, curve in curves.items()}
-    of |= {kid: ec.generate_private_key(ec.SECP256R1()) for kid in ("fourth", "fifth")}
+    of = {kid: ec.generate_private_key(curves.get(kid, ec.SECP256R1())) for kid in ("ES256", "ES384", "third", "ES512", "fifth")}
     of["RSA"], of["weak"], of["long"] = (rsa.generate_private_key(65537, bits) for bits in (2048, 1024, 4104))
     new = ec.generate_private_key(ec.SECP256R1())
     off = entry("off", of["ES256"])
@@ -71,8 +70,8 @@ def main(folder):
     cases += [(alg, signed(of["RSA"], alg, "RSA", alg), good, no_key) for alg in ("RS256", "RS384", "RS512", "PS256", "PS384", "PS512")]
     cases += [
         ("no-kid", signed(of["ES256"], "ES256", None, "no-kid"), good, good),
-        # (of the keys of a token without a kid the first four are tried)
-        ("no-kid-fourth", signed(of["fourth"], "ES256", None, "no-kid-fourth"), good, bad),
+        # (of the keys of a token without a kid the first three are tried)
+        ("no-kid-third", signed(of["third"], "ES256", None, "no-kid-third"), good, bad),
         ("no-kid-fifth", signed(of["fifth"], "ES256", None, "no-kid-fifth"), bad, bad),
         ("fifth", signed(of["fifth"], "ES256", "fifth", "fifth"), good, no_key),
         ("unknown-key", signed(new, "ES256", "new", "unknown-key"), no_key, good),

@@ -7,7 +7,7 @@ const ANY = 2n ** 64n - 1n;
 const OK = 0, TOO_SHORT = 1;
 
 /** How many keys are tried for a token. */
-export const MOST_CANDIDATES = 4n;
+export const MOST_CANDIDATES = 3n;
 
 const encoder = new TextEncoder();
 const decoder = new TextDecoder();

@@ -94,8 +94,8 @@ test("of many keys that fit, the first ones are tried", async () => {
   const payload = Buffer.from('{"sub":"spiffe://example.org/a","aud":"ledger","exp":1767229200}');
   for (const [n, key] of keys.entries()) {
     const unnamed = await judge(await sign(key, Buffer.from('{"alg":"ES256"}'), payload));
-    assert.equal(unnamed.verdict.refusal, n < 4 ? undefined : "BadSignature");
-    assert.deepEqual(unnamed.keys.map((it) => it.reason), [...Array(4).fill(undefined), ...Array(2).fill("only the first 4 keys that fit are tried")]);
+    assert.equal(unnamed.verdict.refusal, n < 3 ? undefined : "BadSignature");
+    assert.deepEqual(unnamed.keys.map((it) => it.reason), [...Array(3).fill(undefined), ...Array(3).fill("only the first 3 keys that fit are tried")]);
     const named = await judge(await sign(key, Buffer.from(`{"alg":"ES256","kid":"k${n}"}`), payload));
     assert.equal(named.verdict.refusal, undefined);
   }

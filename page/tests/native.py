@@ -9,7 +9,7 @@ import struct
 import sys
 
 ROOM = 1 << 22
-MOST_CANDIDATES = 4
+MOST_CANDIDATES = 3
 ANY = 2**64 - 1
 
 

@@ -83,7 +83,7 @@ BUNDLE_FAULTS = {
 """Why bundles are refused, by status."""
 
 ID_ROOM = 2048
-MOST_CANDIDATES = 4
+MOST_CANDIDATES = 3
 """How many keys are tried for a token."""
 BATCH_HEAD_LEN = 17
 USE_LEN = 65

@@ -253,7 +253,7 @@ class NoKey(Refused):
 
 
 class BadSignature(Refused):
-    """No key among the first 4 that fit made the signature."""
+    """No key among the first 3 that fit made the signature."""
 
 
 class Withdrawn(Refused):

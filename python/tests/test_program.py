@@ -23,6 +23,7 @@ from making import (
     validator,
     verdict,
 )
+from svid._library import MOST_CANDIDATES
 from svid.errors import REFUSALS
 
 ROW = 50
@@ -163,19 +164,26 @@ def rows(draw):
 
 
 def questions(text):
-    """The questions of a token whose answer is yes, of all keys of a trust domain, by PyJWT."""
+    """The questions of a token whose answer is yes, of the keys that are tried, by PyJWT."""
     try:
         head, payload, _ = text.split(".")
         signature = unb64(text.rpartition(".")[2])
-        alg = json.loads(unb64(head))["alg"]
+        header = json.loads(unb64(head))
+        alg, kid = header["alg"], header.get("kid")
         kind = {"RS": "RSA", "PS": "RSA", "ES": "EC"}[alg[:2]]
         verifier = SIGNERS[alg]
     except (ValueError, KeyError, TypeError):
         return
     signed = f"{head}.{payload}".encode()
     for domain, bundle in BUNDLES.items():
-        for key in bundle["keys"] or []:
-            if key["kty"] == kind and verifier.verify(signed, verifier.from_jwk(key), signature):
+        fit = [
+            key
+            for key in bundle["keys"] or []
+            if key["kty"] == kind and key["use"] == "jwt-svid" and "kid" in key
+            if kid is None or key["kid"] == kid
+        ]
+        for key in fit[:MOST_CANDIDATES]:
+            if verifier.verify(signed, verifier.from_jwk(key), signature):
                 yield question(domain, key, alg, signed, signature)
 
 

@@ -143,7 +143,7 @@ def test_of_many_keys_the_first_are_tried():
         for n, key in enumerate(keys):
             payload = json.dumps(claims(jti=f"no kid {n}")).encode()
             no_kid = signed("ES256", key, b'{"alg":"ES256"}', payload)
-            assert verdict(checks, no_kid) == (ACCEPTED if n < 4 else BAD_SIGNATURE)
+            assert verdict(checks, no_kid) == (ACCEPTED if n < 3 else BAD_SIGNATURE)
             named = token(key=key, header={"kid": f"k{n}"}, jti=f"named {n}")
             assert verdict(checks, named) == ACCEPTED
 
@@ -157,7 +157,7 @@ def test_keys_of_one_name():
 
 
 def test_a_token_without_the_name_of_a_key():
-    first = [entry(private_key(alg), alg) for alg in ("RS256", "ES256", "ES384", "ES512")]
+    first = [entry(private_key(alg), alg) for alg in ("RS256", "ES256", "ES384")]
     for alg in ALGORITHMS:
         with validator(bundle(*first, entry(private_key(alg, 1), "last"))) as checks:
             made = jwt.encode(claims(jti=alg), private_key(alg, 1), alg)
@@ -168,7 +168,7 @@ def test_a_token_without_the_name_of_a_key():
 
 def test_many_keys_are_more_than_the_room():
     keys = [private_key("ES256", which) for which in range(3)]
-    entries = [entry(keys[it == 3], "k1", note=f"{it}" * 20_000) for it in range(4)]
+    entries = [entry(keys[it == 2], "k1", note=f"{it}" * 27_000) for it in range(3)]
     with validator(bundle(*entries)) as checks:
         assert verdict(checks, jwt.encode(claims(jti="1"), keys[1], "ES256")) == ACCEPTED
         assert verdict(checks, jwt.encode(claims(jti="2"), keys[2], "ES256")) == BAD_SIGNATURE

@@ -302,7 +302,7 @@ extern "C" {
 }
 
 /// How many keys are tried for a token: SVID_MOST_CANDIDATES of the header.
-pub const MOST_CANDIDATES: usize = 4;
+pub const MOST_CANDIDATES: usize = 3;
 
 /// A key that may have signed a token: the question to answer, the algorithm's name, and the key as JSON.
 pub struct Row {
