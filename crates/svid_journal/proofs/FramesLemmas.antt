@@ -51,15 +51,15 @@ same_frames v title number p q x y fv fp fq e =
     let rests = same_parts (filler (gap (length p))) (filler (gap (length q))) x y (ap (λ n. length (filler (gap n))) long) payloads.1 in
     (payloads.0, rests.1)
 
--- how many cells of 32 bytes a payload of so many bytes takes
+-- how many cells of 8 bytes a payload of so many bytes takes
 abbrev pub cells_of : ℕ → ℕ
-cells_of count = count / 32 + 1 - (32 - count % 32) / 32
+cells_of count = count / 8 + 1 - (8 - count % 8) / 8
 
-fills : (count : ℕ) → count + gap count ≡ 32 * cells_of count
+fills : (count : ℕ) → count + gap count ≡ 8 * cells_of count
 unfolding gap
 fills count = omega arith
 
-pub length-frame_in : (v : ℕ) (title : List ℕ) (number : ℕ) (payload : List ℕ) → length (frame_in v title number payload) ≡ 32 * (1 + cells_of (length payload))
+pub length-frame_in : (v : ℕ) (title : List ℕ) (number : ℕ) (payload : List ℕ) → length (frame_in v title number payload) ≡ 8 * (4 + cells_of (length payload))
 unfolding frame_in
 length-frame_in v title number payload =
     omega (arith, length-append (head_of v title number payload) (payload ++ filler (gap (length payload))), length-append payload (filler (gap (length payload))), length-head_of v title number payload, length-replicate {A = ℕ} (gap (length payload)) 255, fills (length payload))

@@ -39,7 +39,7 @@ fn stop(title: &Title, file: &[u8], count: usize) -> (u64, Next<'static>) {
         Next::End => (reader.at, Next::End),
         Next::Tear => (reader.at, Next::Tear),
         Next::Damage => (reader.at, Next::Damage),
-        Next::Newer(format) => (reader.at, Next::Newer(format)),
+        Next::Other(format) => (reader.at, Next::Other(format)),
         Next::Unfit => (reader.at, Next::Unfit),
     }
 }
@@ -62,7 +62,7 @@ fn tells_what_stands_in_a_file(rt: HostRuntime) -> Result<(), Fail> {
     assert_eq!(rt; stop(&JOURNAL, &last, 1), (64, Next::Tear));
     let mut newer = FILE;
     newer[..32].copy_from_slice(&NEWER);
-    assert_eq!(rt; stop(&JOURNAL, &newer, 0), (0, Next::Newer(2)));
+    assert_eq!(rt; stop(&JOURNAL, &newer, 0), (0, Next::Other(2)));
     Ok(())
 }
 
