@@ -236,7 +236,7 @@ pub longer : (title : List ℕ) (payloads : List (List ℕ)) (payload : List ℕ
 longer title payloads payload = ap length (frames_of-push title 1 payloads payload) ∙ length-append (frames_of title 1 payloads) (frame_of title (1 + length payloads) payload)
 
 -- a piece that is put behind what is done
-put_behind : (done piece rest old new : List ℕ) (at : ℕ) → at ≡ length done → old ≡ done ++ rest → new ≡ take at old ++ (piece ++ drop (at + length piece) old) → new ≡ (done ++ piece) ++ drop (length piece) rest
+pub put_behind : (done piece rest old new : List ℕ) (at : ℕ) → at ≡ length done → old ≡ done ++ rest → new ≡ take at old ++ (piece ++ drop (at + length piece) old) → new ≡ (done ++ piece) ++ drop (length piece) rest
 put_behind done piece rest old new at place is put =
     let front : take at old ≡ done = (λ i. take (place i) (is i)) ∙ take-append_seam done rest in
     let back : drop (at + length piece) old ≡ drop (length piece) rest = (λ i. drop (place i + length piece) (is i)) ∙ drop-append-add done rest (length piece) in

@@ -89,7 +89,7 @@ fn filler(count: usize) -> &'static [u8]
 }
 
 // Puts a piece at a place of a room.
-fn put_at(room: &mut [u8], at: usize, piece: &[u8])
+pub(crate) fn put_at(room: &mut [u8], at: usize, piece: &[u8])
     requires { at + length piece.now ≤ length room.old }
     ensures put { room.new ≡ take at room.old ++ (piece.now ++ drop (at + length piece.now) room.old) }
     ensures long { length room.new ≡ length room.old }
