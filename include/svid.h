@@ -49,8 +49,8 @@ extern "C" {
 #define SVID_BATCH_OF_LEN 82         /* the length of a batch of one use */
 #define SVID_INPUT_MOST 67108864     /* the most bytes that an input of messages may have */
 #define SVID_PAYLOAD_MOST 16777215   /* the most bytes that a payload of a state folder's file has */
-#define SVID_FRAME_MORE 63           /* a frame has at most so many bytes more than its payload */
-#define SVID_MOST_CANDIDATES 3       /* how many keys svidd, the Go library and the Python package try for a token: give svid_validator_ask
+#define SVID_FRAME_MORE 39           /* a frame has at most so many bytes more than its payload */
+#define SVID_MOST_CANDIDATES 4       /* how many keys svidd, the Go library and the Python package try for a token: give svid_validator_ask
                                         the same, so that all answer the same (docs/FORMATS.md, "Candidates") */
 
 enum svid_status {
@@ -116,7 +116,7 @@ enum svid_status {
     SVID_FILE_END = 52,           /* the end: nothing was written here */
     SVID_FILE_TEAR = 53,          /* a write was cut off: nobody was told that it is on the disk. Only a journal has one */
     SVID_FILE_DAMAGE = 54,        /* what was synced here has changed */
-    SVID_FILE_NEWER = 55,         /* a frame of a newer format stands here; frame->format is its number */
+    SVID_FILE_OTHER = 55,         /* a frame of another format stands here; frame->format is its number */
 
     /* why a token is refused: the first that holds, in this order */
     SVID_TOO_LONG = 101,
@@ -539,7 +539,7 @@ typedef struct {
 typedef struct {
     size_t payload;     /* where in the bytes the payload begins */
     size_t len;         /* how many bytes it has; 0 for a mark */
-    uint64_t format;    /* 1, or of SVID_FILE_NEWER the number of that format */
+    uint64_t format;    /* 2, or of SVID_FILE_OTHER the number of that format */
 } svid_frame;
 
 /* A start, in a folder that was read: no journal has a number below `oldest` or above `newest`. Without journals these are 1 and 0. `f`
@@ -586,11 +586,28 @@ uint32_t svid_journal_piece(svid_folder *f, const svid_place *place, const uint8
  * those of the whole file.
  *
  * SVID_OK: `frame` says where in `bytes` the payload stands, and the reader goes on behind it. Else the reader stays as it was, and the status
- * says why there is no frame at byte `reader->at`: SVID_FILE_END, SVID_FILE_TEAR, SVID_FILE_DAMAGE, SVID_FILE_NEWER, or SVID_FOLDER_UNFIT if
- * the reader's numbers do not fit the bytes. Of SVID_FILE_NEWER `frame->format` is the number of that format; `payload` and `len` are then 0.
+ * says why there is no frame at byte `reader->at`: SVID_FILE_END, SVID_FILE_TEAR, SVID_FILE_DAMAGE, SVID_FILE_OTHER, or SVID_FOLDER_UNFIT if
+ * the reader's numbers do not fit the bytes. Of SVID_FILE_OTHER `frame->format` is the number of that format; `payload` and `len` are then 0.
  * A snapshot that ends without a mark is damaged. */
 uint32_t svid_journal_read(const svid_place *place, uint64_t journal, const uint8_t *bytes, size_t bytes_len,
                            svid_reader *reader, svid_frame *frame);
+
+/* What a payload bears. */
+typedef struct {
+    svid_mark mark;     /* where a validator was in its log as the payload was written; 0 if the payload does not say */
+    size_t marked;      /* 1 if the payload begins with that, else 0 */
+    size_t messages;    /* where in the payload its messages begin: SVID_LOG_PLACE or 0 */
+} svid_bears;
+#define SVID_LOG_PLACE 28
+
+/* Writes where a validator is in its log to `out`, as the front of a payload: SVID_LOG_PLACE bytes. Put the messages of the payload behind
+ * them, or none. `mark` is that of svid_validator_mark. At the next start the last such mark says until when the validator accepts nothing.
+ * SVID_TOO_SHORT: `out` stays as it was. `told->len` is SVID_LOG_PLACE. */
+uint32_t svid_journal_place(const svid_mark *mark, uint8_t *out, size_t out_len, svid_told *told);
+
+/* Says what a payload bears: where a validator was in its log, if the payload begins with that, and where its messages begin. Any bytes are a
+ * payload. The call does not look at the messages; no messages begin as a mark does. */
+void svid_journal_bears(const uint8_t *payload, size_t payload_len, svid_bears *bears);
 
 /* ---- Stateless calls ---- */
 
@@ -695,7 +712,7 @@ static inline const char *svid_strstatus(uint32_t status) {
     case SVID_FILE_END: return "SVID_FILE_END";
     case SVID_FILE_TEAR: return "SVID_FILE_TEAR";
     case SVID_FILE_DAMAGE: return "SVID_FILE_DAMAGE";
-    case SVID_FILE_NEWER: return "SVID_FILE_NEWER";
+    case SVID_FILE_OTHER: return "SVID_FILE_OTHER";
     case SVID_TOO_LONG: return "SVID_TOO_LONG";
     case SVID_NOT_THREE_PARTS: return "SVID_NOT_THREE_PARTS";
     case SVID_HEADER_SPELLING: return "SVID_HEADER_SPELLING";

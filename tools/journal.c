@@ -3,6 +3,7 @@
  *   journal calls      each call with each of its faults, a start, appends, a switch and a read; linked with --wrap for malloc and realloc, which
  *                      these calls never reach
  *   journal bits       each byte of a journal and of a snapshot changed to each other value: found, with its place; and each front of them
+ *   journal places     the place of a validator in its log, in front of messages: rooms and payloads of each length
  *   journal guarded    all that a call is lent between pages that can't be touched, right before the one and right behind the other
  *   journal nulls      NULL for a payload and for a file of no bytes
  *   journal stack      each call on a painted stack, which tells how much of it the call needs */
@@ -24,8 +25,9 @@ PLACE(svid_folder, step, 0); PLACE(svid_folder, oldest, 8); PLACE(svid_folder, n
 PLACE(svid_folder, count, 32); PLACE(svid_folder, end, 40); PLACE(svid_folder, flying, 48); PLACE(svid_folder, pieces, 56);
 PLACE(svid_due, call, 0); PLACE(svid_due, journal, 8);
 PLACE(svid_reader, count, 0); PLACE(svid_reader, at, 8); PLACE(svid_reader, marked, 16);
+PLACE(svid_bears, mark, 0); PLACE(svid_bears, marked, 24); PLACE(svid_bears, messages, 32);
 PLACE(svid_frame, payload, 0); PLACE(svid_frame, len, 8); PLACE(svid_frame, format, 16);
-_Static_assert(sizeof(svid_folder) == 64 && sizeof(svid_place) == 16 && sizeof(svid_due) == 16 && sizeof(svid_reader) == 24 && sizeof(svid_frame) == 24, "sizes");
+_Static_assert(sizeof(svid_folder) == 64 && sizeof(svid_place) == 16 && sizeof(svid_due) == 16 && sizeof(svid_reader) == 24 && sizeof(svid_frame) == 24 && sizeof(svid_bears) == 40, "sizes");
 
 static long asked;
 #ifdef WRAPPED
@@ -44,18 +46,19 @@ static const svid_place OURS = { { 7, 7, 7, 7, 7, 7, 7, 7, 7, 7, 7, 7, 7, 7, 7, 
 static const svid_place ANOTHER = { { 8 } };
 
 /* What Python's hashlib makes of journal 3 of OURS: number 1 with the payload `hi`, and number 2, a mark. */
-static const uint8_t FILE_3[96] = {
-    13, 139, 96, 242, 198, 195, 198, 65, 119, 108, 28, 191, 100, 142, 167, 241, 209, 175, 72, 149, 0, 0, 0, 0, 0, 0, 0, 1, 1, 0, 0, 2,
-    104, 105, 255, 255, 255, 255, 255, 255, 255, 255, 255, 255, 255, 255, 255, 255, 255, 255, 255, 255, 255, 255, 255, 255, 255, 255, 255, 255, 255, 255, 255, 255,
-    211, 28, 58, 189, 147, 177, 154, 74, 11, 61, 227, 23, 242, 36, 122, 179, 83, 30, 95, 246, 0, 0, 0, 0, 0, 0, 0, 2, 1, 0, 0, 0 };
-/* And of number 1 of that journal with the payload `hi` in format 2, its head. */
-static const uint8_t NEWER[32] = { 59, 243, 163, 178, 107, 78, 57, 69, 109, 100, 0, 155, 235, 197, 173, 35, 37, 148, 217, 5, 0, 0, 0, 0, 0, 0, 0, 1, 2, 0, 0, 2 };
+static const uint8_t FILE_3[72] = {
+    59, 243, 163, 178, 107, 78, 57, 69, 109, 100, 0, 155, 235, 197, 173, 35, 37, 148, 217, 5, 0, 0, 0, 0, 0, 0, 0, 1, 2, 0, 0, 2,
+    104, 105, 255, 255, 255, 255, 255, 255,
+    142, 191, 192, 139, 126, 100, 115, 134, 84, 196, 149, 108, 199, 167, 10, 248, 131, 79, 10, 85, 0, 0, 0, 0, 0, 0, 0, 2, 2, 0, 0, 0 };
+/* And of number 1 of that journal with the payload `hi`, its head in format 1 and in format 3. */
+static const uint8_t OLDER[32] = { 13, 139, 96, 242, 198, 195, 198, 65, 119, 108, 28, 191, 100, 142, 167, 241, 209, 175, 72, 149, 0, 0, 0, 0, 0, 0, 0, 1, 1, 0, 0, 2 };
+static const uint8_t NEWER[32] = { 64, 159, 114, 228, 43, 110, 223, 134, 97, 30, 238, 151, 179, 106, 112, 208, 144, 38, 63, 130, 0, 0, 0, 0, 0, 0, 0, 1, 3, 0, 0, 2 };
 
 static long made;
 
 /* The calls in numbers, so that each can be made with what a row says. */
-enum { OPEN, BEGIN, DUE, ANSWER, PUT, SYNCED, UNWRITTEN, FAILED, PIECE, READ, CALLS };
-static const char *const NAMES[] = { "open", "begin", "due", "answer", "put", "synced", "unwritten", "failed", "piece", "read" };
+enum { OPEN, BEGIN, DUE, ANSWER, PUT, SYNCED, UNWRITTEN, FAILED, PIECE, READ, MARK, BEARS, CALLS };
+static const char *const NAMES[] = { "open", "begin", "due", "answer", "put", "synced", "unwritten", "failed", "piece", "read", "place", "bears" };
 
 /* What a call is lent. */
 typedef struct {
@@ -69,6 +72,8 @@ typedef struct {
     uint8_t *out;
     size_t len, room;
     uint64_t first, second;
+    svid_mark *mark;
+    svid_bears *bears;
 } loan;
 
 static uint32_t make(int which, const loan *l) {
@@ -83,12 +88,14 @@ static uint32_t make(int which, const loan *l) {
     case UNWRITTEN: return svid_journal_unwritten(l->f);
     case FAILED: return svid_journal_failed(l->f);
     case PIECE: return svid_journal_piece(l->f, l->place, l->bytes, l->len, l->out, l->room, l->told);
-    default: return svid_journal_read(l->place, l->first, l->bytes, l->len, l->reader, l->frame);
+    case READ: return svid_journal_read(l->place, l->first, l->bytes, l->len, l->reader, l->frame);
+    case MARK: return svid_journal_place(l->mark, l->out, l->room, l->told);
+    default: svid_journal_bears(l->bytes, l->len, l->bears); return SVID_OK;
     }
 }
 
 /* What a call of a row finds and leaves. */
-typedef struct { svid_folder f; svid_due due; svid_told told; svid_reader reader; svid_frame frame; uint8_t out[256]; } state;
+typedef struct { svid_folder f; svid_due due; svid_told told; svid_reader reader; svid_frame frame; svid_mark mark; svid_bears bears; uint8_t out[256]; } state;
 
 static void clear(state *s) {
     memset(s, 0xA5, sizeof *s);
@@ -96,7 +103,7 @@ static void clear(state *s) {
 }
 
 static uint32_t call(int which, state *s, const void *bytes, size_t len, size_t room, uint64_t first, uint64_t second) {
-    loan l = { &s->f, &OURS, &s->due, &s->told, &s->reader, &s->frame, bytes, s->out, len, room, first, second };
+    loan l = { &s->f, &OURS, &s->due, &s->told, &s->reader, &s->frame, bytes, s->out, len, room, first, second, &s->mark, &s->bears };
     at = NAMES[which];
     return answered = make(which, &l);
 }
@@ -140,7 +147,7 @@ static const row ROWS[] = {
     { PUT, NUMBERS(0, 1, 1, 0, 0, 0, 0, 0), 0, SVID_PAYLOAD_MOST + 1, 64, SVID_FOLDER_TOO_LONG, NUMBERS(0, 1, 1, 0, 0, 0, 0, 0) },
     { PUT, NUMBERS(0, 1, 1, 0, MOST - 1, 0, 0, 0), 0, 2, 64, SVID_FOLDER_FULL, NUMBERS(0, 1, 1, 0, MOST - 1, 0, 0, 0) },
     { PUT, NUMBERS(0, 1, 1, 0, 0, MOST - 33554432, 0, 0), 0, 2, 64, SVID_FOLDER_FULL, NUMBERS(0, 1, 1, 0, 0, MOST - 33554432, 0, 0) },
-    { PUT, NUMBERS(0, 1, 1, 0, 0, 0, 0, 0), 0, 2, 63, SVID_TOO_SHORT, NUMBERS(0, 1, 1, 0, 0, 0, 0, 0) },
+    { PUT, NUMBERS(0, 1, 1, 0, 0, 0, 0, 0), 0, 2, 39, SVID_TOO_SHORT, NUMBERS(0, 1, 1, 0, 0, 0, 0, 0) },
     { SYNCED, NUMBERS(0, 1, 1, 0, 2, 96, 0, 0), 0, 0, 0, SVID_FOLDER_NOT_FLYING, NUMBERS(0, 1, 1, 0, 2, 96, 0, 0) },
     { UNWRITTEN, NUMBERS(0, 1, 1, 0, 2, 96, 0, 0), 0, 0, 0, SVID_FOLDER_NOT_FLYING, NUMBERS(0, 1, 1, 0, 2, 96, 0, 0) },
     { PIECE, NUMBERS(0, 1, 2, 0, 0, 0, 0, 0), 0, 2, 64, SVID_FOLDER_NOT_WRITING, NUMBERS(0, 1, 2, 0, 0, 0, 0, 0) },
@@ -174,9 +181,9 @@ static const row ROWS[] = {
     { UNWRITTEN, NUMBERS(0, 1, 1, 0, 2, 96, 64, 0), 0, 0, 0, SVID_OK, NUMBERS(0, 1, 1, 0, 2, 96, 0, 0) },
     { FAILED, NUMBERS(6, 1, 2, 0, 2, 96, 64, 5), 0, 0, 0, SVID_OK, NUMBERS(0, 1, 2, 1, 2, 96, 0, 5) },
     { FAILED, NUMBERS(0, 1, 1, 0, 2, 96, 0, 0), 0, 0, 0, SVID_OK, NUMBERS(0, 1, 1, 1, 2, 96, 0, 0) },
-    { PUT, NUMBERS(0, 1, 3, 0, 0, 0, 0, 0), 0, 2, 64, SVID_OK, NUMBERS(0, 1, 3, 0, 0, 0, 64, 0) },
+    { PUT, NUMBERS(0, 1, 3, 0, 0, 0, 0, 0), 0, 2, 40, SVID_OK, NUMBERS(0, 1, 3, 0, 0, 0, 40, 0) },
     { PUT, NUMBERS(0, 1, 3, 0, 1, 64, 0, 0), 0, 0, 200, SVID_OK, NUMBERS(0, 1, 3, 0, 1, 64, 32, 0) },
-    { PIECE, NUMBERS(5, 1, 3, 0, 1, 64, 32, 0), 0, 2, 64, SVID_OK, NUMBERS(5, 1, 3, 0, 1, 64, 32, 1) },
+    { PIECE, NUMBERS(5, 1, 3, 0, 1, 64, 32, 0), 0, 2, 40, SVID_OK, NUMBERS(5, 1, 3, 0, 1, 64, 32, 1) },
     { PIECE, NUMBERS(5, 1, 3, 0, 1, 64, 32, 1), 0, 0, 32, SVID_OK, NUMBERS(6, 1, 3, 0, 1, 64, 32, 2) },
 };
 
@@ -207,6 +214,9 @@ static void dues(void) {
     }
 }
 
+/* The place of a validator that has passed 1 value, begun 258 uses of the next one, and is deaf until 65536, in front of a message. */
+static const uint8_t PLACED[] = "JSL\1\0\0\0\0\0\0\0\1\0\0\0\0\0\0\1\2\0\0\0\0\0\1\0\0JSR";
+
 /* A payload of a row. */
 static const uint8_t HI[] = { 104, 105 };
 
@@ -225,7 +235,7 @@ static void calls(void) {
             fail("the answer, or the numbers behind it");
         }
         int frames = r->which == PUT || r->which == PIECE;
-        size_t len = frames && (answered == SVID_OK || answered == SVID_TOO_SHORT) ? 32 + (r->len + 31) / 32 * 32 : 0;
+        size_t len = frames && (answered == SVID_OK || answered == SVID_TOO_SHORT) ? 32 + (r->len + 7) / 8 * 8 : 0;
         holds(!frames || (s.told.len == len && !s.told.input && !s.told.message && !s.told.place && !s.told.more), "what is told");
         size_t written = answered == SVID_OK ? len : 0;
         holds(!memcmp(s.out + written, before.out + written, sizeof s.out - written), "bytes behind the frame, or of none");
@@ -235,7 +245,7 @@ static void calls(void) {
     dues();
     /* the frames of journal 3 are those of hashlib */
     clear(&s);
-    uint8_t file[96];
+    uint8_t file[72];
     svid_folder three = NUMBERS(0, 1, 3, 0, 0, 0, 0, 0);
     s.f = three;
     for (size_t number = 0; number < 2; number++) {
@@ -243,7 +253,7 @@ static void calls(void) {
         memcpy(file + s.f.end, s.out, s.told.len);
         holds(call(SYNCED, &s, NULL, 0, 0, 0, 0) == SVID_OK, "a frame is synced");
     }
-    holds(!memcmp(file, FILE_3, sizeof file) && s.f.end == 96 && s.f.count == 2, "the bytes of frames");
+    holds(!memcmp(file, FILE_3, sizeof file) && s.f.end == 72 && s.f.count == 2, "the bytes of frames");
     holds(asked == allocated, "memory is asked for");
     printf("%ld calls, no allocation", made);
 }
@@ -261,11 +271,11 @@ static stop read_all(uint64_t journal, const svid_place *place, const uint8_t *b
         made++;
         answered = svid_journal_read(place, journal, bytes, len, &reader, &frame);
         if (answered != SVID_OK) break;
-        holds(reader.count == kept.count + 1 && frame.payload == kept.at + 32 && frame.format == 1, "a payload");
-        holds(reader.at == kept.at + 32 + (frame.len + 31) / 32 * 32 && reader.at <= len && reader.marked == (frame.len == 0), "the reader goes on");
+        holds(reader.count == kept.count + 1 && frame.payload == kept.at + 32 && frame.format == 2, "a payload");
+        holds(reader.at == kept.at + 32 + (frame.len + 7) / 8 * 8 && reader.at <= len && reader.marked == (frame.len == 0), "the reader goes on");
     }
     holds(!memcmp(&reader, &kept, sizeof reader), "a reader that stops goes on");
-    if (answered == SVID_FILE_NEWER) holds(frame.payload == 0 && frame.len == 0 && frame.format > 1, "a newer format");
+    if (answered == SVID_FILE_OTHER) holds(frame.payload == 0 && frame.len == 0 && frame.format != 2, "another format");
     else holds(!memcmp(&frame, &before, sizeof frame), "a frame is told where none is");
     stop found = { answered, reader.at, reader.count };
     return found;
@@ -308,7 +318,7 @@ static void behind(size_t zeros, uint64_t number, uint32_t status) {
 
 static void bits(void) {
     enum { COUNT = 5 };
-    static const size_t LENS[COUNT] = { 65, 1, 32, 31, 0 };
+    static const size_t LENS[COUNT] = { 65, 1, 8, 7, 0 };
     static uint8_t file[1024], other[1024 + 64];
     size_t places[COUNT], len = file_of(4, LENS, COUNT, file, sizeof file, places);
     is("the whole journal", read_all(4, &OURS, file, len), SVID_FILE_END, len);
@@ -344,14 +354,18 @@ static void bits(void) {
     is("zeros behind a journal", read_all(4, &OURS, other, len + 64), SVID_FILE_END, len);
     other[len + 63] = 1;
     is("something behind a journal", read_all(4, &OURS, other, len + 64), SVID_FILE_TEAR, len);
-    /* frames of a newer format, at its place and behind it */
-    memcpy(other, FILE_3, 96);
+    /* frames of another format */
+    memcpy(other, FILE_3, 72);
     memcpy(other, NEWER, 32);
-    is("a newer format", read_all(3, &OURS, other, 96), SVID_FILE_NEWER, 0);
-    is("a newer format that is cut", read_all(3, &OURS, other, 63), SVID_FILE_TEAR, 0);
+    is("a newer format", read_all(3, &OURS, other, 72), SVID_FILE_OTHER, 0);
+    is("a newer format that is cut", read_all(3, &OURS, other, 39), SVID_FILE_TEAR, 0);
+    /* (format 1 filled its frames up to a multiple of 32) */
+    memcpy(other, OLDER, 32);
+    memset(other + 34, 0xFF, 30);
+    is("an older format", read_all(3, &OURS, other, 64), SVID_FILE_OTHER, 0);
     /* a frame behind is damage where one of its number may stand, each in a cell of its own */
-    behind(32, 2, SVID_FILE_DAMAGE), behind(64, 3, SVID_FILE_DAMAGE), behind(256, 9, SVID_FILE_DAMAGE);
-    behind(0, 3, SVID_FILE_TEAR), behind(32, 3, SVID_FILE_TEAR), behind(224, 9, SVID_FILE_TEAR), behind(33, 2, SVID_FILE_TEAR), behind(32, 1, SVID_FILE_TEAR);
+    behind(32, 2, SVID_FILE_DAMAGE), behind(40, 2, SVID_FILE_DAMAGE), behind(64, 3, SVID_FILE_DAMAGE), behind(256, 9, SVID_FILE_DAMAGE);
+    behind(0, 3, SVID_FILE_TEAR), behind(24, 2, SVID_FILE_TEAR), behind(32, 3, SVID_FILE_TEAR), behind(56, 3, SVID_FILE_TEAR), behind(224, 9, SVID_FILE_TEAR), behind(33, 2, SVID_FILE_TEAR), behind(32, 1, SVID_FILE_TEAR);
     /* a snapshot is written whole, so all that is not its own is damage */
     size_t snapshot = file_of(0, LENS, COUNT, file, sizeof file, places);
     is("the whole snapshot", read_all(0, &OURS, file, snapshot), SVID_FILE_END, snapshot);
@@ -375,15 +389,55 @@ static void bits(void) {
     other[snapshot] = 0;
     is("a byte behind a snapshot", read_all(0, &OURS, other, snapshot + 1), SVID_FILE_DAMAGE, snapshot);
     /* numbers of a reader that do not fit */
-    static const svid_reader unfit[] = { { 0, 97, 0 }, { MOST, 0, 0 }, { 0, UINT64_MAX, 0 }, { UINT64_MAX, 96, 1 } };
+    static const svid_reader unfit[] = { { 0, 73, 0 }, { MOST, 0, 0 }, { 0, UINT64_MAX, 0 }, { UINT64_MAX, 72, 1 } };
     for (size_t i = 0; i < sizeof unfit / sizeof *unfit; i++) {
         svid_reader reader = unfit[i];
         svid_frame frame = { 1, 2, 3 };
         at = "a reader that does not fit";
-        answered = svid_journal_read(&OURS, 3, FILE_3, 96, &reader, &frame);
+        answered = svid_journal_read(&OURS, 3, FILE_3, sizeof FILE_3, &reader, &frame);
         holds(answered == SVID_FOLDER_UNFIT && !memcmp(&reader, &unfit[i], sizeof reader) && frame.payload == 1 && frame.len == 2 && frame.format == 3, "it answers");
     }
     printf("each value of %zu bytes, %ld reads", len + snapshot, made);
+}
+
+/* The place of a validator in its log is written in front of messages, and read back. */
+static void places(void) {
+    static const svid_mark ALL[] = { { 0, 0, 0 }, { 1, 258, 65536 }, { UINT64_MAX, SIZE_MAX, UINT64_MAX }, { 1, SIZE_MAX, 0 } };
+    static const uint8_t LARGEST[24] = { 255, 255, 255, 255, 255, 255, 255, 255, 255, 255, 255, 255, 255, 255, 255, 255, 255, 255, 255, 255, 255, 255, 255, 255 };
+    uint8_t out[64], before[64];
+    svid_told told;
+    svid_bears bears;
+    for (size_t i = 0; i < sizeof ALL / sizeof *ALL; i++) {
+        for (size_t len = 0; len <= sizeof out; len++) {
+            memset(out, 0x4A, sizeof out);
+            memcpy(before, out, sizeof out);
+            made++;
+            at = "place";
+            answered = svid_journal_place(&ALL[i], out, len, &told);
+            holds(answered == (len < SVID_LOG_PLACE ? SVID_TOO_SHORT : SVID_OK) && told.len == SVID_LOG_PLACE, "the answer");
+            size_t written = answered == SVID_OK ? SVID_LOG_PLACE : 0;
+            holds(!memcmp(out + written, before + written, sizeof out - written), "bytes behind the place");
+            made++;
+            at = "bears";
+            memset(&bears, 0xA5, sizeof bears);
+            svid_journal_bears(out, len, &bears);
+            if (answered == SVID_OK) holds(!memcmp(&bears.mark, &ALL[i], sizeof bears.mark) && bears.marked == 1 && bears.messages == SVID_LOG_PLACE, "what was written");
+            else holds(!bears.mark.passed && !bears.mark.begun && !bears.mark.deaf && !bears.marked && !bears.messages, "a payload without a place");
+        }
+    }
+    svid_journal_place(&ALL[2], out, sizeof out, &told);
+    holds(!memcmp(out, "JSL\1", 4) && !memcmp(out + 4, LARGEST, sizeof LARGEST), "the bytes of a place");
+    svid_journal_place(&ALL[1], out, sizeof out, &told);
+    holds(!memcmp(out, PLACED, SVID_LOG_PLACE), "the bytes of a place");
+    for (size_t i = 0; i < 4; i++) {
+        for (int value = 0; value < 256; value++) {
+            memcpy(before, PLACED, sizeof PLACED);
+            before[i] = (uint8_t)value;
+            svid_journal_bears(before, sizeof PLACED, &bears);
+            holds(bears.marked == (value == PLACED[i]), "a place of another kind or version");
+        }
+    }
+    printf("%ld calls with places", made);
 }
 
 /* Room of so many bytes between two pages that can't be touched. */
@@ -407,7 +461,9 @@ static svid_folder folder_for(int which) {
 }
 
 static loan lent(int which, state *s) {
-    loan l = { &s->f, &OURS, &s->due, &s->told, &s->reader, &s->frame, which == READ ? FILE_3 : HI, s->out, which == READ ? 96 : 2, 64, 3, 3 };
+    loan l = { &s->f, &OURS, &s->due, &s->told, &s->reader, &s->frame, HI, s->out, 2, 64, 3, 3, &s->mark, &s->bears };
+    if (which == READ) l.bytes = FILE_3, l.len = sizeof FILE_3;
+    if (which == BEARS) l.bytes = PLACED, l.len = sizeof PLACED;
     clear(s);
     s->f = folder_for(which);
     memset(&s->reader, 0, sizeof s->reader);
@@ -426,6 +482,8 @@ static void guarded(void) {
             l.told = (svid_told *)(void *)room(plain.told, sizeof *plain.told);
             l.reader = (svid_reader *)(void *)room(plain.reader, sizeof *plain.reader);
             l.frame = (svid_frame *)(void *)room(plain.frame, sizeof *plain.frame);
+            l.mark = (svid_mark *)(void *)room(plain.mark, sizeof *plain.mark);
+            l.bears = (svid_bears *)(void *)room(plain.bears, sizeof *plain.bears);
             l.bytes = room(plain.bytes, plain.len);
             l.out = room(plain.out, plain.room);
             answered = make(which, &l);
@@ -433,8 +491,8 @@ static void guarded(void) {
             answered = make(which, &plain);
             holds(answered == SVID_OK && there == answered, "the answer");
             holds(!memcmp(l.f, plain.f, sizeof *l.f) && !memcmp(l.due, plain.due, sizeof *l.due) && !memcmp(l.told, plain.told, sizeof *l.told) && !memcmp(l.reader, plain.reader, sizeof *l.reader)
-                && !memcmp(l.frame, plain.frame, sizeof *l.frame) && !memcmp(l.out, plain.out, plain.room), "what it writes");
-            holds(!memcmp(l.place, &OURS, sizeof OURS) && !memcmp(l.bytes, plain.bytes, plain.len), "what it only reads");
+                && !memcmp(l.frame, plain.frame, sizeof *l.frame) && !memcmp(l.bears, plain.bears, sizeof *l.bears) && !memcmp(l.out, plain.out, plain.room), "what it writes");
+            holds(!memcmp(l.place, &OURS, sizeof OURS) && !memcmp(l.bytes, plain.bytes, plain.len) && !memcmp(l.mark, plain.mark, sizeof *l.mark), "what it only reads");
         }
     }
     printf("%d calls between pages", 2 * CALLS);
@@ -451,8 +509,17 @@ static void nulls(void) {
         l = lent(which, &s);
         l.out = NULL, l.room = 0;
         answered = make(which, &l);
-        holds(answered == SVID_TOO_SHORT && s.told.len == 64, "a room of no pointer");
+        holds(answered == SVID_TOO_SHORT && s.told.len == 40, "a room of no pointer");
     }
+    loan l = lent(MARK, &s);
+    l.out = NULL, l.room = 0;
+    at = "place";
+    answered = make(MARK, &l);
+    holds(answered == SVID_TOO_SHORT && s.told.len == SVID_LOG_PLACE, "a room of no pointer for a place");
+    l = lent(BEARS, &s);
+    l.bytes = NULL, l.len = 0;
+    make(BEARS, &l);
+    holds(!s.bears.marked && !s.bears.messages, "a payload of no pointer");
     is("a journal of no pointer", read_all(3, &OURS, NULL, 0), SVID_FILE_END, 0);
     is("a snapshot of no pointer", read_all(0, &OURS, NULL, 0), SVID_FILE_DAMAGE, 0);
     printf("NULL for what has no bytes");
@@ -494,6 +561,7 @@ int main(int argc, char **argv) {
     const char *what = argc > 1 ? argv[1] : "";
     if (!strcmp(what, "calls")) calls();
     else if (!strcmp(what, "bits")) bits();
+    else if (!strcmp(what, "places")) places();
     else if (!strcmp(what, "guarded")) guarded();
     else if (!strcmp(what, "nulls")) nulls();
     else if (!strcmp(what, "stack")) stack();

@@ -70,6 +70,10 @@ class Frame(c.Structure):
     _fields_ = [("payload", c.c_size_t), ("len", c.c_size_t), ("format", c.c_uint64)]
 
 
+class Bears(c.Structure):
+    _fields_ = [("mark", Mark), ("marked", c.c_size_t), ("messages", c.c_size_t)]
+
+
 class Refused(Exception):
     """Why a call gave up: its status, and what it told."""
 

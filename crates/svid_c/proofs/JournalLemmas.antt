@@ -30,9 +30,9 @@ read_as found t u r s new bytes titles readers next = subst (λ x. IsNext found 
 pub stands : (t : Title) (old new : Reader) (bytes payload : List ℕ) → GoesOn t old new bytes payload → take (length payload) (drop (old.at + 32) bytes) ≡ payload
 unfolding frame_in
 stands t old new bytes payload goes =
-    let head = head_of 1 (bytes_of t) (1 + old.count) payload in
+    let head = head_of 2 (bytes_of t) (1 + old.count) payload in
     let fill = filler (gap (length payload)) in
-    let long : 32 ≡ length head = sym (length-head_of 1 (bytes_of t) (1 + old.count) payload) in
+    let long : 32 ≡ length head = sym (length-head_of 2 (bytes_of t) (1 + old.count) payload) in
     let parts : drop old.at bytes ≡ head ++ (payload ++ (fill ++ goes.behind)) = goes.stands ∙ append_assoc head (payload ++ fill) goes.behind ∙ ap (λ xs. head ++ xs) (append_assoc payload fill goes.behind) in
     let past : drop (old.at + 32) bytes ≡ payload ++ (fill ++ goes.behind) = sym (drop-drop 32 old.at bytes) ∙ (λ i. drop (long i) (parts i)) ∙ drop-append_seam head (payload ++ (fill ++ goes.behind)) in
     ap (take (length payload)) past ∙ take-append_seam payload (fill ++ goes.behind)

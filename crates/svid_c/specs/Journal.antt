@@ -124,7 +124,7 @@ next_number (next.Payload p) = 0
 next_number next.End = 52
 next_number next.Tear = 53
 next_number next.Damage = 54
-next_number (next.Newer format) = 55
+next_number (next.Other format) = 55
 next_number next.Unfit = 41
 
 -- how far the file is read then
@@ -133,16 +133,16 @@ moved_by (next.Payload p) r old = reader_out r
 moved_by next.End r old = old
 moved_by next.Tear r old = old
 moved_by next.Damage r old = old
-moved_by (next.Newer format) r old = old
+moved_by (next.Other format) r old = old
 moved_by next.Unfit r old = old
 
--- what is told of it: where the payload stands, or the number of the newer format
+-- what is told of it: where the payload stands, or the number of the other format
 abbrev pub found_by : Next → ℕ → SvidFrame → SvidFrame
-found_by (next.Payload p) at old = record { payload = at + 32; len = length p.now; format = 1 }
+found_by (next.Payload p) at old = record { payload = at + 32; len = length p.now; format = 2 }
 found_by next.End at old = old
 found_by next.Tear at old = old
 found_by next.Damage at old = old
-found_by (next.Newer format) at old = record { payload = 0; len = 0; format = format }
+found_by (next.Other format) at old = record { payload = 0; len = 0; format = format }
 found_by next.Unfit at old = old
 
 -- the payload stands where it is told
@@ -151,7 +151,7 @@ StandsAt (next.Payload p) at bytes = take (length p.now) (drop (at + 32) bytes) 
 StandsAt next.End at bytes = Unit {0}
 StandsAt next.Tear at bytes = Unit {0}
 StandsAt next.Damage at bytes = Unit {0}
-StandsAt (next.Newer format) at bytes = Unit {0}
+StandsAt (next.Other format) at bytes = Unit {0}
 StandsAt next.Unfit at bytes = Unit {0}
 
 -- What stands at the place of a reader is told, and a reader goes on behind a payload.

@@ -4,6 +4,7 @@ pub mod Handle
 pub mod Inputs
 pub mod Joined
 pub mod Journal
+pub mod Payloads
 pub mod Live
 pub mod Log
 pub mod Nobody

@@ -3,7 +3,7 @@ ghost use Rattle.svid_c.specs.Journal.{Reads, file_of, reader_in, reader_out, ti
 
 use crate::journal::SvidPlace;
 use crate::told::flag;
-use svid_journal::{File, Next, Reader, Title};
+use svid_journal::{FORMAT, File, Next, Reader, Title};
 
 /// How far a file is read. C makes it with all its bytes 0, and only the calls write it.
 #[repr(C)]
@@ -72,7 +72,7 @@ fn reader_out(reader: &Reader) -> SvidReader
 /// `bytes` are those of the whole file.
 ///
 /// 0, and `frame` tells where in `bytes` its payload stands, and the reader goes on behind it. Else the reader stays, and the number tells
-/// what stands at its place, `reader.at`: 52 the end; 53 a write that was cut off; 54 what was synced and has changed; 55 a frame of a newer
+/// what stands at its place, `reader.at`: 52 the end; 53 a write that was cut off; 54 what was synced and has changed; 55 a frame of another
 /// format, whose number `frame.format` is then, and the rest of `frame` 0; 41 where the numbers of the reader do not fit the bytes. But for
 /// 0 and 55 `frame` stays as it was too.
 #[unsafe(no_mangle)]
@@ -91,7 +91,7 @@ pub extern "C" fn svid_journal_read(
             *frame = SvidFrame {
                 payload: reader.at as usize + 32,
                 len: payload.len(),
-                format: 1,
+                format: FORMAT as u64,
             };
             *reader = reader_out(&read);
             0
@@ -99,7 +99,7 @@ pub extern "C" fn svid_journal_read(
         Next::End => 52,
         Next::Tear => 53,
         Next::Damage => 54,
-        Next::Newer(format) => {
+        Next::Other(format) => {
             *frame = SvidFrame {
                 payload: 0,
                 len: 0,

@@ -13,15 +13,15 @@ pub record GoesOn (title : List ℕ) (number : ℕ) (ps qs : List (List ℕ)) (x
   pub tail : x ≡ frames_of title (number + length ps) more ++ y
   pub each : AllByRecursion IsPayload more
 
-goes_on : (title : List ℕ) (number : ℕ) (ps qs : List (List ℕ)) (x y : List ℕ) → AllByRecursion IsPayload ps → AllByRecursion IsPayload qs → frames_of title number ps ++ x ≡ frames_of title number qs ++ y → BeginsWithNone 1 title (number + length qs) y → GoesOn title number ps qs x y
+goes_on : (title : List ℕ) (number : ℕ) (ps qs : List (List ℕ)) (x y : List ℕ) → AllByRecursion IsPayload ps → AllByRecursion IsPayload qs → frames_of title number ps ++ x ≡ frames_of title number qs ++ y → BeginsWithNone 2 title (number + length qs) y → GoesOn title number ps qs x y
 goes_on title number [] qs x y fp fq e none = record { more = qs; first = refl; tail = subst (λ n. x ≡ frames_of title n qs ++ y) (omega arith) e; each = fq }
 goes_on title number (p ∷ ps) [] x y fp fq e none =
     absurd (none p (frames_of title (number + 1) ps ++ x) fp.0 (subst (λ n. y ≡ frame_of title n p ++ (frames_of title (number + 1) ps ++ x)) (omega arith) (sym e ∙ append_assoc (frame_of title number p) (frames_of title (number + 1) ps) x)))
 goes_on title number (p ∷ ps) (q ∷ qs) x y fp fq e none =
     let grouped : frame_of title number p ++ (frames_of title (number + 1) ps ++ x) ≡ frame_of title number q ++ (frames_of title (number + 1) qs ++ y) =
     sym (append_assoc (frame_of title number p) (frames_of title (number + 1) ps) x) ∙ e ∙ append_assoc (frame_of title number q) (frames_of title (number + 1) qs) y in
-    let split = same_frames 1 title number p q _ _ (omega arith) fp.0 fq.0 grouped in
-    let further = goes_on title (number + 1) ps qs x y fp.1 fq.1 split.1 (subst (λ n. BeginsWithNone 1 title n y) (omega arith) none) in
+    let split = same_frames 2 title number p q _ _ (omega arith) fp.0 fq.0 grouped in
+    let further = goes_on title (number + 1) ps qs x y fp.1 fq.1 split.1 (subst (λ n. BeginsWithNone 2 title n y) (omega arith) none) in
     record {
       more = further.more;
       first = (λ i. sym split.0 i ∷ further.first i);
@@ -38,11 +38,11 @@ later_stands : (title broken lost next tail rest : List ℕ) (number : ℕ) (aft
 later_stands title broken lost next tail rest number after high fits long is =
     let frame = frame_of title (number + 1) next in
     let back = frames_of title (number + 1 + 1) after in
-    let cell = 1 + cells_of (length lost) in
-    let place : length broken ≡ 32 * cell = long ∙ length-frame_in 1 title number lost in (
+    let cell = 4 + cells_of (length lost) in
+    let place : length broken ≡ 8 * cell = long ∙ length-frame_in 2 title number lost in (
       cell,
       record {
-        format = 1;
+        format = 2;
         later = number + 1;
         payload = next;
         rest = back ++ tail;
@@ -51,7 +51,7 @@ later_stands title broken lost next tail rest number after high fits long is =
         is_near = omega arith;
         fits = high;
         bears = fits;
-        stands = ap (drop (32 * cell)) is ∙ drop_at broken ((frame ++ back) ++ tail) (32 * cell) place ∙ append_assoc frame back tail;
+        stands = ap (drop (8 * cell)) is ∙ drop_at broken ((frame ++ back) ++ tail) (8 * cell) place ∙ append_assoc frame back tail;
       },
     )
 

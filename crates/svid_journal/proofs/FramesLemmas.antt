@@ -51,15 +51,15 @@ same_frames v title number p q x y fv fp fq e =
     let rests = same_parts (filler (gap (length p))) (filler (gap (length q))) x y (ap (λ n. length (filler (gap n))) long) payloads.1 in
     (payloads.0, rests.1)
 
--- how many cells of 32 bytes a payload of so many bytes takes
+-- how many cells of 8 bytes a payload of so many bytes takes
 abbrev pub cells_of : ℕ → ℕ
-cells_of count = count / 32 + 1 - (32 - count % 32) / 32
+cells_of count = count / 8 + 1 - (8 - count % 8) / 8
 
-fills : (count : ℕ) → count + gap count ≡ 32 * cells_of count
+fills : (count : ℕ) → count + gap count ≡ 8 * cells_of count
 unfolding gap
 fills count = omega arith
 
-pub length-frame_in : (v : ℕ) (title : List ℕ) (number : ℕ) (payload : List ℕ) → length (frame_in v title number payload) ≡ 32 * (1 + cells_of (length payload))
+pub length-frame_in : (v : ℕ) (title : List ℕ) (number : ℕ) (payload : List ℕ) → length (frame_in v title number payload) ≡ 8 * (4 + cells_of (length payload))
 unfolding frame_in
 length-frame_in v title number payload =
     omega (arith, length-append (head_of v title number payload) (payload ++ filler (gap (length payload))), length-append payload (filler (gap (length payload))), length-head_of v title number payload, length-replicate {A = ℕ} (gap (length payload)) 255, fills (length payload))
@@ -236,7 +236,7 @@ pub longer : (title : List ℕ) (payloads : List (List ℕ)) (payload : List ℕ
 longer title payloads payload = ap length (frames_of-push title 1 payloads payload) ∙ length-append (frames_of title 1 payloads) (frame_of title (1 + length payloads) payload)
 
 -- a piece that is put behind what is done
-put_behind : (done piece rest old new : List ℕ) (at : ℕ) → at ≡ length done → old ≡ done ++ rest → new ≡ take at old ++ (piece ++ drop (at + length piece) old) → new ≡ (done ++ piece) ++ drop (length piece) rest
+pub put_behind : (done piece rest old new : List ℕ) (at : ℕ) → at ≡ length done → old ≡ done ++ rest → new ≡ take at old ++ (piece ++ drop (at + length piece) old) → new ≡ (done ++ piece) ++ drop (length piece) rest
 put_behind done piece rest old new at place is put =
     let front : take at old ≡ done = (λ i. take (place i) (is i)) ∙ take-append_seam done rest in
     let back : drop (at + length piece) old ≡ drop (length piece) rest = (λ i. drop (place i + length piece) (is i)) ∙ drop-append-add done rest (length piece) in

@@ -644,13 +644,13 @@ module _ (has : List ℕ → Bool) (t : Titles) where
       let at = length (frames_of t.snapshot 1 w.parts) in
       let e = write_piece pieces at (frame_of t.snapshot (1 + pieces) payload) d in
       let parts = w.parts ++ payload ∷ [] in
-      moved (staged Writing w) (pieced (at_step w.folder Writing) (length payload)) e parts (sealed 1 t.snapshot (1 + pieces) payload ∷ w.texts) h going (λ k. refl) refl
+      moved (staged Writing w) (pieced (at_step w.folder Writing) (length payload)) e parts (sealed 2 t.snapshot (1 + pieces) payload ∷ w.texts) h going (λ k. refl) refl
       (λ u.
       let p = u.stage.2 in
       let each = each_append w.parts (payload ∷ []) p.each (bears, tt) in
       let seen : e.beside.seen ≡ frames_of t.snapshot 1 parts =
       ap (λ (n : ℕ). (written at (frame_of t.snapshot (1 + n) payload) (beside_of pieces d.beside)).seen) p.many ∙ more_seen (beside_of pieces d.beside) w.parts payload p.seen in
-      cond_both (length payload == 0) Ending Writing (λ (step : Step). StepFact step (moved_to (staged Writing w) w.logs (pieced (at_step w.folder Writing) (length payload)) e parts (sealed 1 t.snapshot (1 + pieces) payload ∷ w.texts)))
+      cond_both (length payload == 0) Ending Writing (λ (step : Step). StepFact step (moved_to (staged Writing w) w.logs (pieced (at_step w.folder Writing) (length payload)) e parts (sealed 2 t.snapshot (1 + pieces) payload ∷ w.texts)))
       (λ is. (
         u.stage.0,
         record {
@@ -674,7 +674,7 @@ module _ (has : List ℕ → Bool) (t : Titles) where
 
   pieces_fail : (w : World) (payload landed : List ℕ) → IsSound (staged Writing w) → w.folder.ended ≡ false → IsSound (after_piece t (staged Writing w) payload false landed)
   pieces_fail w payload landed h going =
-      moved (staged Writing w) (at_step w.folder Idle) (write_piece w.folder.pieces (length (frames_of t.snapshot 1 w.parts)) landed w.disk) (w.parts ++ payload ∷ []) (sealed 1 t.snapshot (1 + w.folder.pieces) payload ∷ w.texts) h going (λ k. refl) refl (λ u. u.stage.0)
+      moved (staged Writing w) (at_step w.folder Idle) (write_piece w.folder.pieces (length (frames_of t.snapshot 1 w.parts)) landed w.disk) (w.parts ++ payload ∷ []) (sealed 2 t.snapshot (1 + w.folder.pieces) payload ∷ w.texts) h going (λ k. refl) refl (λ u. u.stage.0)
 
   pieces : (step : Step) (ok : Bool) (w : World) (payload landed : List ℕ) → IsSound (staged step w) → piece_fault (staged step w).folder (length payload) ≡ None → (length payload ≡ 0 → list_any has w.noted ≡ true → list_any has w.parts ≡ true) → IsSound (after_piece t (staged step w) payload ok landed)
   pieces Writing true w payload landed h e knows = let r = is_piece (staged Writing w).folder (length payload) e in pieces_on w payload h r.0 r.2 knows
@@ -830,7 +830,7 @@ module _ (has : List ℕ → Bool) (t : Titles) where
       let same : frame ≡ put_frame = λ i. frame_of (t.journal (g.is i)) (1 + sym g.many i) payload in
       let bytes : take at file.seen ++ (frame ++ drop (at + length frame) file.seen) ≡ take w.folder.end file.seen ++ (put_frame ++ drop (w.folder.end + length put_frame) file.seen) =
       λ i. take (sym g.far i) file.seen ++ (same i ++ drop (sym g.far i + length (same i)) file.seen) in
-      rewritten w w.logs w.folder.count w.folder.end (frame_len (length payload)) (written w.folder.end put_frame) w.log (payload ∷ []) w.acknowledged (w.memory ++ payload ∷ []) (sealed 1 (t.journal w.folder.newest) (1 + w.folder.count) payload ∷ w.texts) h p.0 p.1
+      rewritten w w.logs w.folder.count w.folder.end (frame_len (length payload)) (written w.folder.end put_frame) w.log (payload ∷ []) w.acknowledged (w.memory ++ payload ∷ []) (sealed 2 (t.journal w.folder.newest) (1 + w.folder.count) payload ∷ w.texts) h p.0 p.1
       (record {
         others = λ k apart. refl;
         this = h.this;
@@ -841,7 +841,7 @@ module _ (has : List ℕ → Bool) (t : Titles) where
         seen = subst (Front title (w.log ++ payload ∷ [])) bytes (seen_next title w.log w.flying payload file.seen (drop (at + length frame) file.seen) u.seen);
         many = g.many;
         far = g.far;
-        long = sym (ap length (append-nil frame) ∙ frame_len-is 1 title (1 + length w.log) payload);
+        long = sym (ap length (append-nil frame) ∙ frame_len-is 2 title (1 + length w.log) payload);
         one = omega arith;
         due = λ ps due. due;
         held = h.held;
@@ -856,7 +856,7 @@ module _ (has : List ℕ → Bool) (t : Titles) where
       let at = length (frames_of title 1 w.log) in
       let bytes : take at file.seen ++ (landed ++ drop (at + length landed) file.seen) ≡ take w.folder.end file.seen ++ (landed ++ drop (w.folder.end + length landed) file.seen) =
       λ i. take (sym g.far i) file.seen ++ (landed ++ drop (sym g.far i + length landed) file.seen) in
-      rewritten w w.logs w.folder.count w.folder.end 0 (written w.folder.end landed) w.log [] w.acknowledged (w.memory ++ payload ∷ []) (sealed 1 (t.journal w.folder.newest) (1 + w.folder.count) payload ∷ w.texts) h p.0 p.1
+      rewritten w w.logs w.folder.count w.folder.end 0 (written w.folder.end landed) w.log [] w.acknowledged (w.memory ++ payload ∷ []) (sealed 2 (t.journal w.folder.newest) (1 + w.folder.count) payload ∷ w.texts) h p.0 p.1
       (record {
         others = λ k apart. refl;
         this = h.this;

@@ -1,5 +1,6 @@
 pub mod Lists
 pub mod FramesLemmas
+pub mod PayloadsLemmas
 pub mod ReadingLemmas
 pub mod CrashLemmas
 pub mod HistoryLemmas

@@ -23,22 +23,22 @@ use Rattle.svid_journal.proofs.HistoryLemmas.{Front, is_begin, is_answer, is_pie
 record HasTag (title : List ℕ) (number : ℕ) (texts : List (List ℕ)) (payload : List ℕ) : Type 0 where
   text : List ℕ
   written : Among texts text
-  one_tag : tag_of (sealed 1 title number payload) ≡ tag_of text
+  one_tag : tag_of (sealed 2 title number payload) ≡ tag_of text
 
 has_tag : (title : List ℕ) (number : ℕ) (texts : List (List ℕ)) (payload bytes behind : List ℕ) → IsPayload payload → bytes ≡ frame_of title number payload ++ behind → IsAsWritten texts bytes → HasTag title number texts payload
 has_tag title number texts payload bytes behind fits stands (inl short) =
-    absurd (omega (arith, short, ap length stands, length-append (frame_of title number payload) behind, length-frame_in 1 title number payload))
+    absurd (omega (arith, short, ap length stands, length-append (frame_of title number payload) behind, length-frame_in 2 title number payload))
 has_tag title number texts payload bytes behind fits stands (inr (inl filled)) =
-    absurd (filler_is_no_head 1 title number payload (omega arith, omega arith) fits (sym (is_head 1 title number payload bytes behind stands) ∙ filled))
+    absurd (filler_is_no_head 2 title number payload (omega arith, omega arith) fits (sym (is_head 2 title number payload bytes behind stands) ∙ filled))
 has_tag title number texts payload bytes behind fits stands (inr (inr (inl zeros))) =
-    absurd (zeros_are_no_head 1 title number payload (omega arith, omega arith) fits (sym (is_head 1 title number payload bytes behind stands) ∙ zeros))
+    absurd (zeros_are_no_head 2 title number payload (omega arith, omega arith) fits (sym (is_head 2 title number payload bytes behind stands) ∙ zeros))
 has_tag title number texts payload bytes behind fits stands (inr (inr (inr found))) =
-    record { text = found.0; written = found.1; one_tag = sym (head_front 1 title number payload bytes behind stands) ∙ found.2 }
+    record { text = found.0; written = found.1; one_tag = sym (head_front 2 title number payload bytes behind stands) ∙ found.2 }
 
 -- a text that is sealed under a title is none of another file
-another : (title text : List ℕ) (number : ℕ) (payload : List ℕ) → length title ≡ 31 → IsOfAnother title text → sealed 1 title number payload ≢ text
+another : (title text : List ℕ) (number : ℕ) (payload : List ℕ) → length title ≡ 31 → IsOfAnother title text → sealed 2 title number payload ≢ text
 unfolding sealed
-another title text number payload long other e = other (ap (λ (x : List ℕ). take 31 (drop 1 x)) (sym e) ∙ take_at title (numbers_of 1 number payload ++ payload) 31 long)
+another title text number payload long other e = other (ap (λ (x : List ℕ). take 31 (drop 1 x)) (sym e) ∙ take_at title (numbers_of 2 number payload ++ payload) 31 long)
 
 -- a text that is the sealed one is one of this file
 in_texts : (title sealed_one : List ℕ) (others texts : List (List ℕ)) → ((text : List ℕ) → IsOfAnother title text → sealed_one ≢ text) → AllByRecursion (IsOfAnother title) others → Among (others ++ texts) sealed_one → Among texts sealed_one
@@ -46,9 +46,9 @@ in_texts title one [] texts apart all among = among
 in_texts title one (o ∷ others) texts apart all (inl is) = absurd (apart o all.0 (sym is))
 in_texts title one (o ∷ others) texts apart all (inr among) = in_texts title one others texts apart all.1 among
 
-appended_or_clash : (title : List ℕ) (number : ℕ) (others texts : List (List ℕ)) (payload : List ℕ) → length title ≡ 31 → AllByRecursion (IsOfAnother title) others → HasTag title number (others ++ texts) payload → Among texts (sealed 1 title number payload) ⊎ IsClash (others ++ texts) title number payload
+appended_or_clash : (title : List ℕ) (number : ℕ) (others texts : List (List ℕ)) (payload : List ℕ) → length title ≡ 31 → AllByRecursion (IsOfAnother title) others → HasTag title number (others ++ texts) payload → Among texts (sealed 2 title number payload) ⊎ IsClash (others ++ texts) title number payload
 appended_or_clash title number others texts payload long all tag =
-    let one = sealed 1 title number payload in
+    let one = sealed 2 title number payload in
     elim (cases_Bool (bytes_eq one tag.text)) [
       | inl same ↦ inl (in_texts title one others texts (λ text other. another title text number payload long other) all (subst (Among (others ++ texts)) (sym ((bytes_eq-Decides one tag.text).0 same)) tag.written))
       | inr other ↦ inr (record { text = tag.text; written = tag.written; differs = λ e. false≢true (sym other ∙ (bytes_eq-Decides one tag.text).1 e); one_tag = tag.one_tag })

@@ -1,16 +1,16 @@
 -- What a reader has read.
 use Rattle.std.proofs.Common.{◌≡◌, inl, inr, ℕ, ◌+◌, ◌*◌, ◌/◌, ◌^◌, ◌<◌, ◌≤◌, List, [], ◌∷◌, ◌++◌, length, take, drop, refl, sym, ◌∙◌, ap, arith, append_assoc, length-append, length-drop}
-use Rattle.std.specs.Prelude.{◌==◌}
+use Rattle.std.specs.Prelude.{◌==◌, ◌≢◌}
 use Rattle.std.specs.Int.{to_be_bytes, w32, w64}
 use Rattle.std.proofs.lemmas.Bool.{cases_lt}
 use Rattle.std.proofs.lemmas.List.{drop_at, take_at, length_push}
 use Rattle.svid_journal.specs.declared.title.Title.{Title}
 use Rattle.svid_journal.specs.declared.reader.Reader.{Reader}
 use Rattle.svid_journal.specs.Titles.{bytes_of}
-use Rattle.svid_journal.specs.Frames.{tag_of, numbers_of, sealed, head_of, frame_in, frame_of, frames_of, IsPayload, BeginsWithNone, IsReading}
+use Rattle.svid_journal.specs.Frames.{tag_of, numbers_of, sealed, head_of, frame_in, frame_of, frames_of, IsFormat, IsPayload, BeginsWithNone, IsReading}
 use Rattle.svid_journal.specs.declared.reader.Next.{Next}
-use Rattle.svid_journal.specs.declared.reader.Next.TheVariants.{Payload, End, Tear, Damage, Newer, Unfit}
-use Rattle.svid_journal.specs.Reading.{BeginsLater, HasNewer, IsFit, GoesOn, Stops, IsNext, HasRead, ReadsOn, ends_marked}
+use Rattle.svid_journal.specs.declared.reader.Next.TheVariants.{Payload, End, Tear, Damage, Other, Unfit}
+use Rattle.svid_journal.specs.Reading.{BeginsLater, HasOther, IsFit, GoesOn, Stops, IsNext, HasRead, ReadsOn, ends_marked}
 use Rattle.svid_journal.proofs.FramesLemmas.{length-tag_of, length-frame_in, frame_len-is, is_head, stated_number, one_more, each_push, longer}
 
 -- a head tells its format
@@ -44,14 +44,14 @@ pub too_short : (v : ℕ) (title : List ℕ) (number : ℕ) (payload rest bytes 
 too_short v title number payload rest bytes short stands = omega (arith, short, ap length stands, length-append (frame_in v title number payload) rest, length-frame_in v title number payload)
 
 -- no frame stands where less than a head is left
-pub none_behind : (title : List ℕ) (number cell end : ℕ) (bytes : List ℕ) → end ≤ cell → length (drop (32 * end) bytes) < 32 → BeginsLater title number cell (drop (32 * cell) bytes) → ⊥
+pub none_behind : (title : List ℕ) (number cell end : ℕ) (bytes : List ℕ) → end ≤ cell → length (drop (8 * end) bytes) < 32 → BeginsLater title number cell (drop (8 * cell) bytes) → ⊥
 none_behind title number cell end bytes behind short b =
-    too_short b.format title b.later b.payload b.rest (drop (32 * cell) bytes) (omega (arith, behind, short, length-drop (32 * cell) bytes, length-drop (32 * end) bytes)) b.stands
+    too_short b.format title b.later b.payload b.rest (drop (8 * cell) bytes) (omega (arith, behind, short, length-drop (8 * cell) bytes, length-drop (8 * end) bytes)) b.stands
 
-pub no_newer : (title : List ℕ) (number format : ℕ) (head bytes : List ℕ) → head ≡ take 32 bytes → ((code : ℕ) → code < 2 ^ 32 → to_be_bytes w32 code ≡ drop 28 head → format ≡ code / 16777216) → (1 < format → format < 255 → BeginsWithNone format title number bytes) → HasNewer title number bytes → ⊥
-no_newer title number format head bytes head-is states none (newer, is) =
-    let same = format_is newer format title number is.payload is.rest head bytes (omega (arith, is.is_format)) is.bears states head-is is.stands in
-    none (omega (arith, same, is.is_newer)) (omega (arith, same, is.is_format)) is.payload is.rest is.bears (is.stands ∙ ap (λ (n : ℕ). frame_in n title number is.payload ++ is.rest) (sym same))
+pub no_other : (title : List ℕ) (number format : ℕ) (head bytes : List ℕ) → head ≡ take 32 bytes → ((code : ℕ) → code < 2 ^ 32 → to_be_bytes w32 code ≡ drop 28 head → format ≡ code / 16777216) → (format ≢ 2 → IsFormat format → BeginsWithNone format title number bytes) → HasOther title number bytes → ⊥
+no_other title number format head bytes head-is states none (other, is) =
+    let same = format_is other format title number is.payload is.rest head bytes (omega (arith, is.is_format.1)) is.bears states head-is is.stands in
+    none (λ e. is.is_other (sym same ∙ e)) (omega (arith, same, is.is_format.0), omega (arith, same, is.is_format.1)) is.payload is.rest is.bears (is.stands ∙ ap (λ (n : ℕ). frame_in n title number is.payload ++ is.rest) (sym same))
 
 pub front_is : (bytes head body : List ℕ) → bytes ≡ head ++ body → length head ≡ 32 → head ≡ take 32 bytes
 front_is bytes head body split long = sym (ap (take 32) split ∙ take_at head body 32 long)
@@ -76,7 +76,7 @@ read_one old new t bytes payload payloads rest g h =
       whole = one_more title bytes rest payload g.behind payloads (1 + length payloads) h.whole refl stands;
       each = each_push payloads payload h.each g.bears;
       count = omega (arith, ap (λ (r : Reader). r.count) g.moved, h.count, length_push payloads payload);
-      at = omega (arith, ap (λ (r : Reader). r.at) g.moved, h.at, longer title payloads payload, frame_len-is 1 title (1 + length payloads) payload);
+      at = omega (arith, ap (λ (r : Reader). r.at) g.moved, h.at, longer title payloads payload, frame_len-is 2 title (1 + length payloads) payload);
       marked = ap (λ (r : Reader). r.marked) g.moved ∙ sym (ends_marked-push payloads payload);
     }
 
@@ -101,5 +101,5 @@ reads_on (Payload p) t old new bytes is payloads rest h = (is.behind, read_one o
 reads_on End t old new bytes is payloads rest h = all_read old new t bytes payloads rest is.0 h
 reads_on Tear t old new bytes is payloads rest h = all_read old new t bytes payloads rest is.0 h
 reads_on Damage t old new bytes is payloads rest h = all_read old new t bytes payloads rest is.0 h
-reads_on (Newer format) t old new bytes is payloads rest h = all_read old new t bytes payloads rest is.0 h
+reads_on (Other format) t old new bytes is payloads rest h = all_read old new t bytes payloads rest is.0 h
 reads_on Unfit t old new bytes is payloads rest h = unfit old t bytes payloads rest is.0 h

@@ -1,4 +1,4 @@
--- The frames of a file: each a head of 32 bytes, a payload, and filler up to a multiple of 32 bytes.
+-- The frames of a file: each a head of 32 bytes, a payload, and filler up to a multiple of 8 bytes.
 use Rattle.std.specs.Prelude.{◌≡◌, ◌≢◌, ℕ, ◌+◌, ◌-◌, ◌*◌, ◌%◌, ◌^◌, ◌<◌, List, [], ◌∷◌, ◌++◌, length, take, replicate}
 use Rattle.std.specs.Int.{to_be_bytes, w32, w64}
 use Rattle.std.specs.List.{AllByRecursion}
@@ -28,9 +28,9 @@ sealed format title number payload = format ∷ (title ++ (numbers_of format num
 unfoldable pub head_of : ℕ → List ℕ → ℕ → List ℕ → List ℕ
 head_of format title number payload = tag_of (sealed format title number payload) ++ numbers_of format number payload
 
--- how many bytes are missing behind so many up to a multiple of 32
+-- how many bytes are missing behind so many up to a multiple of 8
 unfoldable pub gap : ℕ → ℕ
-gap count = (32 - count % 32) % 32
+gap count = (8 - count % 8) % 8
 
 -- so many bytes FF
 abbrev pub filler : ℕ → List ℕ
@@ -40,9 +40,9 @@ filler count = replicate count 255
 unfoldable pub frame_in : ℕ → List ℕ → ℕ → List ℕ → List ℕ
 frame_in format title number payload = head_of format title number payload ++ (payload ++ filler (gap (length payload)))
 
--- a frame of format 1
+-- a frame of format 2, the one that is written
 abbrev pub frame_of : List ℕ → ℕ → List ℕ → List ℕ
-frame_of title number payload = frame_in 1 title number payload
+frame_of title number payload = frame_in 2 title number payload
 
 -- how long the frame of so many bytes is
 abbrev pub frame_len : ℕ → ℕ
@@ -61,4 +61,4 @@ BeginsWithNone format title number bytes = (payload rest : List ℕ) → IsPaylo
 pub record IsReading (title : List ℕ) (bytes : List ℕ) (payloads : List (List ℕ)) (rest : List ℕ) : Type 0 where
   pub whole : bytes ≡ frames_of title 1 payloads ++ rest
   pub each : AllByRecursion IsPayload payloads
-  pub ended : BeginsWithNone 1 title (1 + length payloads) rest
+  pub ended : BeginsWithNone 2 title (1 + length payloads) rest

@@ -130,7 +130,7 @@ after_piece t w payload ok landed =
       acknowledged = w.acknowledged;
       memory = w.memory;
       noted = w.noted;
-      texts = sealed 1 t.snapshot (1 + w.folder.pieces) payload ∷ w.texts;
+      texts = sealed 2 t.snapshot (1 + w.folder.pieces) payload ∷ w.texts;
     }
 
 abbrev pub after_put : Titles → World → List ℕ → Bool → List ℕ → World
@@ -147,7 +147,7 @@ after_put t w payload ok landed =
       acknowledged = w.acknowledged;
       memory = w.memory ++ payload ∷ [];
       noted = w.noted;
-      texts = sealed 1 (t.journal f.newest) (1 + f.count) payload ∷ w.texts;
+      texts = sealed 2 (t.journal f.newest) (1 + f.count) payload ∷ w.texts;
     }
 
 abbrev pub after_grow : World → ℕ → List ℕ → World

@@ -5,3 +5,4 @@ pub mod Folder
 pub mod Disk
 pub mod History
 pub mod Promises
+pub mod Payloads

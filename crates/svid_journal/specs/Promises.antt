@@ -42,13 +42,13 @@ MakesUpNoTag texts title bytes = (payloads : List (List ℕ)) (rest : List ℕ) 
 pub record IsClash (texts : List (List ℕ)) (title : List ℕ) (number : ℕ) (payload : List ℕ) : Type 0 where
   pub text : List ℕ
   pub written : Among texts text
-  pub differs : sealed 1 title number payload ≢ text
-  pub one_tag : tag_of (sealed 1 title number payload) ≡ tag_of text
+  pub differs : sealed 2 title number payload ≢ text
+  pub one_tag : tag_of (sealed 2 title number payload) ≡ tag_of text
 
 -- each payload was appended to this file, at its place, or two texts have one tag
 abbrev pub EachAppended : List (List ℕ) → List (List ℕ) → List ℕ → ℕ → List (List ℕ) → Type 0
 EachAppended texts others title number [] = Unit {0}
-EachAppended texts others title number (p ∷ payloads) = (Among texts (sealed 1 title number p) ⊎ IsClash (others ++ texts) title number p) × EachAppended texts others title (number + 1) payloads
+EachAppended texts others title number (p ∷ payloads) = (Among texts (sealed 2 title number p) ⊎ IsClash (others ++ texts) title number p) × EachAppended texts others title (number + 1) payloads
 
 -- Of a file in which a disk shows no tag but of texts that this program sealed, and of others with other titles, only what this program
 -- appended to it is read.

@@ -1,16 +1,17 @@
 -- What is read of the bytes of a file, and where reading stops.
-use Rattle.std.specs.Prelude.{◌≡◌, ◌==◌, ℕ, ◌+◌, ◌*◌, ◌^◌, ◌<◌, ◌≤◌, Bool, true, false, List, [], ◌∷◌, ◌++◌, length, drop}
+use Rattle.std.specs.Prelude.{◌≡◌, ◌≢◌, ◌==◌, ℕ, ◌+◌, ◌*◌, ◌/◌, ◌^◌, ◌<◌, ◌≤◌, Bool, true, false, List, [], ◌∷◌, ◌++◌, length, drop}
 use Rattle.std.specs.List.{AllByRecursion, list_all}
 use Rattle.svid_journal.specs.declared.title.File.{File}
 use Rattle.svid_journal.specs.declared.title.File.TheVariants.{Journal, Snapshot}
 use Rattle.svid_journal.specs.declared.title.Title.{Title}
 use Rattle.svid_journal.specs.declared.reader.Reader.{Reader}
 use Rattle.svid_journal.specs.declared.reader.Next.{Next}
-use Rattle.svid_journal.specs.declared.reader.Next.TheVariants.{Payload, End, Tear, Damage, Newer, Unfit}
+use Rattle.svid_journal.specs.declared.reader.Next.TheVariants.{Payload, End, Tear, Damage, Other, Unfit}
 use Rattle.svid_journal.specs.Titles.{bytes_of}
 use Rattle.svid_journal.specs.Frames.{frame_in, frame_of, frames_of, frame_len, IsFormat, IsPayload, BeginsWithNone, IsReading}
 
--- bytes that begin with a frame, of any format, that may stand so many cells of 32 bytes behind the place of the frame of this number
+-- bytes that begin with a frame, of any format, that may stand so many cells of 8 bytes behind the place of the frame of this number: each
+-- frame between takes four cells at least
 pub record BeginsLater (title : List ℕ) (number cell : ℕ) (bytes : List ℕ) : Type 0 where
   pub format : ℕ
   pub later : ℕ
@@ -18,32 +19,32 @@ pub record BeginsLater (title : List ℕ) (number cell : ℕ) (bytes : List ℕ)
   pub rest : List ℕ
   pub is_format : IsFormat format
   pub is_later : number < later
-  pub is_near : later ≤ number + cell
+  pub is_near : later ≤ number + cell / 4
   pub fits : later < 2 ^ 64
   pub bears : IsPayload payload
   pub stands : bytes ≡ frame_in format title later payload ++ rest
 
--- such a frame stands at a multiple of 32
+-- such a frame stands at a multiple of 8
 abbrev pub HasLater : List ℕ → ℕ → List ℕ → Type 0
-HasLater title number bytes = (cell : ℕ) × BeginsLater title number cell (drop (32 * cell) bytes)
+HasLater title number bytes = (cell : ℕ) × BeginsLater title number cell (drop (8 * cell) bytes)
 
--- bytes that begin with a frame of this number, of a newer format
-pub record IsNewer (title : List ℕ) (number : ℕ) (bytes : List ℕ) (format : ℕ) : Type 0 where
+-- bytes that begin with a frame of this number, of another format than the one that is written
+pub record IsOther (title : List ℕ) (number : ℕ) (bytes : List ℕ) (format : ℕ) : Type 0 where
   pub payload : List ℕ
   pub rest : List ℕ
-  pub is_newer : 1 < format
-  pub is_format : format < 255
+  pub is_other : format ≢ 2
+  pub is_format : IsFormat format
   pub bears : IsPayload payload
   pub stands : bytes ≡ frame_in format title number payload ++ rest
 
-abbrev pub HasNewer : List ℕ → ℕ → List ℕ → Type 0
-HasNewer title number bytes = (format : ℕ) × IsNewer title number bytes format
+abbrev pub HasOther : List ℕ → ℕ → List ℕ → Type 0
+HasOther title number bytes = (format : ℕ) × IsOther title number bytes format
 
 -- bytes that were never written
 abbrev pub is_blank : List ℕ → Bool
 is_blank bytes = list_all (λ b. b == 0) bytes
 
--- Where no frame of the next number stands, and none of a newer format: a journal ends where nothing was written; a snapshot was written
+-- Where no frame of the next number stands, and none of another format: a journal ends where nothing was written; a snapshot was written
 -- whole, so it ends with its bytes, behind a mark.
 abbrev pub IsEnd : File → Bool → List ℕ → ℕ → List ℕ → Type 0
 IsEnd (Journal k) marked title number rest = (HasLater title number rest → ⊥) × (is_blank rest ≡ true)
@@ -78,16 +79,16 @@ pub record GoesOn (t : Title) (old new : Reader) (bytes payload : List ℕ) : Ty
 -- none stands there
 pub record Stops (t : Title) (old new : Reader) (bytes : List ℕ) : Type 0 where
   pub fit : IsFit old bytes
-  pub none : BeginsWithNone 1 (bytes_of t) (1 + old.count) (drop old.at bytes)
+  pub none : BeginsWithNone 2 (bytes_of t) (1 + old.count) (drop old.at bytes)
   pub same : new ≡ old
 
 -- what a reader finds where no frame of the next number stands
 abbrev pub IsEnding : Next → Title → Reader → List ℕ → Type 0
 IsEnding (Payload p) t r rest = ⊥
-IsEnding End t r rest = (HasNewer (bytes_of t) (1 + r.count) rest → ⊥) × IsEnd t.file r.marked (bytes_of t) (1 + r.count) rest
-IsEnding Tear t r rest = (HasNewer (bytes_of t) (1 + r.count) rest → ⊥) × IsTear t.file r.marked (bytes_of t) (1 + r.count) rest
-IsEnding Damage t r rest = (HasNewer (bytes_of t) (1 + r.count) rest → ⊥) × IsDamage t.file r.marked (bytes_of t) (1 + r.count) rest
-IsEnding (Newer format) t r rest = IsNewer (bytes_of t) (1 + r.count) rest format
+IsEnding End t r rest = (HasOther (bytes_of t) (1 + r.count) rest → ⊥) × IsEnd t.file r.marked (bytes_of t) (1 + r.count) rest
+IsEnding Tear t r rest = (HasOther (bytes_of t) (1 + r.count) rest → ⊥) × IsTear t.file r.marked (bytes_of t) (1 + r.count) rest
+IsEnding Damage t r rest = (HasOther (bytes_of t) (1 + r.count) rest → ⊥) × IsDamage t.file r.marked (bytes_of t) (1 + r.count) rest
+IsEnding (Other format) t r rest = IsOther (bytes_of t) (1 + r.count) rest format
 IsEnding Unfit t r rest = ⊥
 
 -- what a reader answers
@@ -96,7 +97,7 @@ IsNext (Payload p) t old new bytes = GoesOn t old new bytes p.now
 IsNext End t old new bytes = Stops t old new bytes × IsEnding End t old (drop old.at bytes)
 IsNext Tear t old new bytes = Stops t old new bytes × IsEnding Tear t old (drop old.at bytes)
 IsNext Damage t old new bytes = Stops t old new bytes × IsEnding Damage t old (drop old.at bytes)
-IsNext (Newer format) t old new bytes = Stops t old new bytes × IsEnding (Newer format) t old (drop old.at bytes)
+IsNext (Other format) t old new bytes = Stops t old new bytes × IsEnding (Other format) t old (drop old.at bytes)
 IsNext Unfit t old new bytes = (IsFit old bytes → ⊥) × (new ≡ old)
 
 -- the last payload is a mark
@@ -119,5 +120,5 @@ ReadsOn (Payload p) t new bytes payloads rest = (behind : List ℕ) × HasRead n
 ReadsOn End t new bytes payloads rest = IsReading (bytes_of t) bytes payloads rest
 ReadsOn Tear t new bytes payloads rest = IsReading (bytes_of t) bytes payloads rest
 ReadsOn Damage t new bytes payloads rest = IsReading (bytes_of t) bytes payloads rest
-ReadsOn (Newer format) t new bytes payloads rest = IsReading (bytes_of t) bytes payloads rest
+ReadsOn (Other format) t new bytes payloads rest = IsReading (bytes_of t) bytes payloads rest
 ReadsOn Unfit t new bytes payloads rest = 2 ^ 62 ≤ length payloads

@@ -8,7 +8,7 @@ use crate::title::Title;
 use sha2::{Digest, Sha256};
 
 /// The format of the frames that this crate writes.
-pub const FORMAT: u8 = 1;
+pub const FORMAT: u8 = 2;
 
 /// How many bytes a payload has at most.
 pub const MOST_PAYLOAD: usize = 16_777_215;
@@ -16,7 +16,7 @@ pub const MOST_PAYLOAD: usize = 16_777_215;
 // No number of a folder gets so far.
 pub(crate) const MOST: u64 = 4_611_686_018_427_387_904;
 
-const FILLER: [u8; 32] = [255; 32];
+const FILLER: [u8; 8] = [255; 8];
 
 // The number of a frame, its format and the length of its payload.
 #[tactic(auto, unfolding(crate::specs::Frames::numbers_of))]
@@ -67,9 +67,9 @@ fn head(format: u8, title: &Title, number: u64, payload: &[u8]) -> [u8; 32]
 #[tactic(auto, unfolding(crate::specs::Frames::gap))]
 fn gap(count: usize) -> usize
     ensures value { result ≡ gap count }
-    ensures small { result < 32 }
+    ensures small { result < 8 }
 {
-    (32 - count % 32) % 32
+    (8 - count % 8) % 8
 }
 
 /// How many bytes the frame of a payload of `count` bytes takes.
@@ -82,14 +82,14 @@ pub fn frame_len(count: usize) -> usize
 }
 
 fn filler(count: usize) -> &'static [u8]
-    requires { count ≤ 32 }
+    requires { count ≤ 8 }
     ensures { result.now ≡ filler count }
 {
     FILLER.split_at(count).0
 }
 
 // Puts a piece at a place of a room.
-fn put_at(room: &mut [u8], at: usize, piece: &[u8])
+pub(crate) fn put_at(room: &mut [u8], at: usize, piece: &[u8])
     requires { at + length piece.now ≤ length room.old }
     ensures put { room.new ≡ take at room.old ++ (piece.now ++ drop (at + length piece.now) room.old) }
     ensures long { length room.new ≡ length room.old }

@@ -1,6 +1,6 @@
 ghost use Rattle.std.specs.Prelude.{◌≡◌, ◌+◌, ◌≤◌, ◌<◌, ◌^◌, ◌↔◌, List, ℕ, IsTrue, MatchOption, false, length, take};
 ghost use Rattle.svid_journal.specs.Titles.{bytes_of};
-ghost use Rattle.svid_journal.specs.Reading.{BeginsLater, HasLater, HasNewer, IsEnding, IsNewer, is_blank};
+ghost use Rattle.svid_journal.specs.Reading.{BeginsLater, HasLater, HasOther, IsEnding, IsOther, is_blank};
 
 use crate::frame::{
     FORMAT, MOST, first_frame, frame_len, split_head, stated_format, stated_number,
@@ -18,8 +18,8 @@ pub enum Next<'a> {
     Tear,
     /// Damage: what was synced here, at [`Reader::at`], has changed.
     Damage,
-    /// A frame of a newer format, of this number.
-    Newer(u8),
+    /// A frame of this number in another format than [`FORMAT`](crate::FORMAT): this format.
+    Other(u8),
     /// The numbers of the reader do not fit the bytes.
     Unfit,
 }
@@ -40,7 +40,7 @@ fn begins_later(title: &Title, number: u64, cell: u64, head: &[u8], bytes: &[u8]
     ensures { IsTrue result ↔ BeginsLater (bytes_of title.now) number cell bytes.now }
 {
     let stated = stated_number(head);
-    if stated <= number || stated - number > cell {
+    if stated <= number || stated - number > cell / 4 {
         return false;
     }
     let format = stated_format(head);
@@ -59,22 +59,22 @@ fn has_later(title: &Title, number: u64, bytes: &[u8]) -> bool
     let mut rest = bytes;
     let mut cell = 0;
     while rest.len() >= 32 {
-        let (head, behind) = rest.split_at(32);
+        let head = rest.split_at(32).0;
         if begins_later(title, number, cell, head, rest) {
             return true;
         }
-        rest = behind;
+        rest = rest.split_at(8).1;
         cell += 1;
     }
     false
 }
 
-fn newer(title: &Title, number: u64, bytes: &[u8]) -> Option<u8>
-    ensures { MatchOption result (HasNewer (bytes_of title.now) number bytes.now → ⊥) (λ format. IsNewer (bytes_of title.now) number bytes.now format) }
+fn other_format(title: &Title, number: u64, bytes: &[u8]) -> Option<u8>
+    ensures { MatchOption result (HasOther (bytes_of title.now) number bytes.now → ⊥) (λ format. IsOther (bytes_of title.now) number bytes.now format) }
 {
     let (head, _) = split_head(bytes)?;
     let format = stated_format(head);
-    if format <= FORMAT || format == 255 {
+    if format == FORMAT || format == 0 || format == 255 {
         return None;
     }
     match first_frame(format, title, number, bytes) {
@@ -109,8 +109,8 @@ impl Reader {
         ensures { IsEnding result title.now self.now rest.now }
     {
         let number = 1 + self.count;
-        if let Some(format) = newer(title, number, rest) {
-            return Next::Newer(format);
+        if let Some(format) = other_format(title, number, rest) {
+            return Next::Other(format);
         }
         match title.file {
             File::Journal(_) if has_later(title, number, rest) => Next::Damage,

@@ -3,6 +3,7 @@
 
 mod calls;
 mod folders;
+mod payloads;
 mod readers;
 mod titles;
 mod values;

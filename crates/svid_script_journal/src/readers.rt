@@ -42,7 +42,7 @@ fn say_next(out: &mut Out<'_>, next: Next<'_>, at: u64) -> Result<(), Stop> {
         Next::End => writeln!(out, "= end at {at}")?,
         Next::Tear => writeln!(out, "= tear at {at}")?,
         Next::Damage => writeln!(out, "= damage at {at}")?,
-        Next::Newer(format) => writeln!(out, "= format {format} at {at}")?,
+        Next::Other(format) => writeln!(out, "= format {format} at {at}")?,
         Next::Unfit => writeln!(out, "= unfit")?,
     }
     Ok(())

@@ -1,5 +1,6 @@
-use Rattle.std.proofs.Common.{◌≡◌, ◌⊎◌, inl, inr, ℕ, max, Bool, true, ◌||◌, nat_lt, List, [], ◌∷◌, IsTrue, map, sym, ap, ◌∙◌}
-use Rattle.std.specs.List.{list_any}
+use Rattle.std.proofs.Common.{◌≡◌, ◌⊎◌, inl, inr, ℕ, max, Bool, true, ◌||◌, nat_lt, List, [], ◌∷◌, ◌++◌, IsTrue, map, length, take, refl, sym, ap, ◌∙◌, arith, append_assoc}
+use Rattle.std.specs.Prelude.{codes}
+use Rattle.std.specs.List.{flat_map, list_any}
 use Rattle.std.proofs.lemmas.Bool.{and_parts, false≢true, or_cases, or_left, or_right}
 use Rattle.svid_replay.specs.declared.token_use.Use.{Use}
 use Rattle.svid_replay.specs.Batches.{BatchData}
@@ -9,8 +10,13 @@ use Rattle.svid_replay.specs.Sets.{holds}
 use Rattle.svid_replay.proofs.RecordsLemmas.{holds-join}
 use Rattle.svid_replay.proofs.UsesLemmas.{holds-uses_in}
 use Rattle.svid_wire.specs.BatchText.{batch_text}
+use Rattle.svid_wire.specs.Messages.{Written, written_text}
+use Rattle.svid_wire.specs.Messages.Written.{batch_in, summary}
+use Rattle.svid_wire.specs.declared.version.Version.TheVariants.{One, Two}
+use Rattle.svid_journal.specs.Payloads.{BeginsWithNoPlace}
+use Rattle.svid_journal.proofs.PayloadsLemmas.{messages_have_no_place, none_in_few}
 use Rattle.svid_check.proofs.LaterLemmas.{saves_lose_nothing}
-use Rattle.svid_snapshot.specs.Snapshots.{PiecesAreAllowed, SeesIn}
+use Rattle.svid_snapshot.specs.Snapshots.{MessagesBearNoPlace, PiecesAreAllowed, SeesIn}
 
 -- a use of what batches were joined to was there before, or is seen in one of their texts
 seen : (has : List ℕ → Bool) (u : Use) (sees : SeesIn has u) (r : State) (bs : List BatchData) → IsTrue (holds (join_all r bs).uses u) → IsTrue (holds r.uses u) ⊎ (list_any has (map batch_text bs) ≡ true)
@@ -25,9 +31,27 @@ seen has u sees r (b ∷ bs) h =
       | inr later ↦ inr (or_right (has (batch_text b)) (list_any has (map batch_text bs)) later)
     ]
 
+-- what is seen in a row is seen behind others
+seen_behind : (has : List ℕ → Bool) (front row : List (List ℕ)) → list_any has row ≡ true → list_any has (front ++ row) ≡ true
+seen_behind has [] row found = found
+seen_behind has (p ∷ front) row found = or_right (has p) (list_any has (front ++ row)) (seen_behind has front row found)
+
 pub pieces_are_allowed : PiecesAreAllowed
-pieces_are_allowed has t w u a z batches sees had saved live parts ok landed none noted =
+pieces_are_allowed has t w u a z front batches sees had saved live parts ok landed none noted =
     elim (seen has u sees (state_of 0 []) batches (saves_lose_nothing a z batches u saved (had noted) live)) [
       | inl nothing ↦ absurd (false≢true (sym (holds-uses_in [] u) ∙ nothing))
-      | inr found ↦ ap (list_any has) parts ∙ found
+      | inr found ↦ ap (list_any has) parts ∙ seen_behind has front (map batch_text batches) found
     ]
+
+-- each message begins with `JSR`
+begins : (w : Written) (behind : List ℕ) → take 3 (written_text w ++ behind) ≡ codes "JSR"
+begins (batch_in One b) behind = refl
+begins (batch_in Two b) behind = refl
+begins (summary s) behind = refl
+
+no_place_in : (written : List Written) (bytes : List ℕ) → bytes ≡ flat_map written_text written ++ [] → BeginsWithNoPlace bytes
+no_place_in [] bytes parts = none_in_few bytes (omega (arith, ap length parts))
+no_place_in (w ∷ ws) bytes parts = messages_have_no_place bytes (ap (take 3) (parts ∙ append_assoc (written_text w) (flat_map written_text ws) []) ∙ begins w (flat_map written_text ws ++ []))
+
+pub messages_bear_no_place : MessagesBearNoPlace
+messages_bear_no_place bytes messages splits = no_place_in splits.written bytes splits.parts

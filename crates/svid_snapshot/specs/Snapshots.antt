@@ -1,22 +1,29 @@
--- A snapshot of a state folder that is made of the pieces of a record.
-use Rattle.std.specs.Prelude.{◌≡◌, ℕ, ◌<◌, Bool, true, List, [], None, IsTrue, map}
+-- A snapshot of a state folder that is made of the pieces of a record, and what its payloads bear.
+use Rattle.std.specs.Prelude.{◌≡◌, ℕ, ◌<◌, Bool, true, List, [], ◌++◌, None, IsTrue, map}
 use Rattle.std.specs.List.{list_any}
 use Rattle.svid_replay.specs.declared.token_use.Use.{Use}
 use Rattle.svid_replay.specs.Batches.{BatchData}
 use Rattle.svid_replay.specs.Records.{State, batch_state}
 use Rattle.svid_replay.specs.Sets.{holds}
 use Rattle.svid_wire.specs.BatchText.{batch_text}
+use Rattle.svid_wire.specs.Messages.{Splits}
+use Rattle.svid_wire.specs.declared.message.Message.{Message}
 use Rattle.svid_check.specs.Saves.{IsSaved}
 use Rattle.svid_journal.specs.History.{IsAllowed, Titles, World}
 use Rattle.svid_journal.specs.History.Event.{Piece}
+use Rattle.svid_journal.specs.Payloads.{BeginsWithNoPlace}
 
 -- a test of payloads sees a use in the text of each batch that has it
 abbrev pub SeesIn : (List ℕ → Bool) → Use → Type 0
 SeesIn has u = (b : BatchData) → IsTrue (holds (batch_state b).uses u) → has (batch_text b) ≡ true
 
--- Where the payloads of a snapshot are the pieces of a save, of a record that had the use if it was noted as the journal that grows began, the
--- mark that ends the snapshot is allowed, as long as the use is live.
+-- Where the payloads of a snapshot are the pieces of a save, behind others or none, of a record that had the use if it was noted as the journal
+-- that grows began, the mark that ends the snapshot is allowed, as long as the use is live.
 abbrev pub PiecesAreAllowed : Type 0
 PiecesAreAllowed =
-    (has : List ℕ → Bool) (t : Titles) (w : World) (u : Use) (a z : State) (batches : List BatchData) → SeesIn has u → (list_any has w.noted ≡ true → IsTrue (holds a.uses u)) → IsSaved a None batches z → z.moment < u.exp
-    → w.parts ≡ map batch_text batches → (ok : Bool) (landed : List ℕ) → IsAllowed has t w (Piece [] ok landed)
+    (has : List ℕ → Bool) (t : Titles) (w : World) (u : Use) (a z : State) (front : List (List ℕ)) (batches : List BatchData) → SeesIn has u → (list_any has w.noted ≡ true → IsTrue (holds a.uses u)) → IsSaved a None batches z → z.moment < u.exp
+    → w.parts ≡ front ++ map batch_text batches → (ok : Bool) (landed : List ℕ) → IsAllowed has t w (Piece [] ok landed)
+
+-- no row of messages begins with the place of a member in its log
+abbrev pub MessagesBearNoPlace : Type 0
+MessagesBearNoPlace = (bytes : List ℕ) (messages : List Message) → Splits bytes messages [] → BeginsWithNoPlace bytes

@@ -127,6 +127,14 @@ pub struct Frame {
     pub format: u64,
 }
 
+#[repr(C)]
+#[derive(Default, Debug, Clone, Copy, PartialEq)]
+pub struct Bears {
+    pub mark: Mark,
+    pub marked: usize,
+    pub messages: usize,
+}
+
 type One = unsafe extern "C" fn(*const u8, usize, u64, *mut u8, usize, *mut Told) -> u32;
 type Two = unsafe extern "C" fn(*const u8, usize, *const u8, usize, u64, *mut u8, usize, *mut Told) -> u32;
 

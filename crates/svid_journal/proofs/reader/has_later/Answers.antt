@@ -10,17 +10,17 @@ pub loop-rest-preserved : goal.loop-rest-preserved
 loop-rest-preserved c =
     let bytes = c.args.bytes.now in
     let cell = c.loop-rest.cell in
-    let next : c.split_at.result.1.now ≡ drop (32 * (cell + 1)) bytes =
-    c.split_at.ensures.back ∙ ap (drop 32) c.loop-rest.invariant.there ∙ drop-drop 32 (32 * cell) bytes ∙ ap (λ (n : ℕ). drop n bytes) (omega arith) in
+    let next : c.split_at-in-loop-rest.result.1.now ≡ drop (8 * (cell + 1)) bytes =
+    c.split_at-in-loop-rest.ensures.back ∙ ap (drop 8) c.loop-rest.invariant.there ∙ drop-drop 8 (8 * cell) bytes ∙ ap (λ (n : ℕ). drop n bytes) (omega arith) in
     record {
       there = next;
-      count = omega (arith, c.loop-rest.invariant.count, c.split_at.ensures.back_len);
+      count = omega (arith, c.loop-rest.invariant.count, c.split_at-in-loop-rest.ensures.back_len);
       none = λ k below b.
           elim (cases_lt k cell) [
             | inl before ↦ c.loop-rest.invariant.none k before b
             | inr behind ↦
                 let is : k ≡ cell = omega (arith, behind, below) in
-                let here = subst (λ (n : ℕ). BeginsLater (bytes_of c.args.title.now) c.args.number n (drop (32 * n) bytes)) is b in
+                let here = subst (λ (n : ℕ). BeginsLater (bytes_of c.args.title.now) c.args.number n (drop (8 * n) bytes)) is b in
                 false≢true (sym c.if-begins_later.false ∙ c.begins_later.ensures.1 (subst (BeginsLater (bytes_of c.args.title.now) c.args.number cell) (sym c.loop-rest.invariant.there) here))
           ];
     }
