@@ -50,7 +50,7 @@ extern "C" {
 #define SVID_INPUT_MOST 67108864     /* the most bytes that an input of messages may have */
 #define SVID_PAYLOAD_MOST 16777215   /* the most bytes that a payload of a state folder's file has */
 #define SVID_FRAME_MORE 39           /* a frame has at most so many bytes more than its payload */
-#define SVID_MOST_CANDIDATES 4       /* how many keys svidd, the Go library and the Python package try for a token: give svid_validator_ask
+#define SVID_MOST_CANDIDATES 3       /* how many keys svidd, the Go library and the Python package try for a token: give svid_validator_ask
                                         the same, so that all answer the same (docs/FORMATS.md, "Candidates") */
 
 enum svid_status {
