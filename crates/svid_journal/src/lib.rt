@@ -21,6 +21,3 @@ pub use reader::{Next, Reader};
 pub use step::Step;
 pub use title::{File, Title};
 pub use words::Words;
-
-#[cfg(test)]
-mod tests;

@@ -1,4 +1,4 @@
-use super::*;
+use svid_journal::*;
 use std::test::*;
 
 const FOLDER: [u8; 16] = [7; 16];
