@@ -11,8 +11,12 @@ import (
 	"unsafe"
 )
 
-// MaxPayload is the greatest number of bytes that one frame of a state folder bears.
-const MaxPayload = C.SVID_PAYLOAD_MOST
+const (
+	// MaxPayload is the greatest number of bytes that one frame of a state folder bears.
+	MaxPayload = C.SVID_PAYLOAD_MOST
+	// MarkLen is how many of them AppendMark takes.
+	MarkLen = C.SVID_LOG_PLACE
+)
 
 // Errors of a Folder. After each of them it is as it was.
 var (
@@ -34,12 +38,15 @@ var (
 	ErrDamaged = errors.New("svid: what was synced here has changed")
 )
 
-// A FormatError says that a frame has a newer format than this library reads.
+// A FormatError says that a frame has another format than this library reads, which is format 2.
 type FormatError struct{ Format int }
 
-// Error names the format.
+// Error names the format, and what to do.
 func (e *FormatError) Error() string {
-	return fmt.Sprintf("svid: format %d, and this library reads format 1: take the version that wrote it, or a later one", e.Format)
+	if e.Format == 1 {
+		return "svid: format 1, which only builds of svidd 0.2 before its release wrote, and this library reads format 2: write the messages of the folder by the build that wrote it"
+	}
+	return fmt.Sprintf("svid: format %d, and this library reads format 2: take the version that wrote it, or a later one", e.Format)
 }
 
 // A Call of the system that is due in a state folder.
@@ -210,7 +217,7 @@ func (r *FileReader) Next(content []byte) (payload []byte, err error) {
 		return nil, ErrTorn
 	case C.SVID_FILE_DAMAGE:
 		return nil, ErrDamaged
-	case C.SVID_FILE_NEWER:
+	case C.SVID_FILE_OTHER:
 		return nil, &FormatError{int(r.frame.format)}
 	}
 	return nil, folderFailure(status)
@@ -218,6 +225,25 @@ func (r *FileReader) Next(content []byte) (payload []byte, err error) {
 
 // At is how many bytes the frames take that were read: the place of the next one.
 func (r *FileReader) At() int64 { return int64(r.reader.at) }
+
+// AppendMark appends where a validator is in its log (Validator.LogMark) to out: MarkLen bytes, the front of a payload. Its
+// messages stand behind them, or none.
+func AppendMark(out []byte, mark Mark) []byte {
+	out = withRoom(out, MarkLen)
+	room := out[len(out) : len(out)+MarkLen]
+	m := markOf(mark)
+	var told C.svid_told
+	C.svid_journal_place(&m, start(room), C.size_t(len(room)), &told)
+	return out[:len(out)+MarkLen]
+}
+
+// Borne returns what a payload bears: where a validator was in its log as the payload was written, if it begins with that, and
+// its messages, which are a part of it.
+func Borne(payload []byte) (mark Mark, isMarked bool, messages []byte) {
+	var bears C.svid_bears
+	C.svid_journal_bears(start(payload), C.size_t(len(payload)), &bears)
+	return goMark(&bears.mark), bears.marked == 1, payload[bears.messages:]
+}
 
 // Whole returns how many of the bytes are whole messages, from the first one on. It is nil where they all are, and else a
 // *MessageError, which counts from the first one, or ErrNoMemory.

@@ -138,7 +138,7 @@ const (
 func (v *Validator) OpenLog(log Log) error {
 	v.mu.Lock()
 	defer v.mu.Unlock()
-	mark := C.svid_mark{passed: C.uint64_t(log.Mark.Passed), begun: C.size_t(log.Mark.Begun), deaf: C.uint64_t(log.Mark.Deaf)}
+	mark := markOf(log.Mark)
 	status := C.svid_validator_log(&v.handle, &mark, C.uint64_t(log.Ready), C.uint64_t(log.Lasts),
 		start(log.Beside), C.size_t(len(log.Beside)), &v.told)
 	return failure(status, &v.told)
@@ -205,7 +205,16 @@ func (v *Validator) LogMark() (mark Mark, accepts bool, err error) {
 	if err := failure(status, &v.told); err != nil {
 		return Mark{}, false, err
 	}
-	return Mark{Passed: uint64(m.passed), Begun: int(m.begun), Deaf: uint64(m.deaf)}, v.told.more == 1, nil
+	return goMark(&m), v.told.more == 1, nil
+}
+
+// markOf is a mark as C has it.
+func markOf(m Mark) C.svid_mark {
+	return C.svid_mark{passed: C.uint64_t(m.Passed), begun: C.size_t(m.Begun), deaf: C.uint64_t(m.Deaf)}
+}
+
+func goMark(m *C.svid_mark) Mark {
+	return Mark{Passed: uint64(m.passed), Begun: int(m.begun), Deaf: uint64(m.deaf)}
 }
 
 // LogBeside writes the claims that were read and that the record did not take, for OpenLog: those of tokens that were claimed

@@ -214,6 +214,9 @@ func (s *sidecar) open(ctx context.Context) error {
 		return err
 	}
 	s.engine.Metrics.BundleAges = s.watcher.Ages
+	if s.journal != nil && s.replay == string(server.Strict) {
+		s.journal.Bear(s.engine.Mark)
+	}
 	go s.reloadAll(ctx)
 	return nil
 }
@@ -261,6 +264,9 @@ func (s *sidecar) load() error {
 	debug.FreeOSMemory() // of the files, which may be as large as the record
 	if err != nil {
 		return err
+	}
+	if mark, ok := s.journal.Mark(); ok {
+		s.engine.Recall(mark)
 	}
 	for _, f := range s.journal.Torn() {
 		s.log.Event("journal torn", "file", f.Name, "at", f.At, "bytes", f.Rest, "why", "a crash left them of a write that nobody was answered for")

@@ -52,7 +52,7 @@ func checkState(args []string, std stdio) int {
 	return exitYes
 }
 
-// writeState writes a line for the place and one for each file. It tells whether one of them holds what is no message.
+// writeState writes a line for the place, one for the bucket if the folder says how far that was read, and one for each file. It tells whether one of them holds what is no message.
 func writeState(std stdio, found *journal.Report) (damaged bool, err error) {
 	place := found.Place.String()
 	if !found.Placed {
@@ -60,6 +60,11 @@ func writeState(std stdio, found *journal.Report) (damaged bool, err error) {
 	}
 	if _, err := fmt.Fprintf(std.out, "place %s\n", place); err != nil || !found.Placed && found.Fault != nil {
 		return false, err
+	}
+	if found.InLog {
+		if _, err := fmt.Fprintln(std.out, logOf(found.Log)); err != nil {
+			return false, err
+		}
 	}
 	for _, f := range found.Files {
 		_, uses, err := svid.Uses(f.Messages)
@@ -74,15 +79,24 @@ func writeState(std stdio, found *journal.Report) (damaged bool, err error) {
 	return damaged, nil
 }
 
+// logOf is where the validator was in the group's bucket as the folder was written last.
+func logOf(mark svid.Mark) string {
+	says := fmt.Sprintf("bucket read up to value %d", mark.Passed)
+	if mark.Deaf > 0 {
+		says += fmt.Sprintf(", and no token is accepted before %d", mark.Deaf)
+	}
+	return says
+}
+
 // stateOf is how a file ends, and what it consists of.
 func stateOf(f *journal.File) string {
 	end := "whole"
-	var newer *svid.FormatError
+	var other *svid.FormatError
 	switch {
 	case f.Torn():
 		end = fmt.Sprintf("torn at byte %d, and nobody was answered for the %s there", f.At, counted(f.Rest, "byte"))
-	case errors.As(f.Fault, &newer):
-		end = fmt.Sprintf("format %d at byte %d", newer.Format, f.At)
+	case errors.As(f.Fault, &other):
+		end = fmt.Sprintf("format %d at byte %d", other.Format, f.At)
 	case f.Fault != nil:
 		end = fmt.Sprintf("damaged at byte %d", f.At)
 	}

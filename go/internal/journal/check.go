@@ -10,9 +10,11 @@ import (
 // A Report is what a state folder holds.
 type Report struct {
 	Place  svid.Place
-	Placed bool    // the folder has a place
-	Files  []*File // the snapshot, if there is one, and the journals by rising number
-	// Fault is why a start would refuse the folder: the first damage (svid.ErrDamaged), a newer format (*svid.FormatError), or a
+	Placed bool      // the folder has a place
+	Log    svid.Mark // where the validator was in its log, as the last payload says that bears it
+	InLog  bool      // one does
+	Files  []*File   // the snapshot, if there is one, and the journals by rising number
+	// Fault is why a start would refuse the folder: the first damage (svid.ErrDamaged), another format (*svid.FormatError), or a
 	// place that is missing.
 	Fault error
 }
@@ -36,7 +38,7 @@ func check(sys system, dir string) (*Report, error) {
 		if err != nil {
 			return nil, err
 		}
-		r := &Report{Place: found.place, Placed: found.placed, Files: found.files, Fault: found.fault(dir)}
+		r := &Report{Place: found.place, Placed: found.placed, Log: found.mark, InLog: found.isMarked, Files: found.files, Fault: found.fault(dir)}
 		// A file that grows while it is read can look damaged. Damage stays where it is.
 		if try == mostTries || !errors.Is(r.Fault, svid.ErrDamaged) || before != nil && sameFaults(before, found) {
 			return r, nil

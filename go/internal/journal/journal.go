@@ -55,6 +55,10 @@ const (
 	quiet = time.Second
 	// manyJournals is how many journals a start may find until the next snapshot is due at once.
 	manyJournals = 8
+	// mostOfUse is how many bytes a use has at the most: those of a batch of one use.
+	mostOfUse = 82
+	// mostMessages is how many bytes of messages one write takes: a mark may stand in front of them.
+	mostMessages = svid.MaxPayload - svid.MarkLen
 )
 
 // A Journal is an open state folder. Its methods may be called from many goroutines at once.
@@ -64,6 +68,8 @@ type Journal struct {
 	held  []io.Closer // the lock and the folder
 	place svid.Place
 	torn  []*File
+	found svid.Mark // the last one of the files that Load read
+	marks bool      // it found one
 	wants bool
 
 	gather    sync.Mutex // guards gathering
@@ -71,13 +77,14 @@ type Journal struct {
 
 	write  sync.Mutex // held over a write; guards the fields below
 	core   *svid.Folder
-	file   file        // the journal that grows
-	room   int64       // its length; what is behind its frames is zeros
-	buffer []byte      // for a frame
-	old    bool        // an older version wrote the folder, and no snapshot was taken since
-	marked bool        // its last frame is a mark, or it has none
-	marker *time.Timer // puts a mark once it is quiet; nil before the first batch
-	broken error       // why nothing can be appended any more
+	bears  func() (svid.Mark, bool) // what each payload begins with; may be nil
+	file   file                     // the journal that grows
+	room   int64                    // its length; what is behind its frames is zeros
+	buffer []byte                   // for a frame
+	old    bool                     // an older version wrote the folder, and no snapshot was taken since
+	marked bool                     // its last frame is a mark, or it has none
+	marker *time.Timer              // puts a mark once it is quiet; nil before the first batch
+	broken error                    // why nothing can be appended any more
 
 	quiet  time.Duration // until a mark is put; 0 for never
 	growth int
@@ -89,12 +96,16 @@ type Journal struct {
 	upgrades bool         // the file frames is there
 }
 
-// A commit is the batches that one write takes to the disk.
+// A commit is what one write takes to the disk.
 type commit struct {
-	bytes []byte
-	done  chan struct{} // closed when err is set
-	err   error
+	messages []byte
+	uses     []svid.Use
+	done     chan struct{} // closed when err is set
+	err      error
 }
+
+// size is how many bytes its messages have at the most.
+func (c *commit) size() int { return len(c.messages) + mostOfUse*len(c.uses) }
 
 // Open locks the folder dir, which it makes where its parent is there. Load reads it.
 //
@@ -144,7 +155,7 @@ func openBy(sys system, dir string) (*Journal, error) {
 // does. It reads while take is under way, so take may have messages of a folder that can't be read to its end. Its error ends
 // the reading.
 //
-// Damage is an error that names the file and the place: no crash leaves such a file. So is a file of a newer format.
+// Damage is an error that names the file and the place: no crash leaves such a file. So is a file of another format.
 func (j *Journal) Load(take func(messages []byte) error) error {
 	j.snapshot.Lock()
 	defer j.snapshot.Unlock()
@@ -188,6 +199,7 @@ func (j *Journal) load(take func(messages []byte) error) error {
 		empty = empty && f.At == 0
 	}
 	j.size.Store(j.older)
+	j.found, j.marks = found.mark, found.isMarked
 	if found.old && found.fromFrames == 0 {
 		if err := keepText(j.sys, framesName, strconv.FormatUint(found.newest+1, 10)); err != nil {
 			return err
@@ -247,6 +259,16 @@ func (j *Journal) Torn() []*File { return j.torn }
 // Place returns the validator's place, which the first Open of the folder made at random.
 func (j *Journal) Place() svid.Place { return j.place }
 
+// Bear lets every payload from now on begin with where the validator is in its log, as long as mark returns that.
+func (j *Journal) Bear(mark func() (svid.Mark, bool)) {
+	j.write.Lock()
+	defer j.write.Unlock()
+	j.bears = mark
+}
+
+// Mark returns where the validator was in its log, as the last payload says that Load read and that bears it.
+func (j *Journal) Mark() (mark svid.Mark, ok bool) { return j.found, j.marks }
+
 // WantsSnapshot says whether Load found that a snapshot is due: the folder has none, or the journals of many starts, or an older
 // version wrote it. In that last case it must be: Append fails until a Snapshot has replaced the old files.
 func (j *Journal) WantsSnapshot() (wants, must bool) {
@@ -259,19 +281,33 @@ func (j *Journal) WantsSnapshot() (wants, must bool) {
 // no disk.
 func (j *Journal) Size() int64 { return j.size.Load() }
 
-// Append writes batch, whole messages, to the journal, and returns after it is on the disk.
+// AppendUses writes uses to the journal, and returns after they are on the disk. Those that share a write share batches.
 //
 // Callers that come while another write is under way share the next one, and its one fdatasync. Where a write fails (the disk
 // is full), a later Append may succeed. Where the disk does not say what it holds (fdatasync failed), this and every later
 // Append fails until the folder is opened anew.
 //
-// Append waits until ctx ends, and wraps its error then. What becomes of the batch is open in that case: the disk has it now,
-// or later, or never.
-func (j *Journal) Append(ctx context.Context, batch []byte) error {
-	if len(batch) > svid.MaxPayload {
+// AppendUses waits until ctx ends, and wraps its error then. What becomes of the uses is open in that case: the disk has them
+// now, or later, or never.
+func (j *Journal) AppendUses(ctx context.Context, uses ...svid.Use) error {
+	return j.append(ctx, &commit{uses: uses})
+}
+
+// Append is as AppendUses, for whole messages.
+func (j *Journal) Append(ctx context.Context, messages []byte) error {
+	return j.append(ctx, &commit{messages: messages})
+}
+
+// AppendMark is as AppendUses without uses: what it writes is where the validator is in its log, if Bear was called for that.
+func (j *Journal) AppendMark(ctx context.Context) error {
+	return j.append(ctx, new(commit))
+}
+
+func (j *Journal) append(ctx context.Context, more *commit) error {
+	if more.size() > mostMessages {
 		return fmt.Errorf("journal: append: %w", svid.ErrPayload)
 	}
-	c, err := j.join(batch)
+	c, err := j.join(more)
 	if err != nil {
 		return err
 	}
@@ -283,18 +319,19 @@ func (j *Journal) Append(ctx context.Context, batch []byte) error {
 	}
 }
 
-// join adds batch to what the next write takes. The first one there lets that write begin.
-func (j *Journal) join(batch []byte) (*commit, error) {
+// join adds to what the next write takes. The first one there lets that write begin.
+func (j *Journal) join(more *commit) (*commit, error) {
 	j.gather.Lock()
 	defer j.gather.Unlock()
 	if j.gathering == nil {
 		j.gathering = &commit{done: make(chan struct{})}
 		go j.writeNext(j.gathering)
 	}
-	if len(j.gathering.bytes)+len(batch) > svid.MaxPayload {
+	if j.gathering.size()+more.size() > mostMessages {
 		return nil, errFull
 	}
-	j.gathering.bytes = append(j.gathering.bytes, batch...)
+	j.gathering.messages = append(j.gathering.messages, more.messages...)
+	j.gathering.uses = append(j.gathering.uses, more.uses...)
 	return j.gathering, nil
 }
 
@@ -303,8 +340,29 @@ func (j *Journal) writeNext(c *commit) {
 	j.write.Lock()
 	defer j.write.Unlock()
 	j.seal()
-	c.err = j.commit(c.bytes)
+	if payload := j.payload(c); len(payload) > 0 {
+		c.err = j.commit(payload)
+	}
 	close(c.done)
+}
+
+// payload is what a commit has: a mark, if there is one, and messages. The caller holds write.
+func (j *Journal) payload(c *commit) []byte {
+	payload := append(j.front(), c.messages...)
+	if len(c.uses) > 0 {
+		payload = append(payload, svid.Batches(c.uses)...)
+	}
+	return payload
+}
+
+// front is what a payload begins with. The caller holds write.
+func (j *Journal) front() []byte {
+	if j.bears != nil {
+		if mark, ok := j.bears(); ok {
+			return svid.AppendMark(nil, mark)
+		}
+	}
+	return nil
 }
 
 // seal ends the gathering: who comes from now on is the first of the next write.
@@ -526,6 +584,12 @@ func (j *Journal) grow() {
 // writePieces writes a snapshot: each Write of write is a piece, and a mark ends it.
 func (j *Journal) writePieces(to file, write func(io.Writer) error) error {
 	p := &pieces{core: j.core, to: to}
+	j.write.Lock()
+	front := j.front()
+	j.write.Unlock()
+	if _, err := p.Write(front); err != nil {
+		return err
+	}
 	if err := write(p); err != nil {
 		return err
 	}

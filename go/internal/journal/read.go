@@ -16,11 +16,13 @@ type File struct {
 	Length   int    // in bytes
 	Old      bool   // messages one after the other, as versions before 0.2 wrote them
 	Messages []byte
-	Frames   int // with messages
+	Frames   int // with a payload
 	Marks    int
-	At       int64 // where reading ended
-	Rest     int   // bytes behind At, but zeros at the end
-	Fault    error // why: nil at the end, svid.ErrTorn, svid.ErrDamaged or a *svid.FormatError
+	Log      svid.Mark // where the validator was in its log, as the last payload says that bears it
+	InLog    bool      // one does
+	At       int64     // where reading ended
+	Rest     int       // bytes behind At, but zeros at the end
+	Fault    error     // why: nil at the end, svid.ErrTorn, svid.ErrDamaged or a *svid.FormatError
 
 	number  uint64 // of a journal; 0 of the snapshot
 	content []byte // of a file without a frame, until it is known whether it is old
@@ -36,13 +38,22 @@ type damage struct {
 }
 
 func (d *damage) Error() string {
-	var newer *svid.FormatError
-	if errors.As(d.file.Fault, &newer) {
-		return fmt.Sprintf("journal: %s has format %d, and this svidd reads format 1: start the svidd that wrote it, or a later one", d.file.Name, newer.Format)
+	var other *svid.FormatError
+	if errors.As(d.file.Fault, &other) {
+		return fmt.Sprintf("journal: %s has format %d, and this svidd reads format 2: %s", d.file.Name, other.Format, d.advice(other.Format))
 	}
 	return fmt.Sprintf("journal: %s is damaged at byte %d: look for a failing disk, and put back a copy of the file of the same day; "+
 		"without one, see docs/SIDECAR.md, \"A damaged state folder\": `svidd check-state %s --messages` writes all that can still be read",
 		d.file.Name, d.file.At, d.dir)
+}
+
+// advice is what to do about a file of another format.
+func (d *damage) advice(format int) string {
+	if format == 1 {
+		return fmt.Sprintf("a build of svidd 0.2 before its release wrote it: let that build write the messages (`svidd check-state %s --messages`), "+
+			"and see docs/SIDECAR.md, \"A damaged state folder\"", d.dir)
+	}
+	return "start the svidd that wrote it, or a later one"
 }
 
 func (d *damage) Unwrap() error { return d.file.Fault }
@@ -55,8 +66,10 @@ type contents struct {
 	oldest, newest uint64 // of the journals, or 1 and 0
 	journals       int
 	hasSnapshot    bool
-	old            bool   // an older version wrote the files
-	fromFrames     uint64 // the first journal that it did not write, or 0
+	old            bool      // an older version wrote the files
+	fromFrames     uint64    // the first journal that it did not write, or 0
+	mark           svid.Mark // the last one in the files
+	isMarked       bool      // one of them has one
 
 	give func(messages []byte)
 }
@@ -106,6 +119,9 @@ func (c *contents) add(sys system, name string, number uint64) error {
 		return fmt.Errorf("journal: %s: %w", f.Name, err)
 	}
 	c.files = append(c.files, f)
+	if f.InLog {
+		c.mark, c.isMarked = f.Log, true
+	}
 	return nil
 }
 
@@ -122,7 +138,11 @@ func (f *File) read(content []byte, reader *svid.FileReader, give func(messages 
 		} else {
 			f.Frames++
 		}
-		length += copy(content[length:], payload)
+		mark, isMarked, messages := svid.Borne(payload)
+		if isMarked {
+			f.Log, f.InLog = mark, true
+		}
+		length += copy(content[length:], messages)
 		if give != nil && length-given >= pieceOfMessages {
 			give(content[given:length:length])
 			given = length

@@ -40,8 +40,10 @@ var ErrNoBundle = errors.New("the bundle of the token's trust domain was not rea
 
 // A Journal keeps acceptances on the disk.
 type Journal interface {
-	// Append returns after the batch is on the disk, or once ctx ends: the disk may have the batch then, now or later.
-	Append(ctx context.Context, batch []byte) error
+	// AppendUses returns after the uses are on the disk, or once ctx ends: the disk may have them then, now or later.
+	AppendUses(ctx context.Context, uses ...svid.Use) error
+	// AppendMark does the same for what Engine.Mark returns. Each append and each snapshot has that.
+	AppendMark(ctx context.Context) error
 	// Size is how many bytes were appended since the last snapshot. It waits for no disk.
 	Size() int64
 	// Snapshot replaces snapshot and journal by what write writes, and loses
@@ -96,8 +98,8 @@ type Engine struct {
 	untold    chan svid.Use
 	values    atomic.Uint64 // numbers of what was put into the group's bucket, except for claims
 
-	loaded   atomic.Bool            // the state folder's record is in the validator
-	unkept   atomic.Pointer[[]byte] // what the state folder did not take last, nil where it takes all
+	loaded   atomic.Bool                // the state folder's record is in the validator
+	unkept   atomic.Pointer[[]svid.Use] // what the state folder did not take last, nil where it takes all
 	draining atomic.Bool
 	jumped   atomic.Bool   // the clock is further ahead than Options.Step
 	jumpedAt time.Time     // since then; tick alone uses it
@@ -105,11 +107,15 @@ type Engine struct {
 	ended    chan struct{} // closed as Run ends
 	mixedAt  time.Time     // when it was last logged that the group's modes differ; Take alone uses it
 
-	// Of mode strict. Begin and Take alone use those that are not atomic.
-	deaf    atomic.Uint64 // the moment before which the validator accepts nothing
-	right   atomic.Uint64 // the last time that was no jump
-	room    []svid.LogUse // for what it reads
-	stuckAt time.Time     // when it was last logged that it can't read
+	// Of mode strict.
+	deaf     atomic.Uint64 // the moment before which the validator accepts nothing
+	unmarked atomic.Bool   // the state folder does not have that moment yet
+	right    atomic.Uint64 // the last time that was no jump
+	reading  sync.Mutex    // held while the validator reads its log; guards the fields below
+	log      group.Log     // as Begin had it last
+	recalled *svid.Mark    // where an earlier life was in the log, until the log has begun
+	room     []svid.LogUse // for what it reads
+	stuckAt  time.Time     // when it was last logged that it can't read
 
 	renewing sync.Mutex // held while bundles are replaced
 	bundles  atomic.Pointer[[]byte]
@@ -309,22 +315,22 @@ func (e *Engine) checkOnce(token string, yes []svid.Question) (svid.Accepted, er
 	if err != nil {
 		return svid.Accepted{}, err
 	}
-	if err := e.keep("acceptance", accepted.Use.Batch()); err != nil {
+	if err := e.keep("acceptance", accepted.Use); err != nil {
 		return svid.Accepted{}, err
 	}
 	e.tell(accepted.Use)
 	return accepted, nil
 }
 
-// keep returns once the batch is on the disk, where there is a state folder, and after Options.Wait at the latest. An error
+// keep returns once the uses are on the disk, where there is a state folder, and after Options.Wait at the latest. An error
 // says what could not be kept. (A client that goes away changes nothing: what it began is kept all the same.)
-func (e *Engine) keep(what string, batch []byte) error {
+func (e *Engine) keep(what string, uses ...svid.Use) error {
 	if e.Journal == nil {
 		return nil
 	}
-	if err := e.appendInTime(batch); err != nil {
+	if err := e.appendInTime(uses); err != nil {
 		e.Metrics.JournalFailures.Add(1)
-		e.unkept.Store(&batch)
+		e.unkept.Store(&uses)
 		return &notKept{what, err}
 	}
 	e.unkept.Store(nil)
@@ -340,17 +346,20 @@ type notKept struct {
 func (n *notKept) Error() string { return fmt.Sprintf("the %s could not be kept: %v", n.what, n.why) }
 func (n *notKept) Unwrap() error { return n.why }
 
-func (e *Engine) appendInTime(batch []byte) error {
+func (e *Engine) appendInTime(uses []svid.Use) error {
 	ctx, cancel := context.WithTimeout(context.Background(), e.Wait)
 	defer cancel()
-	return e.Journal.Append(ctx, batch)
+	return e.Journal.AppendUses(ctx, uses...)
 }
 
 // keepAgain gives the state folder once more what it did not take. So Ready answers yes again once it takes all, though
 // nobody sends tokens to who is not ready.
 func (e *Engine) keepAgain() {
-	if batch := e.unkept.Load(); batch != nil && e.appendInTime(*batch) == nil {
-		e.unkept.CompareAndSwap(batch, nil)
+	if uses := e.unkept.Load(); uses != nil && e.appendInTime(*uses) == nil {
+		e.unkept.CompareAndSwap(uses, nil)
+	}
+	if e.unmarked.Load() {
+		e.keepMark()
 	}
 }
 
@@ -379,7 +388,7 @@ func (e *Engine) Withdraw(ctx context.Context, key svid.TokenKey, exp uint64) (s
 	}
 	ctx, cancel := context.WithTimeout(ctx, e.Wait)
 	defer cancel()
-	if err := e.keep("withdrawal", use.Batch()); err != nil {
+	if err := e.keep("withdrawal", use); err != nil {
 		return svid.Use{}, fmt.Errorf("revoked here, but %w", err)
 	}
 	if g := e.group.Load(); g != nil {

@@ -332,7 +332,7 @@ func TestEverythingAtOnce(t *testing.T) {
 			},
 			func(i int) {
 				e.snapshot()
-				e.keepSoon(late)
+				e.keepSoon(svid.Use{Expires: 1 << 40, At: uint64(i)})
 				e.keepAgain()
 			},
 			func(i int) {

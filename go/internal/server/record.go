@@ -52,6 +52,9 @@ func (e *Engine) Load(messages []byte) error {
 		return err
 	}
 	e.loaded.Store(true)
+	if e.unmarked.Load() {
+		e.markSoon()
+	}
 	return nil
 }
 
@@ -81,7 +84,10 @@ func (e *Engine) Take(values []group.Value) []error {
 		return t.errs
 	}
 	for i, v := range values {
-		t.note(i, e.read(v))
+		e.reading.Lock()
+		err := e.read(v)
+		e.reading.Unlock()
+		t.note(i, err)
 	}
 	return t.errs
 }

@@ -52,7 +52,7 @@ func TestTheKeeperDoesNotFillTheLog(t *testing.T) {
 	lines := func(text string) int { return strings.Count(out.String(), text) }
 	keep := func(times int) {
 		for i := 0; i < times; i++ {
-			e.keepSoon([]byte("a use"))
+			e.keepSoon(svid.Use{})
 			e.keeper.wait()
 		}
 	}
@@ -69,13 +69,13 @@ func TestTheKeeperDoesNotFillTheLog(t *testing.T) {
 	// So it is of what there is no room for.
 	full := func(times int) {
 		e.keeper.mu.Lock()
-		e.keeper.batches = make([]byte, mostUnkept)
+		e.keeper.uses = make([]svid.Use, mostUnkept)
 		e.keeper.mu.Unlock()
 		for i := 0; i < times; i++ {
-			e.keepSoon([]byte("a use"))
+			e.keepSoon(svid.Use{})
 		}
 		e.keeper.mu.Lock()
-		e.keeper.batches = nil
+		e.keeper.uses = nil
 		e.keeper.mu.Unlock()
 		keep(1)
 	}

@@ -36,12 +36,19 @@ var example = func() *issuer.Issuer {
 type disk struct {
 	mu     sync.Mutex
 	kept   []byte
+	marks  int // how often a mark alone was appended
 	fault  error
-	before func()        // called as Append begins
-	hangs  chan struct{} // where it is not nil, Append waits for it
+	before func()        // called as an append begins
+	hangs  chan struct{} // where it is not nil, an append waits for it
 }
 
-func (d *disk) Append(ctx context.Context, batch []byte) error {
+func (d *disk) AppendUses(ctx context.Context, uses ...svid.Use) error {
+	return d.append(ctx, func() { d.kept = append(d.kept, svid.Batches(uses)...) })
+}
+
+func (d *disk) AppendMark(ctx context.Context) error { return d.append(ctx, func() { d.marks++ }) }
+
+func (d *disk) append(ctx context.Context, keep func()) error {
 	if d.before != nil {
 		d.before()
 	}
@@ -57,7 +64,7 @@ func (d *disk) Append(ctx context.Context, batch []byte) error {
 	if d.fault != nil {
 		return d.fault
 	}
-	d.kept = append(d.kept, batch...)
+	keep()
 	return nil
 }
 
@@ -537,7 +544,7 @@ func TestStrictKeepsWhatItWon(t *testing.T) {
 	if n := kept.engine.Metrics.JournalFailures.Load(); n != 1 || !strings.Contains(out.String(), "it is full") {
 		t.Errorf("%d failures, log %s", n, &out)
 	}
-	kept.engine.keeper.batches = make([]byte, mostUnkept)
+	kept.engine.keeper.uses = make([]svid.Use, mostUnkept)
 	if err := check(kept.engine, token("slow")); err != nil {
 		t.Error(err)
 	}

@@ -13,6 +13,9 @@ import (
 // ErrMissed: values of the group's bucket are gone that this sidecar has not read, and a claim of the token may be among them.
 var ErrMissed = errors.New("values of the group's bucket are missing: whether another sidecar claimed the token is unknown")
 
+// errBack: the group's bucket ends in front of what this sidecar has read of it.
+var errBack = errors.New("the group's bucket ends in front of values that this sidecar has read: it was made anew, or put back from an older copy")
+
 // errEarly: the time of the own claim is further ahead than the clock may be. The clock went back.
 var errEarly = errors.New("the claim is from further in the future than clocks may differ: the clock went back")
 
@@ -108,20 +111,69 @@ func (e *Engine) Begin(log group.Log) {
 	if e.Mode != Strict {
 		return
 	}
-	// (The clocks of who claimed a token and of who reads that may both be off.)
-	next := svid.Log{Mark: svid.Mark{Passed: log.Passed}, Ready: log.Ready, Lasts: saturated(e.Longest, saturated(e.Ahead, e.Ahead))}
+	e.reading.Lock()
+	defer e.reading.Unlock()
+	e.log = log
+	mark := svid.Mark{Passed: log.Passed}
 	if log.Missed {
-		next.Mark.Deaf = saturated(e.Now(), next.Lasts)
+		mark.Deaf = saturated(e.Now(), e.lasts())
 	}
+	if err := e.begin(mark); err != nil {
+		e.Log.Error("log", err)
+	}
+	if log.Missed {
+		e.missed(ErrMissed)
+	}
+	e.recall()
+}
+
+// lasts is how many seconds a use may live once it is in the bucket. (The clocks of who claimed a token and of who reads that may
+// both be off.)
+func (e *Engine) lasts() uint64 { return saturated(e.Longest, saturated(e.Ahead, e.Ahead)) }
+
+// begin lets the validator read the bucket from this mark on. It tries until there is memory for that, or the engine ends.
+func (e *Engine) begin(mark svid.Mark) error {
+	next := svid.Log{Mark: mark, Ready: e.log.Ready, Lasts: e.lasts()}
 	err := e.openLog(next)
 	for err == svid.ErrNoMemory && e.pause(err) {
 		err = e.openLog(next)
 	}
+	return err
+}
+
+// Recall tells the engine where an earlier life of it was in the bucket, as the state folder has it. It comes before Load.
+func (e *Engine) Recall(mark svid.Mark) {
+	if e.Mode != Strict {
+		return
+	}
+	e.reading.Lock()
+	defer e.reading.Unlock()
+	e.recalled = &mark
+	e.recall()
+}
+
+// recall takes over what an earlier life knew, once the bucket has begun: until when values may live that it has missed. A bucket
+// that ends in front of what it has read lacks values too.
+func (e *Engine) recall() {
+	if e.recalled == nil {
+		return
+	}
+	mark, _, err := e.validator.LogMark()
+	if err == svid.ErrNoLog {
+		return // Begin does it.
+	}
+	before, why := *e.recalled, ErrMissed
+	e.recalled = nil
+	if before.Passed > e.log.Ready {
+		before.Deaf, why = saturated(e.Now(), e.lasts()), errBack
+	}
+	if err == nil && (why == errBack || before.Deaf > mark.Deaf && before.Deaf > e.Now()) {
+		mark.Deaf = before.Deaf
+		err = e.begin(mark)
+		e.missed(why)
+	}
 	if err != nil {
 		e.Log.Error("log", err)
-	}
-	if log.Missed {
-		e.missed()
 	}
 }
 
@@ -168,7 +220,7 @@ func (e *Engine) read(v group.Value) (aside error) {
 			aside = reading.Fault
 		}
 		if reading.Order == svid.OrderGap {
-			e.missed()
+			e.missed(ErrMissed)
 		}
 		read := e.room[:reading.Count]
 		for i := range read {
@@ -194,9 +246,7 @@ func (e *Engine) read(v group.Value) (aside error) {
 	if other != nil {
 		e.sayMixed(other)
 	}
-	if len(accepted) > 0 {
-		e.keepSoon(svid.Batches(accepted))
-	}
+	e.keepSoon(accepted...)
 	return aside
 }
 
@@ -267,16 +317,17 @@ func (e *Engine) count(err error) {
 }
 
 // missed takes note of values that are missing: claims that are open have no outcome, and the validator accepts nothing for a
-// while.
-func (e *Engine) missed() {
+// while. The state folder has that soon, so that a restart changes nothing.
+func (e *Engine) missed(why error) {
 	mark, _, err := e.validator.LogMark()
 	if err != nil {
 		e.Log.Error("gap", err)
 		return
 	}
 	e.deaf.Store(mark.Deaf)
+	e.markSoon()
 	e.Metrics.Gaps.Add(1)
-	e.Log.Error("gap", ErrMissed, "claims", e.claims.failAll(ErrMissed), "behind", mark.Passed, "until", mark.Deaf,
+	e.Log.Error("gap", why, "claims", e.claims.failAll(ErrMissed), "behind", mark.Passed, "until", mark.Deaf,
 		"why", "until then each token is answered 503, unless svidd resume lets this sidecar go on")
 }
 
@@ -290,6 +341,9 @@ func (e *Engine) Resume() (until uint64, err error) {
 	e.deaf.Store(0)
 	if until > 0 {
 		e.Log.Event("resumed", "until", until)
+	}
+	if e.Journal != nil && e.loaded.Load() {
+		e.keepMark()
 	}
 	return until, nil
 }
