@@ -1,0 +1,2 @@
+pub mod DerLemmas
+pub mod NumberLemmas
