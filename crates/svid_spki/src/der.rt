@@ -56,7 +56,9 @@ pub(crate) fn positive(alloc: Global, number: &[u8]) -> Result<Vec<u8>, AllocErr
     ensures len { IfOk result (λ v. vec_len v ≤ length number.now + 1) }
 {
     let mut contents = Vec::new(alloc);
-    if let Some(first) = number.first() && *first >= 128 {
+    if let Some(first) = number.first()
+        && *first >= 128
+    {
         contents.push(0)?;
     }
     contents.extend_from_slice(number)?;

@@ -20,6 +20,7 @@ mod curve;
 mod der;
 mod ec;
 mod key_fault;
+pub mod laws;
 mod member;
 mod number;
 mod rsa;

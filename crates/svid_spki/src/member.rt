@@ -29,7 +29,11 @@ pub(crate) fn is_text_at(key: &Value, name: &str, text: &str) -> bool
 }
 
 // The bytes that a member spells in base64url, if it spells any.
-pub(crate) fn bytes_at(alloc: Global, key: &Value, name: &str) -> Result<Option<Vec<u8>>, AllocError>
+pub(crate) fn bytes_at(
+    alloc: Global,
+    key: &Value,
+    name: &str,
+) -> Result<Option<Vec<u8>>, AllocError>
     ensures { IfOk result (λ o. option_map (λ v. v.items) o ≡ bytes_at name.now (view key.now)) }
 {
     let Some(text) = text_at(key, name) else {
@@ -43,7 +47,11 @@ pub(crate) fn bytes_at(alloc: Global, key: &Value, name: &str) -> Result<Option<
 }
 
 // The number above 0 that a member is, in as few bytes as hold it, if it is one.
-pub(crate) fn number_at(alloc: Global, key: &Value, name: &str) -> Result<Option<Vec<u8>>, AllocError>
+pub(crate) fn number_at(
+    alloc: Global,
+    key: &Value,
+    name: &str,
+) -> Result<Option<Vec<u8>>, AllocError>
     ensures value { IfOk result (λ o. option_map (λ v. v.items) o ≡ number_at name.now (view key.now)) }
     ensures number { IfOk result (λ o. IfSome o (λ v. IsTrue (is_number v.items))) }
 {

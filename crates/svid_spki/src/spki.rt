@@ -63,12 +63,7 @@ fn object_in(alloc: Global, text: &[u8]) -> Result<Option<Value>, AllocError>
 }
 
 // The key that a JSON object is.
-fn object_spki(
-    alloc: Global,
-    key: &Value,
-    alg: Alg,
-    most_bits: usize,
-) -> Result<Vec<u8>, KeyFault>
+fn object_spki(alloc: Global, key: &Value, alg: Alg, most_bits: usize) -> Result<Vec<u8>, KeyFault>
     ensures value { Answers (λ v. Some v.items) result (object_due most_bits alg (view key.now)) }
     ensures len { IfOk result (λ v. vec_len v ≤ 2100) }
 {
@@ -92,12 +87,7 @@ fn object_spki(
 /// [`KeyFault`] the first that holds is answered, or `OutOfMemory` where an allocation was refused.
 /// Of a member that is written twice the last stands, and members of other names are passed over,
 /// `use` and `key_ops` too. No point is looked for on its curve. The answer has at most 2,100 bytes.
-pub fn key_spki(
-    alloc: Global,
-    text: &[u8],
-    alg: Alg,
-    most_bits: usize,
-) -> Result<Vec<u8>, KeyFault>
+pub fn key_spki(alloc: Global, text: &[u8], alg: Alg, most_bits: usize) -> Result<Vec<u8>, KeyFault>
     ensures value { Answers (λ v. Some v.items) result (spki_due most_bits alg text.now) }
     ensures len { IfOk result (λ v. vec_len v ≤ 2100) }
 {
