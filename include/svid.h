@@ -52,6 +52,10 @@ extern "C" {
 #define SVID_FRAME_MORE 39           /* a frame has at most so many bytes more than its payload */
 #define SVID_MOST_CANDIDATES 3       /* how many keys svidd, the Go library and the Python package try for a token: give svid_validator_ask
                                         the same, so that all answer the same (docs/FORMATS.md, "Candidates") */
+#define SVID_USUAL_RSA_BITS 4096     /* how many bits they let an RSA key have, unless an option says more */
+#define SVID_MOST_RSA_BITS 16384     /* no RSA key may have more */
+#define SVID_LEAST_RSA_BITS 2048     /* nor fewer */
+#define SVID_SPKI_ROOM 2100          /* enough room for any key of svid_key_spki */
 
 enum svid_status {
     SVID_OK = 0,
@@ -117,6 +121,18 @@ enum svid_status {
     SVID_FILE_TEAR = 53,          /* a write was cut off: nobody was told that it is on the disk. Only a journal has one */
     SVID_FILE_DAMAGE = 54,        /* what was synced here has changed */
     SVID_FILE_OTHER = 55,         /* a frame of another format stands here; frame->format is its number */
+
+    /* why a key can't be used with an algorithm: the first that holds, in this order. 74 to 76 are of RSA keys alone, and 77 to 79 of EC keys */
+    SVID_NO_ALGORITHM = 70,       /* the algorithm is none of RS256 to PS512 */
+    SVID_KEY_NOT_OBJECT = 71,     /* the key is no JSON object */
+    SVID_KEY_KTY = 72,            /* its `kty` is not the algorithm's: RSA for RS and PS, EC for ES */
+    SVID_KEY_ALG = 73,            /* its `alg` is there, and is not the algorithm */
+    SVID_KEY_N = 74,              /* its `n` is no odd number in as few bytes of base64url as hold it */
+    SVID_KEY_BITS = 75,           /* its `n` has fewer than 2,048 bits, more than `most_bits`, or more than 16,384 */
+    SVID_KEY_E = 76,              /* its `e` is no odd number from 3 to 2^31-1 in as few bytes of base64url as hold it */
+    SVID_KEY_CRV = 77,            /* its `crv` is not the algorithm's: P-256 for ES256, P-384 for ES384, P-521 for ES512 */
+    SVID_KEY_X = 78,              /* its `x` is not base64url of 32, 48 or 66 bytes, as the curve has it */
+    SVID_KEY_Y = 79,              /* its `y` is not that */
 
     /* why a token is refused: the first that holds, in this order */
     SVID_TOO_LONG = 101,
@@ -617,6 +633,16 @@ uint32_t svid_version(void);
 /* Reads a SPIFFE ID. */
 uint32_t svid_id_parse(const uint8_t *text, size_t text_len, svid_id *out);
 
+/* Writes a public key as SubjectPublicKeyInfo in DER (RFC 5280, section 4.1.2.7), which d2i_PUBKEY of OpenSSL, and its like elsewhere, read
+ * in one call. `key` is the key as JSON (RFC 7517) and `alg` the name of the algorithm, both as svid_bundles_ask lists them. An RSA key may
+ * have up to `most_bits` bits, and never more than SVID_MOST_RSA_BITS. Each verification by a long key costs more, so pass
+ * SVID_USUAL_RSA_BITS unless your issuers have longer ones.
+ *
+ * SVID_NO_ALGORITHM; SVID_KEY_NOT_OBJECT to SVID_KEY_Y if the key can't be used with the algorithm: then it made no signature. This call does
+ * not look whether a point is on its curve: your library does when it reads the key. If it refuses the key, the key made no signature. */
+uint32_t svid_key_spki(const uint8_t *key, size_t key_len, const uint8_t *alg, size_t alg_len, size_t most_bits,
+                       uint8_t *out, size_t out_len, svid_told *told);
+
 /* Messages: one after the other, none where there are no bytes. `now` is a moment in whole seconds, to which
  * what they tell is raised: what expires by then goes. 0 raises nothing. */
 
@@ -713,6 +739,16 @@ static inline const char *svid_strstatus(uint32_t status) {
     case SVID_FILE_TEAR: return "SVID_FILE_TEAR";
     case SVID_FILE_DAMAGE: return "SVID_FILE_DAMAGE";
     case SVID_FILE_OTHER: return "SVID_FILE_OTHER";
+    case SVID_NO_ALGORITHM: return "SVID_NO_ALGORITHM";
+    case SVID_KEY_NOT_OBJECT: return "SVID_KEY_NOT_OBJECT";
+    case SVID_KEY_KTY: return "SVID_KEY_KTY";
+    case SVID_KEY_ALG: return "SVID_KEY_ALG";
+    case SVID_KEY_N: return "SVID_KEY_N";
+    case SVID_KEY_BITS: return "SVID_KEY_BITS";
+    case SVID_KEY_E: return "SVID_KEY_E";
+    case SVID_KEY_CRV: return "SVID_KEY_CRV";
+    case SVID_KEY_X: return "SVID_KEY_X";
+    case SVID_KEY_Y: return "SVID_KEY_Y";
     case SVID_TOO_LONG: return "SVID_TOO_LONG";
     case SVID_NOT_THREE_PARTS: return "SVID_NOT_THREE_PARTS";
     case SVID_HEADER_SPELLING: return "SVID_HEADER_SPELLING";

@@ -12,6 +12,7 @@ pub mod Offers
 pub mod Own
 pub mod Parts
 pub mod Questions
+pub mod Spki
 pub mod Status
 pub mod Trust
 pub mod TrustHandle

@@ -48,6 +48,7 @@ mod renew;
 mod renew_by;
 mod reply;
 mod report;
+mod spki;
 mod summary;
 mod take;
 mod tell;

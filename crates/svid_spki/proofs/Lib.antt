@@ -1,0 +1,3 @@
+pub mod DerLemmas
+pub mod NumberLemmas
+pub mod SpkiLemmas
