@@ -8,4 +8,5 @@ pub mod LiveLemmas
 pub mod LogLemmas
 pub mod NamesLemmas
 pub mod OfferLemmas
+pub mod SaysLemmas
 pub mod TrustLemmas

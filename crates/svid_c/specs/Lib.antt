@@ -1,4 +1,5 @@
 pub mod Answered
+pub mod Bearer
 pub mod Checked
 pub mod Handle
 pub mod Inputs
@@ -11,6 +12,8 @@ pub mod Offers
 pub mod Own
 pub mod Parts
 pub mod Questions
+pub mod Says
+pub mod Size
 pub mod Status
 pub mod Trust
 pub mod TrustHandle

@@ -8,6 +8,7 @@
 
 mod answer;
 mod answered;
+mod bearer;
 mod bundles;
 mod bundles_ask;
 mod bundles_open;
@@ -46,6 +47,8 @@ mod renew;
 mod renew_by;
 mod reply;
 mod report;
+mod says;
+mod size;
 mod summary;
 mod take;
 mod tell;
