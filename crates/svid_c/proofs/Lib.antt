@@ -1,3 +1,4 @@
+pub mod AloneLemmas
 pub mod AsBox
 pub mod AsTrustBox
 pub mod CheckedLemmas

@@ -7,8 +7,8 @@ use Rattle.svid_c.specs.Says.{said_seen, texts_of}
 use Rattle.svid_c.specs.declared.says.SvidSaid.{SvidSaid}
 
 -- a key, a time and a number of texts are what is told of a token
-pub said_told : (t : Said) (key : List ℕ) (texts : ℕ) (lens : List ℕ) → key ≡ key_of t → texts ≡ length lens → lens ≡ map length (texts_of t)
-    → (let said : SvidSaid = record { key = key; exp = t.exp; texts = texts } in said ≡ said_seen t)
-said_told t key texts lens is count are =
-    let same : texts ≡ length (texts_of t) = rw count (rw are (length-map (texts_of t) length)) in
+pub said_told : (t : Said) (key : List ℕ) (lens : List ℕ) → key ≡ key_of t → lens ≡ map length (texts_of t)
+    → (let said : SvidSaid = record { key = key; exp = t.exp; texts = length lens } in said ≡ said_seen t)
+said_told t key lens is are =
+    let same : length lens ≡ length (texts_of t) = rw are (length-map (texts_of t) length) in
     rw is (rw same refl)

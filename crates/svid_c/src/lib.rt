@@ -11,6 +11,7 @@ mod answered;
 mod bearer;
 mod bundles;
 mod bundles_ask;
+mod bundles_judge;
 mod bundles_open;
 mod bundles_question;
 mod check;

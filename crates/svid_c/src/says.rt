@@ -114,11 +114,13 @@ pub extern "C" fn svid_token_says(
         Ok(texts) => texts,
         Err(_) => return refuse_token(Refusal::OutOfMemory, told),
     };
+    let bytes: &[u8] = &texts.bytes;
+    let each: &[usize] = &texts.lens;
     *said = SvidSaid {
         key: reading.key(),
         exp: reading.claims.exp,
-        texts: texts.lens.len(),
+        texts: each.len(),
     };
-    *told = told_length(texts.bytes.len());
-    put_texts(&texts.bytes, &texts.lens, lens, out)
+    *told = told_length(bytes.len());
+    put_texts(bytes, each, lens, out)
 }

@@ -1,4 +1,4 @@
-use Rattle.std.proofs.Common.{ap, length, refl, ◌∙◌}
+use Rattle.std.proofs.Common.{List, ℕ, ap, length, refl, ◌∙◌}
 use Rattle.svid_check.specs.Said.{said_in}
 use Rattle.svid_c.specs.Says.{no_memory, says, says_nothing, texts_of}
 use Rattle.svid_c.specs.Status.{told_length}
@@ -15,7 +15,7 @@ returns-in-Err-texts_of c = no_memory (said_in c.in-Ok.reading) c.in-Ok.ensures.
 pub returns : goal.returns
 returns c =
     let t = said_in c.in-Ok.reading in
-    says t c.in-Ok.ensures.value
-    (c.put_texts.ensures (texts_of t) (c.deref.ensures.value ∙ c.in-Ok-texts_of.ensures.bytes) (c.deref-2.ensures.value ∙ c.in-Ok-texts_of.ensures.lens))
-    (c.told_length.ensures ∙ ap told_length (c.len-2.ensures ∙ ap length c.in-Ok-texts_of.ensures.bytes))
-    (said_told t c.key.result c.len.result c.in-Ok-texts_of.texts.lens.items c.key.ensures c.len.ensures c.in-Ok-texts_of.ensures.lens)
+    let bytes = c.deref-bytes.ensures.value ∙ c.in-Ok-texts_of.ensures.bytes in
+    let lens = c.deref-each.ensures.value ∙ c.in-Ok-texts_of.ensures.lens in
+    says t c.in-Ok.ensures.value (c.put_texts.ensures (texts_of t) bytes lens) (c.told_length.ensures ∙ ap (λ (text : List ℕ). told_length (length text)) bytes)
+    (said_told t c.key.result c.deref-each.result.now c.key.ensures lens)
