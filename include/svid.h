@@ -170,7 +170,7 @@ typedef struct {
 typedef struct {
     uint8_t key[32];    /* by which the uses of the token are told: `key` of svid_use */
     uint64_t exp;       /* when it expires, in seconds */
-    size_t texts;       /* how many texts it has: three, and one for each audience */
+    size_t texts;       /* how many texts it has: four, and one for each audience */
 } svid_said;
 
 /* How large a record is. */
@@ -656,8 +656,8 @@ uint32_t svid_bearer_token(uint64_t fields, const uint8_t *value, size_t value_l
  * and no audience.
  *
  * `said` has its key and its expiry. Its texts stand in `out`, one directly after the other, and `lens` has their lengths: the algorithm, as
- * "ES256"; the subject, a SPIFFE ID; the name of its key, of length 0 if it has none; and each audience. Texts are UTF-8, may have any
- * characters, and do not end in a zero byte.
+ * "ES256"; the subject, a SPIFFE ID; the trust domain of the subject; the name of its key, of length 0 if it has none; and each audience.
+ * Texts are UTF-8, may have any characters, and do not end in a zero byte.
  *
  * SVID_TOO_SHORT if `out` has less than `told->len` bytes, or `lens` less than `said->texts` numbers. SVID_TOO_LONG to SVID_JTI if the token
  * is refused for what it is, and SVID_NO_MEMORY: then `said` stays as it was. Unless the status is SVID_OK, `lens` and `out` stay as they

@@ -14,9 +14,9 @@ use Rattle.svid_c.specs.Written.{HasFirst}
 use Rattle.svid_c.specs.declared.says.SvidSaid.{SvidSaid}
 use Rattle.svid_c.specs.declared.told.SvidTold.{SvidTold}
 
--- the texts of a token: its algorithm, its subject, the name of its key, empty where it has none, and its audiences
+-- the texts of a token: its algorithm, its subject, the trust domain of that, the name of its key, empty where it has none, and its audiences
 abbrev pub texts_of : Said → List (List ℕ)
-texts_of t = name_of t.alg ∷ (id_text t.sub ∷ (unwrap_or t.kid [] ∷ t.aud))
+texts_of t = name_of t.alg ∷ (id_text t.sub ∷ (t.sub.domain ∷ (unwrap_or t.kid [] ∷ t.aud)))
 
 -- what is told of it beside these
 abbrev pub said_seen : Said → SvidSaid

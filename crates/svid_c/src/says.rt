@@ -18,7 +18,7 @@ pub struct SvidSaid {
     pub key: [u8; 32],
     /// When the token expires, in seconds.
     pub exp: u64,
-    /// How many texts it has: its algorithm, its subject, the name of its key, and its audiences.
+    /// How many texts it has: its algorithm, its subject, the trust domain of that, the name of its key, and its audiences.
     pub texts: usize,
 }
 
@@ -71,6 +71,7 @@ fn texts_of(alloc: Global, reading: &Reading<'_>) -> Result<Texts, AllocError>
     };
     push(&mut texts, reading.header.alg.name().as_bytes())?;
     push(&mut texts, reading.claims.sub.as_str().as_bytes())?;
+    push(&mut texts, reading.claims.sub.domain().as_bytes())?;
     push(&mut texts, kid_of(reading))?;
     push_all(&mut texts, &reading.claims.aud)?;
     Ok(texts)
@@ -89,8 +90,8 @@ fn put_texts(bytes: &[u8], lens: &[usize], out_lens: &mut [usize], out: &mut [u8
 }
 
 /// Reads a token and tells what it says, without judging it: its key and when it expires, and its texts. These are its algorithm, its
-/// subject, the name of its key, which is empty where it has none, and its audiences. They stand first in `out`, one directly after the
-/// other, and `lens` has the length of each.
+/// subject, the trust domain of that, the name of its key, which is empty where it has none, and its audiences. They stand first in `out`,
+/// one directly after the other, and `lens` has the length of each.
 ///
 /// 0, and `told.len` is the length of all texts; 1 where `out` or `lens` is too short: `told.len` and `said.texts` say what they need. 101
 /// to 116 where the token is refused for what it is, and 2 for want of memory: then `said` stays as it was. Unless the status is 0, `lens`
