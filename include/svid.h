@@ -134,6 +134,12 @@ enum svid_status {
     SVID_KEY_X = 78,              /* its `x` is not base64url of 32, 48 or 66 bytes, as the curve has it */
     SVID_KEY_Y = 79,              /* its `y` is not that */
 
+    /* why a request has no bearer token: the first that holds, in this order, and then SVID_TOO_LONG */
+    SVID_BEARER_ABSENT = 81,      /* no header field Authorization */
+    SVID_BEARER_SEVERAL = 82,     /* more than one */
+    SVID_BEARER_SCHEME = 83,      /* its scheme is not Bearer */
+    SVID_BEARER_SPELLING = 84,    /* the scheme is not followed by one token */
+
     /* why a token is refused: the first that holds, in this order */
     SVID_TOO_LONG = 101,
     SVID_NOT_THREE_PARTS,
@@ -169,6 +175,25 @@ typedef struct {
     size_t domain_len;
     size_t path_len;
 } svid_id;
+
+/* Where the bearer token of a request stands in the value of its header field, and its length, in bytes; 0 where there is none. */
+typedef struct {
+    size_t at;
+    size_t len;
+} svid_bearer;
+
+/* What a token says, beside its texts. */
+typedef struct {
+    uint8_t key[32];    /* by which the uses of the token are told: `key` of svid_use */
+    uint64_t exp;       /* when it expires, in seconds */
+    size_t texts;       /* how many texts it has: four, and one for each audience */
+} svid_said;
+
+/* How large a record is. */
+typedef struct {
+    uint64_t moment;    /* the time that it has seen, in seconds */
+    size_t uses;        /* how many uses it has; withdrawals count too */
+} svid_size;
 
 /* What a call tells beside its status; 0 where there is nothing to tell. `place` is always where in the input the fault is:
  *   SVID_MAGIC to SVID_TRUNCATED    the number of the byte in the message `message` of the input `input`, counted from 0
@@ -342,6 +367,10 @@ typedef struct {
  * SVID_TOO_SHORT if `out_len` is less than SVID_BATCH_OF_LEN. Unless the status is SVID_OK, `part` stays as it was. */
 uint32_t svid_validator_parts(svid_validator *v, svid_part *part, uint8_t *out, size_t out_len, svid_told *told);
 
+/* Tells the moment of the record and how many uses it has. The time that it takes does not depend on how many there are. Unless the status
+ * is SVID_OK, `out` stays as it was. */
+uint32_t svid_validator_size(svid_validator *v, svid_size *out, svid_told *told);
+
 /* Writes the summary of the record: SVID_SUMMARY_LEN bytes, for a validator that is to answer what is missing here. */
 uint32_t svid_validator_summary(svid_validator *v, uint8_t *out, size_t out_len, svid_told *told);
 
@@ -475,6 +504,20 @@ uint32_t svid_bundles_ask(svid_bundles *b, const uint8_t *token, size_t token_le
  * `number` is less than the number of keys that may have signed the token. Unless the status is SVID_OK, `asked` stays as it was. */
 uint32_t svid_bundles_question(svid_bundles *b, const uint8_t *token, size_t token_len, size_t number,
                                svid_question *asked, svid_told *told);
+
+/* Judges a token at `setting->moment` as a validator with an empty record would that has these bundles, audiences and setting. No record is
+ * asked, so the token is never SVID_WITHDRAWN or SVID_REPLAYED. `own` and `lens` are the audiences, as for svid_validator_open_by_lengths.
+ * `yes` are `yes_len` questions of this token whose answer is yes.
+ *
+ * If it accepts the token, the status is SVID_OK: `out` has the SPIFFE ID of the subject, and `used` is the use that a check would add, so it
+ * has the token's key and its expiry. If it refuses the token, the status is the first of SVID_TOO_LONG to SVID_BAD_SIGNATURE that holds.
+ *
+ * SVID_CLOSED; SVID_OWN_NOT_UTF8 and SVID_OWN_LENGTHS; SVID_TOO_SHORT if `out_len` is less than SVID_ID_ROOM; SVID_NO_MEMORY. Unless the
+ * status is SVID_OK, `out` and `used` stay as they were. */
+uint32_t svid_bundles_judge(svid_bundles *b, const svid_setting *setting, const uint8_t *own, size_t own_len,
+                            const size_t *lens, size_t lens_len, const svid_question *yes, size_t yes_len,
+                            const uint8_t *token, size_t token_len, uint8_t *out, size_t out_len,
+                            svid_use *used, svid_told *told);
 
 /* Exchanges the trust bundles of a validator for those of an open handle, in a time that does not depend on them: it reads nothing, allocates
  * nothing and frees nothing. The handle then holds the bundles that the validator had. The record stays, as for svid_validator_bundles. Wants
@@ -633,6 +676,28 @@ uint32_t svid_version(void);
 /* Reads a SPIFFE ID. */
 uint32_t svid_id_parse(const uint8_t *text, size_t text_len, svid_id *out);
 
+/* Finds the one bearer token of a request (RFC 9110, section 11.4; RFC 6750, section 2.1). `fields` is how many header fields Authorization
+ * the request has, and `value` is the value of the first one. Blanks around the value do no harm. The scheme is Bearer in letters of either
+ * case, and spaces stand between it and the token. A token is not empty, and has letters, digits, the seven characters - . _ ~ + / and = at
+ * its end. So the value that two fields were joined to has none.
+ *
+ * SVID_OK, and `out` says where the token stands in the value. Else SVID_BEARER_ABSENT to SVID_BEARER_SPELLING, or SVID_TOO_LONG for a token
+ * of more than 65,536 bytes. It does not read the token. It takes no memory. */
+uint32_t svid_bearer_token(uint64_t fields, const uint8_t *value, size_t value_len, svid_bearer *out);
+
+/* Reads a token and tells what it says, for a log, say, or to withdraw it. Nobody has vouched for it: the call looks at no signature, no time
+ * and no audience.
+ *
+ * `said` has its key and its expiry. Its texts stand in `out`, one directly after the other, and `lens` has their lengths: the algorithm, as
+ * "ES256"; the subject, a SPIFFE ID; the trust domain of the subject; the name of its key, of length 0 if it has none; and each audience.
+ * Texts are UTF-8, may have any characters, and do not end in a zero byte.
+ *
+ * SVID_TOO_SHORT if `out` has less than `told->len` bytes, or `lens` less than `said->texts` numbers. SVID_TOO_LONG to SVID_JTI if the token
+ * is refused for what it is, and SVID_NO_MEMORY: then `said` stays as it was. Unless the status is SVID_OK, `lens` and `out` stay as they
+ * were. */
+uint32_t svid_token_says(const uint8_t *token, size_t token_len, svid_said *said, size_t *lens, size_t lens_len,
+                         uint8_t *out, size_t out_len, svid_told *told);
+
 /* Writes a public key as SubjectPublicKeyInfo in DER (RFC 5280, section 4.1.2.7), which d2i_PUBKEY of OpenSSL, and its like elsewhere, read
  * in one call. `key` is the key as JSON (RFC 7517) and `alg` the name of the algorithm, both as svid_bundles_ask lists them. An RSA key may
  * have up to `most_bits` bits, and never more than SVID_MOST_RSA_BITS. Each verification by a long key costs more, so pass
@@ -749,6 +814,10 @@ static inline const char *svid_strstatus(uint32_t status) {
     case SVID_KEY_CRV: return "SVID_KEY_CRV";
     case SVID_KEY_X: return "SVID_KEY_X";
     case SVID_KEY_Y: return "SVID_KEY_Y";
+    case SVID_BEARER_ABSENT: return "SVID_BEARER_ABSENT";
+    case SVID_BEARER_SEVERAL: return "SVID_BEARER_SEVERAL";
+    case SVID_BEARER_SCHEME: return "SVID_BEARER_SCHEME";
+    case SVID_BEARER_SPELLING: return "SVID_BEARER_SPELLING";
     case SVID_TOO_LONG: return "SVID_TOO_LONG";
     case SVID_NOT_THREE_PARTS: return "SVID_NOT_THREE_PARTS";
     case SVID_HEADER_SPELLING: return "SVID_HEADER_SPELLING";

@@ -11,6 +11,18 @@ class Id(c.Structure):
     _fields_ = [("place", c.c_size_t), ("domain_len", c.c_size_t), ("path_len", c.c_size_t)]
 
 
+class Bearer(c.Structure):
+    _fields_ = [("at", c.c_size_t), ("len", c.c_size_t)]
+
+
+class Said(c.Structure):
+    _fields_ = [("key", c.c_uint8 * 32), ("exp", c.c_uint64), ("texts", c.c_size_t)]
+
+
+class Size(c.Structure):
+    _fields_ = [("moment", c.c_uint64), ("uses", c.c_size_t)]
+
+
 class Told(c.Structure):
     _fields_ = [("len", c.c_size_t), ("input", c.c_size_t), ("message", c.c_size_t), ("place", c.c_size_t), ("more", c.c_size_t)]
 

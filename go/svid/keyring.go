@@ -6,6 +6,11 @@ package svid
 static uint32_t ask(svid_bundles *b, _GoString_ token, uint8_t *out, size_t out_len, svid_told *told) {
     return svid_bundles_ask(b, (const uint8_t *)_GoStringPtr(token), _GoStringLen(token), SVID_MOST_CANDIDATES, out, out_len, told);
 }
+static uint32_t judge_alone(svid_bundles *b, const svid_setting *setting, const uint8_t *own, size_t own_len, const size_t *lens, size_t lens_len,
+                            const svid_question *yes, size_t yes_len, _GoString_ token, uint8_t *out, size_t out_len, svid_use *used, svid_told *told) {
+    return svid_bundles_judge(b, setting, own, own_len, lens, lens_len, yes, yes_len,
+                              (const uint8_t *)_GoStringPtr(token), _GoStringLen(token), out, out_len, used, told);
+}
 static uint32_t question(svid_bundles *b, _GoString_ token, size_t number, svid_question *asked, svid_told *told) {
     return svid_bundles_question(b, (const uint8_t *)_GoStringPtr(token), _GoStringLen(token), number, asked, told);
 }
@@ -15,6 +20,7 @@ import "C"
 import (
 	"encoding/binary"
 	"errors"
+	"strings"
 	"sync"
 	"unsafe"
 )
@@ -275,6 +281,41 @@ func (k *Keyring) tried(token string, s *parts) (yes []Question, same bool, err 
 	}
 	keys.keep(s, candidates, i, signature)
 	return []Question{candidates[i].Question}, true, nil
+}
+
+// A Judgment is what Keyring.Judge goes by.
+type Judgment struct {
+	Audiences []string // of the service, as in Options
+	Longest   uint64   // how many seconds past now a token may expire; NoLimit for any
+	Place     Place    // of the use that it returns
+}
+
+// Judge answers what a validator with an empty record would judge the token at now: no record is asked, so a
+// token is never Withdrawn or Replayed. yes are the questions of Verify. It takes no lock of a Validator.
+//
+// The error is a Refusal if the token is rejected, and else ErrAudience, ErrNoMemory or ErrClosed.
+func (k *Keyring) Judge(by Judgment, now uint64, token string, yes []Question) (Accepted, error) {
+	if _, err := audienceLines(by.Audiences); err != nil {
+		return Accepted{}, err
+	}
+	own, lens := []byte(strings.Join(by.Audiences, "")), make([]C.size_t, len(by.Audiences))
+	for i, a := range by.Audiences {
+		lens[i] = C.size_t(len(a))
+	}
+	setting := C.svid_setting{moment: C.uint64_t(now), longest: C.uint64_t(by.Longest)}
+	*(*Place)(unsafe.Pointer(&setting.place)) = by.Place
+	id := make([]byte, C.SVID_ID_ROOM)
+	var used C.svid_use
+	k.mu.RLock()
+	defer k.mu.RUnlock()
+	a := <-k.askers
+	defer func() { k.askers <- a }()
+	status := C.judge_alone(&a.handle, &setting, start(own), C.size_t(len(own)), first(lens), C.size_t(len(lens)),
+		questions(yes), C.size_t(len(yes)), token, start(id), C.size_t(len(id)), &used, &a.told)
+	if err := failure(status, &a.told); err != nil {
+		return Accepted{}, err
+	}
+	return Accepted{ID: string(id[:a.told.len]), Use: useOf(&used, false)}, nil
 }
 
 // findMaker is the place of the first candidate that made the signature, or -1. ErrNoMemory: no candidate is known to have

@@ -76,6 +76,7 @@ type Validator struct {
 	told C.svid_told
 	used C.svid_use
 	key  C.svid_key
+	size C.svid_size
 	id   [C.SVID_ID_ROOM]byte
 	// And of a log.
 	fates   []C.svid_fate
@@ -274,6 +275,23 @@ func (v *Validator) Take(now uint64, messages []byte) error {
 func (v *Validator) take(now uint64, messages []byte) error {
 	status := C.svid_validator_take(&v.handle, C.uint64_t(now), start(messages), C.size_t(len(messages)), &v.told)
 	return failure(status, &v.told)
+}
+
+// A Size says how large a record is.
+type Size struct {
+	Moment uint64 // the time that the record has seen
+	Uses   uint64 // how many uses it has, withdrawals among them
+}
+
+// Size returns the record's moment and how many uses it has. It looks at none of them.
+func (v *Validator) Size() (Size, error) {
+	v.mu.Lock()
+	defer v.mu.Unlock()
+	status := C.svid_validator_size(&v.handle, &v.size, &v.told)
+	if err := failure(status, &v.told); err != nil {
+		return Size{}, err
+	}
+	return Size{Moment: uint64(v.size.moment), Uses: uint64(v.size.uses)}, nil
 }
 
 // savePiece is how many bytes of messages Save has written at a time: the lock

@@ -2,11 +2,13 @@
 
 from __future__ import annotations
 
+from collections.abc import Sequence
 from http import HTTPStatus
 from typing import NamedTuple
 
+from . import _library as lib
 from ._validator import Validator
-from .errors import Refused, Unavailable
+from .errors import Refused, TooLong, Unavailable
 
 
 class Admission(NamedTuple):
@@ -20,13 +22,29 @@ class Admission(NamedTuple):
     """The header WWW-Authenticate of that answer, where it has one."""
 
 
-def admit(validator: Validator, authorization: str | None) -> Admission:
-    """Checks the token of an Authorization header, None where the request has not exactly one."""
-    scheme, _, token = (authorization or "").partition(" ")
-    if scheme.lower() != "bearer":
-        return Admission(None, HTTPStatus.UNAUTHORIZED, "Bearer")
+_NO_TOKEN = Admission(None, HTTPStatus.UNAUTHORIZED, "Bearer")
+_NOT_BEARER = Admission(
+    None,
+    HTTPStatus.UNAUTHORIZED,
+    'Bearer error="invalid_request", error_description="NotBearer"',
+)
+
+
+def admit(validator: Validator, authorization: Sequence[bytes]) -> Admission:
+    """Checks the one token of a request, by the values of all its headers Authorization."""
+    value = authorization[0] if authorization else b""
+    found = lib.Bearer()
+    lent = (len(authorization), value, len(value), lib.address(found))
+    status = lib.library.svid_bearer_token(*lent)
+    if status == lib.BEARER_SPELLING:
+        return _NOT_BEARER
+    if status not in (lib.OK, lib.TOO_LONG):
+        return _NO_TOKEN
     try:
-        return Admission(validator.check(token.strip(" ")).spiffe_id)
+        if status == lib.TOO_LONG:
+            raise TooLong()
+        token = value[found.at : found.at + found.len]
+        return Admission(validator.check(token).spiffe_id)
     except Refused as why:
         challenge = f'Bearer error="invalid_token", error_description="{why.name}"'
         return Admission(None, HTTPStatus.UNAUTHORIZED, challenge)

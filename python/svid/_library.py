@@ -38,6 +38,9 @@ MESSAGE_FAULTS = {
 }
 """Why bytes are no messages, by status."""
 
+BEARER_SPELLING = 84
+TOO_LONG = 101
+
 HAS_LOG = 10
 NO_LOG = 19
 FATE_ACCEPTED = 0
@@ -111,6 +114,22 @@ class Told(ctypes.Structure):
     message: int
     place: int
     more: int
+
+
+class Bearer(ctypes.Structure):
+    """`svid_bearer`: where a bearer token stands in the value of its header."""
+
+    _fields_ = [("at", c_size_t), ("len", c_size_t)]
+    at: int
+    len: int
+
+
+class Said(ctypes.Structure):
+    """`svid_said`: what a token says, beside its texts."""
+
+    _fields_ = [("key", c_uint8 * 32), ("exp", c_uint64), ("texts", c_size_t)]
+    key: ctypes.Array[c_uint8]
+    exp: int
 
 
 class Terms(ctypes.Structure):
@@ -206,6 +225,7 @@ _NOW = [c_uint64]
 _FOLDER = [c_void_p]
 _PLACE = [c_char_p]
 _CALLS = {
+    "svid_bearer_token": [c_uint64, *_LENT, c_void_p],
     "svid_bundles_open": [*_VALIDATOR, *_LENT, *_TOLD],
     "svid_journal_answer": [*_FOLDER, c_uint32],
     "svid_journal_begin": _FOLDER,
@@ -217,6 +237,7 @@ _CALLS = {
     "svid_journal_read": [*_PLACE, c_uint64, *_LENT, c_void_p, c_void_p],
     "svid_journal_synced": _FOLDER,
     "svid_journal_unwritten": _FOLDER,
+    "svid_token_says": [*_LENT, c_void_p, *_OUT, *_OUT, *_TOLD],
     "svid_report": [*_LENT, *_NOW, *_OUT, *_TOLD],
     "svid_validator_answer": [*_VALIDATOR, *_NOW, *_LENT, *_OUT, *_TOLD],
     "svid_validator_beside": [*_VALIDATOR, *_OUT, *_TOLD],

@@ -2,8 +2,6 @@
 
 from __future__ import annotations
 
-import hashlib
-import json
 import logging
 import math
 import os
@@ -19,8 +17,7 @@ from ._bundles import Bundles, Path, Source
 from ._handle import CHECK, JUDGE, Calls, Handle, fault
 from ._journal import Journal
 from ._signatures import USUAL_RSA_BITS, Verifier, Verifies
-from ._trust import decoded
-from .errors import Error, NoKey, UnknownDomain
+from .errors import Error
 from .records import Accepted, Report, Use
 
 _LOG = logging.getLogger("svid")
@@ -167,12 +164,7 @@ class Validator:
         token is withdrawn that has this trust domain and `jti`, or this text where it has no `jti`.
         Raises Gone for an expired token, and Refused for what is no JWT-SVID (TooLong to Jti).
         """
-        token = _bytes(token)
-        try:
-            self._handle.ask(token)
-        except (UnknownDomain, NoKey):
-            pass  # it is a JWT-SVID all the same
-        return self.withdraw_key(*_key(token), now)
+        return self.withdraw_key(*_key(_bytes(token)), now)
 
     def withdraw_key(self, key: bytes, expires: int, now: float | None = None) -> Use:
         """Withdraws the token with this key of 32 bytes (`Use.key`), which expires at `expires`.
@@ -316,14 +308,13 @@ def _lent(data: bytes) -> bytes:
 
 
 def _key(token: bytes) -> tuple[bytes, int]:
-    """The key of a well-formed token, and when it expires (docs/FORMATS.md, "Key of a token")."""
-    signed, payload = token.rpartition(b".")[0], token.split(b".")[1]
-    claims = json.loads(decoded(payload))
-    domain, jti = claims["sub"][9:].partition("/")[0].encode(), claims.get("jti", "").encode()
-    text = b"\0" + signed
-    if jti:
-        text = b"\1" + len(domain).to_bytes(4, "big") + domain + jti
-    return hashlib.sha256(text).digest(), claims["exp"]
+    """The key of a token, and when it expires. Raises Refused for what is no JWT-SVID."""
+    said, told = lib.Said(), lib.Told()
+    lent = (token, len(token), lib.address(said), None, 0, None, 0, lib.address(told))
+    status = lib.library.svid_token_says(*lent)
+    if status != lib.TOO_SHORT:  # (the texts were given no room)
+        raise fault(status, told)
+    return bytes(said.key), said.exp
 
 
 def _seconds(now: float | None) -> int:

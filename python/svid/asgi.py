@@ -38,11 +38,10 @@ class SvidMiddleware:
         if scope["type"] == "lifespan":
             return await self.app(scope, receive, send)
         given = [value for name, value in scope["headers"] if name.lower() == b"authorization"]
-        header = given[0].decode("latin-1") if len(given) == 1 else None
         if self.validator.waits:
-            admission = await asyncio.to_thread(admit, self.validator, header)
+            admission = await asyncio.to_thread(admit, self.validator, given)
         else:
-            admission = admit(self.validator, header)
+            admission = admit(self.validator, given)
         if admission.spiffe_id is not None:
             await self.app({**scope, "spiffe_id": admission.spiffe_id}, receive, send)
         elif scope["type"] == "websocket":

@@ -30,7 +30,9 @@ class SvidMiddleware:
         self.validator = validator
 
     def __call__(self, environ: Environ, start_response: StartResponse) -> Iterable[bytes]:
-        admission = admit(self.validator, environ.get("HTTP_AUTHORIZATION"))
+        given = environ.get("HTTP_AUTHORIZATION")
+        values = [] if given is None else [given.encode("latin-1", "replace")]
+        admission = admit(self.validator, values)
         if admission.spiffe_id is not None:
             return self.app({**environ, "svid.spiffe_id": admission.spiffe_id}, start_response)
         headers = [("Content-Length", "0")]

@@ -38,10 +38,14 @@ REFUSED = [
     ({}, "Bearer"),
     ({"Authorization": ""}, "Bearer"),
     ({"Authorization": "Basic YTpi"}, "Bearer"),
-    ({"Authorization": "Bearer"}, "NotThreeParts"),
-    ({"Authorization": "Bearer a,Bearer b"}, "NotThreeParts"),
+    ({"Authorization": "Bearer"}, "NotBearer"),
+    ({"Authorization": "Bearer a,Bearer b"}, "NotBearer"),
+    ({"Authorization": "Bearer a"}, "NotThreeParts"),
     ({"Authorization": "Bearer " + token(exp=1)}, "Expired"),
-    ({"Authorization": "Bearer \x80.\xff.\xfe"}, "HeaderSpelling"),
+    ({"Authorization": "Bearer \x80.\xff.\xfe"}, "NotBearer"),
+    ({"Authorization": "Bearer =.a.b"}, "NotBearer"),
+    ({"Authorization": "Bearer ~.a.b"}, "HeaderSpelling"),
+    ({"Authorization": "Bearer " + 65_537 * "a"}, "TooLong"),
 ]
 
 
@@ -49,7 +53,8 @@ def challenge(name):
     """What the header WWW-Authenticate says of a refusal, or of no token."""
     if name == "Bearer":
         return name
-    return f'Bearer error="invalid_token", error_description="{name}"'
+    error = "invalid_request" if name == "NotBearer" else "invalid_token"
+    return f'Bearer error="{error}", error_description="{name}"'
 
 
 def load(name):

@@ -1,3 +1,4 @@
+pub mod AloneLemmas
 pub mod AsBox
 pub mod AsTrustBox
 pub mod CheckedLemmas
@@ -8,5 +9,6 @@ pub mod LiveLemmas
 pub mod LogLemmas
 pub mod NamesLemmas
 pub mod OfferLemmas
+pub mod SaysLemmas
 pub mod SpkiLemmas
 pub mod TrustLemmas

@@ -1,7 +1,9 @@
 use Rattle.std.proofs.Common.{◌≡◌, ℕ, List, Option, Some, sym, subst}
 use Rattle.svid_keys.specs.Bundles.{Bundle}
 use Rattle.svid_c.specs.Live.{Kept}
-use Rattle.svid_c.specs.Trust.{Exchanges, ExchangesHeld, ReadsHeld, trusted}
+use Rattle.svid_c.specs.Own.{Named, named}
+use Rattle.svid_c.specs.Trust.{Exchanges, ExchangesHeld, ReadsHeld, none_read, reads, trusted}
+use Rattle.svid_c.specs.declared.own_fault.OwnFault.{OwnFault}
 use Rattle.svid_c.specs.declared.bundles_question.SvidQuestion.{SvidQuestion}
 use Rattle.svid_c.specs.declared.told.SvidTold.{SvidTold}
 use Rattle.svid_c.specs.declared.trust.Trust.{Trust}
@@ -20,3 +22,10 @@ held_exchanges status told old new a b x y was is does =
 pub held_reads : (B : Type 0) (D : List Bundle → Type 0) (status : ℕ) (told : SvidTold) (old : Option Trust) (a : Trust)
     → old ≡ Some a → ReadsHeld B D status told a.bundles → ReadsHeld B D status told (trusted old)
 held_reads B D status told old a was does = subst (λ (o : Option Trust). ReadsHeld B D status told (trusted o)) (sym was) does
+
+-- what a call does by audiences that were read, it does by those that a text has
+pub held_named : (AreOwn : List (List ℕ) → Type 0) (IsOwnFault : OwnFault → Type 0) (B : Type 0) (D : List (List ℕ) → List Bundle → Type 0) (status : ℕ) (told : SvidTold)
+    → (held : Option (List Bundle)) (names : List (List ℕ)) → AreOwn names → ReadsHeld B (D names) status told held
+    → ReadsHeld B (λ bundles. Named AreOwn IsOwnFault B (λ (n : List (List ℕ)). D n bundles) status told) status told held
+held_named AreOwn IsOwnFault B D status told held names are (none_read none number length before) = none_read none number length before
+held_named AreOwn IsOwnFault B D status told held names are (reads bundles is does) = reads bundles is (named names are does)

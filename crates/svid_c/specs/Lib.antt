@@ -1,4 +1,6 @@
+pub mod Alone
 pub mod Answered
+pub mod Bearer
 pub mod Checked
 pub mod Handle
 pub mod Inputs
@@ -12,6 +14,8 @@ pub mod Offers
 pub mod Own
 pub mod Parts
 pub mod Questions
+pub mod Says
+pub mod Size
 pub mod Spki
 pub mod Status
 pub mod Trust

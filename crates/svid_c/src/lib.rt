@@ -8,8 +8,10 @@
 
 mod answer;
 mod answered;
+mod bearer;
 mod bundles;
 mod bundles_ask;
+mod bundles_judge;
 mod bundles_open;
 mod bundles_question;
 mod check;
@@ -48,6 +50,8 @@ mod renew;
 mod renew_by;
 mod reply;
 mod report;
+mod says;
+mod size;
 mod spki;
 mod summary;
 mod take;

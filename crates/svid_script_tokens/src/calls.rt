@@ -1,5 +1,5 @@
 use crate::trust::Trust;
-use crate::{ids, keys, tokens};
+use crate::{bearer, ids, keys, tokens};
 use svid_script_base::env::Env;
 use svid_script_base::out::Out;
 use svid_script_base::stop::Stop;
@@ -44,6 +44,7 @@ fn token_call(out: &mut Out<'_>, env: &Env, words: &[&str]) -> Result<(), Stop> 
         "json" => tokens::json(out, env, words),
         "signature" => tokens::signature(out, env, words),
         "token_key" => tokens::key(out, env, words),
+        "bearer" => bearer::bearer(out, env, words),
         _ => Err(Stop::NoCall),
     }
 }

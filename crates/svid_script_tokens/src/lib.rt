@@ -1,6 +1,7 @@
-//! The test driver's calls on SPIFFE IDs, tokens, keys and trust bundles.
+//! The test driver's calls on SPIFFE IDs, bearer tokens, tokens, keys and trust bundles.
 #![tactic(auto)]
 
+mod bearer;
 mod calls;
 mod ids;
 pub mod keys;

@@ -86,22 +86,17 @@ func (o *options) judge(token string, std stdio) error {
 		return err
 	}
 	defer keyring.Close()
-	longest := uint64(svid.NoLimit)
+	by := svid.Judgment{Audiences: o.audiences, Longest: svid.NoLimit}
 	if o.longest.given {
-		longest = o.longest.value
+		by.Longest = o.longest.value
 	}
-	validator, err := svid.Open(svid.Options{Audiences: o.audiences, Bundles: text, Longest: longest, Step: svid.NoLimit})
-	if err != nil {
-		return err
-	}
-	defer validator.Close()
 	// (a token that the keyring rejects goes on, since another refusal may come first)
 	yes, err := keyring.Verify(token)
 	var refusal svid.Refusal
 	if err != nil && !errors.As(err, &refusal) {
 		return err
 	}
-	_, err = validator.Judge(svid.Now(), token, yes)
+	_, err = keyring.Judge(by, svid.Now(), token, yes)
 	return err
 }
 

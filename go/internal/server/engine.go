@@ -248,7 +248,7 @@ func (e *Engine) Check(ctx context.Context, token string) (svid.Accepted, error)
 		return svid.Accepted{}, fmt.Errorf("%w: %v", ErrNotReady, err)
 	}
 	accepted, err := e.check(ctx, token)
-	if err == svid.UnknownDomain && (e.bundles.Load() == nil || e.isToHaveBundle(domainOf(token))) {
+	if err == svid.UnknownDomain && (e.bundles.Load() == nil || e.isToHaveBundle(readUnverified(token).domain)) {
 		err = ErrNoBundle
 	}
 	return accepted, err
@@ -404,23 +404,13 @@ func (e *Engine) Withdraw(ctx context.Context, key svid.TokenKey, exp uint64) (s
 // Find returns the key and expiry of a token for these audiences whose signature
 // is good and that has not expired, whether it was used or not.
 func (e *Engine) Find(token string) (svid.Use, error) {
-	bundles := e.bundles.Load()
-	if bundles == nil {
+	if e.bundles.Load() == nil {
 		return svid.Use{}, ErrNotReady
 	}
-	// A validator with an empty record, so that the token is judged as if it were new.
-	fresh, err := svid.Open(svid.Options{
-		Audiences: e.Audiences, Bundles: *bundles, Longest: svid.NoLimit,
-		Ahead: e.Ahead, Step: svid.NoLimit, Place: e.Place,
-	})
-	if err != nil {
-		return svid.Use{}, err
-	}
-	defer fresh.Close()
 	yes, err := e.verify(token)
 	if err != nil {
 		return svid.Use{}, err
 	}
-	judged, err := fresh.Judge(e.Now(), token, yes)
+	judged, err := e.keyring.Judge(svid.Judgment{Audiences: e.Audiences, Longest: svid.NoLimit, Place: e.Place}, e.Now(), token, yes)
 	return judged.Use, err
 }

@@ -60,13 +60,16 @@ func (e *Engine) serveCheck(w http.ResponseWriter, r *http.Request) {
 	from := time.Now()
 	headers := w.Header()
 	headers["Cache-Control"] = noStore
-	token, problem := bearer(r.Header)
-	if problem != nil {
+	token, err := svid.BearerToken(r.Header["Authorization"])
+	if problem := notBearer(err); problem != nil {
 		e.Metrics.noToken.Add(1)
 		problem.write(w)
 		return
 	}
-	accepted, err := e.Check(r.Context(), token)
+	var accepted svid.Accepted
+	if err == nil {
+		accepted, err = e.Check(r.Context(), token)
+	}
 	took := time.Since(from)
 	e.Metrics.observe(err, took)
 	e.logDecision(from, took, token, accepted, err)
@@ -86,18 +89,16 @@ var connectionEnds = []string{"close"}
 // noStore is the Cache-Control of each answer. Nobody may change it.
 var noStore = []string{"no-store"}
 
-// bearer finds the token of a request (RFC 6750, section 2.1).
-func bearer(h http.Header) (string, *answer) {
-	values := h["Authorization"]
-	if len(values) == 0 {
-		return "", &answer{status: http.StatusUnauthorized, result: "refused", reason: "NoToken"}
+// notBearer is the answer to a request that has no bearer token, and nil for another error.
+func notBearer(err error) *answer {
+	var why svid.NoBearer
+	switch {
+	case !errors.As(err, &why):
+		return nil
+	case why == svid.BearerAbsent:
+		return &answer{status: http.StatusUnauthorized, result: "refused", reason: "NoToken"}
 	}
-	scheme, token, _ := strings.Cut(values[0], " ")
-	token = strings.Trim(token, " ")
-	if len(values) > 1 || !strings.EqualFold(scheme, "Bearer") || token == "" {
-		return "", &answer{status: http.StatusUnauthorized, result: "refused", reason: "NotBearer", code: "invalid_request"}
-	}
-	return token, nil
+	return &answer{status: http.StatusUnauthorized, result: "refused", reason: "NotBearer", code: "invalid_request"}
 }
 
 // An answer is one that accepts nothing.
@@ -161,9 +162,7 @@ func (e *Engine) audience(token string) string {
 	if len(e.Audiences) == 1 {
 		return e.Audiences[0] // or the token would not be accepted
 	}
-	var said unverified
-	said.readAudience(members(payload(token)))
-	return said.audience(e.Audiences)
+	return readUnverified(token).audience(e.Audiences)
 }
 
 // logDecision writes the line of a judged token, without the token.

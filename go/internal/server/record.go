@@ -2,7 +2,6 @@ package server
 
 import (
 	"context"
-	"encoding/binary"
 	"errors"
 	"fmt"
 	"io"
@@ -35,10 +34,6 @@ const (
 	mostLate = 64 << 20
 	// jumpPatience is how long a clock may be too far ahead before it seems to be right.
 	jumpPatience = time.Minute
-	// measureEvery is how often the uses of the record are counted, and measureShare times as long as it took is the
-	// least pause before it is done again, so that counting takes a hundredth of a processor at the most.
-	measureEvery = 15 * time.Second
-	measureShare = 100
 )
 
 // Load gives the record the messages of the state folder. A record that is
@@ -248,13 +243,7 @@ func (e *Engine) Run(ctx context.Context) {
 	go func() { defer close(told); e.tellAll(ctx, last) }()
 	e.every(ctx, &tasks, tickEvery, e.tick)
 	e.every(ctx, &tasks, tickEvery, e.keepAgain)
-	var next time.Time
-	e.every(ctx, &tasks, measureEvery, func() {
-		if from := time.Now(); from.After(next) {
-			e.measure()
-			next = from.Add(measureShare * time.Since(from))
-		}
-	})
+	e.every(ctx, &tasks, tickEvery, e.measure)
 	var kept int64 // the length of the last snapshot
 	e.every(ctx, &tasks, tickEvery, func() {
 		if e.Journal != nil && e.loaded.Load() && e.Journal.Size() > max(kept, smallJournal) {
@@ -371,42 +360,37 @@ func (e *Engine) tick() {
 
 // snapshot writes the record to the state folder, and returns its length.
 func (e *Engine) snapshot() int64 {
-	var counted counter
+	var written counter
 	err := e.Journal.Snapshot(func(w io.Writer) error {
-		counted = counter{}
-		return e.validator.Save(io.MultiWriter(w, &counted))
+		written = 0
+		return e.validator.Save(io.MultiWriter(w, &written))
 	})
 	if err != nil {
 		e.Metrics.JournalFailures.Add(1)
 		e.Log.Error("snapshot", err)
-		return counted.bytes
+		return int64(written)
 	}
 	e.Metrics.Snapshots.Add(1)
-	return counted.bytes
+	return int64(written)
 }
 
-// measure counts the uses of the record, for the metrics.
+// measure takes the size of the record, for the metrics.
 func (e *Engine) measure() {
-	var counted counter
-	if err := e.validator.Save(&counted); err != nil {
+	size, err := e.validator.Size()
+	if err != nil {
 		e.Log.Error("measure", err)
 		return
 	}
-	e.Metrics.Uses.Store(counted.uses)
-	e.Metrics.Moment.Store(counted.moment)
+	e.Metrics.Uses.Store(size.Uses)
+	e.Metrics.Moment.Store(size.Moment)
 }
 
-// A counter counts what Validator.Save writes: each Write is one batch.
-type counter struct {
-	bytes        int64
-	uses, moment uint64
-}
+// A counter counts the bytes that are written to it.
+type counter int64
 
-func (c *counter) Write(batch []byte) (int, error) {
-	c.bytes += int64(len(batch))
-	c.moment = binary.BigEndian.Uint64(batch[5:])
-	c.uses += uint64(binary.BigEndian.Uint32(batch[13:]))
-	return len(batch), nil
+func (c *counter) Write(bytes []byte) (int, error) {
+	*c += counter(len(bytes))
+	return len(bytes), nil
 }
 
 func max(a, b int64) int64 {

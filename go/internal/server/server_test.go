@@ -1527,7 +1527,11 @@ func TestRequests(t *testing.T) {
 		{"two tokens", "GET", "/check", []string{"Bearer " + good, "Bearer " + good}, 401, `Bearer error="invalid_request", error_description="NotBearer"`},
 		{"an empty token", "GET", "/check", []string{"Bearer "}, 401, `Bearer error="invalid_request", error_description="NotBearer"`},
 		{"no scheme", "GET", "/check", []string{good}, 401, `Bearer error="invalid_request", error_description="NotBearer"`},
-		{"something behind it", "GET", "/check", []string{"Bearer " + good + " x"}, 401, `Bearer error="invalid_token", error_description="SignatureSpelling"`},
+		{"something behind it", "GET", "/check", []string{"Bearer " + good + " x"}, 401, `Bearer error="invalid_request", error_description="NotBearer"`},
+		{"two joined headers", "GET", "/check", []string{"Bearer " + good + ",Bearer " + good}, 401, `Bearer error="invalid_request", error_description="NotBearer"`},
+		{"a tab before it", "GET", "/check", []string{"Bearer\t" + good}, 401, `Bearer error="invalid_request", error_description="NotBearer"`},
+		{"what only looks like a token", "GET", "/check", []string{"Bearer ~.a.b"}, 401, `Bearer error="invalid_token", error_description="HeaderSpelling"`},
+		{"too long", "GET", "/check", []string{"Bearer " + strings.Repeat("a", svid.MaxToken+1)}, 401, `Bearer error="invalid_token", error_description="TooLong"`},
 		{"another audience", "GET", "/check", []string{"Bearer " + example.Token("ES256", map[string]any{"sub": "spiffe://example.org/a", "aud": "x", "exp": moment + 9})},
 			401, `Bearer error="invalid_token", error_description="NotAudience"`},
 		// Of two reasons the first counts, also where the keyring finds the second.

@@ -10,6 +10,28 @@ pub struct Id {
 
 #[repr(C)]
 #[derive(Default, Debug, Clone, Copy, PartialEq)]
+pub struct Bearer {
+    pub at: usize,
+    pub len: usize,
+}
+
+#[repr(C)]
+#[derive(Default, Debug, Clone, Copy, PartialEq)]
+pub struct Said {
+    pub key: [u8; 32],
+    pub exp: u64,
+    pub texts: usize,
+}
+
+#[repr(C)]
+#[derive(Default, Debug, Clone, Copy, PartialEq)]
+pub struct Size {
+    pub moment: u64,
+    pub uses: usize,
+}
+
+#[repr(C)]
+#[derive(Default, Debug, Clone, Copy, PartialEq)]
 pub struct Told {
     pub len: usize,
     pub input: usize,

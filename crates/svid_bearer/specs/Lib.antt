@@ -1,0 +1,4 @@
+pub mod Value
+pub mod Read
+pub mod Scan
+pub mod View

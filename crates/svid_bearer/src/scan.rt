@@ -1,0 +1,69 @@
+// The runs of bytes that a field value is made of.
+
+ghost use Rattle.std.specs.Prelude.{◌≡◌, ◌≤◌, length};
+ghost use Rattle.std.specs.List.{list_all, prefix_len};
+ghost use Rattle.svid_bearer.specs.Value.{is_blank, is_equals, is_space, is_token_byte, is_word_byte};
+
+fn is_blank(byte: u8) -> bool
+    ensures { result ≡ is_blank byte }
+{
+    byte == b' ' || byte == b'\t'
+}
+
+fn is_token_byte(byte: u8) -> bool
+    ensures { result ≡ is_token_byte byte }
+{
+    matches!(byte, b'a'..=b'z' | b'A'..=b'Z' | b'0'..=b'9' | b'-' | b'.' | b'_' | b'~' | b'+' | b'/')
+}
+
+// How many blanks are in front.
+#[tactic(auto, using(crate::proofs::ScanLemmas::runs_fit))]
+pub(crate) fn blanks(text: &[u8]) -> usize
+    ensures count { result ≡ prefix_len is_blank text.now }
+    ensures fits { result ≤ length text.now }
+{
+    text.iter().take_while(|byte| is_blank(**byte)).count()
+}
+
+// How many bytes stand before the first blank.
+#[tactic(auto, using(crate::proofs::ScanLemmas::runs_fit))]
+pub(crate) fn word(text: &[u8]) -> usize
+    ensures count { result ≡ prefix_len is_word_byte text.now }
+    ensures fits { result ≤ length text.now }
+{
+    text.iter().take_while(|byte| !is_blank(**byte)).count()
+}
+
+// How many spaces are in front.
+#[tactic(auto, using(crate::proofs::ScanLemmas::runs_fit))]
+pub(crate) fn spaces(text: &[u8]) -> usize
+    ensures count { result ≡ prefix_len is_space text.now }
+    ensures fits { result ≤ length text.now }
+{
+    text.iter().take_while(|byte| **byte == b' ').count()
+}
+
+// How many bytes of a token are in front, up to its first `=`.
+#[tactic(auto, using(crate::proofs::ScanLemmas::runs_fit))]
+pub(crate) fn token_bytes(text: &[u8]) -> usize
+    ensures count { result ≡ prefix_len is_token_byte text.now }
+    ensures fits { result ≤ length text.now }
+{
+    text.iter().take_while(|byte| is_token_byte(**byte)).count()
+}
+
+// How many `=` are in front.
+#[tactic(auto, using(crate::proofs::ScanLemmas::runs_fit))]
+pub(crate) fn equals(text: &[u8]) -> usize
+    ensures count { result ≡ prefix_len is_equals text.now }
+    ensures fits { result ≤ length text.now }
+{
+    text.iter().take_while(|byte| **byte == b'=').count()
+}
+
+// Whether a text is blank, or empty.
+pub(crate) fn all_blank(text: &[u8]) -> bool
+    ensures { result ≡ list_all is_blank text.now }
+{
+    text.iter().all(|byte| is_blank(*byte))
+}

@@ -1,0 +1,54 @@
+package svid
+
+/*
+#include "svid.h"
+
+static uint32_t bearer(uint64_t fields, _GoString_ value, svid_bearer *out) {
+    return svid_bearer_token(fields, (const uint8_t *)_GoStringPtr(value), _GoStringLen(value), out);
+}
+*/
+import "C"
+
+// A NoBearer says why a request has no bearer token. It is an error.
+type NoBearer uint32
+
+// The reasons, in the order in which they are looked for.
+const (
+	BearerAbsent   NoBearer = C.SVID_BEARER_ABSENT   // the request has no header field Authorization
+	BearerSeveral  NoBearer = C.SVID_BEARER_SEVERAL  // it has more than one
+	BearerScheme   NoBearer = C.SVID_BEARER_SCHEME   // the scheme is not Bearer
+	BearerSpelling NoBearer = C.SVID_BEARER_SPELLING // the scheme is not followed by one token
+)
+
+// Error says what the request has, or lacks.
+func (n NoBearer) Error() string {
+	switch n {
+	case BearerAbsent:
+		return "svid: the request has no header field Authorization"
+	case BearerSeveral:
+		return "svid: the request has more than one header field Authorization"
+	case BearerScheme:
+		return "svid: the scheme of the header field Authorization is not Bearer"
+	}
+	return "svid: the scheme Bearer is not followed by one token"
+}
+
+// BearerToken returns the one bearer token of a request (RFC 9110, section 11.4; RFC 6750, section 2.1), of which these are the
+// values of all header fields Authorization. It does not read the token.
+//
+// The error is a NoBearer, or the Refusal TooLong for a token of more than MaxToken bytes.
+func BearerToken(authorization []string) (string, error) {
+	var first string
+	if len(authorization) > 0 {
+		first = authorization[0]
+	}
+	var found C.svid_bearer
+	switch status := C.bearer(C.uint64_t(len(authorization)), first, &found); status {
+	case C.SVID_OK:
+		return first[found.at : found.at+found.len], nil
+	case C.SVID_TOO_LONG:
+		return "", TooLong
+	default:
+		return "", NoBearer(status)
+	}
+}

@@ -1,0 +1,66 @@
+package svid
+
+/*
+#include "svid.h"
+
+static uint32_t says(_GoString_ token, svid_said *said, size_t *lens, size_t lens_len, uint8_t *out, size_t out_len, svid_told *told) {
+    return svid_token_says((const uint8_t *)_GoStringPtr(token), _GoStringLen(token), said, lens, lens_len, out, out_len, told);
+}
+*/
+import "C"
+
+import "unsafe"
+
+// Said is what a token says of itself. Nobody has vouched for it.
+type Said struct {
+	Key         TokenKey // by which the record names the token
+	Expires     uint64   // exp
+	Algorithm   string   // as the header names it: "ES256"
+	Subject     string   // a SPIFFE ID
+	TrustDomain string   // that of the subject
+	KeyID       string   // kid, and "" if the header has none
+	Audiences   []string // at least one
+}
+
+// Read returns what a token says, and judges nothing: it looks at no signature, no
+// time and no audience. The error is a Refusal, TooLong to Jti, if the token is
+// rejected for what it is, or ErrNoMemory.
+func Read(token string) (Said, error) {
+	var said C.svid_said
+	var told C.svid_told
+	lens, out := make([]C.size_t, 8), make([]byte, len(token))
+	for {
+		status := C.says(token, &said, first(lens), C.size_t(len(lens)), start(out), C.size_t(len(out)), &told)
+		if status == C.SVID_TOO_SHORT {
+			lens, out = make([]C.size_t, said.texts), make([]byte, told.len)
+			continue
+		}
+		if err := failure(status, &told); err != nil {
+			return Said{}, err
+		}
+		return saidBy(&said, lens[:said.texts], string(out[:told.len])), nil
+	}
+}
+
+func first(lens []C.size_t) *C.size_t {
+	if len(lens) == 0 {
+		return nil
+	}
+	return &lens[0]
+}
+
+// saidBy cuts the texts of a token by their lengths, as svid_token_says wrote them.
+func saidBy(said *C.svid_said, lens []C.size_t, texts string) Said {
+	next := func() string {
+		text := texts[:lens[0]]
+		texts, lens = texts[lens[0]:], lens[1:]
+		return text
+	}
+	s := Said{Key: *(*TokenKey)(unsafe.Pointer(&said.key)), Expires: uint64(said.exp),
+		Algorithm: next(), Subject: next(), TrustDomain: next(), KeyID: next()}
+	s.Audiences = make([]string, 0, len(lens))
+	for len(lens) > 0 {
+		s.Audiences = append(s.Audiences, next())
+	}
+	return s
+}
