@@ -1,5 +1,5 @@
-use svid_journal::*;
 use std::test::*;
+use svid_journal::*;
 
 const FOLDER: [u8; 16] = [7; 16];
 
