@@ -259,15 +259,10 @@ func bucket(t *testing.T, url string) nats.KeyValue {
 	return kv
 }
 
-// A sidecar that has missed values of the bucket accepts nothing until they must have expired, or an operator lets it go on. One
-// that has read them accepts tokens all the while.
-func TestValuesThatAreMissing(t *testing.T) {
-	server := natstest.Start(t)
-	first := several(t, 1, "strict", server.URL)[0]
-	lost := token(t, "lost", 30*time.Minute)
-	first.want(lost, 200, "")
-	first.want(token(t, "kept", 30*time.Minute), 200, "")
-	js := stream(t, server.URL)
+// loseFirst lets the bucket lose all values but the last.
+func loseFirst(t *testing.T, p *process, url string) {
+	t.Helper()
+	js := stream(t, url)
 	info, err := js.StreamInfo("KV_svid")
 	if err != nil {
 		t.Fatal(err)
@@ -278,13 +273,24 @@ func TestValuesThatAreMissing(t *testing.T) {
 	if _, err := js.UpdateStream(&fewer); err != nil {
 		t.Fatal(err)
 	}
-	first.await("a value to go", func() bool {
+	p.await("a value to go", func() bool {
 		info, err := js.StreamInfo("KV_svid")
 		return err == nil && info.State.Msgs == 1
 	})
 	if _, err := js.UpdateStream(&before); err != nil {
 		t.Fatal(err)
 	}
+}
+
+// A sidecar that has missed values of the bucket accepts nothing until they must have expired, or an operator lets it go on. One
+// that has read them accepts tokens all the while.
+func TestValuesThatAreMissing(t *testing.T) {
+	server := natstest.Start(t)
+	first := several(t, 1, "strict", server.URL)[0]
+	lost := token(t, "lost", 30*time.Minute)
+	first.want(lost, 200, "")
+	first.want(token(t, "kept", 30*time.Minute), 200, "")
+	loseFirst(t, first, server.URL)
 	second := prepare(t, nil, bundleOption(bundleFile(t, example)), "--replay", "strict", "--nats", server.URL, "--log", "errors",
 		"--admin", filepath.Join(t.TempDir(), "admin.sock"))
 	second.launch()
@@ -390,10 +396,7 @@ func TestAGapOutlivesARestart(t *testing.T) {
 	first := several(t, 1, "strict", server.URL)[0]
 	first.want(token(t, "lost", 30*time.Minute), 200, "")
 	first.want(token(t, "kept", 30*time.Minute), 200, "")
-	js := stream(t, server.URL)
-	if err := js.DeleteMsg("KV_svid", 1); err != nil {
-		t.Fatal(err)
-	}
+	loseFirst(t, first, server.URL)
 	p := prepare(t, nil, bundleOption(bundleFile(t, example)), "--replay", "strict", "--nats", server.URL, "--log", "errors",
 		"--admin", filepath.Join(t.TempDir(), "admin.sock"), "--state", filepath.Join(t.TempDir(), "state"))
 	p.launch()
@@ -404,7 +407,7 @@ func TestAGapOutlivesARestart(t *testing.T) {
 	p.kill()
 	// Another bucket, which has as many values, and lacks none.
 	first.end()
-	if err := js.DeleteStream("KV_svid"); err != nil {
+	if err := stream(t, server.URL).DeleteStream("KV_svid"); err != nil {
 		t.Fatal(err)
 	}
 	other := several(t, 1, "strict", server.URL)[0]
@@ -439,6 +442,9 @@ func TestAGapOutlivesARestart(t *testing.T) {
 // A bucket that was put back from an older copy lacks what was put into it since. Who has a state folder sees that.
 func TestABucketThatIsPutBack(t *testing.T) {
 	dir := filepath.Join(t.TempDir(), "nats")
+	if err := os.Mkdir(dir, 0o700); err != nil {
+		t.Fatal(err)
+	}
 	server, err := broker.New(dir)
 	if err != nil {
 		t.Fatal(err)
@@ -472,8 +478,8 @@ func TestABucketThatIsPutBack(t *testing.T) {
 	begin()
 	p.launch()
 	p.awaitGap()
-	if said := p.events("bucket"); len(said) != 1 || said[0]["read"] != 2.0 || said[0]["ends"] != 1.0 {
-		t.Errorf("the log says %v", said)
+	if gaps := p.events("gap"); len(gaps) != 1 || gaps[0]["behind"] != 1.0 || !strings.Contains(fmt.Sprint(gaps[0]["error"]), "an older copy") {
+		t.Errorf("the log says %v", gaps)
 	}
 	p.want(since, 401, "Replayed")
 	if until := p.metric("svidd_log_missed_until_timestamp_seconds"); !strings.HasSuffix(p.inBucket(), ", and no token is accepted before "+until) {
