@@ -36,13 +36,13 @@ func TestAFrameIsThatOfTheFormat(t *testing.T) {
 	place := Place{7, 7, 7, 7, 7, 7, 7, 7, 7, 7, 7, 7, 7, 7, 7, 7}
 	f := growing(t, place, 1, 2)
 	frame, err := f.Put([]byte("kept"), []byte("hi"))
-	want := "0d8b60f2c6c3c641776c1cbf648ea7f1d1af4895" + "0000000000000001" + "01" + "000002" + "6869" + strings.Repeat("ff", 30)
+	want := "3bf3a3b26b4e39456d64009bebc5ad232594d905" + "0000000000000001" + "02" + "000002" + "6869" + strings.Repeat("ff", 6)
 	if got := hex.EncodeToString(bytes.TrimPrefix(frame, []byte("kept"))); got != want || err != nil {
 		t.Fatalf("%s (%v)", got, err)
 	}
 	frame = frame[4:]
 	r := NewFileReader(place, 3)
-	if payload, err := r.Next(frame); string(payload) != "hi" || err != nil || r.At() != 64 {
+	if payload, err := r.Next(frame); string(payload) != "hi" || err != nil || r.At() != 40 {
 		t.Error(payload, err, r.At())
 	}
 	if _, err := r.Next(frame); err != io.EOF {
@@ -51,7 +51,7 @@ func TestAFrameIsThatOfTheFormat(t *testing.T) {
 	if err := f.Synced(); err != nil {
 		t.Fatal(err)
 	}
-	if journal, end := f.Growing(); journal != 3 || end != 64 {
+	if journal, end := f.Growing(); journal != 3 || end != 40 {
 		t.Error(journal, end)
 	}
 	mark, err := f.Put(nil, nil)
@@ -65,7 +65,7 @@ func TestAFrameIsThatOfTheFormat(t *testing.T) {
 		file []byte
 		want error
 	}{
-		{"cut off", NewFileReader(place, 3), file[:63], ErrTorn},
+		{"cut off", NewFileReader(place, 3), file[:39], ErrTorn},
 		{"changed", NewFileReader(place, 3), append([]byte{1}, file[1:]...), ErrDamaged},
 		{"never written", NewFileReader(place, 3), make([]byte, 100), io.EOF},
 		{"no bytes", NewFileReader(place, 3), nil, io.EOF},
@@ -77,14 +77,19 @@ func TestAFrameIsThatOfTheFormat(t *testing.T) {
 			t.Errorf("%s: %v at %d", row.what, err, row.r.At())
 		}
 	}
-	// (the head of format 2, by Python's hashlib)
-	newer, err := hex.DecodeString("3bf3a3b26b4e3945" + "6d64009bebc5ad23" + "2594d905" + "0000000000000001" + "02" + "000002")
-	if err != nil {
-		t.Fatal(err)
-	}
-	var format *FormatError
-	if _, err := NewFileReader(place, 3).Next(append(newer, frame[32:]...)); !errors.As(err, &format) || format.Format != 2 || !strings.Contains(err.Error(), "later") {
-		t.Error(err)
+	// (the heads of format 1 and format 3, by Python's hashlib)
+	for number, row := range map[int]struct{ head, says string }{
+		1: {"0d8b60f2c6c3c641776c1cbf648ea7f1d1af4895" + "0000000000000001" + "01" + "000002", "before its release"},
+		3: {"409f72e42b6edf86611eee97b36a70d090263f82" + "0000000000000001" + "03" + "000002", "later"},
+	} {
+		head, err := hex.DecodeString(row.head)
+		if err != nil {
+			t.Fatal(err)
+		}
+		var format *FormatError
+		if _, err := NewFileReader(place, 3).Next(append(head, frame[32:]...)); !errors.As(err, &format) || format.Format != number || !strings.Contains(err.Error(), row.says) {
+			t.Error(err)
+		}
 	}
 	// A reader whose place the bytes do not have.
 	if _, err := r.Next(nil); !errors.Is(err, ErrFolderOrder) {

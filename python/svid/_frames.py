@@ -4,13 +4,41 @@ from __future__ import annotations
 
 import threading
 from collections.abc import Callable
+from typing import NamedTuple
 
 from . import _library as lib
 from ._folder import PLACE, Folder
-from .errors import Damaged, Newer, Unavailable
+from .errors import Damaged, OtherFormat, Unavailable
 
 _OLD = b"JSR"
 """How the files of older versions begin, which are messages without frames."""
+
+
+class LogPlace(NamedTuple):
+    """Where a member is in the log of its group."""
+
+    passed: int
+    """The position of the last value that it has read whole."""
+    begun: int
+    """How many uses of the value behind that one it has read."""
+    deaf: int
+    """Before this moment, in seconds, it accepts nothing, since values are missing."""
+
+    def text(self) -> bytes:
+        """What a payload of the state folder begins with."""
+        mark, room, told = lib.Mark(*self), bytearray(lib.LOG_PLACE), lib.Told()
+        lent = (lib.address(mark), lib.address(room), len(room), lib.address(told))
+        _judge(lib.library.svid_journal_place(*lent))
+        return bytes(room)
+
+
+def borne(payload: bytes) -> tuple[LogPlace | None, bytes]:
+    """What a payload bears: where a member was in its log, if it says so, and its messages."""
+    bears = lib.Bears()
+    lib.library.svid_journal_bears(payload, len(payload), lib.address(bears))
+    mark = bears.mark
+    place = LogPlace(mark.passed, mark.begun, mark.deaf) if bears.marked else None
+    return place, payload[bears.messages :]
 
 
 class Numbers:
@@ -91,13 +119,14 @@ class File:
     """What a file of the folder holds."""
 
     def __init__(self, folder: Folder, name: str, number: int, place: bytes | None) -> None:
-        """Reads it: a snapshot has the number 0. Raises Damaged, Newer and OSError."""
+        """Reads it: a snapshot has the number 0. Raises Damaged, OtherFormat and OSError."""
         self.name = str(folder.path / name)
         self.number = number
-        self.payloads: list[bytes] = []
+        self.messages: list[bytes] = []
+        self.log_place: LogPlace | None = None  # as the last payload says that has one
         content = folder.read(name)
         status = self._read(content, bytes(16) if place is None else place)
-        if status not in (lib.FILE_END, lib.FILE_NEWER) and not self.at and content[:3] == _OLD:
+        if status not in (lib.FILE_END, lib.FILE_OTHER) and not self.at and content[:3] == _OLD:
             raise ValueError(
                 f"{self.name} is of an older svidd: start a newer one in the folder once"
             )
@@ -121,9 +150,16 @@ class File:
             if status != lib.OK:
                 break
             if frame.len:
-                self.payloads.append(content[frame.payload : frame.payload + frame.len])
-        if status == lib.FILE_NEWER:
-            raise Newer(self.name, frame.format)
+                self._take(content[frame.payload : frame.payload + frame.len])
+        if status == lib.FILE_OTHER:
+            raise OtherFormat(self.name, frame.format)
         if status in (lib.FILE_END, lib.FILE_TEAR, lib.FILE_DAMAGE):
             return status
         raise RuntimeError(f"libsvid answered {status}, which include/svid.h does not explain")
+
+    def _take(self, payload: bytes) -> None:
+        place, messages = borne(payload)
+        if place is not None:
+            self.log_place = place
+        if messages:
+            self.messages.append(messages)

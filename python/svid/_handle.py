@@ -11,6 +11,7 @@ from collections.abc import Callable, Iterator
 from typing import Any, NamedTuple
 
 from . import _library as lib
+from ._frames import LogPlace
 from ._signatures import Verifies
 from ._trust import Trust, first
 from .errors import (
@@ -267,6 +268,17 @@ class Handle:
             if status != lib.OK:
                 raise self._fault(status)
             return State(mark.passed, mark.deaf, self._told.more == 1)
+
+    def log_place(self) -> LogPlace | None:
+        """Where it is in its log, as a state folder keeps it. None where it reads none."""
+        mark = lib.Mark()
+        with self._lock:
+            status = lib.library.svid_validator_mark(self._at, lib.address(mark), self._told_at)
+            if status == lib.NO_LOG:
+                return None
+            if status != lib.OK:
+                raise self._fault(status)
+            return LogPlace(mark.passed, mark.begun, mark.deaf)
 
     def go_on(self) -> None:
         """Lets it accept claims though it has missed values that may live."""

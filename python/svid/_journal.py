@@ -8,6 +8,7 @@ and tells the library how they went.
 from __future__ import annotations
 
 import contextlib
+import itertools
 import logging
 import os
 import threading
@@ -18,7 +19,7 @@ from collections.abc import Callable, Iterable
 from . import _library as lib
 from ._bundles import Path
 from ._folder import FRAMES, PLACE, SNAPSHOT, UNFINISHED, Folder, journal_name, write
-from ._frames import File, Numbers
+from ._frames import File, LogPlace, Numbers
 from .errors import Closed, Error, Forked, Unavailable
 
 _LOG = logging.getLogger("svid")
@@ -35,7 +36,11 @@ _PAUSE = 60.0
 _PIECE = 2**20
 """How many bytes of messages are taken at once, where payloads are shorter."""
 
+_MOST = lib.PAYLOAD_MOST - lib.LOG_PLACE
+"""The most bytes of messages that one write takes."""
+
 _Parts = Callable[[], Iterable[bytes]]
+_Bears = Callable[[], "LogPlace | None"]
 
 
 class Journal:
@@ -60,8 +65,8 @@ class Journal:
     def __init__(self, folder: Path) -> None:
         """Opens the folder, and begins a new journal in it. Makes it where its parent is there.
 
-        Raises Held, Damaged, Newer, OSError, and ValueError for a folder without its place, or of
-        an older svidd: start a newer one in it once.
+        Raises Held, Damaged, OtherFormat, OSError, and ValueError for a folder without its place,
+        or of an older svidd: start a newer one in it once.
         """
         self._keeper = _Keeper(Folder(folder))
         self._dropped = weakref.finalize(self, self._keeper.drop)
@@ -78,6 +83,18 @@ class Journal:
         return self._keeper.torn
 
     @property
+    def log_place(self) -> LogPlace | None:
+        """Where the validator was in its log when the folder was written last, if it says so."""
+        return self._keeper.log_place
+
+    def bear(self, place: _Bears) -> None:
+        """Lets each write from now on say where the validator is in its log, as `place` does.
+
+        `place` gives None where there is no log. Threads of the journal call it.
+        """
+        self._keeper.bears = place
+
+    @property
     def wants_snapshot(self) -> bool:
         """Whether a snapshot is due: there is none, or the journals are many or long."""
         return self._keeper.wants_snapshot
@@ -92,9 +109,14 @@ class Journal:
         Raises Unavailable if that fails, or takes more than `wait` seconds: then the disk may have
         them now, or later, or never. After a write that failed (the disk is full) a later one may
         succeed. After a sync that failed nothing is kept, until the folder is opened anew.
-        At most 16,777,215 bytes.
+        At most 16,777,187 bytes. No messages are fine where `bear` was called: what is written
+        then is where the validator is in its log.
         """
         self._keeper.append(bytes(messages), wait)
+
+    def append_soon(self, messages: bytes) -> None:
+        """Does that in the background. Logs a warning by "svid" where it fails."""
+        self._keeper.append_soon(bytes(messages))
 
     def snapshot(self, parts: _Parts) -> None:
         """Replaces the snapshot by the `parts` of the validator, and drops the journals before it.
@@ -119,6 +141,7 @@ class _Commit:
     def __init__(self) -> None:
         self.parts: list[bytes] = []
         self.len = 0
+        self.is_soon = False  # somebody waits for none of it
         self.done = threading.Event()
         self.why: Exception | None = None
 
@@ -128,6 +151,8 @@ class _Keeper:
 
     place: bytes
     torn: tuple[str, ...]
+    log_place: LogPlace | None
+    bears: _Bears | None = None
 
     def __init__(self, folder: Folder) -> None:
         self._folder = folder
@@ -165,13 +190,18 @@ class _Keeper:
 
     def append(self, messages: bytes, wait: float | None) -> None:
         self._stand()
-        if len(messages) > lib.PAYLOAD_MOST:
-            raise ValueError("messages have at most 16,777,215 bytes")
         commit = self._join(messages)
         if not commit.done.wait(wait):
             raise Unavailable("the disk did not answer in time")
         if commit.why is not None:
             raise Unavailable(f"the use is not kept: {commit.why}") from commit.why
+
+    def append_soon(self, messages: bytes) -> None:
+        try:
+            self._stand()
+            self._join(messages, is_soon=True)
+        except Error as why:
+            _LOG.warning("uses are not kept: %s", why)
 
     @property
     def wants_snapshot(self) -> bool:
@@ -240,7 +270,9 @@ class _Keeper:
         except FileNotFoundError:
             self._wants = True
         self.torn = tuple(it.name for it in files if it.is_torn)
-        self._found = [payload for it in files for payload in it.payloads]
+        self._found = [messages for it in files for messages in it.messages]
+        places = [it.log_place for it in files if it.log_place is not None]
+        self.log_place = places[-1] if places else None
         self.place = folder.make_place() if place is None else place
         return Numbers(self.place, min(journals, default=1), max(journals, default=0))
 
@@ -295,9 +327,9 @@ class _Keeper:
                 self._room, self._marked = 0, True
 
     def _write_pieces(self, file: int, parts: _Parts) -> None:
-        """Writes a snapshot: a frame for each part, and a mark."""
+        """Writes a snapshot: where the validator is in its log, each part, and a mark."""
         at = 0
-        for part in parts():
+        for part in itertools.chain([self._front()], parts()):
             if part:
                 at += self._write_piece(file, part, at)
         self._kept = at + self._write_piece(file, b"", at)
@@ -316,8 +348,15 @@ class _Keeper:
             with self._gate:
                 self._snapshots -= 1
 
-    def _join(self, messages: bytes) -> _Commit:
+    def _front(self) -> bytes:
+        """What a payload begins with."""
+        place = None if self.bears is None else self.bears()
+        return b"" if place is None else place.text()
+
+    def _join(self, messages: bytes, is_soon: bool = False) -> _Commit:
         """Adds messages to what the next write takes."""
+        if len(messages) > _MOST:
+            raise ValueError("messages have at most 16,777,187 bytes")
         with self._gate:
             if self._closing:
                 raise Closed
@@ -325,10 +364,11 @@ class _Keeper:
                 self._commit = _Commit()
                 self._gate.notify_all()
             commit = self._commit
-            if commit.len + len(messages) > lib.PAYLOAD_MOST:
+            if commit.len + len(messages) > _MOST:
                 raise Unavailable("the disk does not answer, and too much waits for it")
             commit.parts.append(messages)
             commit.len += len(messages)
+            commit.is_soon = commit.is_soon or is_soon
             return commit
 
     def _work(self) -> None:
@@ -346,9 +386,11 @@ class _Keeper:
                     self._mark()
                     quiet = None
                 else:
-                    commit.why = self._put(b"".join(commit.parts))
+                    commit.why = self._put_commit(commit)
                     commit.done.set()
                     quiet = _QUIET
+            if commit is not None and commit.is_soon and commit.why is not None:
+                _LOG.warning("uses are not kept: %s", commit.why)
         with self._switching, self._writing:
             self._mark()
             done, self._file = self._file, -1
@@ -359,6 +401,13 @@ class _Keeper:
         """Ends the journal by a mark, by which damage in front of it is seen."""
         if not self._marked and self._broken is None:
             self._put(b"")  # (nobody waits for it: where that fails, there is none)
+
+    def _put_commit(self, commit: _Commit) -> Exception | None:
+        try:
+            payload = b"".join([self._front(), *commit.parts])
+        except (Error, MemoryError) as why:
+            return why
+        return self._put(payload) if payload else None
 
     def _put(self, payload: bytes) -> Exception | None:
         """Takes a payload to the disk, and gives why that failed."""

@@ -68,7 +68,7 @@ FOLDER_ENDED = 42
 FILE_END = 52
 FILE_TEAR = 53
 FILE_DAMAGE = 54
-FILE_NEWER = 55
+FILE_OTHER = 55
 
 CALL_NOTHING = 0
 CALL_CREATE_JOURNAL = 1
@@ -95,8 +95,10 @@ INPUT_MOST = 67_108_864
 NO_LIMIT = 2**64 - 1
 PAYLOAD_MOST = 16_777_215
 """The most bytes that one frame of a state folder bears."""
-FRAME_MORE = 63
+FRAME_MORE = 39
 """How many bytes a frame has at most beside its payload."""
+LOG_PLACE = 28
+"""How many bytes say where a validator is in its log, in front of a payload."""
 
 
 class Told(ctypes.Structure):
@@ -175,6 +177,15 @@ class Reading(ctypes.Structure):
     count: int
 
 
+class Bears(ctypes.Structure):
+    """`svid_bears`: what a payload bears."""
+
+    _fields_ = [("mark", Mark), ("marked", c_size_t), ("messages", c_size_t)]
+    mark: Mark
+    marked: int
+    messages: int
+
+
 class Folder(ctypes.Structure):
     """`svid_folder`: how a state folder stands."""
 
@@ -233,6 +244,7 @@ _CALLS = {
     "svid_journal_failed": _FOLDER,
     "svid_journal_open": [*_FOLDER, c_uint64, c_uint64],
     "svid_journal_piece": [*_FOLDER, *_PLACE, *_LENT, *_OUT, *_TOLD],
+    "svid_journal_place": [c_void_p, *_OUT, *_TOLD],
     "svid_journal_put": [*_FOLDER, *_PLACE, *_LENT, *_OUT, *_TOLD],
     "svid_journal_read": [*_PLACE, c_uint64, *_LENT, c_void_p, c_void_p],
     "svid_journal_synced": _FOLDER,
@@ -305,6 +317,8 @@ def _load(path: str, kind: type[_Library]) -> _Library:
         for close in (library.svid_bundles_close, library.svid_validator_close):
             close.argtypes = _VALIDATOR
             close.restype = None
+        library.svid_journal_bears.argtypes = [*_LENT, c_void_p]
+        library.svid_journal_bears.restype = None
     except AttributeError as error:
         raise ImportError(f"{path} has version {version}, which is too old: {error}") from error
     return library

@@ -20,7 +20,8 @@ import time
 from collections.abc import Callable, Iterable
 
 from . import _library as lib
-from ._bundles import Bundles
+from ._bundles import Bundles, Path
+from ._frames import LogPlace
 from ._handle import JUDGE, Read
 from ._log import Log, OtherLog
 from ._signatures import USUAL_RSA_BITS, Verifies
@@ -53,6 +54,8 @@ class Member(Validator):
     process was forked, and close it.
     """
 
+    _recalled: LogPlace | None = None  # where an earlier life was in the log, until that has begun
+
     def __init__(
         self,
         *,
@@ -66,6 +69,7 @@ class Member(Validator):
         refresh: float | None = 10.0,
         verifies: Verifies | None = None,
         rsa_bits: int = USUAL_RSA_BITS,
+        state: Path | None = None,
         wait: float = 2.0,
     ) -> None:
         """Makes a member, and begins to read the log.
@@ -73,6 +77,10 @@ class Member(Validator):
         log: the log of the group; see `svid.Log`.
         longest: how many seconds a token may still live. Uses stay in the log for so long, and for
             twice `ahead`.
+        state: a folder that keeps the record, and where this member is in the log. No check waits
+            for it. Where values of the log were missing, a restart changes nothing: the member
+            accepts nothing until the same time. Where the log ends in front of what the member had
+            read, it is another one, or an older copy: then it does the same.
         wait: how many seconds `check` and `withdraw` wait for the log, until they raise
             Unavailable.
 
@@ -88,6 +96,7 @@ class Member(Validator):
             refresh=refresh,
             verifies=verifies,
             rsa_bits=rsa_bits,
+            state=state,
             wait=wait,
         )
         self._log = log
@@ -134,6 +143,7 @@ class Member(Validator):
         """
         self._handle.go_on()
         self._deaf = 0
+        self._keep_soon(b"")
 
     def close(self) -> None:
         """Ends the checks that wait, and frees the record. It may take a quarter of a second."""
@@ -250,13 +260,49 @@ class Member(Validator):
             if time.monotonic() >= end or not self._pause():
                 return False
 
+    # -- The state folder
+
+    def _start(self) -> None:
+        if self._journal is not None:
+            self._recalled = self._journal.log_place
+            self._journal.bear(self._log_place)
+        super()._start()
+
+    def _log_place(self) -> LogPlace | None:
+        """Where it is in the log; before it reads one, where an earlier life was."""
+        return self._handle.log_place() or self._recalled
+
+    def _keep_soon(self, messages: bytes) -> None:
+        """Lets the state folder have uses, and where this member is in the log."""
+        if self._journal is None:
+            return
+        self._journal.append_soon(messages)
+        if self._journal.wants_snapshot:
+            self._journal.snapshot_soon(self.parts)
+
     # -- Reading values
 
     def _begin(self, beside: bytes, deaf: int) -> None:
         """Begins to read the log: all that it has."""
         passed, last = self._log.bounds()
+        deaf = max(deaf, self._recall(last))
         self._handle.log(passed, last, self._lasts, deaf, beside)
-        self._deaf, self._position = deaf, passed
+        self._deaf, self._position, self._recalled = deaf, passed, None
+        if deaf:
+            self._keep_soon(b"")
+
+    def _recall(self, last: int) -> int:
+        """Until when nothing is accepted by what an earlier life knew of the log."""
+        before = self._recalled
+        if before is None:
+            return 0
+        if before.passed <= last:
+            return before.deaf
+        self._say(
+            f"the log ends at {last}, and this member has read it up to {before.passed}: it is "
+            f"another one, or an older copy: no token is accepted for {self._lasts} seconds"
+        )
+        return min(int(time.time()) + self._lasts, lib.NO_LIMIT)
 
     def _read_all(self) -> None:
         """Reads one value after the other."""
@@ -290,6 +336,7 @@ class Member(Validator):
                 continue
             if read.is_behind_gap:
                 self._deaf = self._handle.state().deaf
+                self._keep_soon(b"")
                 self._miss("values of the log are missing")
             if read.fault is not None:
                 self._say(f"a value of the log is no messages: number {position}: {read.fault}")
@@ -318,6 +365,9 @@ class Member(Validator):
 
     def _end_read(self, read: Read) -> None:
         """Ends the claims whose uses were read: only those that are on their way."""
+        accepted = [use for use, fate in read.fates if fate == lib.FATE_ACCEPTED]
+        if accepted:
+            self._keep_soon(batches(accepted))
         with self._gate:
             for use, fate in read.fates:
                 claim = self._open.get(use.key)

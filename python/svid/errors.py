@@ -14,7 +14,7 @@
     ├── Unavailable      it is not known whether the token counts as used: answer status 503
     ├── Held             another process has the state folder
     ├── Damaged          a file of the state folder is damaged
-    └── Newer            a file of the state folder has a newer format
+    └── OtherFormat      a file of the state folder has another format
 
 A call that has no memory raises `MemoryError`. It accepted no token, and you can make it again.
 """
@@ -135,8 +135,12 @@ class Damaged(Error):
         )
 
 
-class Newer(Error):
-    """A file of the state folder has a newer format: run the version that wrote it, or a later."""
+class OtherFormat(Error):
+    """A file of the state folder has another format than 2, which this version reads.
+
+    Only builds of 0.2 before its release wrote format 1. Of a greater one, run the version that
+    wrote it, or a later one.
+    """
 
     def __init__(self, file: str, format: int) -> None:
         super().__init__(file, format)
@@ -144,7 +148,14 @@ class Newer(Error):
         self.format = format
 
     def __str__(self) -> str:
-        return f"{self.file} has format {self.format}: run the version that wrote it"
+        if self.format == 1:
+            return (
+                f"{self.file} has format 1, which only builds of 0.2 before its release wrote: let "
+                "such a build write the folder's messages (svidd check-state --messages)"
+            )
+        return (
+            f"{self.file} has format {self.format}: run the version that wrote it, or a later one"
+        )
 
 
 class Refused(Error):

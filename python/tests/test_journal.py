@@ -21,9 +21,10 @@ import pytest
 import svid
 from making import SUBJECT, fresh, validator
 from svid import _folder, _journal
+from svid._frames import LogPlace
 
 BEGUN = int(time.time())
-FRAME = 128  # bytes of a frame with one use
+FRAME = 120  # bytes of a frame with one use
 
 
 def use(number):
@@ -117,11 +118,11 @@ def test_the_files_of_a_folder(tmp_path):
     assert {it.stat().st_mode & 0o777 for it in tmp_path.iterdir()} == {0o600}
 
 
-def frame(kind, number, place, count, payload, form=1):
+def frame(kind, number, place, count, payload, form=2):
     numbers = struct.pack(">QI", count, form << 24 | len(payload))
     title = kind + number.to_bytes(8, "big") + place
     tag = hashlib.sha256(bytes([form]) + title + numbers + payload).digest()[:20]
-    return tag + numbers + payload + b"\xff" * (-len(payload) % 32)
+    return tag + numbers + payload + b"\xff" * (-len(payload) % (32 if form == 1 else 8))
 
 
 def frames(kind, number, place, *payloads):
@@ -527,14 +528,63 @@ def test_each_changed_bit_is_found_and_named(tmp_path):
             shutil.rmtree(folder)
 
 
-def test_a_folder_of_a_newer_version(tmp_path):
+def test_a_folder_of_another_format(tmp_path):
     place = b"f" * 16
     (tmp_path / "place").write_text(place.hex())
-    (tmp_path / "journal.3").write_bytes(frame(b"svidjnl", 3, place, 1, use(1).message, 2))
-    with pytest.raises(svid.Newer) as raised:
-        svid.Journal(tmp_path)
-    assert (raised.value.file, raised.value.format) == (str(tmp_path / "journal.3"), 2)
-    assert "has format 2" in str(raised.value)
+    for form, says in (1, "before its release"), (3, "or a later one"):
+        (tmp_path / "journal.3").write_bytes(frame(b"svidjnl", 3, place, 1, use(1).message, form))
+        with pytest.raises(svid.OtherFormat, match=says) as raised:
+            svid.Journal(tmp_path)
+        assert (raised.value.file, raised.value.format) == (str(tmp_path / "journal.3"), form)
+        assert f"has format {form}" in str(raised.value)
+
+
+def test_each_write_says_where_the_validator_is_in_its_log(tmp_path):
+    """By an own writer of the format (docs/FORMATS.md)."""
+
+    def text(*numbers):
+        return b"JSL\x01" + struct.pack(">QQQ", *numbers)
+
+    at = None
+    with contextlib.closing(svid.Journal(tmp_path)) as journal:
+        place = journal.place
+        journal.bear(lambda: at)
+        assert journal.log_place is None
+        journal.append(b"")  # (there is nothing to keep)
+        at = LogPlace(2, 1, 0)
+        append(journal, 1)
+        at = LogPlace(2, 1, 2**64 - 1)
+        journal.append(b"")
+        journal.append_soon(use(2).message)
+        until(lambda: journal._keeper._numbers._folder.count == 3)
+        bears = [text(*at[:2], 0) + use(1).message, text(*at), text(*at) + use(2).message, b""]
+    file = (tmp_path / "journal.1").read_bytes()
+    assert file.rstrip(b"\0") == frames(b"svidjnl", 1, place, *bears).rstrip(b"\0")
+    with contextlib.closing(svid.Journal(tmp_path)) as journal:
+        assert journal.log_place == at
+        journal.bear(lambda: LogPlace(3, 0, 5))
+        journal.snapshot(lambda: [use(1).message])
+    snapshot = frames(b"svidsnp", 0, place, text(3, 0, 5), use(1).message, b"")
+    assert (tmp_path / "snapshot").read_bytes() == snapshot
+    assert found(tmp_path) == {1}
+    with contextlib.closing(svid.Journal(tmp_path)) as journal:
+        assert journal.log_place == (3, 0, 5)
+
+
+def test_what_is_kept_behind_an_answer_may_fail(tmp_path, monkeypatch, caplog):
+    def fails(*_):
+        raise OSError(28, "no space")
+
+    with contextlib.closing(svid.Journal(tmp_path)) as journal:
+        append(journal, 1)
+        monkeypatch.setattr(_journal, "write", fails)
+        journal.append_soon(use(2).message)
+        until(lambda: "no space" in caplog.text)
+        monkeypatch.undo()
+        append(journal, 3)
+    assert found(tmp_path) == {1, 3}
+    journal.append_soon(use(4).message)
+    assert "closed" in caplog.text
 
 
 def test_a_folder_of_an_older_version(tmp_path):
@@ -759,14 +809,14 @@ for most in 1000, 1500, resource.RLIM_INFINITY:
     words = [sys.executable, "-c", text, tmp_path]
     ran = subprocess.run(words, env=environment, capture_output=True, timeout=60, check=True)
     said = ran.stdout.decode().splitlines()
-    kept = [*range(7), *range(8, 12), *range(13, 40)]
-    full = ["full at 7 True", "full at 12 True"]
+    kept = [*range(8), *range(9, 13), *range(14, 40)]
+    full = ["full at 8 True", "full at 13 True"]
     assert said == [
-        *map(str, kept[:7]),
+        *map(str, kept[:8]),
         full[0],
-        *map(str, kept[7:11]),
+        *map(str, kept[8:12]),
         full[1],
-        *map(str, kept[11:]),
+        *map(str, kept[12:]),
     ]
     assert set(kept) <= found(tmp_path)
 

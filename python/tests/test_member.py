@@ -804,3 +804,77 @@ def test_a_file_log(tmp_path):
     assert list(two.read(1, 0)) == [(2, b"")] and one.bounds() == (0, 2)
     two.append(b"bc")
     assert list(one.read(2, 0)) == [(3, b"bc")] and list(one.read(0, 0))[0] == (1, b"a")
+
+
+def log_place(folder):
+    with contextlib.closing(svid.Journal(folder)) as journal:
+        return journal.log_place
+
+
+def kept(one):
+    """How many frames the journal has that grows."""
+    return one._journal._keeper._numbers._folder.count
+
+
+def test_a_member_goes_on_with_its_record_and_its_place(log, tmp_path):
+    used = fresh()
+    with member(log, state=tmp_path) as one:
+        use = one.check(used).use
+        until(lambda: kept(one) == 1)
+    assert log_place(tmp_path) == (1, 0, 0)
+    log.replace(log.values)
+    with member(log, state=tmp_path) as one:
+        assert verdict(one, used) == "Replayed"
+        assert verdict(one, fresh(jti="2")).place == use.place
+        assert one.deaf_until == 0
+
+
+def test_a_gap_outlives_a_restart(log, tmp_path):
+    """Also where the log no longer shows it. That somebody let it go on outlives one, too."""
+    with member(log) as other:
+        for it in range(3):
+            other.check(fresh(jti=f"of another {it}"))
+    values = list(log.values)
+    with member(log, state=tmp_path) as one:
+        until(lambda: one._position == 3)
+        log.hold()
+        log.append(values[0])
+        log.append(values[1])
+        log.remove(4)
+        log.go()
+        until(lambda: one.deaf_until)
+        deaf = one.deaf_until
+        until(lambda: kept(one) == 1)
+    assert log_place(tmp_path)[2] == deaf
+    log.replace([*values, *values])
+    for _ in range(2):
+        with member(log, state=tmp_path) as one:
+            until(lambda: one._position == 6)
+            assert one.deaf_until == deaf
+            assert verdict(one, fresh(jti="on")) == "Unavailable"
+    with member(log, state=tmp_path) as one:
+        until(lambda: one._position == 6 and kept(one) == 1)
+        one.go_on()
+        until(lambda: kept(one) == 2)
+        assert isinstance(verdict(one, fresh(jti="on")), svid.Use)
+    assert log_place(tmp_path)[2] == 0
+    with member(log, state=tmp_path) as one:
+        assert one.deaf_until == 0
+        assert isinstance(verdict(one, fresh(jti="further")), svid.Use)
+
+
+def test_a_log_that_was_put_back_is_seen(log, tmp_path, caplog):
+    with member(log, state=tmp_path) as one:
+        for it in range(2):
+            one.check(fresh(jti=str(it)))
+        until(lambda: kept(one) == 2)
+    log.replace(log.values[:1])
+    now = int(time.time())
+    with member(log, state=tmp_path) as one:
+        assert now + LONGEST <= one.deaf_until <= now + LONGEST + 60
+        assert verdict(one, fresh(jti="new")) == "Unavailable"
+        assert verdict(one, fresh(jti="1")) == "Replayed"
+        assert "the log ends at 1, and this member has read it up to 2" in caplog.text
+        deaf = one.deaf_until
+        until(lambda: kept(one))
+    assert log_place(tmp_path) == (1, 0, deaf)

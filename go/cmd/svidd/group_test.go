@@ -4,6 +4,8 @@ import (
 	"fmt"
 	"math/rand"
 	"net/http"
+	"os"
+	"os/exec"
 	"path/filepath"
 	"sort"
 	"strings"
@@ -257,15 +259,10 @@ func bucket(t *testing.T, url string) nats.KeyValue {
 	return kv
 }
 
-// A sidecar that has missed values of the bucket accepts nothing until they must have expired, or an operator lets it go on. One
-// that has read them accepts tokens all the while.
-func TestValuesThatAreMissing(t *testing.T) {
-	server := natstest.Start(t)
-	first := several(t, 1, "strict", server.URL)[0]
-	lost := token(t, "lost", 30*time.Minute)
-	first.want(lost, 200, "")
-	first.want(token(t, "kept", 30*time.Minute), 200, "")
-	js := stream(t, server.URL)
+// loseFirst lets the bucket lose all values but the last.
+func loseFirst(t *testing.T, p *process, url string) {
+	t.Helper()
+	js := stream(t, url)
 	info, err := js.StreamInfo("KV_svid")
 	if err != nil {
 		t.Fatal(err)
@@ -276,13 +273,24 @@ func TestValuesThatAreMissing(t *testing.T) {
 	if _, err := js.UpdateStream(&fewer); err != nil {
 		t.Fatal(err)
 	}
-	first.await("a value to go", func() bool {
+	p.await("a value to go", func() bool {
 		info, err := js.StreamInfo("KV_svid")
 		return err == nil && info.State.Msgs == 1
 	})
 	if _, err := js.UpdateStream(&before); err != nil {
 		t.Fatal(err)
 	}
+}
+
+// A sidecar that has missed values of the bucket accepts nothing until they must have expired, or an operator lets it go on. One
+// that has read them accepts tokens all the while.
+func TestValuesThatAreMissing(t *testing.T) {
+	server := natstest.Start(t)
+	first := several(t, 1, "strict", server.URL)[0]
+	lost := token(t, "lost", 30*time.Minute)
+	first.want(lost, 200, "")
+	first.want(token(t, "kept", 30*time.Minute), 200, "")
+	loseFirst(t, first, server.URL)
 	second := prepare(t, nil, bundleOption(bundleFile(t, example)), "--replay", "strict", "--nats", server.URL, "--log", "errors",
 		"--admin", filepath.Join(t.TempDir(), "admin.sock"))
 	second.launch()
@@ -323,7 +331,8 @@ func TestValuesThatAreMissing(t *testing.T) {
 	}
 }
 
-// A state folder is given to the record behind the bucket. What the bucket has lost it still has.
+// A state folder is given to the record behind the bucket. What the bucket has lost it still has. And since it says that the bucket
+// had more, the sidecar accepts nothing until an operator lets it go on.
 func TestAStateFolderBesideABucket(t *testing.T) {
 	server := natstest.Start(t)
 	p := several(t, 1, "strict", server.URL, "--state", filepath.Join(t.TempDir(), "state"))[0]
@@ -333,8 +342,12 @@ func TestAStateFolderBesideABucket(t *testing.T) {
 	if err := stream(t, server.URL).DeleteStream("KV_svid"); err != nil {
 		t.Fatal(err)
 	}
+	p.launch()
+	p.awaitGap()
+	p.want(one, 401, "Replayed")
+	p.want(two, 503, "ValuesMissing")
+	p.resume("--anyway")
 	for n := 1; n < 3; n++ {
-		p.start()
 		p.want(one, 401, "Replayed")
 		if n == 1 {
 			p.want(two, 200, "")
@@ -342,6 +355,143 @@ func TestAStateFolderBesideABucket(t *testing.T) {
 		p.want(two, 401, "Replayed")
 		p.await("the uses to be counted", func() bool { return p.metric("svidd_record_uses") == "2" })
 		p.kill()
+		p.start()
+	}
+}
+
+// awaitGap waits until a sidecar of mode strict has read all, and accepts nothing, since values are missing.
+func (p *process) awaitGap() {
+	p.t.Helper()
+	p.await("a gap", func() bool {
+		_, why := p.get("/readyz")
+		_, _, body := p.check(token(p.t, "any", time.Minute))
+		return strings.Contains(why, "svidd resume") && strings.Contains(body, "ValuesMissing")
+	})
+}
+
+// resume lets a sidecar go on behind a gap.
+func (p *process) resume(more ...string) (status int, out string) {
+	p.t.Helper()
+	status, out, errors := svidd(p.t, "", append([]string{"resume", "--admin", p.option("--admin")}, more...)...)
+	if errors != "" {
+		p.t.Errorf("resume: %s", errors)
+	}
+	return status, out
+}
+
+// inBucket is what check-state says of the bucket.
+func (p *process) inBucket() string {
+	_, out, _ := svidd(p.t, "", "check-state", p.option("--state"))
+	for _, line := range strings.Split(out, "\n") {
+		if strings.HasPrefix(line, "bucket ") {
+			return line
+		}
+	}
+	return ""
+}
+
+// A gap outlives a kill, also where the bucket no longer shows it; and so does that an operator let the sidecar go on.
+func TestAGapOutlivesARestart(t *testing.T) {
+	server := natstest.Start(t)
+	first := several(t, 1, "strict", server.URL)[0]
+	first.want(token(t, "lost", 30*time.Minute), 200, "")
+	first.want(token(t, "kept", 30*time.Minute), 200, "")
+	loseFirst(t, first, server.URL)
+	p := prepare(t, nil, bundleOption(bundleFile(t, example)), "--replay", "strict", "--nats", server.URL, "--log", "errors",
+		"--admin", filepath.Join(t.TempDir(), "admin.sock"), "--state", filepath.Join(t.TempDir(), "state"))
+	p.launch()
+	p.awaitGap()
+	until := p.metric("svidd_log_missed_until_timestamp_seconds")
+	want := ", and no token is accepted before " + until
+	p.await("the gap on the disk", func() bool { return p.inBucket() == "bucket read up to value 2"+want })
+	p.kill()
+	// Another bucket, which has as many values, and lacks none.
+	first.end()
+	if err := stream(t, server.URL).DeleteStream("KV_svid"); err != nil {
+		t.Fatal(err)
+	}
+	other := several(t, 1, "strict", server.URL)[0]
+	for _, one := range tokens(t, "new", 3) {
+		other.want(one, 200, "")
+	}
+	for n := 0; n < 2; n++ {
+		p.launch()
+		p.awaitGap()
+		if got := p.metric("svidd_log_missed_until_timestamp_seconds"); got != until {
+			t.Errorf("behind a restart it accepts nothing until %s, and before that until %s", got, until)
+		}
+		if gaps := p.events("gap"); len(gaps) == 0 || fmt.Sprintf("%.0f", gaps[len(gaps)-1]["until"]) != until {
+			t.Errorf("the log says %v", gaps)
+		}
+		if n == 0 {
+			p.kill()
+		}
+	}
+	if status, out := p.resume("--anyway"); status != 0 || !strings.HasPrefix(out, "resumed: until ") {
+		t.Errorf("resume: %d %q", status, out)
+	}
+	p.want(token(t, "on", time.Minute), 200, "")
+	p.kill()
+	if got := p.inBucket(); strings.Contains(got, "no token") {
+		t.Errorf("once it goes on, the folder says: %s", got)
+	}
+	p.start()
+	p.want(token(t, "further", time.Minute), 200, "")
+}
+
+// A bucket that was put back from an older copy lacks what was put into it since. Who has a state folder sees that.
+func TestABucketThatIsPutBack(t *testing.T) {
+	dir := filepath.Join(t.TempDir(), "nats")
+	if err := os.Mkdir(dir, 0o700); err != nil {
+		t.Fatal(err)
+	}
+	server, err := broker.New(dir)
+	if err != nil {
+		t.Fatal(err)
+	}
+	t.Cleanup(server.Kill)
+	begin := func() {
+		t.Helper()
+		if err := server.Start(); err != nil {
+			t.Fatal(err)
+		}
+		natstest.Await(t, "JetStream", server.Answers)
+	}
+	begin()
+	p := several(t, 1, "strict", server.URL, "--state", filepath.Join(t.TempDir(), "state"))[0]
+	p.want(token(t, "before", 30*time.Minute), 200, "")
+	p.end()
+	server.Kill()
+	copied := filepath.Join(t.TempDir(), "copy")
+	copyAll(t, dir, copied)
+	begin()
+	p.start()
+	since := token(t, "since", 30*time.Minute)
+	p.want(since, 200, "")
+	p.await("the use on the disk", func() bool { return p.inBucket() == "bucket read up to value 2" })
+	p.kill()
+	server.Kill()
+	if err := os.RemoveAll(dir); err != nil {
+		t.Fatal(err)
+	}
+	copyAll(t, copied, dir)
+	begin()
+	p.launch()
+	p.awaitGap()
+	if gaps := p.events("gap"); len(gaps) != 1 || gaps[0]["behind"] != 1.0 || !strings.Contains(fmt.Sprint(gaps[0]["error"]), "an older copy") {
+		t.Errorf("the log says %v", gaps)
+	}
+	p.want(since, 401, "Replayed")
+	if until := p.metric("svidd_log_missed_until_timestamp_seconds"); !strings.HasSuffix(p.inBucket(), ", and no token is accepted before "+until) {
+		t.Errorf("the folder says %s, and it is until %s", p.inBucket(), until)
+	}
+}
+
+// copyAll copies a folder with all that is in it.
+func copyAll(t *testing.T, from, to string) {
+	t.Helper()
+	if out, err := exec.Command("cp", "-a", from, to).CombinedOutput(); err != nil {
+		t.Fatalf("%s %v", out, err)
 	}
 }
 

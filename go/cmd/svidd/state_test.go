@@ -63,9 +63,9 @@ func TestCheckState(t *testing.T) {
 		err    string
 		uses   int // among the messages
 	}{
-		{"whole", func(*testing.T, string) {}, 0, "snapshot: whole: 1 frame, 1 mark: 2 uses, 224 bytes\njournal.3: whole: 2 frames, 1 mark: 2 uses, 262272 bytes\n", "", 4},
-		{"damaged", change("journal.3", 100, 4), 1, "journal.3: damaged at byte 0: 0 frames, 0 marks: 0 uses, 262272 bytes\n", "journal.3 is damaged at byte 0: look for a failing disk, and put back a copy", 2},
-		{"torn", change("journal.3", 300, 4), 0, "journal.3: torn at byte 288, and nobody was answered for the 13 bytes there: 2 frames, 1 mark: 2 uses, 262272 bytes\n", "", 4},
+		{"whole", func(*testing.T, string) {}, 0, "snapshot: whole: 1 frame, 1 mark: 2 uses, 216 bytes\njournal.3: whole: 2 frames, 1 mark: 2 uses, 262264 bytes\n", "", 4},
+		{"damaged", change("journal.3", 100, 4), 1, "journal.3: damaged at byte 0: 0 frames, 0 marks: 0 uses, 262264 bytes\n", "journal.3 is damaged at byte 0: look for a failing disk, and put back a copy", 2},
+		{"torn", change("journal.3", 300, 4), 0, "journal.3: torn at byte 272, and nobody was answered for the 29 bytes there: 2 frames, 1 mark: 2 uses, 262264 bytes\n", "", 4},
 		{"no place", func(t *testing.T, dir string) { os.Remove(filepath.Join(dir, "place")) }, 2, "place is missing\n", "the file place is missing", 0},
 		{"a bad place", change("place", 3, 0x80), 2, "", "place is not 32 hexadecimal digits", 0},
 	} {

@@ -13,7 +13,8 @@ import (
 	"svid.example/go/svid"
 )
 
-// frame is a frame of a file, as docs/FORMATS.md has it. A snapshot has the number 0.
+// frame is a frame of a file, as docs/FORMATS.md has it. A snapshot has the number 0. (Format 1 filled its frames up to a multiple of
+// 32 bytes.)
 func frame(format byte, place svid.Place, journal, number uint64, payload []byte) []byte {
 	kind := "svidjnl"
 	if journal == 0 {
@@ -25,7 +26,11 @@ func frame(format byte, place svid.Place, journal, number uint64, payload []byte
 	text = append(binary.BigEndian.AppendUint64(text, journal), place[:]...)
 	digest := sha256.Sum256(append(append(text, numbers...), payload...))
 	f := append(append(append([]byte(nil), digest[:20]...), numbers...), payload...)
-	return append(f, bytes.Repeat([]byte{0xff}, (32-len(f)%32)%32)...)
+	cell := 8
+	if format == 1 {
+		cell = 32
+	}
+	return append(f, bytes.Repeat([]byte{0xff}, (cell-len(f)%cell)%cell)...)
 }
 
 // The files consist of the frames of docs/FORMATS.md, byte for byte.
@@ -48,37 +53,45 @@ func TestTheFilesAreThoseOfTheFormat(t *testing.T) {
 	mustAppend(t, j, batches(3, 12))
 	mustClose(t, j)
 	p := j.Place()
-	snapshot := append(append(frame(1, p, 0, 1, batch(0)), frame(1, p, 0, 2, batches(1, 3))...), frame(1, p, 0, 3, nil)...)
+	snapshot := append(append(frame(2, p, 0, 1, batch(0)), frame(2, p, 0, 2, batches(1, 3))...), frame(2, p, 0, 3, nil)...)
 	if got := readFile(t, dir, snapshotName); !bytes.Equal(got, snapshot) {
 		t.Errorf("the snapshot is %x, want %x", got, snapshot)
 	}
-	journal := append(append(frame(1, p, 3, 1, batch(2)), frame(1, p, 3, 2, batches(3, 12))...), frame(1, p, 3, 3, nil)...)
-	if len(journal) != 128+800+32 {
-		t.Errorf("one use takes 128 bytes, nine 800, and a mark 32: all are %d", len(journal))
+	journal := append(append(frame(2, p, 3, 1, batch(2)), frame(2, p, 3, 2, batches(3, 12))...), frame(2, p, 3, 3, nil)...)
+	if len(journal) != 120+776+32 {
+		t.Errorf("one use takes 120 bytes, nine batches 776, and a mark 32: all are %d", len(journal))
 	}
 	got := readFile(t, dir, "journal.3")
-	if !bytes.Equal(bytes.TrimRight(got, "\x00"), bytes.TrimRight(journal, "\x00")) || len(got) != 128+growth {
+	if !bytes.Equal(bytes.TrimRight(got, "\x00"), bytes.TrimRight(journal, "\x00")) || len(got) != 120+growth {
 		t.Errorf("the journal is %x, want %x", got[:len(journal)], journal)
 	}
 }
 
-// A folder of a newer format is refused by its number.
-func TestAFolderOfANewerFormat(t *testing.T) {
+// A folder of another format is refused by its number.
+func TestAFolderOfAnotherFormat(t *testing.T) {
 	place := svid.Place{1, 2, 3}
-	for name, content := range map[string][]byte{
-		"snapshot":  append(frame(2, place, 0, 1, batch(0)), frame(2, place, 0, 2, nil)...),
-		"journal.3": append(frame(1, place, 3, 1, batch(0)), frame(2, place, 3, 2, []byte("whatever it bears"))...),
+	const later = "start the svidd that wrote it, or a later one"
+	for _, row := range []struct {
+		name    string
+		content []byte
+		want    string
+	}{
+		{"snapshot", append(frame(3, place, 0, 1, batch(0)), frame(3, place, 0, 2, nil)...), "format 3, and this svidd reads format 2: " + later},
+		{"journal.3", append(frame(2, place, 3, 1, batch(0)), frame(3, place, 3, 2, []byte("whatever it bears"))...), "format 3, and this svidd reads format 2: " + later},
+		{"snapshot", append(frame(1, place, 0, 1, batch(0)), frame(1, place, 0, 2, nil)...), "format 1, and this svidd reads format 2: a build of svidd 0.2 before its release wrote it"},
+		{"journal.3", append(frame(1, place, 3, 1, batch(0)), make([]byte, 1000)...), "format 1, and this svidd reads format 2: a build of svidd 0.2 before its release wrote it"},
 	} {
+		name, content := row.name, row.content
 		dir := laid(t, map[string][]byte{placeName: []byte(place.String() + "\n"), name: content})
-		want := name + " has format 2, and this svidd reads format 1: start the svidd that wrote it, or a later one"
-		if _, err := load(Open(dir)); err == nil || !strings.HasSuffix(err.Error(), want) {
+		want := name + " has " + row.want
+		if _, err := load(Open(dir)); err == nil || !strings.Contains(err.Error(), want) {
 			t.Errorf("%v, want %q", err, want)
 		}
 		if got := readFile(t, dir, name); !bytes.Equal(got, content) {
 			t.Errorf("%s was changed", name)
 		}
 		found, err := Check(dir)
-		if err != nil || errors.Is(found.Fault, svid.ErrDamaged) || found.Fault == nil || !strings.HasSuffix(found.Fault.Error(), want) {
+		if err != nil || errors.Is(found.Fault, svid.ErrDamaged) || found.Fault == nil || !strings.Contains(found.Fault.Error(), want) {
 			t.Errorf("%v %v", found, err)
 		}
 	}
@@ -124,7 +137,7 @@ func TestEachChangedBitIsNamed(t *testing.T) {
 		file  *fileOnDisk
 		frame int // how many bytes a frame with uses has
 		count int
-	}{{snapshotName, d.snapshot.now, 8256, 5}, {"journal.3", d.journal(3).file, 128, 500}} {
+	}{{snapshotName, d.snapshot.now, 8232, 5}, {"journal.3", d.journal(3).file, 120, 500}} {
 		number, _ := numberOf(row.name)
 		content := append([]byte(nil), row.file.seen...)
 		// A reader in front of each frame: what stands before it is as it was.
@@ -174,7 +187,7 @@ func TestEachChangedBitIsNamed(t *testing.T) {
 	file.seen = append([]byte(nil), file.seen...)
 	file.seen[1000] ^= 4
 	before := d.text()
-	if _, err := begin(d); err == nil || !strings.Contains(err.Error(), "disk/journal.3 is damaged at byte 896") || !errors.Is(err, svid.ErrDamaged) {
+	if _, err := begin(d); err == nil || !strings.Contains(err.Error(), "disk/journal.3 is damaged at byte 960") || !errors.Is(err, svid.ErrDamaged) {
 		t.Error(err)
 	}
 	if d.text() != before {
@@ -240,7 +253,7 @@ func TestFilesThatArePutBack(t *testing.T) {
 		{"a journal as a snapshot", func(f map[string][]byte) { f[snapshotName] = f["journal.3"] }, "snapshot is damaged at byte 0", "", nil},
 		{"a snapshot as a journal", func(f map[string][]byte) { f["journal.4"] = f[snapshotName] }, "", "journal.4", append(one, two...)},
 		{"no place", func(f map[string][]byte) { delete(f, placeName) }, "the file place is missing", "", nil},
-		{"half of a snapshot", func(f map[string][]byte) { f[snapshotName] = f[snapshotName][:128] }, "snapshot is damaged at byte 128", "", nil},
+		{"half of a snapshot", func(f map[string][]byte) { f[snapshotName] = f[snapshotName][:120] }, "snapshot is damaged at byte 120", "", nil},
 		{"an empty snapshot", func(f map[string][]byte) { f[snapshotName] = nil }, "snapshot is damaged at byte 0", "", nil},
 		// An older copy of this very folder can't be told from it (docs/SIDECAR.md).
 		{"an older copy of a journal", func(f map[string][]byte) { f["journal.3"] = nil }, "", "", one},
@@ -289,7 +302,7 @@ func TestCheckChangesNothing(t *testing.T) {
 	if err != nil || found.Fault != nil || found.Place != j.Place() {
 		t.Fatal(found, err)
 	}
-	if f := found.Files[1]; f.Frames != 1 || f.Marks != 0 || !bytes.Equal(f.Messages, batches(0, 3)) || f.Length != 288+growth {
+	if f := found.Files[1]; f.Frames != 1 || f.Marks != 0 || !bytes.Equal(f.Messages, batches(0, 3)) || f.Length != 280+growth {
 		t.Errorf("%d frames, %d marks, %d bytes", f.Frames, f.Marks, f.Length)
 	}
 	if got := names(t, dir); got != before {

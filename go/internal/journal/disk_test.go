@@ -341,14 +341,14 @@ func (f *fileOnDisk) leftBehind(r *rand.Rand, stale [][]byte) []byte {
 		r.Read(b)
 		return b
 	}
-	for at := 0; at < len(rest); at += 32 {
+	for at := 0; at < len(rest); at += 8 {
 		cell := rest[at:]
-		if len(cell) > 32 {
-			cell = cell[:32]
+		if len(cell) > 8 {
+			cell = cell[:8]
 		}
 		switch other := oneOf(r, stale); r.Intn(5) {
 		case 0:
-			copy(cell, make([]byte, 32))
+			copy(cell, make([]byte, 8))
 		case 1:
 			r.Read(cell)
 		case 2:
@@ -356,7 +356,7 @@ func (f *fileOnDisk) leftBehind(r *rand.Rand, stale [][]byte) []byte {
 				copy(cell, other[from:])
 			}
 		case 3:
-			if from := 32 * r.Intn(1+len(other)/32); from < len(other) {
+			if from := 8 * r.Intn(1+len(other)/8); from < len(other) {
 				copy(cell, other[from:])
 			}
 		}
@@ -563,7 +563,7 @@ func TestACrashOfTheModelLeavesWhatItMay(t *testing.T) {
 		if err != nil {
 			t.Fatal(err)
 		}
-		kept, more := make([]byte, 32*r.Intn(4)), make([]byte, 32*r.Intn(4))
+		kept, more := make([]byte, 8*r.Intn(16)), make([]byte, 8*r.Intn(16))
 		r.Read(kept)
 		r.Read(more)
 		f.WriteAt(kept, 0)

@@ -23,7 +23,7 @@ import (
 	"svid.example/go/svid"
 )
 
-// batch is a batch of one use, whose key begins with n. It has 82 bytes, and its frame 128.
+// batch is a batch of one use, whose key begins with n. It has 82 bytes, and its frame 120.
 func batch(n uint64) []byte {
 	use := svid.Use{Expires: 200, At: 100}
 	binary.BigEndian.PutUint64(use.Key[:], n)
@@ -245,8 +245,8 @@ func TestKeepsWhatWasAppended(t *testing.T) {
 	for n := uint64(0); n < 10; n++ {
 		mustAppend(t, j, batch(n))
 	}
-	if got := j.Size(); got != 1280 {
-		t.Fatalf("size %d, want 1280", got)
+	if got := j.Size(); got != 1200 {
+		t.Fatalf("size %d, want 1200", got)
 	}
 	mustClose(t, j)
 	j = mustOpen(t, dir)
@@ -438,10 +438,10 @@ func TestATornTailIsNotRead(t *testing.T) {
 	}
 	mustClose(t, j)
 	place, snapshot, text := readFile(t, dir, placeName), readFile(t, dir, snapshotName), readFile(t, dir, "journal.2")
-	if len(text) != 128+growth {
+	if len(text) != 120+growth {
 		t.Fatalf("%d bytes", len(text))
 	}
-	whole := text[:3*128]
+	whole := text[:3*120]
 	want := func(content []byte, good int) {
 		t.Helper()
 		d := newDisk()
@@ -455,11 +455,11 @@ func TestATornTailIsNotRead(t *testing.T) {
 				t.Fatal(err)
 			}
 			wantMessages(t, j, batches(0, uint64(good+i)))
-			torn := len(bytes.TrimRight(content[128*good:], "\x00"))
+			torn := len(bytes.TrimRight(content[120*good:], "\x00"))
 			switch found := j.Torn(); {
 			case torn == 0 && len(found) > 0:
 				t.Errorf("%d bytes: torn at %d", len(content), found[0].At)
-			case torn > 0 && (len(found) != 1 || found[0].At != int64(128*good) || found[0].Rest != torn):
+			case torn > 0 && (len(found) != 1 || found[0].At != int64(120*good) || found[0].Rest != torn):
 				t.Errorf("%d bytes: torn %v, want %d bytes", len(content), *found[0], torn)
 			}
 			j.quiet = 0
@@ -471,12 +471,12 @@ func TestATornTailIsNotRead(t *testing.T) {
 	}
 	zeros := make([]byte, 200)
 	for cut := 0; cut <= len(whole); cut++ {
-		want(whole[:cut], cut/128)
+		want(whole[:cut], cut/120)
 	}
 	want(append(whole[:len(whole):len(whole)], zeros...), 3)                   // a file that grew, but not its content
-	want(append(append(whole[:256:256], zeros[:64]...), whole[256+64:]...), 2) // a cell that is missing
-	want(append(append(whole[:256:256], whole[:128]...), zeros...), 2)         // a frame of another number
-	want(append(whole[:256+100:256+100], make([]byte, growth)...), 2)          // a page that is missing
+	want(append(append(whole[:240:240], zeros[:64]...), whole[240+64:]...), 2) // a cell that is missing
+	want(append(append(whole[:240:240], whole[:120]...), zeros...), 2)         // a frame of another number
+	want(append(whole[:240+100:240+100], make([]byte, growth)...), 2)          // a page that is missing
 }
 
 // TestGrowsByZeros looks at the journal's file as it grows, and is followed by another one. Its length changes once for thousands
@@ -495,11 +495,11 @@ func TestGrowsByZeros(t *testing.T) {
 	want("journal.2", 0)
 	for n := uint64(0); n < 100; n++ {
 		mustAppend(t, j, batch(n))
-		want("journal.2", 128+growth)
+		want("journal.2", 120+growth)
 	}
 	many := batches(100, 5000) // more than there is room for
 	mustAppend(t, j, many)
-	length := int64(100*128+32+len(many)+31)/32*32 + growth
+	length := int64(100*120+32+len(many)+7)/8*8 + growth
 	want("journal.2", length)
 	if err := j.Snapshot(func(io.Writer) error { return io.ErrClosedPipe }); !errors.Is(err, io.ErrClosedPipe) {
 		t.Fatal(err)
@@ -507,7 +507,7 @@ func TestGrowsByZeros(t *testing.T) {
 	want("journal.2", length)
 	want("journal.3", 0)
 	mustAppend(t, j, batch(5000))
-	want("journal.3", 128+growth)
+	want("journal.3", 120+growth)
 	mustClose(t, j)
 	j = mustOpen(t, dir)
 	wantMessages(t, j, batches(0, 5001))
@@ -612,7 +612,7 @@ func TestAppendRefusesWhatNoFrameBears(t *testing.T) {
 	}
 	mustAppend(t, j, nil) // (there is nothing to keep)
 	mustAppend(t, j, batch(2))
-	long := batches(3, 3+svid.MaxPayload/82)
+	long := batches(3, 3+mostMessages/82)
 	mustAppend(t, j, long)
 	mustClose(t, j)
 	wantMessages(t, mustOpen(t, dir), append(batch(2), long...))
@@ -671,7 +671,7 @@ func TestManyCallersShareOneSync(t *testing.T) {
 		time.Sleep(time.Millisecond)
 		j.gather.Lock()
 		if j.gathering != nil {
-			gathered = len(j.gathering.bytes)
+			gathered = len(j.gathering.messages)
 		}
 		j.gather.Unlock()
 	}
@@ -745,7 +745,7 @@ func TestADiskThatHangs(t *testing.T) {
 			t.Errorf("batch %d: %v", n, err)
 		}
 	}
-	if n := j.Size(); n != 128 {
+	if n := j.Size(); n != 120 {
 		t.Errorf("the size is %d", n)
 	}
 	// Those that wait for the disk have a bound.
@@ -791,7 +791,7 @@ func TestWhoGaveUpHoldsNobodyUp(t *testing.T) {
 	if err := <-second; err != nil {
 		t.Error(err)
 	}
-	if n := j.Size(); n != 3*128 {
+	if n := j.Size(); n != 3*120 {
 		t.Errorf("the size is %d", n)
 	}
 }
@@ -1000,11 +1000,11 @@ func fullDisk(dir string) int {
 func TestFullDiskTakesNothingHalf(t *testing.T) {
 	dir := t.TempDir()
 	out, err := child("full disk", dir).Output()
-	if want := "7 true true <nil>"; string(out) != want || err != nil {
+	if want := "8 true true <nil>"; string(out) != want || err != nil {
 		t.Fatalf("%q %v, want %q", out, err, want)
 	}
 	j := mustOpen(t, dir)
-	wantMessages(t, j, batches(0, 8))
+	wantMessages(t, j, batches(0, 9))
 	if torn := j.Torn(); len(torn) > 0 {
 		t.Fatalf("%d bytes were left half", torn[0].Rest)
 	}

@@ -7,6 +7,8 @@ import (
 	"strings"
 	"testing"
 	"time"
+
+	"svid.example/go/svid"
 )
 
 // Each cause has a line a minute, the lines between are counted, and causes without end have few lines.

@@ -1031,6 +1031,115 @@ func TestNothingIsClaimedBehindAGap(t *testing.T) {
 	}
 }
 
+// What an earlier life knew of the bucket, as the state folder has it: until when it accepted nothing, and how far it had read. The
+// folder is read behind the bucket, or before it.
+func TestWhatAnEarlierLifeMissed(t *testing.T) {
+	const until = moment + 3600 + 60
+	for what, row := range map[string]struct {
+		before svid.Mark
+		log    group.Log
+		deaf   uint64
+		says   error
+	}{
+		"nothing":                  {svid.Mark{Passed: 2}, group.Log{Ready: 2}, 0, nil},
+		"a gap":                    {svid.Mark{Passed: 2, Deaf: moment + 100}, group.Log{Ready: 2}, moment + 100, ErrMissed},
+		"a gap that has ended":     {svid.Mark{Passed: 2, Deaf: moment}, group.Log{Ready: 2}, 0, nil},
+		"less than the bucket":     {svid.Mark{Passed: 2, Deaf: moment + 100}, group.Log{Passed: 1, Ready: 2, Missed: true}, until, ErrMissed},
+		"more than the bucket":     {svid.Mark{Passed: 2, Deaf: until + 5}, group.Log{Passed: 1, Ready: 2, Missed: true}, until + 5, ErrMissed},
+		"an older copy":            {svid.Mark{Passed: 3}, group.Log{Ready: 2}, until, errBack},
+		"an older copy with a gap": {svid.Mark{Passed: 3, Deaf: moment + 100}, group.Log{Ready: 2}, until, errBack},
+		"an empty bucket":          {svid.Mark{Passed: 3}, group.Log{}, until, errBack},
+	} {
+		for _, isLast := range []bool{false, true} {
+			var now atomic.Uint64
+			now.Store(moment)
+			var out bytes.Buffer
+			d := &disk{}
+			e := engine(t, Options{Mode: Strict, Grouped: true, Journal: d, Now: now.Load, Log: NewLog(&out, Errors)})
+			if !isLast {
+				e.Recall(row.before)
+			}
+			e.Begin(row.log)
+			var values []group.Value
+			for n := row.log.Passed + 1; n <= row.log.Ready+2; n++ { // (others go on, too)
+				values = append(values, group.Value{Kind: group.Claims, Position: n})
+			}
+			e.Take(values)
+			if isLast {
+				e.Recall(row.before)
+			}
+			if d.marks != 0 {
+				t.Errorf("%s: a folder that is not read was written", what)
+			}
+			ready(t, e)
+			e.keeper.wait()
+			mark, accepts, err := e.validator.LogMark()
+			if want := (svid.Mark{Passed: row.log.Ready + 2, Deaf: row.deaf}); mark != want || err != nil || accepts != (row.deaf == 0) {
+				t.Errorf("%s: it is at %+v (%v, accepts %v), want %+v", what, mark, err, accepts, want)
+			}
+			if got := e.deafUntil(); got != row.deaf || row.deaf > 0 && e.Ready() == nil {
+				t.Errorf("%s: it accepts nothing until %d, want %d", what, got, row.deaf)
+			}
+			if row.says != nil && !strings.Contains(out.String(), row.says.Error()) || row.says == nil && out.Len() > 0 {
+				t.Errorf("%s: the log has %s", what, &out)
+			}
+			if (d.marks > 0) != (row.deaf > 0) {
+				t.Errorf("%s: the folder got %d marks", what, d.marks)
+			}
+			now.Store(row.deaf + 1)
+			if got := e.deafUntil(); got != 0 {
+				t.Errorf("%s: at its end it accepts nothing until %d", what, got)
+			}
+		}
+	}
+}
+
+// A gap comes to the disk at once, and so does that someone lets the sidecar go on. Where the disk takes nothing, it gets it once it
+// does. What is kept has where the validator was then.
+func TestAGapComesToTheDisk(t *testing.T) {
+	b, d := &broker{}, &disk{}
+	var out bytes.Buffer
+	e := ready(t, engine(t, Options{Mode: Strict, Grouped: true, Journal: d, Log: NewLog(&out, Errors)}))
+	var seen []svid.Mark
+	d.before = func() {
+		if mark, ok := e.Mark(); ok {
+			seen = append(seen, mark)
+		}
+	}
+	m := b.join(e)
+	if err := check(e, token("a")); err != nil {
+		t.Fatal(err)
+	}
+	e.keeper.wait()
+	if len(seen) != 1 || seen[0] != (svid.Mark{Passed: 1}) || d.marks != 0 {
+		t.Errorf("a use came with %+v, and %d marks", seen, d.marks)
+	}
+	m.gap = 3
+	b.put(stored{kind: group.Claims})
+	e.keeper.wait()
+	const until = moment + 3600 + 60
+	if len(seen) != 2 || seen[1].Deaf != until || d.marks != 1 {
+		t.Errorf("a gap: the disk saw %+v, and has %d marks", seen, d.marks)
+	}
+	if got, err := e.Resume(); err != nil || got != until || d.marks != 2 || seen[2].Deaf != 0 {
+		t.Errorf("resumed: %d %v, the disk saw %+v, and has %d marks", got, err, seen, d.marks)
+	}
+	d.fault = errors.New("it is full")
+	m.gap = 4
+	b.put(stored{kind: group.Claims})
+	e.keeper.wait()
+	e.keepAgain()
+	if n := e.Metrics.JournalFailures.Load(); d.marks != 2 || n != 2 || !strings.Contains(out.String(), "it is full") {
+		t.Errorf("a full disk: %d marks, %d failures, the log has %s", d.marks, n, &out)
+	}
+	d.fault = nil
+	e.keepAgain()
+	e.keepAgain()
+	if d.marks != 3 || seen[len(seen)-1].Deaf != until {
+		t.Errorf("once the disk is back: %d marks, it saw %+v", d.marks, seen)
+	}
+}
+
 // A bucket that has lost values, or that is another one, is read from its beginning. What was heard of the other one stays, and
 // what was missed of it may still live.
 func TestAnotherBucket(t *testing.T) {
