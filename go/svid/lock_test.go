@@ -135,6 +135,7 @@ func TestEachCallOfAValidatorHoldsItsLock(t *testing.T) {
 		"Save":         func() { _ = v.Save(&bytes.Buffer{}) },
 		"Renew":        func() { _ = v.Renew(k, one.Bundles()) },
 		"SetBundles":   func() { _ = v.SetBundles(one.Bundles()) },
+		"Size":         func() { _, _ = v.Size() },
 		"Summary":      func() { _, _ = v.Summary() },
 		"Take":         func() { _ = v.Take(now, judged.Use.Batch()) },
 		"Tick":         func() { _ = v.Tick(now) },
@@ -189,6 +190,7 @@ func TestEachCallOfAKeyringHoldsItsLock(t *testing.T) {
 	strange := token("b")[:20]
 	reading := map[string]func(){
 		"Candidates":              func() { _, _ = k.Candidates(planned) },
+		"Judge":                   func() { _, _ = k.Judge(Judgment{Audiences: []string{"ledger"}}, 1, planned, nil) },
 		"Verify":                  func() { _, _ = k.Verify(planned) },
 		"a Verify without a plan": func() { _, _ = k.Verify(strange) },
 	}

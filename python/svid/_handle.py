@@ -154,15 +154,6 @@ class Handle:
             asked.close()
             judged.close()
 
-    def ask(self, token: bytes) -> None:
-        """Raises the refusals of a token that need no audience, time, signature and record."""
-        size, room, told = lib.size(len(token)), self._room_at, self._told_at
-        with self._lock:
-            ask = lib.library.svid_validator_ask
-            status = ask(self._at, token, size, _NONE, room, _ROOM_SIZE, told)
-            if status != lib.OK:
-                raise self._fault(status)
-
     def check(
         self, calls: Calls, now: int, token: bytes, verifies: Verifies
     ) -> tuple[Accepted, int]:
