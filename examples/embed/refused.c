@@ -1,8 +1,7 @@
-/* Verifies each token with each allocation of that refused in turn, those of OpenSSL and Jansson too. A bad signature must stay a bad one.
+/* Verifies each token with each allocation of that refused in turn, those of OpenSSL. A bad signature must stay a bad one.
  * The address sanitizer sees memory that is lost, and a read past the end of an input. Usage: refused BUNDLES TOKENS, as for live.c. */
 #include "svid.h"
 #include "verify.h"
-#include <jansson.h>
 #include <openssl/crypto.h>
 #include <stdio.h>
 #include <stdlib.h>
@@ -67,7 +66,6 @@ int main(int n, char **args) {
     svid_told told;
     long all = 0, count = 0;
     must(n == 3 && CRYPTO_set_mem_functions(get_for, more_for, give_for) == 1, "usage: refused BUNDLES TOKENS");
-    json_set_alloc_funcs(get, free);
     size_t bundles_len = read_file(args[1], bundles, sizeof bundles), tokens_len = read_file(args[2], tokens, sizeof tokens);
     must(!svid_validator_open(&v, &terms, (const uint8_t *)"ledger", 6, bundles, bundles_len, &told), "no validator");
     for (size_t at = 0; at < tokens_len;) {

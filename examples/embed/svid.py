@@ -5,6 +5,7 @@ import sys
 
 OK, TOO_SHORT = 0, 1
 MOST_CANDIDATES = 3  # how many keys are tried for a token: SVID_MOST_CANDIDATES of the header
+SPKI_ROOM, USUAL_RSA_BITS = 2100, 4096  # enough room for any key, and how many bits an RSA key may have
 
 
 class Id(c.Structure):
@@ -119,6 +120,15 @@ def call(name, inputs, now=None):
         if status != TOO_SHORT:
             raise Refused(f"{status} {told}")
         room = told.len
+
+
+def key_spki(key, alg):
+    """A key, which is JSON, as SubjectPublicKeyInfo for the algorithm of this name."""
+    out, told = c.create_string_buffer(SPKI_ROOM), Told()
+    status = lib.svid_key_spki(*lent([key, alg]), c.c_size_t(USUAL_RSA_BITS), out, c.c_size_t(SPKI_ROOM), c.byref(told))
+    if status != OK:
+        raise Refused(f"{status} {told}")
+    return out.raw[: told.len]
 
 
 def check(setting, own, bundles, questions, messages, token):

@@ -1,27 +1,63 @@
-/* Verifies the signature of a token. A busy service parses each key once, and keeps it by its JSON text. */
+/* Verifies the signature of a token. A busy service reads each key once, and keeps it by its algorithm and JSON text. */
 #include "verify.h"
-#include "jwk.h"
+#include "svid.h"
 #include <openssl/ecdsa.h>
 #include <openssl/err.h>
 #include <openssl/rsa.h>
+#include <openssl/x509.h>
 #include <string.h>
 
+#define SIGNATURE_MOST 2048   /* bytes of the longest signature: OpenSSL takes no longer ones */
+
+/* An algorithm of RFC 7518, section 3.1. */
+typedef struct {
+    const char *name, *digest;
+    size_t half;   /* of ECDSA, how many bytes each half of a signature has; else 0 */
+    int padding;   /* of RSA; else 0 */
+} algorithm;
+
 static const algorithm algorithms[] = {
-    { "ES256", "SHA256", "P-256", 32, 0 },
-    { "ES384", "SHA384", "P-384", 48, 0 },
-    { "ES512", "SHA512", "P-521", 66, 0 },
-    { "RS256", "SHA256", NULL, 0, RSA_PKCS1_PADDING },
-    { "RS384", "SHA384", NULL, 0, RSA_PKCS1_PADDING },
-    { "RS512", "SHA512", NULL, 0, RSA_PKCS1_PADDING },
-    { "PS256", "SHA256", NULL, 0, RSA_PKCS1_PSS_PADDING },
-    { "PS384", "SHA384", NULL, 0, RSA_PKCS1_PSS_PADDING },
-    { "PS512", "SHA512", NULL, 0, RSA_PKCS1_PSS_PADDING },
+    { "ES256", "SHA256", 32, 0 },
+    { "ES384", "SHA384", 48, 0 },
+    { "ES512", "SHA512", 66, 0 },
+    { "RS256", "SHA256", 0, RSA_PKCS1_PADDING },
+    { "RS384", "SHA384", 0, RSA_PKCS1_PADDING },
+    { "RS512", "SHA512", 0, RSA_PKCS1_PADDING },
+    { "PS256", "SHA256", 0, RSA_PKCS1_PSS_PADDING },
+    { "PS384", "SHA384", 0, RSA_PKCS1_PSS_PADDING },
+    { "PS512", "SHA512", 0, RSA_PKCS1_PSS_PADDING },
 };
 
 static const algorithm *find(const uint8_t *name, size_t len) {
     for (size_t i = 0; i < sizeof algorithms / sizeof *algorithms; i++)
         if (len == strlen(algorithms[i].name) && !memcmp(name, algorithms[i].name, len)) return &algorithms[i];
     return NULL;
+}
+
+/* Decodes base64url without padding: how many bytes that makes, or 0 if the text is not base64url or the room is too short. */
+static size_t base64url(const char *text, size_t text_len, uint8_t *out, size_t room) {
+    static const char digits[] = "ABCDEFGHIJKLMNOPQRSTUVWXYZabcdefghijklmnopqrstuvwxyz0123456789-_";
+    uint32_t bits = 0;
+    size_t len = 0, left = text_len % 4;
+    for (size_t i = 0; i < text_len; i++) {
+        const char *digit = memchr(digits, text[i], 64);
+        if (!digit || (i % 4 && len == room)) return 0;
+        bits = bits << 6 | (uint32_t)(digit - digits);
+        if (i % 4) out[len++] = (uint8_t)(bits >> (6 - 2 * (i % 4)));
+    }
+    /* Bits behind the last byte must be 0. */
+    if (left == 1 || (left == 2 && bits & 15) || (left == 3 && bits & 3)) return 0;
+    return len;
+}
+
+/* The public key that a JWK says, or NULL if the algorithm can't use it. Free it by EVP_PKEY_free. (OpenSSL refuses a point that is not
+ * on its curve.) */
+static EVP_PKEY *key_of(const uint8_t *jwk, size_t jwk_len, const uint8_t *alg, size_t alg_len) {
+    uint8_t der[SVID_SPKI_ROOM];
+    const uint8_t *at = der;
+    svid_told told;
+    if (svid_key_spki(jwk, jwk_len, alg, alg_len, SVID_USUAL_RSA_BITS, der, sizeof der, &told) != SVID_OK) return NULL;
+    return d2i_PUBKEY(NULL, &at, (long)told.len);
 }
 
 /* Writes two numbers, `half` bytes each, as the DER that OpenSSL reads: its length, or 0. Free `*out` by OPENSSL_free. */
@@ -53,15 +89,15 @@ static int is_good(EVP_PKEY *key, const algorithm *alg, const uint8_t *signature
 
 int verify(void *context, const uint8_t *alg_name, size_t alg_len, const uint8_t *jwk, size_t jwk_len, const uint8_t *token, size_t token_len) {
     const algorithm *alg = find(alg_name, alg_len);
-    uint8_t signature[JWK_MOST], *der = NULL;
+    uint8_t signature[SIGNATURE_MOST], *der = NULL;
     size_t at = token_len, len, der_len;
-    EVP_PKEY *key = alg ? jwk_key(jwk, jwk_len, alg) : NULL;
+    EVP_PKEY *key = alg ? key_of(jwk, jwk_len, alg_name, alg_len) : NULL;
     int good = 0;
     (void)context;
     while (at > 0 && token[at - 1] != '.') at--;   /* behind the last dot, the signature begins */
     len = base64url((const char *)token + at, token_len - at, signature, sizeof signature);
     if (key && at > 0 && len > 0) {
-        if (!alg->curve) {
+        if (!alg->half) {
             /* (for PSS, OpenSSL takes one that lacks the zeros at its beginning: RFC 8017, section 8.1.2, does not) */
             good = len == (size_t)EVP_PKEY_get_size(key) && is_good(key, alg, signature, len, token, at - 1);
         } else if (len == 2 * alg->half && (der_len = der_of(signature, alg->half, &der)) > 0) {

@@ -1,4 +1,4 @@
-/* Verifies the signature of a JWT-SVID with a key of its trust bundle, by OpenSSL 3 (-lcrypto) and Jansson (-ljansson). */
+/* Verifies the signature of a JWT-SVID with a key of its trust bundle, by OpenSSL 3 (-lcrypto). */
 #ifndef VERIFY_H
 #define VERIFY_H
 #include <stddef.h>

@@ -1,26 +1,31 @@
 package svid
 
+/*
+#include "svid.h"
+
+static uint32_t key_spki(const uint8_t *key, size_t key_len, _GoString_ alg, size_t most_bits, uint8_t *out, svid_told *told) {
+    return svid_key_spki(key, key_len, (const uint8_t *)_GoStringPtr(alg), _GoStringLen(alg), most_bits, out, SVID_SPKI_ROOM, told);
+}
+*/
+import "C"
+
 import (
 	"crypto"
 	"crypto/ecdsa"
-	"crypto/elliptic"
 	"crypto/rsa"
 	_ "crypto/sha256" // SHA-256 of the algorithms, for Go's own verifiers
 	_ "crypto/sha512" // SHA-384 and SHA-512
-	"encoding/base64"
-	"encoding/json"
+	"crypto/x509"
 	"errors"
 	"fmt"
-	"math/big"
-	"strings"
 )
 
 const (
 	// UsualRSABits is how many bits an RSA key may have, unless KeyringOptions say
 	// another number.
-	UsualRSABits = 4096
-	leastRSABits = 2048  // what RFC 7518, section 3.3, asks of an RSA key
-	mostRSABits  = 16384 // as long as OpenSSL takes one
+	UsualRSABits = C.SVID_USUAL_RSA_BITS
+	leastRSABits = C.SVID_LEAST_RSA_BITS
+	mostRSABits  = C.SVID_MOST_RSA_BITS
 )
 
 // ErrSignature: the key didn't make the signature.
@@ -31,23 +36,32 @@ var ErrKey = errors.New("svid: unusable key")
 
 // An algorithm says how a signature is made (RFC 7518, section 3.1).
 type algorithm struct {
-	place int // in algorithms
-	name  string
-	hash  crypto.Hash
-	curve elliptic.Curve // of ES256 to ES512: the only curve that the algorithm allows
-	pss   bool           // RSASSA-PSS, with a salt of exactly the hash's length (RFC 7518, section 3.5)
+	place  int // in algorithms
+	name   string
+	hash   crypto.Hash
+	scheme scheme
 }
 
-var algorithms = []algorithm{
-	{0, "RS256", crypto.SHA256, nil, false},
-	{1, "RS384", crypto.SHA384, nil, false},
-	{2, "RS512", crypto.SHA512, nil, false},
-	{3, "ES256", crypto.SHA256, elliptic.P256(), false},
-	{4, "ES384", crypto.SHA384, elliptic.P384(), false},
-	{5, "ES512", crypto.SHA512, elliptic.P521(), false},
-	{6, "PS256", crypto.SHA256, nil, true},
-	{7, "PS384", crypto.SHA384, nil, true},
-	{8, "PS512", crypto.SHA512, nil, true},
+// A scheme is that of RFC 7518: RSASSA-PKCS1-v1_5 (section 3.3), ECDSA (3.4), or RSASSA-PSS with a salt of exactly the hash's
+// length (3.5).
+type scheme int
+
+const (
+	pkcs1 scheme = iota
+	elliptic
+	pss
+)
+
+var algorithms = [...]algorithm{
+	{0, "RS256", crypto.SHA256, pkcs1},
+	{1, "RS384", crypto.SHA384, pkcs1},
+	{2, "RS512", crypto.SHA512, pkcs1},
+	{3, "ES256", crypto.SHA256, elliptic},
+	{4, "ES384", crypto.SHA384, elliptic},
+	{5, "ES512", crypto.SHA512, elliptic},
+	{6, "PS256", crypto.SHA256, pss},
+	{7, "PS384", crypto.SHA384, pss},
+	{8, "PS512", crypto.SHA512, pss},
 }
 
 func findAlgorithm[T string | []byte](name T) *algorithm {
@@ -67,25 +81,17 @@ func algorithmName(name []byte) string {
 	return string(name)
 }
 
-// signatureLen is how many bytes a signature of the algorithm has that this key made: as many as the modulus (RFC 8017, 8.1.2
-// and 8.2.2), or r and s, each with the whole length of the curve's order (RFC 7518, section 3.4). It is 0 for a key of
-// another type or curve.
-func signatureLen(a *algorithm, key crypto.PublicKey) int {
+// signatureLen is how many bytes a signature by this key has: as many as the modulus (RFC 8017, 8.1.2 and 8.2.2), or r and s,
+// each with the whole length of the curve's order (RFC 7518, section 3.4).
+func signatureLen(key crypto.PublicKey) int {
 	switch k := key.(type) {
 	case *rsa.PublicKey:
-		if a.curve == nil {
-			return k.Size()
-		}
+		return k.Size()
 	case *ecdsa.PublicKey:
-		if a.curve != nil && k.Curve == a.curve {
-			return 2 * fieldLen(k.Curve)
-		}
+		return 2 * ((k.Params().BitSize + 7) / 8)
 	}
 	return 0
 }
-
-// fieldLen is how many bytes a coordinate of the curve has.
-func fieldLen(curve elliptic.Curve) int { return (curve.Params().BitSize + 7) / 8 }
 
 // A signing is a text and its signature. The text is hashed once, however many keys may have made the signature: all of them
 // by one algorithm.
@@ -97,17 +103,16 @@ type signing struct {
 
 // A Key is a public key of a trust bundle: an entry of a JWK set.
 type Key struct {
-	text      string
-	algorithm string // the JWK's alg: the only one that it may be used with, or "" for any
-	public    crypto.PublicKey
-	handle    *handle // what verifies
-	fault     error
+	text   string
+	said   [len(algorithms)]C.uint32_t // what the library said of it for each algorithm
+	public crypto.PublicKey
+	handle *handle // what verifies
+	fault  error
 }
 
 // ParseKey reads a JWK of type RSA or EC. The error is ErrNoMemory, or ErrKey with the
-// reason: an RSA key of fewer than 2,048 or more than UsualRSABits bits, a curve that
-// no algorithm has, a point off its curve, a coordinate of another length than the
-// curve's, an alg that is there and is no name of an algorithm.
+// reason why no algorithm can use the key (docs/FORMATS.md, "Keys that can be used").
+// An RSA key has at most UsualRSABits bits.
 func ParseKey(jwk []byte) (*Key, error) { return KeyringOptions{}.ParseKey(jwk) }
 
 // ParseKey is the function ParseKey, with the bound of these options. It may answer
@@ -127,131 +132,52 @@ func (o KeyringOptions) ParseKey(jwk []byte) (*Key, error) {
 // parseKey is ParseKey that keeps the fault: a key that can't be used verifies nothing. An RSA key has at most so many bits.
 func parseKey(jwk []byte, rsaBits int) *Key {
 	k := &Key{text: string(jwk)}
-	// (By their exact names: a struct's tags would take any case.)
-	var members map[string]json.RawMessage
-	if err := json.Unmarshal(jwk, &members); err != nil {
-		k.fault = fmt.Errorf("%w: %v", ErrKey, err)
+	var der []byte // the same for each algorithm that can use the key
+	worst := C.uint32_t(C.SVID_OK)
+	for i := range algorithms {
+		room := make([]byte, C.SVID_SPKI_ROOM)
+		var told C.svid_told
+		said := C.key_spki(start(jwk), C.size_t(len(jwk)), algorithms[i].name, C.size_t(rsaBits), start(room), &told)
+		switch k.said[i] = said; {
+		case said == C.SVID_NO_MEMORY:
+			k.fault = ErrNoMemory
+			return k
+		case said == C.SVID_OK:
+			der = room[:told.len]
+		case said > worst:
+			worst = said
+		}
+	}
+	if der == nil {
+		k.fault = keyError(worst, rsaBits)
 		return k
 	}
-	k.public, k.fault = parsePublic(members, rsaBits)
-	if _, ok := members["alg"]; ok && k.fault == nil {
-		k.algorithm, k.fault = parseAlgorithm(members)
+	var err error
+	if k.public, err = x509.ParsePKIXPublicKey(der); err != nil {
+		k.fault = fmt.Errorf("%w: %v", ErrKey, err) // (a point that is not on its curve)
+		return k
 	}
-	if k.fault == nil {
-		k.fault = k.hold()
-	}
+	k.fault = k.hold(der)
 	return k
 }
 
-// parsePublic reads the members of the key's type. All others may be anything.
-func parsePublic(members map[string]json.RawMessage, rsaBits int) (crypto.PublicKey, error) {
-	kty, err := stringAt(members, "kty")
-	if err != nil {
-		return nil, err
-	}
-	switch kty {
-	case "RSA":
-		return parseRSA(members, rsaBits)
-	case "EC":
-		return parseEC(members)
-	}
-	return nil, fmt.Errorf("%w: kty %q is neither RSA nor EC", ErrKey, kty)
+var keyFaults = map[C.uint32_t]string{
+	C.SVID_KEY_NOT_OBJECT: "it is no JSON object",
+	C.SVID_KEY_KTY:        "its type is neither RSA nor EC",
+	C.SVID_KEY_ALG:        "it is for another algorithm than one of RS256 to PS512 that fits it",
+	C.SVID_KEY_N:          "its modulus is no odd number in base64url",
+	C.SVID_KEY_E:          "its exponent is no odd number from 3 to 2^31-1 in base64url",
+	C.SVID_KEY_CRV:        "its curve is none of P-256, P-384 and P-521",
+	C.SVID_KEY_X:          "its first coordinate is not base64url of the curve's length",
+	C.SVID_KEY_Y:          "its second coordinate is not base64url of the curve's length",
 }
 
-// parseAlgorithm reads the alg of a JWK that has one: the name of an algorithm (RFC 7517, section 4.4).
-func parseAlgorithm(members map[string]json.RawMessage) (string, error) {
-	name, err := stringAt(members, "alg")
-	if err != nil {
-		return "", err
+// keyError is ErrKey with the reason.
+func keyError(said C.uint32_t, rsaBits int) error {
+	if said == C.SVID_KEY_BITS {
+		return fmt.Errorf("%w: an RSA key of too few or too many bits; it must have from %d to %d", ErrKey, leastRSABits, rsaBits)
 	}
-	if findAlgorithm(name) == nil {
-		return "", fmt.Errorf("%w: alg %q is none of RS256 to PS512", ErrKey, name)
-	}
-	return name, nil
-}
-
-func parseRSA(members map[string]json.RawMessage, most int) (crypto.PublicKey, error) {
-	modulus, err := number(members, "n")
-	if err != nil {
-		return nil, err
-	}
-	if bits := modulus.BitLen(); bits < leastRSABits || bits > most {
-		return nil, fmt.Errorf("%w: an RSA key of %d bits; it must have from %d to %d", ErrKey, bits, leastRSABits, most)
-	}
-	exponent, err := number(members, "e")
-	if err != nil {
-		return nil, err
-	}
-	if exponent.BitLen() > 31 || exponent.Cmp(big.NewInt(3)) < 0 || exponent.Bit(0) == 0 {
-		return nil, fmt.Errorf("%w: the exponent is not an odd number from 3 to 2^31-1", ErrKey)
-	}
-	return &rsa.PublicKey{N: modulus, E: int(exponent.Int64())}, nil
-}
-
-func parseEC(members map[string]json.RawMessage) (crypto.PublicKey, error) {
-	crv, err := stringAt(members, "crv")
-	if err != nil {
-		return nil, err
-	}
-	var curve elliptic.Curve
-	for i := range algorithms {
-		if c := algorithms[i].curve; c != nil && c.Params().Name == crv {
-			curve = c
-		}
-	}
-	if curve == nil {
-		return nil, fmt.Errorf("%w: crv %q is none of P-256, P-384 and P-521", ErrKey, crv)
-	}
-	var point [2]*big.Int
-	for i, name := range [2]string{"x", "y"} {
-		bytes, err := decode(members, name)
-		if err != nil {
-			return nil, err
-		}
-		if want := fieldLen(curve); len(bytes) != want {
-			return nil, fmt.Errorf("%w: %s has %d bytes; %s wants %d", ErrKey, name, len(bytes), crv, want)
-		}
-		point[i] = new(big.Int).SetBytes(bytes)
-	}
-	if !curve.IsOnCurve(point[0], point[1]) {
-		return nil, fmt.Errorf("%w: the point is not on %s", ErrKey, crv)
-	}
-	return &ecdsa.PublicKey{Curve: curve, X: point[0], Y: point[1]}, nil
-}
-
-// stringAt is a member that is a string. An explicit null is none.
-func stringAt(members map[string]json.RawMessage, name string) (string, error) {
-	value, ok := members[name]
-	if !ok {
-		return "", fmt.Errorf("%w: it has no %s", ErrKey, name)
-	}
-	var text *string
-	if err := json.Unmarshal(value, &text); err != nil || text == nil {
-		return "", fmt.Errorf("%w: %s is not a string", ErrKey, name)
-	}
-	return *text, nil
-}
-
-// number is a member that is a number in base64url (RFC 7518, section 2).
-func number(members map[string]json.RawMessage, name string) (*big.Int, error) {
-	bytes, err := decode(members, name)
-	if err != nil {
-		return nil, err
-	}
-	return new(big.Int).SetBytes(bytes), nil
-}
-
-// decode is a member that is base64url without padding. (Go's decoder would pass over line ends.)
-func decode(members map[string]json.RawMessage, name string) ([]byte, error) {
-	text, err := stringAt(members, name)
-	if err != nil {
-		return nil, err
-	}
-	bytes, err := base64.RawURLEncoding.Strict().DecodeString(text)
-	if err != nil || strings.ContainsAny(text, "\r\n") {
-		return nil, fmt.Errorf("%w: %s is not base64url", ErrKey, name)
-	}
-	return bytes, nil
+	return fmt.Errorf("%w: %s", ErrKey, keyFaults[said])
 }
 
 // JSON returns the key's JWK.
@@ -278,10 +204,14 @@ func (k *Key) verify(name string, s *signing) error {
 	if a == nil {
 		return fmt.Errorf("%w: no algorithm is named %q", ErrKey, name)
 	}
-	if k.algorithm != "" && k.algorithm != name {
-		return fmt.Errorf("%w: the key is for %s, and the token says %s", ErrKey, k.algorithm, name)
+	switch k.said[a.place] {
+	case C.SVID_OK:
+	case C.SVID_KEY_ALG:
+		return fmt.Errorf("%w: it is for another algorithm, and the token says %s", ErrKey, name)
+	default: // A key of another type or curve.
+		return ErrSignature
 	}
-	if due := signatureLen(a, k.public); due == 0 || len(s.signature) != due {
+	if len(s.signature) != signatureLen(k.public) {
 		return ErrSignature
 	}
 	return k.made(a, s)

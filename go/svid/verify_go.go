@@ -14,7 +14,7 @@ type digest []byte
 // A handle is what verifies by OpenSSL. Go's library needs none.
 type handle struct{}
 
-func (k *Key) hold() error { return nil }
+func (k *Key) hold(der []byte) error { return nil }
 
 // made is nil if the key made the signature, which has the length that is due, and else ErrSignature.
 func (k *Key) made(a *algorithm, s *signing) error {
@@ -39,7 +39,7 @@ func verifyInGo(a *algorithm, public any, digest, signature []byte) bool {
 		if new(big.Int).SetBytes(signature).Cmp(key.N) >= 0 {
 			return false
 		}
-		if a.pss {
+		if a.scheme == pss {
 			return rsa.VerifyPSS(key, a.hash, digest, signature, &rsa.PSSOptions{SaltLength: a.hash.Size()}) == nil
 		}
 		return rsa.VerifyPKCS1v15(key, a.hash, digest, signature) == nil

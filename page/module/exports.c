@@ -19,6 +19,10 @@ void __rattle_trap(void);
 
 EXPORT(svid_version, (void), ())
 EXPORT(svid_id_parse, (const uint8_t *text, size_t text_len, svid_id *out), (text, text_len, out))
+EXPORT(svid_key_spki,
+       (const uint8_t *key, size_t key_len, const uint8_t *alg, size_t alg_len, size_t most_bits, uint8_t *out, size_t out_len,
+        svid_told *told),
+       (key, key_len, alg, alg_len, most_bits, out, out_len, told))
 EXPORT(svid_join,
        (const uint8_t *a, size_t a_len, const uint8_t *b, size_t b_len, uint64_t now, uint8_t *out, size_t out_len, svid_told *told),
        (a, a_len, b, b_len, now, out, out_len, told))

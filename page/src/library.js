@@ -8,6 +8,8 @@ const OK = 0, TOO_SHORT = 1;
 
 /** How many keys are tried for a token. */
 export const MOST_CANDIDATES = 3n;
+/** How many bits an RSA key may have. */
+export const MOST_RSA_BITS = 4096n;
 
 const encoder = new TextEncoder();
 const decoder = new TextDecoder();
@@ -45,6 +47,11 @@ export class Library {
       const [place, domainLength, pathLength] = memory.words(out, 3).map(Number);
       return { status, place, domainLength, pathLength };
     });
+  }
+
+  /** A key, which is JSON, as SubjectPublicKeyInfo for an algorithm: `{ status, bytes }`, or the status that says why it can't be used. */
+  spki(key, alg) {
+    return this.text((memory, ...out) => this.calls.svid_key_spki(...memory.lend(key), ...memory.lend(alg), MOST_RSA_BITS, ...out));
   }
 
   /** What both inputs tell, as messages: `{ status, input, message, place, bytes }`. */
@@ -112,13 +119,15 @@ class Validator {
 
   /**
    * The first keys that may have signed a token.
-   * @returns `{ status, rows, more }`, and `more` says whether there are more such keys; a row has `question`, 64 hexadecimal digits, `alg`, and `key`, the key as JSON
+   * @returns `{ status, rows, more }`, and `more` says whether there are more such keys; a row has `question`, 64 hexadecimal digits, `alg`, `key`, the key
+   * as JSON, and `spki`, what `Library.spki` says of it
    */
   ask(token) {
     const said = this.library.text((memory, ...out) =>
       this.calls.svid_validator_ask(this.handle, ...memory.lend(token), MOST_CANDIDATES, ...out),
     );
-    return { status: said.status, rows: said.status === OK ? rowsOf(said.bytes) : [], more: said.more === 1 };
+    const rows = said.status === OK ? rowsOf(said.bytes) : [];
+    return { status: said.status, rows: rows.map((it) => ({ ...it, spki: this.library.spki(it.key, it.alg) })), more: said.more === 1 };
   }
 
   /** What `check` would say; the record gains nothing. */

@@ -227,7 +227,7 @@ export function testVerdicts(start) {
     rows.forEach(([, wanted], n) => assert.match(rowsSaid[n], wanted));
     assert.equal((await shown()).said, "Accepted");
     await page.write({ ...fresh(), bundles: `{"example.org":{"keys":[${JSON.stringify(curve.entry)}]}}`, token: await signed() });
-    assert.match((await said())[0], /^can't be used: its curve is P-384, and ES256 needs P-256/);
+    assert.match((await said())[0], /^can't be used: its curve is not P-256, which ES256 needs/);
   });
 
   test("a key that is too weak, or is of another algorithm, verifies nothing", async () => {
@@ -237,28 +237,31 @@ export function testVerdicts(start) {
       "RS256": [rsa, [
         [{}, /^verifies the signature/],
         [{ alg: "RS256" }, /^verifies the signature/],
-        [{ alg: "RS512" }, /^can't be used: its alg is "RS512", and that of the token is RS256/],
-        [{ alg: null }, /^can't be used: its alg is null/],
-        [{ n: small.entry.n }, /^can't be used: its modulus has 1,024 bits, and must have from 2,048 to 4,096/],
-        [{ n: number([0x7f, ...Array(255).fill(255)]) }, /^can't be used: its modulus has 2,047 bits/],
-        [{ n: number([1, ...Array(512).fill(1)]) }, /^can't be used: its modulus has 4,097 bits/],
+        [{ alg: "RS512" }, /^can't be used: its alg is not that of the token, RS256/],
+        [{ alg: null }, /^can't be used: its alg is not that of the token, RS256/],
+        [{ n: small.entry.n }, /^can't be used: its modulus must have from 2,048 to 4,096 bits/],
+        [{ n: number([0x7f, ...Array(255).fill(255)]) }, /^can't be used: its modulus must have from 2,048/],
+        [{ n: number([1, ...Array(512).fill(1)]) }, /^can't be used: its modulus must have from 2,048/],
         [{ n: number([128, ...Array(511).fill(1)]) }, /^(does not verify the signature|can't be used: (?!its modulus))/],
-        [{ n: undefined }, /^can't be used: its n is no base64url/],
+        [{ n: undefined }, /^can't be used: its modulus is no odd number/],
         [{ e: number([1]) }, /^can't be used: its exponent is no odd number/],
         [{ e: number([2]) }, /^can't be used: its exponent/],
         [{ e: number([1, 0, 0, 0, 1]) }, /^can't be used: its exponent/],
         [{ e: "" }, /^can't be used: its exponent/],
-        [{ e: "AQAB==" }, /^can't be used: its e is no base64url/],
-        [{ e: 65537 }, /^can't be used: its e is no base64url/],
+        [{ e: "AQAB==" }, /^can't be used: its exponent is no odd number/],
+        [{ e: 65537 }, /^can't be used: its exponent is no odd number/],
+        [{ e: number([0, 1, 0, 1]) }, /^can't be used: its exponent is no odd number/],
+        [{ n: number([0, 128, ...Array(254).fill(0), 1]) }, /^can't be used: its modulus is no odd number/],
+        [{ n: number([128, ...Array(254).fill(0), 2]) }, /^can't be used: its modulus is no odd number/],
       ]],
       "ES256": [ec, [
         [{}, /^verifies the signature/],
-        [{ x: base64url(Buffer.concat([Buffer.alloc(1), Buffer.from(ec.entry.x, "base64url")])) }, /^can't be used: its x has 33 bytes, and P-256 needs 32/],
-        [{ y: `AAAA${ec.entry.y}` }, /^can't be used: its y has 35 bytes, and P-256 needs 32/],
-        [{ x: `${ec.entry.x}\n` }, /^can't be used: its x is no base64url/],
-        [{ y: ec.entry.y.slice(0, 42) }, /^can't be used: its y (is no base64url|has 31 bytes, and P-256 needs 32)/],
+        [{ x: base64url(Buffer.concat([Buffer.alloc(1), Buffer.from(ec.entry.x, "base64url")])) }, /^can't be used: its first coordinate is not base64url of the length that P-256 has/],
+        [{ y: `AAAA${ec.entry.y}` }, /^can't be used: its second coordinate is not base64url of the length/],
+        [{ x: `${ec.entry.x}\n` }, /^can't be used: its first coordinate is not/],
+        [{ y: ec.entry.y.slice(0, 42) }, /^can't be used: its second coordinate is not/],
         [{ x: base64url(Buffer.alloc(32)) }, /^can't be used: /],
-        [{ crv: "secp256k1" }, /^can't be used: its curve is secp256k1/],
+        [{ crv: "secp256k1" }, /^can't be used: its curve is not P-256/],
       ]],
     };
     for (const [alg, [mine, changes]] of Object.entries(cases)) {

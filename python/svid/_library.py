@@ -88,6 +88,11 @@ BUNDLE_FAULTS = {
 ID_ROOM = 2048
 MOST_CANDIDATES = 3
 """How many keys are tried for a token."""
+SPKI_ROOM = 2100
+"""Enough room for any key as SubjectPublicKeyInfo."""
+USUAL_RSA_BITS = 4096
+RSA_BITS = range(2048, 16_384 + 1)
+"""How many bits an RSA key may be let have."""
 BATCH_HEAD_LEN = 17
 USE_LEN = 65
 USES_IN_A_BATCH = 65_536
@@ -249,6 +254,7 @@ _CALLS = {
     "svid_journal_read": [*_PLACE, c_uint64, *_LENT, c_void_p, c_void_p],
     "svid_journal_synced": _FOLDER,
     "svid_journal_unwritten": _FOLDER,
+    "svid_key_spki": [*_LENT, *_LENT, c_size_t, *_OUT, *_TOLD],
     "svid_token_says": [*_LENT, c_void_p, *_OUT, *_OUT, *_TOLD],
     "svid_report": [*_LENT, *_NOW, *_OUT, *_TOLD],
     "svid_validator_answer": [*_VALIDATOR, *_NOW, *_LENT, *_OUT, *_TOLD],

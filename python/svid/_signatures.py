@@ -2,14 +2,16 @@
 
 from __future__ import annotations
 
-import base64
-import json
 from collections.abc import Callable
-from typing import Any
 
-from cryptography.exceptions import InvalidSignature
+from cryptography.exceptions import InvalidSignature, UnsupportedAlgorithm
 from cryptography.hazmat.primitives import hashes
 from cryptography.hazmat.primitives.asymmetric import ec, padding, rsa, utils
+from cryptography.hazmat.primitives.serialization import load_der_public_key
+
+from ._library import NO_MEMORY, OK, RSA_BITS, SPKI_ROOM, USUAL_RSA_BITS, Told, address, quick
+
+__all__ = ["USUAL_RSA_BITS", "Verifier", "Verifies"]
 
 Verifies = Callable[[str, bytes, bytes, bytes], bool]
 """Whether a key made a signature: called with the algorithm's name (as "ES256"), the key as JSON
@@ -23,32 +25,19 @@ _HASHES: dict[str, hashes.HashAlgorithm] = {
     "384": hashes.SHA384(),
     "512": hashes.SHA512(),
 }
-_CURVES: dict[str, tuple[str, ec.EllipticCurve]] = {
-    "ES256": ("P-256", ec.SECP256R1()),
-    "ES384": ("P-384", ec.SECP384R1()),
-    "ES512": ("P-521", ec.SECP521R1()),
-}
-USUAL_RSA_BITS = 4096
-_RSA_BITS = range(2048, 16_384 + 1)
-_RSA_EXPONENTS = range(3, 2**31, 2)
 
 
 class Verifier:
-    """Verifies signatures, and keeps each key that it has parsed, by its JSON text.
+    """Verifies signatures, and keeps each key that it has parsed, by its algorithm and JSON text.
 
-    A key is usable only where all of this holds; else it made no signature:
-
-    - `alg`, where it is there, is the token's algorithm;
-    - EC: `crv` is the algorithm's curve, and `x` and `y` of full length are a point of it;
-    - RSA: `n` has from 2,048 to `rsa_bits` bits, and `e` is an odd number from 3 to 2^31-1.
-
-    `x5c` and all other members are passed over.
+    A key that can't be used with the algorithm made no signature. Which can, says the library
+    (docs/FORMATS.md, "Keys that can be used"), and an RSA key has at most `rsa_bits` bits.
     """
 
     def __init__(self, rsa_bits: int = USUAL_RSA_BITS) -> None:
-        if rsa_bits not in _RSA_BITS:
+        if rsa_bits not in RSA_BITS:
             raise ValueError("rsa_bits must be from 2,048 to 16,384")
-        self._rsa_bits = range(_RSA_BITS.start, rsa_bits + 1)
+        self._rsa_bits = rsa_bits
         self._keys: dict[tuple[str, bytes], _Good] = {}
 
     def __call__(self, alg: str, key: bytes, signed: bytes, signature: bytes) -> bool:
@@ -62,28 +51,36 @@ class Verifier:
         self._keys = {}
 
 
-def _parsed(alg: str, key: bytes, rsa_bits: range) -> _Good:
-    try:
-        jwk: dict[str, Any] = json.loads(key)
-        if jwk.get("alg", alg) != alg:
-            return _never
-        return _elliptic(alg, jwk) if alg in _CURVES else _rsa(alg, jwk, rsa_bits)
-    except (KeyError, TypeError, ValueError):
+def _spki(alg: str, key: bytes, rsa_bits: int) -> bytes | None:
+    """The key as SubjectPublicKeyInfo, or None if the algorithm can't use it."""
+    name, room, told = alg.encode(), bytearray(SPKI_ROOM), Told()
+    status: int = quick.svid_key_spki(
+        key, len(key), name, len(name), rsa_bits, address(room), SPKI_ROOM, address(told)
+    )
+    if status == NO_MEMORY:
+        raise MemoryError
+    return bytes(room[: told.len]) if status == OK else None
+
+
+def _parsed(alg: str, key: bytes, rsa_bits: int) -> _Good:
+    der = _spki(alg, key, rsa_bits)
+    if der is None:
         return _never
+    try:
+        public = load_der_public_key(der)
+    except (ValueError, UnsupportedAlgorithm):  # (a point that is not on its curve)
+        return _never
+    if isinstance(public, ec.EllipticCurvePublicKey):
+        return _elliptic(alg, public)
+    return _rsa(alg, public) if isinstance(public, rsa.RSAPublicKey) else _never
 
 
 def _never(_signed: bytes, _signature: bytes) -> bool:
     return False
 
 
-def _elliptic(alg: str, jwk: dict[str, Any]) -> _Good:
-    name, curve = _CURVES[alg]
-    size = (curve.key_size + 7) // 8
-    x, y = _decoded(jwk["x"]), _decoded(jwk["y"])
-    if jwk["crv"] != name or len(x) != size or len(y) != size:
-        return _never
-    numbers = ec.EllipticCurvePublicNumbers(_number(x), _number(y), curve)
-    public, algorithm = numbers.public_key(), ec.ECDSA(_HASHES[alg[2:]])
+def _elliptic(alg: str, public: ec.EllipticCurvePublicKey) -> _Good:
+    size, algorithm = (public.curve.key_size + 7) // 8, ec.ECDSA(_HASHES[alg[2:]])
 
     def good(signed: bytes, signature: bytes) -> bool:
         if len(signature) != 2 * size:
@@ -98,12 +95,8 @@ def _elliptic(alg: str, jwk: dict[str, Any]) -> _Good:
     return good
 
 
-def _rsa(alg: str, jwk: dict[str, Any], bits: range) -> _Good:
-    numbers = rsa.RSAPublicNumbers(_number(_decoded(jwk["e"])), _number(_decoded(jwk["n"])))
-    if numbers.n.bit_length() not in bits or numbers.e not in _RSA_EXPONENTS:
-        return _never
-    public, algorithm = numbers.public_key(), _HASHES[alg[2:]]
-    size = (numbers.n.bit_length() + 7) // 8
+def _rsa(alg: str, public: rsa.RSAPublicKey) -> _Good:
+    size, algorithm = (public.key_size + 7) // 8, _HASHES[alg[2:]]
     scheme: padding.AsymmetricPadding = padding.PKCS1v15()
     if alg.startswith("PS"):
         scheme = padding.PSS(padding.MGF1(algorithm), algorithm.digest_size)
@@ -123,11 +116,3 @@ def _rsa(alg: str, jwk: dict[str, Any], bits: range) -> _Good:
 
 def _number(data: bytes) -> int:
     return int.from_bytes(data, "big")
-
-
-def _decoded(text: str) -> bytes:
-    """The bytes of a member of a key: base64url as RFC 7515 has it, without padding."""
-    data = base64.urlsafe_b64decode(text + "=" * (-len(text) % 4))
-    if base64.urlsafe_b64encode(data).decode().rstrip("=") != text:
-        raise ValueError("not base64url")
-    return data

@@ -216,6 +216,8 @@ ODD = {
     "no algorithm": ("ES256", {**ES, "alg": None}),
     "no modulus": ("RS256", {**RS, "n": None}),
     "an even modulus": ("RS256", {**RS, "n": number(2**2048 + 2)}),
+    "a zero before the modulus": ("RS256", {**RS, "n": b64(bytes(1) + unb64(RS["n"]))}),
+    "a zero before the exponent": ("RS256", {**RS, "e": "AAEAAQ"}),
     "an exponent of 1": ("RS256", {**RS, "e": "AQ"}),
     "an even exponent": ("RS256", {**RS, "e": "Ag"}),
     "no exponent": ("RS256", {**RS, "e": ""}),

@@ -83,7 +83,7 @@ func TestAnRSAKeyHasABound(t *testing.T) {
 	if err := os.WriteFile(file, []byte(bundle), 0o600); err != nil {
 		t.Fatal(err)
 	}
-	one, why := signed+"."+encode(signature), "an RSA key of 5120 bits; it must have from 2048 to 4096"
+	one, why := signed+"."+encode(signature), "an RSA key of too few or too many bits; it must have from 2048 to 4096"
 	for _, row := range []struct {
 		option []string
 		want   string

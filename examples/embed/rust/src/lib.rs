@@ -162,6 +162,16 @@ type Two = unsafe extern "C" fn(*const u8, usize, *const u8, usize, u64, *mut u8
 
 extern "C" {
     fn svid_id_parse(text: *const u8, len: usize, out: *mut Id) -> u32;
+    fn svid_key_spki(
+        key: *const u8,
+        key_len: usize,
+        alg: *const u8,
+        alg_len: usize,
+        most_bits: usize,
+        out: *mut u8,
+        len: usize,
+        told: *mut Told,
+    ) -> u32;
     fn svid_join(a: *const u8, a_len: usize, b: *const u8, b_len: usize, now: u64, out: *mut u8, len: usize, told: *mut Told) -> u32;
     fn svid_report(a: *const u8, a_len: usize, now: u64, out: *mut u8, len: usize, told: *mut Told) -> u32;
     fn svid_summary(a: *const u8, a_len: usize, now: u64, out: *mut u8, len: usize, told: *mut Told) -> u32;
@@ -216,6 +226,14 @@ pub fn parse(text: &str) -> Result<(&str, &str), (u32, usize)> {
         0 => Ok(text[9..].split_at(id.domain_len)),
         status => Err((status, id.place)),
     }
+}
+
+/// How many bits an RSA key may have: SVID_USUAL_RSA_BITS of the header.
+pub const USUAL_RSA_BITS: usize = 4096;
+
+/// A key, which is JSON, as SubjectPublicKeyInfo for the algorithm of this name.
+pub fn key_spki(key: &str, alg: &str) -> Result<Vec<u8>, Refused> {
+    written(|out, len, told| unsafe { svid_key_spki(key.as_ptr(), key.len(), alg.as_ptr(), alg.len(), USUAL_RSA_BITS, out, len, told) })
 }
 
 /// What both inputs tell at a moment, as messages.

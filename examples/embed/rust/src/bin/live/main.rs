@@ -3,7 +3,6 @@
 //!
 //! Usage: live BUNDLES RENEWED TOKENS, where each line of TOKENS is a name and a token; tokens.py writes all three.
 #![forbid(unsafe_code)]
-mod jwk;
 mod verify;
 
 use std::sync::Mutex;

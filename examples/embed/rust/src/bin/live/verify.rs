@@ -1,30 +1,44 @@
-//! Verifies the signature of a token by OpenSSL. A busy service parses each key once, and keeps it by its JSON text.
-use crate::jwk::{base64url, public_key};
+//! Verifies the signature of a token by OpenSSL. A busy service reads each key once, and keeps it by its algorithm and JSON text.
 use openssl::bn::BigNum;
 use openssl::ecdsa::EcdsaSig;
 use openssl::hash::MessageDigest;
-use openssl::nid::Nid;
+use openssl::pkey::PKey;
 use openssl::rsa::Padding;
 use openssl::sign::{RsaPssSaltlen, Verifier};
-use svid::Row;
+use svid::{key_spki, Row};
+
+const DIGITS: &[u8; 64] = b"ABCDEFGHIJKLMNOPQRSTUVWXYZabcdefghijklmnopqrstuvwxyz0123456789-_";
+
+/// Decodes base64url without padding. Bits behind the last byte must be 0.
+fn base64url(text: &[u8]) -> Option<Vec<u8>> {
+    let (mut bits, mut bytes) = (0u32, Vec::new());
+    for (i, byte) in text.iter().enumerate() {
+        bits = (bits << 6) | DIGITS.iter().position(|digit| digit == byte)? as u32;
+        if i % 4 > 0 {
+            bytes.push((bits >> (6 - 2 * (i % 4))) as u8);
+        }
+    }
+    let left = match text.len() % 4 {
+        0 => 0,
+        1 => return None,
+        2 => bits & 15,
+        _ => bits & 3,
+    };
+    (left == 0).then_some(bytes)
+}
 
 /// What an algorithm of RFC 7518, section 3.1, signs with.
-pub enum Kind {
-    /// A curve of this name; a coordinate has `half` bytes, and so has each half of a signature.
-    Curve {
-        name: &'static str,
-        nid: Nid,
-        half: usize,
-    },
+enum Kind {
+    /// A curve; each half of a signature has so many bytes.
+    Curve(usize),
     Rsa(Padding),
 }
 
 fn algorithm(name: &str) -> Option<(Kind, MessageDigest)> {
-    let curve = |name, nid, half| Kind::Curve { name, nid, half };
     let kind = match name {
-        "ES256" => curve("P-256", Nid::X9_62_PRIME256V1, 32),
-        "ES384" => curve("P-384", Nid::SECP384R1, 48),
-        "ES512" => curve("P-521", Nid::SECP521R1, 66),
+        "ES256" => Kind::Curve(32),
+        "ES384" => Kind::Curve(48),
+        "ES512" => Kind::Curve(66),
         "RS256" | "RS384" | "RS512" => Kind::Rsa(Padding::PKCS1),
         "PS256" | "PS384" | "PS512" => Kind::Rsa(Padding::PKCS1_PSS),
         _ => return None,
@@ -49,12 +63,13 @@ fn der_of(numbers: &[u8], half: usize) -> Option<Vec<u8>> {
 
 fn answer(row: &Row, token: &[u8]) -> Option<bool> {
     let (kind, digest) = algorithm(&row.alg)?;
-    let key = public_key(&row.jwk, &row.alg, &kind)?;
+    // (OpenSSL refuses a point that is not on its curve)
+    let key = PKey::public_key_from_der(&key_spki(&row.jwk, &row.alg).ok()?).ok()?;
     let dot = token.iter().rposition(|byte| *byte == b'.')?;
     let mut signature = base64url(&token[dot + 1..])?;
     let mut verifier = Verifier::new(digest, &key).ok()?;
     match kind {
-        Kind::Curve { half, .. } => signature = der_of(&signature, half)?,
+        Kind::Curve(half) => signature = der_of(&signature, half)?,
         Kind::Rsa(padding) => {
             // (for PSS, OpenSSL takes one that lacks the zeros at its beginning: RFC 8017, section 8.1.2, does not)
             if signature.len() != key.size() {
