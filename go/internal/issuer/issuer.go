@@ -90,14 +90,6 @@ func (i *Issuer) Sign(algorithm, header, payload string) string {
 	return signed + "." + encode(i.signature(algorithm, signed))
 }
 
-// Salted is Sign by PS256 with another length of the salt.
-func (i *Issuer) Salted(claims map[string]any, salt int) string {
-	header := marshal(map[string]any{"alg": "PS256", "kid": KeyID("PS256")})
-	signed := encode(header) + "." + encode(marshal(claims))
-	signature, err := rsa.SignPSS(rand.Reader, i.rsa, crypto.SHA256, digest(crypto.SHA256, signed), &rsa.PSSOptions{SaltLength: salt})
-	return signed + "." + encode(must(signature, err))
-}
-
 var hashes = map[string]crypto.Hash{"256": crypto.SHA256, "384": crypto.SHA384, "512": crypto.SHA512}
 
 func (i *Issuer) signature(algorithm, signed string) []byte {
