@@ -8,7 +8,7 @@ from svid import _library as lib
 from svid._bearer import admit
 from svid._handle import Handle
 
-KEYS, SIGNATURES, TOKENS = (vectors.read(it) for it in ("keys", "signatures", "tokens"))
+KEYS, SIGNATURES, TOKENS = vectors.read("keys"), vectors.read("signatures"), vectors.TOKENS
 BUNDLES, HEADERS, MESSAGES = (vectors.read(it) for it in ("bundles", "headers", "messages"))
 SUMMARIES, LOGS, FILES, FOLDERS = (
     vectors.read(it) for it in ("summaries", "logs", "files", "folders")
@@ -37,45 +37,9 @@ def test_keys_and_signatures(vector):
 
 @each(TOKENS)
 def test_calls_of_a_validator(vector):
-    given = TOKENS["setting"] | vector.get("setting", {})
-    terms = {name: ANY if given[name] is None else given[name] for name in ("longest", "ahead")}
-    with svid.Validator(
-        audiences=given["audiences"],
-        bundles=TOKENS["bundles"][given["bundles"]].encode(),
-        place=bytes.fromhex(given["place"]),
-        step=given["step"],
-        **terms,
-    ) as checks:
+    with vectors.opened(vector) as checks:
         for call in vector["calls"]:
-            assert called(checks, call) == call["answer"], call
-
-
-def called(checks, call):
-    """What a call of a validator answers, in the words of the vectors."""
-    now = call.get("now")
-    try:
-        match call["call"]:
-            case "check" | "judge":
-                accepted = getattr(checks, call["call"])(call["token"], now)
-                return f"accepted {accepted.spiffe_id} {accepted.expires}"
-            case "withdraw":
-                checks.withdraw_key(bytes.fromhex(call["key"]), call["exp"], now)
-                return "withdrawn"
-            case "take":
-                checks.take(bytes.fromhex(call["messages"]), now)
-                return "taken"
-            case "tick":
-                checks.tick(now)
-                return "ticked"
-            case "tell":
-                return b"".join(checks.parts()).hex()
-    except svid.Refused as why:
-        return f"refused {why.name}"
-    except svid.BadMessages as why:
-        return f"{why.reason} {why.message} {why.place}"
-    except (svid.Jump, svid.Gone, svid.TooFar) as why:
-        return type(why).__name__
-    raise AssertionError(call["call"])
+            assert vectors.called(checks, call) == call["answer"], call
 
 
 @each(BUNDLES)

@@ -1,9 +1,12 @@
 """The files of vectors/, which the tests of every language read (vectors/README.md)."""
 
 import json
+import os
 import pathlib
 
-HERE = pathlib.Path(__file__).parents[2] / "vectors"
+import svid
+
+HERE = pathlib.Path(os.environ.get("SVID_VECTORS") or pathlib.Path(__file__).parents[2] / "vectors")
 READER = "python"
 
 
@@ -18,3 +21,48 @@ def read(name):
 def name_of(vector):
     """The name of a test of this vector."""
     return vector["name"] if isinstance(vector, dict) else None
+
+
+TOKENS = read("tokens")
+NO_LIMIT = 2**64 - 1
+
+
+def opened(vector):
+    """The validator that a vector of tokens.json calls."""
+    given = TOKENS["setting"] | vector.get("setting", {})
+    return svid.Validator(
+        audiences=given["audiences"],
+        bundles=TOKENS["bundles"][given["bundles"]].encode(),
+        longest=given["longest"],
+        ahead=NO_LIMIT if given["ahead"] is None else given["ahead"],
+        step=given["step"],
+        place=bytes.fromhex(given["place"]),
+    )
+
+
+def called(checks, call):
+    """What a call of a validator answers, in the words of the vectors."""
+    now = call.get("now")
+    try:
+        match call["call"]:
+            case "check" | "judge":
+                accepted = getattr(checks, call["call"])(call["token"], now)
+                return f"accepted {accepted.spiffe_id} {accepted.expires}"
+            case "withdraw":
+                checks.withdraw_key(bytes.fromhex(call["key"]), call["exp"], now)
+                return "withdrawn"
+            case "take":
+                checks.take(bytes.fromhex(call["messages"]), now)
+                return "taken"
+            case "tick":
+                checks.tick(now)
+                return "ticked"
+            case "tell":
+                return b"".join(checks.parts()).hex()
+    except svid.Refused as why:
+        return f"refused {why.name}"
+    except svid.BadMessages as why:
+        return f"{why.reason} {why.message} {why.place}"
+    except (svid.Jump, svid.Gone, svid.TooFar) as why:
+        return type(why).__name__
+    raise AssertionError(call["call"])
