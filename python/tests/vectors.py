@@ -30,13 +30,13 @@ NO_LIMIT = 2**64 - 1
 def opened(vector):
     """The validator that a vector of tokens.json calls."""
     given = TOKENS["setting"] | vector.get("setting", {})
+    limits = {it: None if given[it] is None else int(given[it]) for it in ("longest", "step")}
     return svid.Validator(
         audiences=given["audiences"],
         bundles=TOKENS["bundles"][given["bundles"]].encode(),
-        longest=given["longest"],
-        ahead=NO_LIMIT if given["ahead"] is None else given["ahead"],
-        step=given["step"],
+        ahead=int(given["ahead"] or NO_LIMIT),
         place=bytes.fromhex(given["place"]),
+        **limits,
     )
 
 

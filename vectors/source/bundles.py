@@ -4,7 +4,7 @@
 SPIFFE Workload API gives (JWTBundlesResponse)."""
 
 from . import crypto
-from .checks import DOMAIN, accepted, bundle_text, bundles_text, entry, token
+from .checks import DOMAIN, READERS, accepted, bundle_text, bundles_text, entry, token
 from .crypto import json_text
 
 KEY = crypto.key("ES256")
@@ -12,12 +12,16 @@ ENTRY = entry(KEY)
 X509 = {"use": "x509-svid", "kty": "RSA", "n": "AQAB", "e": "AQAB", "x5c": ["MIID"]}
 BUNDLES = 'docs/FORMATS.md, "Bundles"'
 DOCUMENT = "SPIFFE_Trust_Domain_and_Bundle, section 4"
+SPIRES_FILE = "SPIRE's file as it is, in the place of an object of trust domains"
 WORKLOAD = "SPIFFE_Workload_API, section 6.2"
 
 
-def domains(name, text, answer, source=BUNDLES, made=None):
+def domains(name, text, answer, source=BUNDLES):
+    """The page has a field for both forms, of text alone, and takes an empty one for no trust domains."""
+    is_for_page = isinstance(text, str) and text.strip() and name != SPIRES_FILE
+    readers = {} if is_for_page else {"readers": [it for it in READERS if it != "page"]}
     kind = {"text": text} if isinstance(text, str) else {"hex": text.hex()}
-    return {"name": name, "from": source, "form": "domains", **kind, "token": made or token(), "answer": answer}
+    return {"name": name, "from": source, **readers, "form": "domains", **kind, "token": token(), "answer": answer}
 
 
 def document(name, text, answer, domain=DOMAIN, source=DOCUMENT):
@@ -62,7 +66,7 @@ def vectors():
     yield domains("the second of two bundles has no keys", '{"b":{},"a":{"keys":[]}}', "Keys 1", f"{BUNDLES}: places count in rising byte order")
     yield domains("a name that is none, and a bundle without keys behind it", '{"A":{"keys":[]},"b":{}}', "Domain 0", f"{BUNDLES}: the first faulty name")
     yield domains("a bundle without keys, and a name that is none behind it", '{"a":{},"b:":{"keys":[]}}', "Keys 0", f"{BUNDLES}: the first faulty name")
-    yield domains("SPIRE's file as it is", json_text(spire), "Keys 0", f"{BUNDLES}: it has no names of trust domains")
+    yield domains(SPIRES_FILE, json_text(spire), "Keys 0", f"{BUNDLES}: it has no names of trust domains")
 
     yield document("SPIRE's file", json_text(spire), accepted())
     yield document("SPIRE's file, indented", '{\n    "keys": [\n        ' + json_text(ENTRY) + '\n    ],\n    "spiffe_sequence": 1,\n    "spiffe_refresh_hint": 2\n}\n', accepted())

@@ -41,7 +41,8 @@ def row(name, source, *calls, readers=None, **setting):
     if readers:
         made["readers"] = readers
     if setting:
-        made["setting"] = setting
+        # (numbers of 64 bits stand as texts, since readers of JSON may round them)
+        made["setting"] = {name: str(it) if isinstance(it, int) else it for name, it in setting.items()}
     return {**made, "calls": list(calls)}
 
 

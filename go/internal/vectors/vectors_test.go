@@ -143,10 +143,12 @@ func saved(t *testing.T, v *svid.Validator) []byte {
 
 func TestCallsOfAValidator(t *testing.T) {
 	type options struct {
-		Audiences            []string
-		Bundles              string
-		Longest, Ahead, Step *uint64
-		Place                vectors.Bytes
+		Audiences []string
+		Bundles   string
+		Longest   *uint64 `json:",string"`
+		Ahead     *uint64 `json:",string"`
+		Step      *uint64 `json:",string"`
+		Place     vectors.Bytes
 	}
 	type vector struct {
 		vectors.Each
