@@ -42,20 +42,21 @@ static int push_point(OSSL_PARAM_BLD *build, const json_t *jwk, const algorithm 
         && OSSL_PARAM_BLD_push_octet_string(build, OSSL_PKEY_PARAM_PUB_KEY, point, 1 + 2 * alg->half);
 }
 
-/* A modulus of 2,048 bits (RFC 7518, section 3.3) to JWK_MOST_BITS, and an exponent. */
+/* A modulus of 2,048 bits (RFC 7518, section 3.3) to JWK_MOST_BITS, and an exponent of at most 31. */
 static int push_modulus(OSSL_PARAM_BLD *build, const json_t *jwk, BIGNUM *n, BIGNUM *e) {
     uint8_t bytes[JWK_MOST];
     size_t n_len = member(jwk, "n", bytes, sizeof bytes), e_len;
     if (!is_text(jwk, "kty", "RSA") || !n_len || !BN_bin2bn(bytes, (int)n_len, n)) return 0;
     if (BN_num_bits(n) < 2048 || BN_num_bits(n) > JWK_MOST_BITS) return 0;
     e_len = member(jwk, "e", bytes, sizeof bytes);
-    return e_len && BN_bin2bn(bytes, (int)e_len, e)
+    return e_len && BN_bin2bn(bytes, (int)e_len, e) && BN_num_bits(e) <= 31
         && OSSL_PARAM_BLD_push_BN(build, OSSL_PKEY_PARAM_RSA_N, n)
         && OSSL_PARAM_BLD_push_BN(build, OSSL_PKEY_PARAM_RSA_E, e);
 }
 
 EVP_PKEY *jwk_key(const uint8_t *text, size_t text_len, const algorithm *alg) {
-    json_t *jwk = json_loadb((const char *)text, text_len, JSON_REJECT_DUPLICATES, NULL);
+    /* (Jansson has no whole numbers beyond 2^63-1. No member of the key itself is a number.) */
+    json_t *jwk = json_loadb((const char *)text, text_len, JSON_REJECT_DUPLICATES | JSON_DECODE_INT_AS_REAL, NULL);
     EVP_PKEY_CTX *making = EVP_PKEY_CTX_new_from_name(NULL, alg->curve ? "EC" : "RSA", NULL);
     OSSL_PARAM_BLD *build = OSSL_PARAM_BLD_new();
     OSSL_PARAM *params = NULL;

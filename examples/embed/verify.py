@@ -39,7 +39,7 @@ def by_rsa(alg, jwk, signed, signature):
     n, e = number(decoded(jwk["n"])), number(decoded(jwk["e"]))
     # (for PSS, OpenSSL takes a signature that lacks the zeros at its beginning: RFC 8017, section 8.1.2, does not)
     # (with a longer key, a token of a stranger costs milliseconds)
-    if jwk["kty"] != "RSA" or not 2048 <= n.bit_length() <= 4096 or len(signature) != (n.bit_length() + 7) // 8:
+    if jwk["kty"] != "RSA" or not 2048 <= n.bit_length() <= 4096 or e.bit_length() > 31 or len(signature) != (n.bit_length() + 7) // 8:
         return False
     how = padding.PSS(padding.MGF1(digest), digest.digest_size) if alg.startswith("PS") else padding.PKCS1v15()
     rsa.RSAPublicNumbers(e, n).public_key().verify(signature, signed, how, digest)
