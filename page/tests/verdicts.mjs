@@ -3,14 +3,14 @@
 
 import assert from "node:assert/strict";
 import { after, before, test } from "node:test";
+import { REFUSALS } from "../src/refusals.js";
 import { base64url, makeKey, sign } from "./tokens.mjs";
 import { vectorsOf } from "./vectors.mjs";
 
 const NOW = 1767225600;
 const SUB = "spiffe://example.org/billing/api";
 const GOOD = { sub: SUB, aud: "ledger", exp: NOW + 300, jti: "one" };
-const ORDER = ["TooLong", "NotThreeParts", "HeaderSpelling", "HeaderNotObject", "Crit", "Alg", "Typ", "Kid", "PayloadSpelling", "PayloadNotObject", "SignatureSpelling", "Sub", "Aud", "Exp", "Nbf", "Jti",
-  "NotAudience", "Expired", "NotYet", "TooLongLived", "UnknownDomain", "NoKey", "BadSignature", "Withdrawn", "Replayed"];
+const ORDER = REFUSALS.map((it) => it.name);
 
 let browser, page, key;
 
@@ -82,7 +82,7 @@ export function testVerdicts(start) {
   });
   after(() => browser?.close());
 
-  test("every refusal has a token here", () => assert.deepEqual(Object.keys(REFUSED), ORDER));
+  test("every refusal has a token here", () => assert.deepEqual([Object.keys(REFUSED), ORDER.length], [ORDER, 25]));
 
   for (const [name, { token, fields = {}, press, marked, member, why }] of Object.entries(REFUSED)) {
     test(`a token is refused as ${name}`, async () => {
