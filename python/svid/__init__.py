@@ -38,6 +38,7 @@ from .errors import (
     TooFar,
     Unavailable,
 )
+
 # lists:begin imports (written by tools/lists)
 from .errors import (  # the refusals
     Alg,
@@ -66,6 +67,7 @@ from .errors import (  # the refusals
     UnknownDomain,
     Withdrawn,
 )
+
 # lists:end
 from .records import Accepted, Report, Use
 
