@@ -13,8 +13,12 @@ import (
 	"math/big"
 )
 
-// Algorithms are the nine algorithms of JWT-SVIDs.
+// lists:begin algorithms (written by tools/lists from lists/algorithms.toml)
+
+// Algorithms are the 9 algorithms of JWT-SVIDs.
 var Algorithms = []string{"RS256", "RS384", "RS512", "ES256", "ES384", "ES512", "PS256", "PS384", "PS512"}
+
+// lists:end
 
 // An Issuer signs tokens for one trust domain. It has one RSA key, and an EC key
 // a curve. All its methods may be called by many goroutines at once.
