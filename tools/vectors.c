@@ -259,11 +259,10 @@ static void files(const json_t *it) {
     size_t count = 0;
     while ((status = svid_journal_read((const svid_place *)place.bytes, number(it, "journal"), content.bytes, content.len, &reader, &frame)) == SVID_OK && count < json_array_size(payloads))
         expect(it, hexed(content.bytes + frame.payload, frame.len), json_string_value(json_array_get(payloads, count++)));
-    char *end = (char *)named(status, "FILE_");
-    *end |= 32;
+    const char *end = status == SVID_FILE_END ? "end" : status == SVID_FILE_TEAR ? "tear" : status == SVID_FILE_DAMAGE ? "damage" : "format";
     expect(it, said("%s %llu", end, reader.at, count), said("%s %llu", words(it, "end"), number(it, "at"), count));
     expect(it, said("%s%llu", "", count, 0), said("%s%llu", "", json_array_size(payloads), 0));
-    if (status == SVID_FILE_NEWER) expect(it, said("%s%llu", "", frame.format, 0), said("%s%llu", "", number(it, "format"), 0));
+    if (at(it, "format")) expect(it, said("%s%llu", "", frame.format, 0), said("%s%llu", "", number(it, "format"), 0));
 }
 
 /* Each file that has vectors for C, and what makes its calls. */

@@ -20,7 +20,7 @@ FATES = {0: "Accepted", 1: "First", 2: "Withdrawal", 8: "TooFarAhead"} | {
     124: "Withdrawn",
     125: "Replayed",
 }
-ENDS = {52: "end", 53: "tear", 54: "damage", 55: "newer"}
+ENDS = {52: "end", 53: "tear", 54: "damage", 55: "format"}
 
 
 def each(file):
@@ -192,7 +192,7 @@ def test_files_of_a_state_folder(vector):
             break
         payloads.append(content[frame.payload : frame.payload + frame.len].hex())
     assert (payloads, ENDS[status], reader.at) == (vector["payloads"], vector["end"], vector["at"])
-    if vector["end"] == "newer":
+    if vector["end"] == "format":
         assert frame.format == vector["format"]
 
 
@@ -208,7 +208,7 @@ def test_state_folders(vector, tmp_path):
         return
     with pytest.raises((svid.Damaged, svid.Newer)) as raised:
         svid.Validator(**terms)
-    name = vector.get("damaged") or vector["newer"]
+    name = vector.get("damaged") or vector["of_format"]
     assert raised.value.file == str(tmp_path / name)
     if "damaged" in vector:
         assert raised.value.place == vector["at"]

@@ -6,7 +6,9 @@ import pathlib
 
 import svid
 
-HERE = pathlib.Path(os.environ.get("SVID_VECTORS") or pathlib.Path(__file__).parents[2] / "vectors")
+# (a copy of the package, as python/wrong/run makes them, has the program of a checkout)
+PLACES = (pathlib.Path(__file__).parents[2], pathlib.Path(os.environ["SVID"]).parent)
+HERE = next(it / "vectors" for it in PLACES if (it / "vectors" / "tokens.json").exists())
 READER = "python"
 
 

@@ -12,6 +12,7 @@ AUDIENCE = "ledger"
 EXP = NOW + 300
 PLACE = bytes(range(0, 256, 17))
 MOST = 2**64 - 1
+MOST_CANDIDATES = 4  # how many keys are tried for a token: docs/FORMATS.md, "Candidates"
 
 READERS = ["c", "go", "page", "python", "svid"]
 

@@ -62,11 +62,11 @@ def files():
     yield row("a frame of another folder", frame(bytes(16), 3, 1, FIRST), at=0, end="tear", source=FRAME)
     yield row("a second frame of another folder", one + frame(bytes(16), 3, 2, SECOND), FIRST, at=len(one), end="tear", source=FRAME)
     newer = frame(PLACE, 3, 2, SECOND, FORMAT + 1)
-    yield row("a frame of a newer format", one + newer, FIRST, at=len(one), end="newer", format=FORMAT + 1)
-    yield row("a first frame of the format 254", frame(PLACE, 3, 1, FIRST, 254), at=0, end="newer", format=254)
-    yield row("a frame of a newer format, and whole ones behind it", one + newer + three, FIRST, at=len(one), end="newer", format=FORMAT + 1)
+    yield row("a frame of another format", one + newer, FIRST, at=len(one), end="format", format=FORMAT + 1)
+    yield row("a first frame of the format 254", frame(PLACE, 3, 1, FIRST, 254), at=0, end="format", format=254)
+    yield row("a frame of another format, and whole ones behind it", one + newer + three, FIRST, at=len(one), end="format", format=FORMAT + 1)
     beyond = frame(PLACE, 3, 3, THIRD, FORMAT + 1)
-    yield row("a frame that has changed, and one of a newer format behind it", one + flipped(two, 40) + beyond, FIRST, at=len(one), end="damage")
+    yield row("a frame that has changed, and one of another format behind it", one + flipped(two, 40) + beyond, FIRST, at=len(one), end="damage")
     cells = (len(two) - len(two) % CELL) // CELL
     far = frame(PLACE, 3, 2 + cells + 1, THIRD)
     yield row("a frame of a number that is too great to follow", one + bytes(len(two)) + far, FIRST, at=len(one), end="tear")
@@ -83,7 +83,7 @@ def files():
     yield row("a snapshot of which a bit has changed", flipped(whole, 40), at=0, end="damage", journal=0)
     yield row("a frame of a journal as a snapshot", one, at=0, end="damage", journal=0)
     newer = frame(PLACE, 0, 1, FIRST, FORMAT + 1)
-    yield row("a snapshot of a newer format", newer, at=0, end="newer", journal=0, format=FORMAT + 1)
+    yield row("a snapshot of another format", newer, at=0, end="format", journal=0, format=FORMAT + 1)
 
 
 def folder(name, contents, source=FILES, **answer):
@@ -118,4 +118,4 @@ def folders():
     yield folder("a journal that is damaged behind its first frame", {"journal.1": flipped(journal(1, FIRST, SECOND, THIRD), at + 40)}, READING, damaged="journal.1", at=at)
     yield folder("a snapshot that is damaged", {"snapshot": flipped(snapshot, 40), "journal.1": journal(1, THIRD)}, READING, damaged="snapshot", at=0)
     yield folder("a snapshot that is cut", {"snapshot": snapshot[: 2 * at], "journal.1": journal(1, THIRD)}, READING, damaged="snapshot", at=2 * at)
-    yield folder("a journal of a newer format", {"journal.1": journal(1, FIRST) + frame(PLACE, 1, 2, SECOND, FORMAT + 1)}, READING, newer="journal.1", format=FORMAT + 1)
+    yield folder("a journal of another format", {"journal.1": journal(1, FIRST) + frame(PLACE, 1, 2, SECOND, FORMAT + 1)}, READING, of_format="journal.1", format=FORMAT + 1)

@@ -3,7 +3,7 @@
 import json
 
 from . import crypto
-from .checks import READERS, SUBJECT, accepted, claims, entry, token
+from .checks import MOST_CANDIDATES, READERS, accepted, claims, entry, token
 from .crypto import b64, json_text, number, unb64
 
 BAD = "refused BadSignature"
@@ -200,25 +200,26 @@ def modulus():
 
 def many():
     """Which of many keys are tried."""
-    tried = 'docs/FORMATS.md, "Candidates": at most the first 4'
-    keys_ = [crypto.key("ES256", f"many {n}") for n in range(6)]
+    tried = f'docs/FORMATS.md, "Candidates": at most the first {MOST_CANDIDATES}'
+    keys_ = [crypto.key("ES256", f"many {n}") for n in range(MOST_CANDIDATES + 2)]
     named = [entry(key, f"k{n}") for n, key in enumerate(keys_)]
+    # (the program takes a yes to any candidate)
+    not_svid = {"readers": [it for it in READERS if it != "svid"]}
     for n, key in enumerate(keys_):
-        answer = accepted() if n < 4 else BAD
-        # (the program takes a yes to any candidate)
-        readers = {} if n < 4 else {"readers": [it for it in READERS if it != "svid"]}
-        yield row(f"six keys, a token without kid by number {n}", tried, named, token(key=key, header={"alg": "ES256"}), answer, **readers)
-        yield row(f"six keys, a token with the kid of number {n}", tried, named, token(key=key, header={"alg": "ES256", "kid": f"k{n}"}), accepted())
-    same = [entry(key) for key in keys_[:3]]
-    for n in range(3):
-        yield row(f"three keys of one kid, a token by number {n}", tried, same, token(key=keys_[n]), accepted())
-    yield row("three keys of one kid, a token by a fourth", tried, same, token(key=keys_[3]), BAD)
-    others = [entry(crypto.key("RS256")), entry(crypto.key("ES384"), "k2"), entry(crypto.key("ES512"), "k3"), entry(crypto.key("ES256", "two"), "k4")]
-    yield row("keys of four kinds, a token without kid by the last", tried, others, token(key=crypto.key("ES256", "two"), header={"alg": "ES256"}), accepted())
-    unusable = [{**entry(crypto.key("ES256")), "crv": f"P-{n}"} for n in range(4)]
-    yield row("four keys that can't be used, and a good one", tried, [*unusable, entry(crypto.key("ES256"))], token(), BAD, readers=[it for it in READERS if it != "svid"])
-    yield row("three keys that can't be used, and a good one", tried, [*unusable[1:], entry(crypto.key("ES256"))], token(), accepted())
-    yield row("what is no key, and a good one", CANDIDATE, ["7", "null", "[]", "{}", '{"use":"x509-svid","kty":"EC","x5c":["MIIB"]}', entry(crypto.key("ES256"))], token(), accepted())
+        answer, readers = (accepted(), {}) if n < MOST_CANDIDATES else (BAD, not_svid)
+        yield row(f"{len(keys_)} keys, a token without kid by number {n}", tried, named, token(key=key, header={"alg": "ES256"}), answer, **readers)
+        yield row(f"{len(keys_)} keys, a token with the kid of number {n}", tried, named, token(key=key, header={"alg": "ES256", "kid": f"k{n}"}), accepted())
+    same = [entry(key) for key in keys_[: MOST_CANDIDATES - 1]]
+    for n in range(len(same)):
+        yield row(f"{len(same)} keys of one kid, a token by number {n}", tried, same, token(key=keys_[n]), accepted())
+    yield row(f"{len(same)} keys of one kid, a token by another", tried, same, token(key=keys_[-1]), BAD)
+    others = [entry(crypto.key("RS256")), entry(crypto.key("ES384"), "k2"), entry(crypto.key("ES256", "two"), "k4")]
+    yield row("keys of three kinds, a token without kid by the last", tried, others, token(key=crypto.key("ES256", "two"), header={"alg": "ES256"}), accepted())
+    unusable = [{**entry(crypto.key("ES256")), "crv": f"P-{n}"} for n in range(MOST_CANDIDATES)]
+    good = entry(crypto.key("ES256"))
+    yield row("keys that can't be used, as many as are tried, and a good one", tried, [*unusable, good], token(), BAD, **not_svid)
+    yield row("one less of these, and a good one", tried, [*unusable[1:], good], token(), accepted())
+    yield row("what is no key, and a good one", CANDIDATE, ["7", "null", "[]", "{}", '{"use":"x509-svid","kty":"EC","x5c":["MIIB"]}', good], token(), accepted())
 
 
 # The first numbers of a jti with which a signature is what the vector asks for. Searching for them would take a minute.

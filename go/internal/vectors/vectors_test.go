@@ -487,7 +487,7 @@ func TestFilesOfAStateFolder(t *testing.T) {
 		reader, payloads, end := svid.NewFileReader(place, it.Journal), []string{}, ""
 		for end == "" {
 			payload, err := reader.Next(it.Content)
-			var newer *svid.FormatError
+			var other *svid.FormatError
 			switch {
 			case err == nil:
 				payloads = append(payloads, hex.EncodeToString(payload))
@@ -497,8 +497,8 @@ func TestFilesOfAStateFolder(t *testing.T) {
 				end = "tear"
 			case err == svid.ErrDamaged:
 				end = "damage"
-			case errors.As(err, &newer) && newer.Format == it.Format:
-				end = "newer"
+			case errors.As(err, &other) && other.Format == it.Format:
+				end = "format"
 			default:
 				end = err.Error()
 			}
@@ -512,10 +512,11 @@ func TestFilesOfAStateFolder(t *testing.T) {
 func TestStateFolders(t *testing.T) {
 	type vector struct {
 		vectors.Each
-		Files          map[string]vectors.Bytes
-		Record         vectors.Bytes
-		Damaged, Newer string
-		At, Format     int
+		Files      map[string]vectors.Bytes
+		Record     vectors.Bytes
+		Damaged    string
+		Other      string `json:"of_format"`
+		At, Format int
 	}
 	for _, it := range vectors.Read[vector](t, "folders", nil) {
 		dir := t.TempDir()
@@ -531,14 +532,14 @@ func TestStateFolders(t *testing.T) {
 		v := open(t, checking([]byte("{}")))
 		err = j.Load(func(messages []byte) error { return v.Take(0, messages) })
 		j.Close()
-		var newer *svid.FormatError
+		var other *svid.FormatError
 		switch {
 		case it.Damaged != "":
 			if want := fmt.Sprintf("%s is damaged at byte %d", filepath.Join(dir, it.Damaged), it.At); !errors.Is(err, svid.ErrDamaged) || !strings.Contains(err.Error(), want) {
 				t.Errorf("%s: %v, and not: %s", it.Name, err, want)
 			}
-		case it.Newer != "":
-			if !errors.As(err, &newer) || newer.Format != it.Format || !strings.Contains(err.Error(), filepath.Join(dir, it.Newer)) {
+		case it.Other != "":
+			if !errors.As(err, &other) || other.Format != it.Format || !strings.Contains(err.Error(), filepath.Join(dir, it.Other)) {
 				t.Errorf("%s: %v", it.Name, err)
 			}
 		default:
