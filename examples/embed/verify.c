@@ -6,7 +6,6 @@
 #include <openssl/rsa.h>
 #include <string.h>
 
-/* lists:begin algorithms (written by tools/lists from lists/algorithms.toml) */
 static const algorithm algorithms[] = {
     { "ES256", "SHA256", "P-256", 32, 0 },
     { "ES384", "SHA384", "P-384", 48, 0 },
@@ -18,7 +17,6 @@ static const algorithm algorithms[] = {
     { "PS384", "SHA384", NULL, 0, RSA_PKCS1_PSS_PADDING },
     { "PS512", "SHA512", NULL, 0, RSA_PKCS1_PSS_PADDING },
 };
-/* lists:end */
 
 static const algorithm *find(const uint8_t *name, size_t len) {
     for (size_t i = 0; i < sizeof algorithms / sizeof *algorithms; i++)

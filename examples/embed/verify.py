@@ -7,9 +7,7 @@ from cryptography.hazmat.primitives import hashes
 from cryptography.hazmat.primitives.asymmetric import ec, padding, rsa, utils
 
 HASHES = {"256": hashes.SHA256(), "384": hashes.SHA384(), "512": hashes.SHA512()}
-# lists:begin curves (written by tools/lists from lists/algorithms.toml)
 CURVES = {"ES256": ("P-256", ec.SECP256R1(), 32), "ES384": ("P-384", ec.SECP384R1(), 48), "ES512": ("P-521", ec.SECP521R1(), 66)}
-# lists:end
 
 
 def decoded(text):
@@ -41,7 +39,7 @@ def by_rsa(alg, jwk, signed, signature):
     n, e = number(decoded(jwk["n"])), number(decoded(jwk["e"]))
     # (for PSS, OpenSSL takes a signature that lacks the zeros at its beginning: RFC 8017, section 8.1.2, does not)
     # (with a longer key, a token of a stranger costs milliseconds)
-    if jwk["kty"] != "RSA" or not 2048 <= n.bit_length() <= 4096 or e.bit_length() > 31 or len(signature) != (n.bit_length() + 7) // 8:
+    if jwk["kty"] != "RSA" or not 2048 <= n.bit_length() <= 4096 or len(signature) != (n.bit_length() + 7) // 8:
         return False
     how = padding.PSS(padding.MGF1(digest), digest.digest_size) if alg.startswith("PS") else padding.PKCS1v15()
     rsa.RSAPublicNumbers(e, n).public_key().verify(signature, signed, how, digest)

@@ -38,8 +38,6 @@ type algorithm struct {
 	pss   bool           // RSASSA-PSS, with a salt of exactly the hash's length (RFC 7518, section 3.5)
 }
 
-// lists:begin algorithms (written by tools/lists from lists/algorithms.toml)
-
 var algorithms = []algorithm{
 	{0, "RS256", crypto.SHA256, nil, false},
 	{1, "RS384", crypto.SHA384, nil, false},
@@ -51,8 +49,6 @@ var algorithms = []algorithm{
 	{7, "PS384", crypto.SHA384, nil, true},
 	{8, "PS512", crypto.SHA512, nil, true},
 }
-
-// lists:end
 
 func findAlgorithm[T string | []byte](name T) *algorithm {
 	for i := range algorithms {

@@ -6,10 +6,8 @@
 import { hexOf } from "./library.js";
 import { decoded, firstBad } from "./token.js";
 
-// lists:begin curves (written by tools/lists from lists/algorithms.toml)
 const CURVES = { ES256: "P-256", ES384: "P-384", ES512: "P-521" };
 const COORDINATE = { "P-256": 32, "P-384": 48, "P-521": 66 };
-// lists:end
 const LEAST_BITS = 2048, MOST_BITS = 4096, MOST_EXPONENT = 2n ** 31n - 1n;
 const encoder = new TextEncoder();
 

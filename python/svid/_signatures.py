@@ -23,13 +23,11 @@ _HASHES: dict[str, hashes.HashAlgorithm] = {
     "384": hashes.SHA384(),
     "512": hashes.SHA512(),
 }
-# lists:begin curves (written by tools/lists from lists/algorithms.toml)
 _CURVES: dict[str, tuple[str, ec.EllipticCurve]] = {
     "ES256": ("P-256", ec.SECP256R1()),
     "ES384": ("P-384", ec.SECP384R1()),
     "ES512": ("P-521", ec.SECP521R1()),
 }
-# lists:end
 USUAL_RSA_BITS = 4096
 _RSA_BITS = range(2048, 16_384 + 1)
 _RSA_EXPONENTS = range(3, 2**31, 2)
