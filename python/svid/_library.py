@@ -24,7 +24,7 @@ GONE = 7
 TOO_FAR = 8
 JUMP = 9
 
-# lists:begin statuses (written by tools/lists from lists/statuses.toml)
+# lists:begin messages (written by tools/lists from lists/statuses.toml)
 MESSAGE_FAULTS = {
     TOO_MUCH: "TooMuch",
     NOT_SUMMARY: "NotSummary",
@@ -37,8 +37,19 @@ MESSAGE_FAULTS = {
     17: "UseOrder",
     18: "Truncated",
 }
+# lists:end
 """Why bytes are no messages, by status."""
 
+HAS_LOG = 10
+NO_LOG = 19
+FATE_ACCEPTED = 0
+FATE_FIRST = 1
+FATE_WITHDRAWAL = 2
+FATE_TOO_FAR_AHEAD = 8
+"""The other fates are refusals, by their numbers."""
+ORDER_GAP = 2
+
+# lists:begin folder (written by tools/lists from lists/statuses.toml)
 FOLDER_FAULTS = {
     41: "the numbers are not those of a folder, or of the file that is read",
     42: "a sync failed",
@@ -52,18 +63,8 @@ FOLDER_FAULTS = {
     50: "the payload has more than 16,777,215 bytes",
     51: "a number of the folder has come to its end",
 }
-"""Why a state folder takes no call, by status."""
 # lists:end
-
-HAS_LOG = 10
-NO_LOG = 19
-FATE_ACCEPTED = 0
-FATE_FIRST = 1
-FATE_WITHDRAWAL = 2
-FATE_TOO_FAR_AHEAD = 8
-"""The other fates are refusals, by their numbers."""
-ORDER_GAP = 2
-
+"""Why a state folder takes no call, by status."""
 FOLDER_ENDED = 42
 FILE_END = 52
 FILE_TEAR = 53
