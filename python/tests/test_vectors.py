@@ -1,11 +1,13 @@
 """The vectors of vectors/, which say where their answers come from."""
 
+import asyncio
+
 import pytest
 import svid
+import svid.asgi
 import vectors
 from making import verdict
 from svid import _library as lib
-from svid._bearer import admit
 from svid._handle import Handle
 
 KEYS, SIGNATURES, TOKENS = vectors.read("keys"), vectors.read("signatures"), vectors.TOKENS
@@ -71,26 +73,38 @@ def bundles_of(vector, folder):
 
 @each(HEADERS)
 def test_headers(vector):
-    """A request with two headers has none, as the middlewares see to."""
-    bundles = HEADERS["setting"]["bundles"].encode()
-    with svid.Validator(audiences="ledger", bundles=bundles) as checks:
-        at = Clock(checks, NOW)
-        said = admit(at, vector["values"][0] if len(vector["values"]) == 1 else None)
+    """The middleware lets in the one that the token is of, or answers with status 401."""
+    said = []
+
+    async def app(scope, _receive, _send):
+        said.append(scope["spiffe_id"])
+
+    async def send(message):
+        said.append(message)
+
+    headers = [(b"authorization", value.encode("latin-1")) for value in vector["values"]]
+    with svid.Validator(
+        audiences="ledger", bundles=HEADERS["setting"]["bundles"].encode()
+    ) as checks:
+        admits = svid.asgi.SvidMiddleware(app, AtOneTime(checks))
+        asyncio.run(admits({"type": "http", "headers": headers}, None, send))
     if vector["answer"] == "refused":
-        assert said.spiffe_id is None and said.status == 401
-        assert said.challenge.split(" ")[0] == "Bearer"
+        assert said[0]["status"] == 401
+        assert dict(said[0]["headers"])[b"www-authenticate"].split(b" ")[0] == b"Bearer"
     else:
-        assert vector["answer"].split(" ")[1] == said.spiffe_id
+        assert said == [vector["answer"].split(" ")[1]]
 
 
-class Clock:
-    """A validator that checks at one time."""
+class AtOneTime:
+    """A validator that checks at the time of the vectors."""
 
-    def __init__(self, checks, now):
-        self.checks, self.now = checks, now
+    waits = False
+
+    def __init__(self, checks):
+        self.checks = checks
 
     def check(self, token):
-        return self.checks.check(token, self.now)
+        return self.checks.check(token, NOW)
 
 
 def empty():
