@@ -58,54 +58,55 @@ extern "C" {
 #define SVID_SPKI_ROOM 2100          /* enough room for any key of svid_key_spki */
 
 enum svid_status {
+    /* lists:begin statuses (written by tools/lists from lists/) */
     SVID_OK = 0,
-    SVID_TOO_SHORT = 1,      /* the text is longer than the room */
+    SVID_TOO_SHORT = 1,   /* the text is longer than the room */
     SVID_NO_MEMORY = 2,
-    SVID_TOO_MUCH = 3,       /* bundles, a table or messages have more than 67,108,864 bytes; of messages, no field among the first
-                                67,108,864 bytes is bad; told: input */
-    SVID_NOT_SUMMARY = 4,    /* the first input is messages, but not one summary; nothing is told beside it */
+    SVID_TOO_MUCH = 3,    /* bundles, a table or messages have more than 67,108,864 bytes; of messages, no field among the first
+                             67,108,864 bytes is bad; told: input */
+    SVID_NOT_SUMMARY = 4, /* the first input is messages, but not one summary; nothing is told beside it */
 
     /* what a call on a validator or on bundles that you keep answers beside these */
-    SVID_CLOSED = 5,         /* the validator is closed, or the bundles are; nothing happened */
-    SVID_IS_OPEN = 6,        /* svid_validator_open, svid_bundles_open: the handle is open already, and stays as it was */
-    SVID_GONE = 7,           /* svid_validator_withdraw: the token has expired, so that there is nothing to withdraw */
-    SVID_TOO_FAR = 8,        /* a message's moment is more than `ahead` seconds past `now`; it was not taken */
-    SVID_JUMP = 9,           /* `now` is more than `step` seconds past the record's moment; nothing happened */
-    SVID_HAS_LOG = 10,       /* svid_validator_check: the validator reads a log, which decides about its tokens; nothing happened */
+    SVID_CLOSED = 5,   /* the validator is closed, or the bundles are; nothing happened */
+    SVID_IS_OPEN = 6,  /* svid_validator_open, svid_bundles_open: the handle is open already; it stays as it was */
+    SVID_GONE = 7,     /* svid_validator_withdraw: the token has expired, so that there is nothing to withdraw */
+    SVID_TOO_FAR = 8,  /* a message's moment is more than `ahead` seconds past `now`; it was not taken */
+    SVID_JUMP = 9,     /* `now` is more than `step` seconds past the record's moment; nothing happened */
+    SVID_HAS_LOG = 10, /* svid_validator_check: the validator reads a log, which decides about its tokens; nothing happened */
+    SVID_NO_LOG = 19,  /* the validator reads no log; nothing happened */
 
     /* why an input is no row of messages; told: input, message, place */
-    SVID_MAGIC = 11,         /* the first four bytes are those of no version */
-    SVID_KIND = 12,          /* the fifth byte is that of no kind of message of the version */
-    SVID_COUNT = 13,         /* a batch tells of too many uses */
-    SVID_USE_KIND = 14,      /* the last byte of a use is neither 0 nor 1 */
-    SVID_USE_EXPIRED = 15,   /* a use expires at its batch's moment or before it */
-    SVID_USE_FUTURE = 16,    /* a use was made after its batch's moment */
-    SVID_USE_ORDER = 17,     /* a use is not greater than the one before it */
-    SVID_TRUNCATED = 18,     /* the bytes end before the message does */
-    SVID_NO_LOG = 19,        /* the validator reads no log; nothing happened */
+    SVID_MAGIC = 11,       /* the first four bytes are those of no version */
+    SVID_KIND = 12,        /* the fifth byte is that of no kind of message of the version */
+    SVID_COUNT = 13,       /* a batch tells of too many uses */
+    SVID_USE_KIND = 14,    /* the last byte of a use is neither 0 nor 1 */
+    SVID_USE_EXPIRED = 15, /* a use expires at its batch's moment or before it */
+    SVID_USE_FUTURE = 16,  /* a use was made after its batch's moment */
+    SVID_USE_ORDER = 17,   /* a use is not greater than the one before it */
+    SVID_TRUNCATED = 18,   /* the bytes end before the message does */
 
     /* why a text is no SPIFFE ID; svid_id: place, for 24 and 26 to 28; else 0 */
-    SVID_ID_TOO_LONG = 21,   /* more than 2,048 bytes */
-    SVID_ID_SCHEME = 22,     /* does not begin with spiffe:// */
-    SVID_ID_DOMAIN_EMPTY = 23,
-    SVID_ID_DOMAIN_BYTE = 24, /* a byte that may not stand in a trust domain name */
-    SVID_ID_DOMAIN_LONG = 25, /* a trust domain name of more than 255 bytes */
-    SVID_ID_SEGMENT_EMPTY = 26,
-    SVID_ID_SEGMENT_DOTS = 27, /* a segment that is . or .. */
-    SVID_ID_PATH_BYTE = 28,  /* a byte that may not stand in a path segment */
+    SVID_ID_TOO_LONG = 21,      /* more than 2,048 bytes */
+    SVID_ID_SCHEME = 22,        /* does not begin with spiffe:// */
+    SVID_ID_DOMAIN_EMPTY = 23,  /* the trust domain name is empty */
+    SVID_ID_DOMAIN_BYTE = 24,   /* a byte that may not stand in a trust domain name */
+    SVID_ID_DOMAIN_LONG = 25,   /* a trust domain name of more than 255 bytes */
+    SVID_ID_SEGMENT_EMPTY = 26, /* an empty segment */
+    SVID_ID_SEGMENT_DOTS = 27,  /* a segment that is . or .. */
+    SVID_ID_PATH_BYTE = 28,     /* a byte that may not stand in a path segment */
 
     /* why bundles, a table of questions or audiences are refused */
     SVID_BUNDLES_NOT_OBJECT = 31, /* no JSON object */
-    SVID_BUNDLES_DOMAIN = 32, /* a name is no trust domain name; told: place */
-    SVID_BUNDLES_KEYS = 33,  /* a name has no list of keys; told: place */
-    SVID_TABLE_LINE = 34,    /* a line is neither empty nor a question; told: place, the number of the first such
-                                line, counted from 1 */
-    SVID_OWN_NOT_UTF8 = 35,  /* an audience of the validator's own is not UTF-8 */
-    SVID_OWN_LENGTHS = 36,   /* the lengths of the audiences do not add up to the length of `own` */
+    SVID_BUNDLES_DOMAIN = 32,     /* a name is no trust domain name; told: place */
+    SVID_BUNDLES_KEYS = 33,       /* a name has no list of keys; told: place */
+    SVID_TABLE_LINE = 34,         /* a line is neither empty nor a question; told: place, the number of the first such line, counted from
+                                     1 */
+    SVID_OWN_NOT_UTF8 = 35,       /* an audience of the validator's own is not UTF-8 */
+    SVID_OWN_LENGTHS = 36,        /* the lengths of the audiences do not add up to the length of `own` */
 
     /* why a state folder takes no call; nothing happened */
-    SVID_FOLDER_UNFIT = 41,       /* the numbers are not those of a folder; of svid_journal_read: the reader's do not fit the bytes */
-    SVID_FOLDER_ENDED = 42,       /* a sync failed: nobody knows what the disk holds until the next start */
+    SVID_FOLDER_UNFIT = 41,       /* the numbers are not those of a folder, or of the file that is read */
+    SVID_FOLDER_ENDED = 42,       /* a sync failed; nobody knows what the disk holds until the next start */
     SVID_FOLDER_NOT_GROWING = 43, /* no journal grows yet */
     SVID_FOLDER_BUSY = 44,        /* a call is due already */
     SVID_FOLDER_NOTHING_DUE = 45, /* no call is due */
@@ -113,59 +114,60 @@ enum svid_status {
     SVID_FOLDER_NOT_FLYING = 47,  /* no frame was handed out */
     SVID_FOLDER_NOT_WRITING = 48, /* no snapshot is being written */
     SVID_FOLDER_NO_MARK = 49,     /* the snapshot has no mark at its end */
-    SVID_FOLDER_TOO_LONG = 50,    /* the payload has more than SVID_PAYLOAD_MOST bytes */
+    SVID_FOLDER_TOO_LONG = 50,    /* the payload has more than 16,777,215 bytes */
     SVID_FOLDER_FULL = 51,        /* a number of the folder has come to its end */
 
     /* where reading a file ends; the place is reader->at */
-    SVID_FILE_END = 52,           /* the end: nothing was written here */
-    SVID_FILE_TEAR = 53,          /* a write was cut off: nobody was told that it is on the disk. Only a journal has one */
-    SVID_FILE_DAMAGE = 54,        /* what was synced here has changed */
-    SVID_FILE_OTHER = 55,         /* a frame of another format stands here; frame->format is its number */
+    SVID_FILE_END = 52,    /* the end: nothing was written here */
+    SVID_FILE_TEAR = 53,   /* a write was cut off: nobody was told that it is on the disk; only a journal has one */
+    SVID_FILE_DAMAGE = 54, /* what was synced here has changed */
+    SVID_FILE_OTHER = 55,  /* a frame of another format stands here; frame->format is its number */
 
     /* why a key can't be used with an algorithm: the first that holds, in this order. 74 to 76 are of RSA keys alone, and 77 to 79 of EC keys */
-    SVID_NO_ALGORITHM = 70,       /* the algorithm is none of RS256 to PS512 */
-    SVID_KEY_NOT_OBJECT = 71,     /* the key is no JSON object */
-    SVID_KEY_KTY = 72,            /* its `kty` is not the algorithm's: RSA for RS and PS, EC for ES */
-    SVID_KEY_ALG = 73,            /* its `alg` is there, and is not the algorithm */
-    SVID_KEY_N = 74,              /* its `n` is no odd number in as few bytes of base64url as hold it */
-    SVID_KEY_BITS = 75,           /* its `n` has fewer than 2,048 bits, more than `most_bits`, or more than 16,384 */
-    SVID_KEY_E = 76,              /* its `e` is no odd number from 3 to 2^31-1 in as few bytes of base64url as hold it */
-    SVID_KEY_CRV = 77,            /* its `crv` is not the algorithm's: P-256 for ES256, P-384 for ES384, P-521 for ES512 */
-    SVID_KEY_X = 78,              /* its `x` is not base64url of 32, 48 or 66 bytes, as the curve has it */
-    SVID_KEY_Y = 79,              /* its `y` is not that */
+    SVID_NO_ALGORITHM = 70,   /* the algorithm is none of RS256 to PS512 */
+    SVID_KEY_NOT_OBJECT = 71, /* the key is no JSON object */
+    SVID_KEY_KTY = 72,        /* its `kty` is not the algorithm's: RSA for RS and PS, EC for ES */
+    SVID_KEY_ALG = 73,        /* its `alg` is there, and is not the algorithm */
+    SVID_KEY_N = 74,          /* its `n` is no odd number in as few bytes of base64url as hold it */
+    SVID_KEY_BITS = 75,       /* its `n` has fewer than 2,048 bits, more than `most_bits`, or more than 16,384 */
+    SVID_KEY_E = 76,          /* its `e` is no odd number from 3 to 2^31-1 in as few bytes of base64url as hold it */
+    SVID_KEY_CRV = 77,        /* its `crv` is not the algorithm's: P-256 for ES256, P-384 for ES384, P-521 for ES512 */
+    SVID_KEY_X = 78,          /* its `x` is not base64url of 32, 48 or 66 bytes, as the curve has it */
+    SVID_KEY_Y = 79,          /* its `y` is not that */
 
     /* why a request has no bearer token: the first that holds, in this order, and then SVID_TOO_LONG */
-    SVID_BEARER_ABSENT = 81,      /* no header field Authorization */
-    SVID_BEARER_SEVERAL = 82,     /* more than one */
-    SVID_BEARER_SCHEME = 83,      /* its scheme is not Bearer */
-    SVID_BEARER_SPELLING = 84,    /* the scheme is not followed by one token */
+    SVID_BEARER_ABSENT = 81,   /* no header field Authorization */
+    SVID_BEARER_SEVERAL = 82,  /* more than one */
+    SVID_BEARER_SCHEME = 83,   /* its scheme is not Bearer */
+    SVID_BEARER_SPELLING = 84, /* the scheme is not followed by one token */
 
     /* why a token is refused: the first that holds, in this order */
-    SVID_TOO_LONG = 101,
-    SVID_NOT_THREE_PARTS,
-    SVID_HEADER_SPELLING,
-    SVID_HEADER_NOT_OBJECT,
-    SVID_CRIT,
-    SVID_ALG,
-    SVID_TYP,
-    SVID_KID,
-    SVID_PAYLOAD_SPELLING,
-    SVID_PAYLOAD_NOT_OBJECT,
-    SVID_SIGNATURE_SPELLING,
-    SVID_SUB,
-    SVID_AUD,
-    SVID_EXP,
-    SVID_NBF,
-    SVID_JTI,
-    SVID_NOT_AUDIENCE,
-    SVID_EXPIRED,
-    SVID_NOT_YET,
-    SVID_TOO_LONG_LIVED,
-    SVID_UNKNOWN_DOMAIN,
-    SVID_NO_KEY,
-    SVID_BAD_SIGNATURE,
-    SVID_WITHDRAWN,
-    SVID_REPLAYED = 125
+    SVID_TOO_LONG = 101,           /* The token has more than 65,536 bytes. */
+    SVID_NOT_THREE_PARTS = 102,    /* The token has not exactly two periods. */
+    SVID_HEADER_SPELLING = 103,    /* The header is not base64url. */
+    SVID_HEADER_NOT_OBJECT = 104,  /* The header is no JSON object. */
+    SVID_CRIT = 105,               /* The header has a member `crit`. */
+    SVID_ALG = 106,                /* `alg` is none of the nine algorithms RS256 to RS512, ES256 to ES512 and PS256 to PS512. */
+    SVID_TYP = 107,                /* `typ` is there, and is neither "JWT" nor "JOSE". */
+    SVID_KID = 108,                /* `kid` is there, and is no string. */
+    SVID_PAYLOAD_SPELLING = 109,   /* The payload is not base64url. */
+    SVID_PAYLOAD_NOT_OBJECT = 110, /* The payload is no JSON object. */
+    SVID_SIGNATURE_SPELLING = 111, /* The signature is empty, or not base64url. */
+    SVID_SUB = 112,                /* `sub` is no SPIFFE ID. */
+    SVID_AUD = 113,                /* `aud` is neither a string nor a list of one or more strings. */
+    SVID_EXP = 114,                /* `exp` is no whole number from 0 to 2^64-1, written with digits alone. */
+    SVID_NBF = 115,                /* `nbf` is there, and is no whole number from 0 to 2^64-1. */
+    SVID_JTI = 116,                /* `jti` is there, and is no string. */
+    SVID_NOT_AUDIENCE = 117,       /* No value of `aud` is one of the validator's audiences. */
+    SVID_EXPIRED = 118,            /* The token has expired: `exp` is not greater than the record's moment. */
+    SVID_NOT_YET = 119,            /* The token is not valid yet: `nbf` is greater than the record's moment. */
+    SVID_TOO_LONG_LIVED = 120,     /* The token expires more than `longest` seconds past the record's moment. */
+    SVID_UNKNOWN_DOMAIN = 121,     /* The bundles have no trust domain of this name. */
+    SVID_NO_KEY = 122,             /* The trust domain has no key that fits `alg` and `kid`. */
+    SVID_BAD_SIGNATURE = 123,      /* No key among the first 3 that fit made the signature. */
+    SVID_WITHDRAWN = 124,          /* The token was withdrawn. */
+    SVID_REPLAYED = 125            /* The token was accepted before, here or by a validator whose messages were taken. */
+    /* lists:end */
 };
 
 /* The lengths of an ID's parts, in bytes, or the place of its fault; 0 elsewhere. The trust domain name stands
@@ -755,6 +757,7 @@ uint32_t svid_check_by_lengths(const svid_setting *setting, const uint8_t *own, 
 /* The name of a status, as "SVID_REPLAYED"; "SVID_?" for a number that is none. */
 static inline const char *svid_strstatus(uint32_t status) {
     switch (status) {
+    /* lists:begin names (written by tools/lists) */
     case SVID_OK: return "SVID_OK";
     case SVID_TOO_SHORT: return "SVID_TOO_SHORT";
     case SVID_NO_MEMORY: return "SVID_NO_MEMORY";
@@ -766,6 +769,7 @@ static inline const char *svid_strstatus(uint32_t status) {
     case SVID_TOO_FAR: return "SVID_TOO_FAR";
     case SVID_JUMP: return "SVID_JUMP";
     case SVID_HAS_LOG: return "SVID_HAS_LOG";
+    case SVID_NO_LOG: return "SVID_NO_LOG";
     case SVID_MAGIC: return "SVID_MAGIC";
     case SVID_KIND: return "SVID_KIND";
     case SVID_COUNT: return "SVID_COUNT";
@@ -774,7 +778,6 @@ static inline const char *svid_strstatus(uint32_t status) {
     case SVID_USE_FUTURE: return "SVID_USE_FUTURE";
     case SVID_USE_ORDER: return "SVID_USE_ORDER";
     case SVID_TRUNCATED: return "SVID_TRUNCATED";
-    case SVID_NO_LOG: return "SVID_NO_LOG";
     case SVID_ID_TOO_LONG: return "SVID_ID_TOO_LONG";
     case SVID_ID_SCHEME: return "SVID_ID_SCHEME";
     case SVID_ID_DOMAIN_EMPTY: return "SVID_ID_DOMAIN_EMPTY";
@@ -843,6 +846,7 @@ static inline const char *svid_strstatus(uint32_t status) {
     case SVID_BAD_SIGNATURE: return "SVID_BAD_SIGNATURE";
     case SVID_WITHDRAWN: return "SVID_WITHDRAWN";
     case SVID_REPLAYED: return "SVID_REPLAYED";
+    /* lists:end */
     default: return "SVID_?";
     }
 }

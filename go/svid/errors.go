@@ -67,6 +67,9 @@ func (e *MessageError) Error() string {
 	return fmt.Sprintf("svid: message %d, byte %d: %s", e.Message, e.Place, e.Reason)
 }
 
+// lists:begin messages (written by tools/lists from lists/statuses.toml)
+
+// messageReasons are the names of docs/FORMATS.md.
 var messageReasons = map[C.uint32_t]string{
 	C.SVID_MAGIC:       "Magic",
 	C.SVID_KIND:        "Kind",
@@ -77,6 +80,8 @@ var messageReasons = map[C.uint32_t]string{
 	C.SVID_USE_ORDER:   "UseOrder",
 	C.SVID_TRUNCATED:   "Truncated",
 }
+
+// lists:end
 
 var statusErrors = map[C.uint32_t]error{
 	C.SVID_NO_MEMORY:          ErrNoMemory,
@@ -97,7 +102,7 @@ func failure(status C.uint32_t, told *C.svid_told) error {
 	switch {
 	case status == C.SVID_OK:
 		return nil
-	case status >= C.SVID_TOO_LONG && status <= C.SVID_REPLAYED:
+	case status >= C.SVID_TOO_LONG: // (no other status has a number as great)
 		return Refusal(status)
 	case status == C.SVID_BUNDLES_DOMAIN:
 		return &BundleError{Reason: "Domain", Index: int(told.place)}

@@ -276,17 +276,21 @@ func areMessages(messages []byte) error {
 	return failure(status, &told)
 }
 
+// lists:begin folder (written by tools/lists from lists/statuses.toml)
+
 // orders say why a call may not come now.
 var orders = map[C.uint32_t]string{
 	C.SVID_FOLDER_UNFIT:       "the numbers are not those of a folder, or of the file that is read",
 	C.SVID_FOLDER_NOT_GROWING: "no journal grows yet: make the calls that are due",
-	C.SVID_FOLDER_BUSY:        "a call is due: make it first",
+	C.SVID_FOLDER_BUSY:        "a call is due already: make it first",
 	C.SVID_FOLDER_NOTHING_DUE: "no call is due",
-	C.SVID_FOLDER_FLYING:      "a frame is not synced yet: sync it first",
-	C.SVID_FOLDER_NOT_FLYING:  "there is no frame to sync",
+	C.SVID_FOLDER_FLYING:      "a frame was handed out, and is not synced yet: sync it first",
+	C.SVID_FOLDER_NOT_FLYING:  "no frame was handed out",
 	C.SVID_FOLDER_NOT_WRITING: "no snapshot is being written",
 	C.SVID_FOLDER_NO_MARK:     "the snapshot has no mark at its end: put an empty piece behind it",
 }
+
+// lists:end
 
 // folderFailure is the error of a status of a folder, or nil for SVID_OK.
 func folderFailure(status C.uint32_t) error {

@@ -3,18 +3,20 @@
 const MAGIC = [0x4a, 0x53, 0x52];
 const SUMMARY_LENGTH = 8205, BATCH_HEAD = 17, USE_LENGTH = { 1: 64, 2: 65 };
 
+// lists:begin messages (written by tools/lists from lists/statuses.toml)
 /** Why messages are refused, by status (include/svid.h). */
 export const MESSAGE_FAULTS = {
-  3: "it is longer than 64 MiB",
-  11: "it does not begin as a message does",
-  12: "it is of an unknown kind, or a summary of version 1",
-  13: "it tells of too many uses",
+  3: "it has more than 67,108,864 bytes",
+  11: "the first four bytes are those of no version",
+  12: "the fifth byte is that of no kind of message of the version",
+  13: "a batch tells of too many uses",
   14: "the last byte of a use is neither 0 nor 1",
-  15: "a use has expired at its own message's time",
-  16: "a use was made after its own message's time",
-  17: "the uses do not rise",
+  15: "a use expires at its batch's moment or before it",
+  16: "a use was made after its batch's moment",
+  17: "a use is not greater than the one before it",
   18: "the bytes end before the message does",
 };
+// lists:end
 
 /**
  * The record that a report tells (docs/FORMATS.md, "svid report").

@@ -4,39 +4,72 @@
 import { member, stringAt } from "./json.js";
 import { agoOf, dateOf, spanOf } from "./time.js";
 
-const FIRST_STATUS = 101;
 const WHOLE = [0, Infinity];
 
 /** @typedef {object} Case what a token was judged by: `token`, `parts`, `own` (audiences), `now`, `longest`, `library` */
 
-/** Each refusal: its name, what a token must be to pass it, and `holds(case)`, which tells why it holds and the places that do not fit. */
-export const REFUSALS = [
-  { name: "TooLong", asks: "It has at most 65,536 bytes", holds: tooLong },
-  { name: "NotThreeParts", asks: "It has three parts", holds: notThreeParts },
-  { name: "HeaderSpelling", asks: "The header is base64url", holds: (it) => misspelt(it, 0, "header") },
-  { name: "HeaderNotObject", asks: "The header is a JSON object", holds: (it) => notObject(it, 0, "header") },
-  { name: "Crit", asks: "It has no crit", holds: (it) => wrong(it, 0, "crit", "names extensions that must be understood, and svid has none") },
-  { name: "Alg", asks: "alg is one of the nine of JWT-SVID", holds: (it) => wrong(it, 0, "alg", "is none of RS, PS or ES with 256, 384 or 512") },
-  { name: "Typ", asks: "typ is JWT or JOSE, if it is there", holds: (it) => wrong(it, 0, "typ", "is neither JWT nor JOSE") },
-  { name: "Kid", asks: "kid is a text, if it is there", holds: (it) => wrong(it, 0, "kid", "is no text") },
-  { name: "PayloadSpelling", asks: "The payload is base64url", holds: (it) => misspelt(it, 1, "payload") },
-  { name: "PayloadNotObject", asks: "The payload is a JSON object", holds: (it) => notObject(it, 1, "payload") },
-  { name: "SignatureSpelling", asks: "The signature is base64url", holds: signatureMisspelt },
-  { name: "Sub", asks: "sub is a SPIFFE ID", holds: noId },
-  { name: "Aud", asks: "aud is a text, or a list of texts", holds: (it) => wrong(it, 1, "aud", "is neither a text nor a list of one or more texts") },
-  { name: "Exp", asks: "exp is a number in digits", holds: (it) => wrong(it, 1, "exp", "is no number in digits alone, below 2^64") },
-  { name: "Nbf", asks: "nbf is one too, if it is there", holds: (it) => wrong(it, 1, "nbf", "is no number in digits alone, below 2^64") },
-  { name: "Jti", asks: "jti is a text, if it is there", holds: (it) => wrong(it, 1, "jti", "is no text") },
-  { name: "NotAudience", asks: "aud names this service", holds: notAudience },
-  { name: "Expired", asks: "It has not expired", holds: expired },
-  { name: "NotYet", asks: "It is valid already", holds: notYet },
-  { name: "TooLongLived", asks: "It does not live too long", holds: tooLongLived },
-  { name: "UnknownDomain", asks: "Its trust domain is known", holds: unknownDomain },
-  { name: "NoKey", asks: "A key may have signed it", holds: noKey },
-  { name: "BadSignature", asks: "Such a key verifies it", holds: badSignature },
-  { name: "Withdrawn", asks: "It was not withdrawn", holds: withdrawn },
-  { name: "Replayed", asks: "It was not used before", holds: replayed },
+// The number of each in the library, its name, and what a token must be to pass it.
+// lists:begin refusals (written by tools/lists from lists/refusals.toml)
+const LIST = [
+  { number: 101, name: "TooLong", asks: "It has at most 65,536 bytes" },
+  { number: 102, name: "NotThreeParts", asks: "It has three parts" },
+  { number: 103, name: "HeaderSpelling", asks: "The header is base64url" },
+  { number: 104, name: "HeaderNotObject", asks: "The header is a JSON object" },
+  { number: 105, name: "Crit", asks: "It has no crit" },
+  { number: 106, name: "Alg", asks: "alg is one of the nine of JWT-SVID" },
+  { number: 107, name: "Typ", asks: "typ is JWT or JOSE, if it is there" },
+  { number: 108, name: "Kid", asks: "kid is a text, if it is there" },
+  { number: 109, name: "PayloadSpelling", asks: "The payload is base64url" },
+  { number: 110, name: "PayloadNotObject", asks: "The payload is a JSON object" },
+  { number: 111, name: "SignatureSpelling", asks: "The signature is base64url" },
+  { number: 112, name: "Sub", asks: "sub is a SPIFFE ID" },
+  { number: 113, name: "Aud", asks: "aud is a text, or a list of texts" },
+  { number: 114, name: "Exp", asks: "exp is a number in digits" },
+  { number: 115, name: "Nbf", asks: "nbf is one too, if it is there" },
+  { number: 116, name: "Jti", asks: "jti is a text, if it is there" },
+  { number: 117, name: "NotAudience", asks: "aud names this service" },
+  { number: 118, name: "Expired", asks: "It has not expired" },
+  { number: 119, name: "NotYet", asks: "It is valid already" },
+  { number: 120, name: "TooLongLived", asks: "It does not live too long" },
+  { number: 121, name: "UnknownDomain", asks: "Its trust domain is known" },
+  { number: 122, name: "NoKey", asks: "A key may have signed it" },
+  { number: 123, name: "BadSignature", asks: "Such a key verifies it" },
+  { number: 124, name: "Withdrawn", asks: "It was not withdrawn" },
+  { number: 125, name: "Replayed", asks: "It was not used before" },
 ];
+// lists:end
+
+// `holds(case)` of each tells why it holds, and the places that do not fit.
+const HOLDS = {
+  TooLong: tooLong,
+  NotThreeParts: notThreeParts,
+  HeaderSpelling: (it) => misspelt(it, 0, "header"),
+  HeaderNotObject: (it) => notObject(it, 0, "header"),
+  Crit: (it) => wrong(it, 0, "crit", "names extensions that must be understood, and svid has none"),
+  Alg: (it) => wrong(it, 0, "alg", "is none of RS, PS or ES with 256, 384 or 512"),
+  Typ: (it) => wrong(it, 0, "typ", "is neither JWT nor JOSE"),
+  Kid: (it) => wrong(it, 0, "kid", "is no text"),
+  PayloadSpelling: (it) => misspelt(it, 1, "payload"),
+  PayloadNotObject: (it) => notObject(it, 1, "payload"),
+  SignatureSpelling: signatureMisspelt,
+  Sub: noId,
+  Aud: (it) => wrong(it, 1, "aud", "is neither a text nor a list of one or more texts"),
+  Exp: (it) => wrong(it, 1, "exp", "is no number in digits alone, below 2^64"),
+  Nbf: (it) => wrong(it, 1, "nbf", "is no number in digits alone, below 2^64"),
+  Jti: (it) => wrong(it, 1, "jti", "is no text"),
+  NotAudience: notAudience,
+  Expired: expired,
+  NotYet: notYet,
+  TooLongLived: tooLongLived,
+  UnknownDomain: unknownDomain,
+  NoKey: noKey,
+  BadSignature: badSignature,
+  Withdrawn: withdrawn,
+  Replayed: replayed,
+};
+
+/** Each refusal, in their order: its `number`, its `name`, what it `asks`, and `holds(case)`. */
+export const REFUSALS = LIST.map((it) => ({ ...it, holds: HOLDS[it.name] }));
 
 /** The groups that the refusals make, each by the name of its first. */
 export const GROUPS = {
@@ -45,7 +78,7 @@ export const GROUPS = {
 
 /** The refusal that a status is, if it is one. */
 export function refusalOf(status) {
-  return REFUSALS[status - FIRST_STATUS];
+  return REFUSALS.find((it) => it.number === status);
 }
 
 /** The JSON of a part, where it is an object. */

@@ -101,7 +101,7 @@ test("a file that is no row of messages is not taken, and told by its place", as
   const whole = await readFile(join(EXAMPLES, "shared.messages"));
   const before = await page.text("record-said");
   await openFiles(await fileOf("cut", whole.subarray(0, whole.length - 1)), await fileOf("other", Buffer.from([0, 1, 2, 3])));
-  assert.match(await page.text("record-change"), /cut was not taken: the bytes end before the message does\. In message 3, at byte \d+\..*other was not taken: it does not begin as a message does\. In message 1, at byte 0\./);
+  assert.match(await page.text("record-change"), /cut was not taken: the bytes end before the message does\. In message 3, at byte \d+\..*other was not taken: the first four bytes are those of no version\. In message 1, at byte 0\./);
   assert.equal(await page.text("record-said"), before);
 });
 

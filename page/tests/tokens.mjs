@@ -15,8 +15,6 @@ const SIGNING = {
   ES: (bits) => ({ name: "ECDSA", hash: `SHA-${bits}` }),
 };
 
-export const ALGORITHMS = ["RS256", "RS384", "RS512", "ES256", "ES384", "ES512", "PS256", "PS384", "PS512"];
-
 export const base64url = (it) => Buffer.from(it).toString("base64url");
 
 /** A key pair: how it signs, and its entry in a bundle. */
@@ -25,15 +23,15 @@ export async function makeKey(alg, kid = `key-${alg}`, modulusLength = 2048) {
   const pair = await subtle.generateKey(KINDS[alg.slice(0, 2)](bits, modulusLength), true, ["sign", "verify"]);
   const { kty, crv, x, y, n, e } = await subtle.exportKey("jwk", pair.publicKey);
   const entry = JSON.parse(JSON.stringify({ kty, use: "jwt-svid", kid, crv, x, y, n, e }));
-  const sign = async (input, change = {}) => new Uint8Array(await subtle.sign({ ...SIGNING[alg.slice(0, 2)](bits), ...change }, pair.privateKey, encoder.encode(input)));
+  const sign = async (input) => new Uint8Array(await subtle.sign(SIGNING[alg.slice(0, 2)](bits), pair.privateKey, encoder.encode(input)));
   return { alg, kid, entry, sign };
 }
 
-/** A token of these texts or bytes of JSON, or values, signed by a key, with some parameters changed. */
-export async function sign(key, header, payload, change = {}) {
+/** A token of these texts or bytes of JSON, or values, signed by a key. */
+export async function sign(key, header, payload) {
   const text = (it) => (typeof it === "string" || it instanceof Uint8Array ? it : JSON.stringify(it));
   const input = `${base64url(text(header))}.${base64url(text(payload))}`;
-  return `${input}.${base64url(await key.sign(input, change))}`;
+  return `${input}.${base64url(await key.sign(input))}`;
 }
 
 /** A number after the other that only looks random: the same in each run. */

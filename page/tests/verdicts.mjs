@@ -1,14 +1,16 @@
-// What the page says of tokens, in any browser: each refusal by a token of its own, each algorithm, each reason to pass a key over.
+// What the page says of tokens, in any browser: each refusal by a token of its own, the vectors of keys and signatures, each reason to pass a
+// key over.
 
 import assert from "node:assert/strict";
 import { after, before, test } from "node:test";
-import { ALGORITHMS, base64url, makeKey, sign } from "./tokens.mjs";
+import { REFUSALS } from "../src/refusals.js";
+import { base64url, makeKey, sign } from "./tokens.mjs";
+import { vectorsOf } from "./vectors.mjs";
 
 const NOW = 1767225600;
 const SUB = "spiffe://example.org/billing/api";
 const GOOD = { sub: SUB, aud: "ledger", exp: NOW + 300, jti: "one" };
-const ORDER = ["TooLong", "NotThreeParts", "HeaderSpelling", "HeaderNotObject", "Crit", "Alg", "Typ", "Kid", "PayloadSpelling", "PayloadNotObject", "SignatureSpelling", "Sub", "Aud", "Exp", "Nbf", "Jti",
-  "NotAudience", "Expired", "NotYet", "TooLongLived", "UnknownDomain", "NoKey", "BadSignature", "Withdrawn", "Replayed"];
+const ORDER = REFUSALS.map((it) => it.name);
 
 let browser, page, key;
 
@@ -71,34 +73,6 @@ const REFUSED = {
   Replayed: { token: async () => signed({ jti: "three" }), press: "use", member: "jti", why: /a use of this token/ },
 };
 
-// Members of a key with which it verifies nothing, and with which it does nevertheless. The packages for Go and Python and the page are tested
-// with the same.
-const SPOILING = {
-  ES256: [
-    { alg: null }, { alg: "" }, { alg: "es256" }, { alg: "ES256 " }, { alg: "ES384" }, { alg: "RS256" }, { alg: "none" },
-    { alg: 256 }, { alg: false }, { alg: ["ES256"] }, { alg: { ES256: "ES256" } },
-    { kty: null }, { kty: "" }, { kty: "ec" }, { kty: ["EC"] }, { kty: "RSA" },
-    { crv: null }, { crv: "" }, { crv: "p-256" }, { crv: 256 }, { crv: ["P-256"] }, { crv: "P-384" },
-    { use: null }, { use: "" }, { use: "sig" }, { use: ["jwt-svid"] },
-    { x: null }, { x: 7 }, { y: "" },
-  ],
-  RS256: [
-    { alg: null }, { alg: "" }, { alg: "rs256" }, { alg: "RS512" }, { alg: "PS256" }, { alg: 256 }, { alg: ["RS256"] },
-    { kty: null }, { kty: "rsa" }, { kty: "EC" }, { use: null },
-    { n: null }, { n: 7 }, { e: null }, { e: 65537 },
-  ],
-};
-const HARMLESS = {
-  ES256: [
-    {}, { alg: "ES256" }, { Alg: null }, { ALG: "ES384" }, { n: 7, e: null },
-    { key_ops: null }, { key_ops: [] }, { key_ops: ["sign"] }, { key_ops: "sign" }, { key_ops: 7 },
-  ],
-  RS256: [
-    {}, { alg: "RS256" }, { Alg: null }, { crv: null }, { crv: 7 }, { crv: "P-256" }, { x: 7, y: null },
-    { key_ops: null }, { key_ops: ["sign"] },
-  ],
-};
-
 /** Tests what the page says in a browser, which `start` starts. */
 export function testVerdicts(start) {
   before(async () => {
@@ -108,7 +82,7 @@ export function testVerdicts(start) {
   });
   after(() => browser?.close());
 
-  test("every refusal has a token here", () => assert.deepEqual(Object.keys(REFUSED), ORDER));
+  test("every refusal has a token here", () => assert.deepEqual([Object.keys(REFUSED), ORDER.length], [ORDER, 25]));
 
   for (const [name, { token, fields = {}, press, marked, member, why }] of Object.entries(REFUSED)) {
     test(`a token is refused as ${name}`, async () => {
@@ -131,72 +105,34 @@ export function testVerdicts(start) {
     });
   }
 
-  for (const alg of ALGORITHMS) {
-    test(`${alg}: a good signature is accepted, and a bad one is not`, async () => {
-      const mine = await makeKey(alg, `k é😀 ${alg}`), text = await sign(mine, { alg, kid: mine.kid }, GOOD);
-      await page.write({ ...fresh(), bundles: bundlesOf(key.entry, mine.entry), token: text });
-      assert.equal((await shown()).said, "Accepted");
-      const at = text.length - 20;
-      await page.write({ token: text.slice(0, at) + (text[at] === "A" ? "B" : "A") + text.slice(at + 1) });
-      assert.equal((await shown()).said, "Refused: BadSignature");
+  // What becomes of a token by these bundles.
+  async function verdictOf(bundles, token, domain = "") {
+    await page.write({ ...fresh(), bundles, domain, token });
+    return page.run(() => document.getElementById("verdict-said").textContent);
+  }
+
+  const saidOf = (answer) => (answer.startsWith("accepted ") ? "Accepted" : answer.replace("refused ", "Refused: "));
+
+  // Wants each vector of a list to have its verdict: all that have another one are told.
+  async function wantVerdicts(vectors, verdict, wanted) {
+    const wrong = [];
+    for (const it of vectors) {
+      const said = await verdict(it);
+      if (said !== wanted(it)) wrong.push(`${it.name}: ${said}, and not ${wanted(it)}`);
+    }
+    assert.deepEqual(wrong, []);
+  }
+
+  for (const name of ["keys", "signatures"]) {
+    test(`the vectors of ${name}`, async () => {
+      const verdict = (it) => verdictOf(`{"example.org":{"keys":[${it.keys.join(",")}]}}`, it.token);
+      await wantVerdicts(vectorsOf(name).vectors, verdict, (it) => saidOf(it.answer));
     });
   }
 
-  // Wants the page to accept a token, and none of the others that have the same text and one of these signatures.
-  async function wantOneForm(mine, token, others) {
-    const end = token.lastIndexOf(".") + 1;
-    for (const [what, signature] of Object.entries(others)) {
-      await page.write({ ...fresh(), bundles: bundlesOf(mine.entry), token: token.slice(0, end) + base64url(signature) });
-      assert.equal((await shown()).said, "Refused: BadSignature", `${mine.alg}, ${what}`);
-    }
-    await page.write({ ...fresh(), bundles: bundlesOf(mine.entry), token });
-    assert.equal((await shown()).said, "Accepted", mine.alg);
-  }
-
-  // The first token of a key whose signature fits: each has another jti.
-  async function found(mine, fits) {
-    for (let jti = 0; ; jti++) {
-      const token = await sign(mine, { alg: mine.alg, kid: mine.kid }, { ...GOOD, jti: String(jti) });
-      const signature = Buffer.from(token.slice(token.lastIndexOf(".") + 1), "base64url");
-      if (fits(signature)) return { token, signature };
-    }
-  }
-
-  test("an RSA signature is below the modulus, and has its length (RFC 8017, 5.2.2, 8.1.2 and 8.2.2)", async () => {
-    const numberOf = (bytes) => BigInt(`0x${Buffer.from(bytes).toString("hex")}`);
-    const bytesOf = (number) => Buffer.from(number.toString(16).padStart(512, "0"), "hex");
-    for (const alg of ALGORITHMS.filter((it) => it[0] !== "E")) {
-      const mine = await makeKey(alg), modulus = numberOf(Buffer.from(mine.entry.n, "base64url"));
-      const { token, signature } = await found(mine, (it) => numberOf(it) + modulus < 1n << 2048n);
-      await wantOneForm(mine, token, {
-        "the modulus more": bytesOf(numberOf(signature) + modulus), "the modulus": bytesOf(modulus),
-        "a zero in front": Buffer.concat([Buffer.alloc(1), signature]), zero: Buffer.alloc(256),
-      });
-      if (alg.endsWith("512")) continue;
-      const short = await found(mine, (it) => it[0] === 0);
-      await wantOneForm(mine, short.token, { "without its zero": short.signature.subarray(1) });
-    }
-  });
-
-  test("a salt has the length of the hash (RFC 7518, 3.5)", async () => {
-    for (const [alg, size] of Object.entries({ PS256: 32, PS384: 48, PS512: 64 })) {
-      const mine = await makeKey(alg), { token } = await found(mine, () => true), others = {};
-      for (const saltLength of [0, 20, size - 1, size + 1, 254 - size]) {
-        others[`a salt of ${saltLength}`] = await mine.sign(token.slice(0, token.lastIndexOf(".")), { saltLength });
-      }
-      await wantOneForm(mine, token, others);
-    }
-  });
-
-  test("r and s have the length of the curve's order (RFC 7518, 3.4)", async () => {
-    for (const alg of ALGORITHMS.filter((it) => it[0] === "E")) {
-      const mine = await makeKey(alg), { token, signature } = await found(mine, () => true), zero = Buffer.alloc(1);
-      const r = signature.subarray(0, signature.length / 2), s = signature.subarray(signature.length / 2);
-      await wantOneForm(mine, token, {
-        "0 r s": Buffer.concat([zero, r, s]), "r 0 s": Buffer.concat([r, zero, s]), "0 r 0 s": Buffer.concat([zero, r, zero, s]),
-        "r s 0": Buffer.concat([r, s, zero]), "r s 0 0": Buffer.concat([r, s, zero, zero]), "zero": Buffer.alloc(signature.length),
-      });
-    }
+  test("the vectors of bundles", async () => {
+    const isFault = (it) => /^(NotObject|Domain|Keys)/.test(it.answer);
+    await wantVerdicts(vectorsOf("bundles").vectors, (it) => verdictOf(it.text, it.token, it.domain), (it) => (isFault(it) ? "Not judged" : saidOf(it.answer)));
   });
 
   test("each reason to pass a key over is told, and each answer of a key", async () => {
@@ -273,21 +209,6 @@ export function testVerdicts(start) {
     }
     await page.write({ ...fresh(), bundles: bundlesOf(small.entry), token: await sign(small, { alg: "RS256", kid: "key" }, GOOD) });
     assert.equal((await shown()).said, "Refused: BadSignature");
-  });
-
-  test("a key verifies nothing with some members, and others do no harm", async () => {
-    for (const alg of ["ES256", "RS256"]) {
-      const mine = await makeKey(alg, "key");
-      const wanted = [[SPOILING[alg], /^(can't be used|passed over: (?!only)).*/], [HARMLESS[alg], /^verifies the signature/]];
-      for (const [members, how] of wanted) {
-        for (const some of inThrees(members)) {
-          await page.write({ ...fresh(), bundles: bundlesOf(...some.map((it) => ({ ...mine.entry, ...it }))), token: await sign(mine, { alg, kid: "key" }, GOOD) });
-          const said = await page.run(() => [...document.querySelectorAll("#keys summary")].map((it) => it.textContent));
-          assert.equal(said.length, some.length);
-          some.forEach((it, n) => assert.match(said[n], how, `${alg} ${JSON.stringify(it)}`));
-        }
-      }
-    }
   });
 
   test("a token that was used can be withdrawn, and one that is refused for another reason can't", async () => {

@@ -24,6 +24,7 @@ GONE = 7
 TOO_FAR = 8
 JUMP = 9
 
+# lists:begin messages (written by tools/lists from lists/statuses.toml)
 MESSAGE_FAULTS = {
     TOO_MUCH: "TooMuch",
     NOT_SUMMARY: "NotSummary",
@@ -36,6 +37,7 @@ MESSAGE_FAULTS = {
     17: "UseOrder",
     18: "Truncated",
 }
+# lists:end
 """Why bytes are no messages, by status."""
 
 BEARER_SPELLING = 84
@@ -50,19 +52,21 @@ FATE_TOO_FAR_AHEAD = 8
 """The other fates are refusals, by their numbers."""
 ORDER_GAP = 2
 
+# lists:begin folder (written by tools/lists from lists/statuses.toml)
 FOLDER_FAULTS = {
-    41: "the numbers are not those of a folder",
+    41: "the numbers are not those of a folder, or of the file that is read",
     42: "a sync failed",
     43: "no journal grows yet",
     44: "a call is due already",
     45: "no call is due",
-    46: "a frame is not synced yet",
+    46: "a frame was handed out, and is not synced yet",
     47: "no frame was handed out",
     48: "no snapshot is being written",
     49: "the snapshot has no mark at its end",
-    50: "a payload has more than 16,777,215 bytes",
+    50: "the payload has more than 16,777,215 bytes",
     51: "a number of the folder has come to its end",
 }
+# lists:end
 """Why a state folder takes no call, by status."""
 FOLDER_ENDED = 42
 FILE_END = 52

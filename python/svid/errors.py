@@ -175,6 +175,7 @@ class Refused(Error):
         return f"{self.name}: {type(self).__doc__}"
 
 
+# lists:begin refusals (written by tools/lists from lists/refusals.toml)
 class TooLong(Refused):
     """The token has more than 65,536 bytes."""
 
@@ -275,33 +276,32 @@ class Replayed(Refused):
     """The token was accepted before, here or by a validator whose messages were taken."""
 
 
-_REFUSED: tuple[type[Refused], ...] = (
-    TooLong,
-    NotThreeParts,
-    HeaderSpelling,
-    HeaderNotObject,
-    Crit,
-    Alg,
-    Typ,
-    Kid,
-    PayloadSpelling,
-    PayloadNotObject,
-    SignatureSpelling,
-    Sub,
-    Aud,
-    Exp,
-    Nbf,
-    Jti,
-    NotAudience,
-    Expired,
-    NotYet,
-    TooLongLived,
-    UnknownDomain,
-    NoKey,
-    BadSignature,
-    Withdrawn,
-    Replayed,
-)
-
-REFUSALS: dict[int, type[Refused]] = dict(enumerate(_REFUSED, start=101))
+REFUSALS: dict[int, type[Refused]] = {
+    101: TooLong,
+    102: NotThreeParts,
+    103: HeaderSpelling,
+    104: HeaderNotObject,
+    105: Crit,
+    106: Alg,
+    107: Typ,
+    108: Kid,
+    109: PayloadSpelling,
+    110: PayloadNotObject,
+    111: SignatureSpelling,
+    112: Sub,
+    113: Aud,
+    114: Exp,
+    115: Nbf,
+    116: Jti,
+    117: NotAudience,
+    118: Expired,
+    119: NotYet,
+    120: TooLongLived,
+    121: UnknownDomain,
+    122: NoKey,
+    123: BadSignature,
+    124: Withdrawn,
+    125: Replayed,
+}
 """Each reason for which a token is refused, by the number that the C library has for it."""
+# lists:end

@@ -4,6 +4,7 @@ import pickle
 
 import pytest
 import svid
+import vectors
 from making import NOW, b64, claims, entry, private_key, signed, token, validator
 from svid.errors import REFUSALS
 
@@ -16,65 +17,42 @@ def text(header=HEADER, payload=PAYLOAD):
     return signed("ES256", KEY, header, payload)
 
 
-def parts(place, part):
-    """A good token with another part."""
-    given = text().split(".")
-    given[place] = part
-    return ".".join(given)
-
-
+# Of each refusal the first vector that ends in it.
 REFUSED = {
-    "TooLong": "a" * 65_537,
-    "NotThreeParts": "a.b",
-    "HeaderSpelling": parts(0, "e30="),
-    "HeaderNotObject": text(header=b"[]"),
-    "Crit": text(header=b'{"alg":"ES256","crit":["exp"]}'),
-    "Alg": text(header=b'{"alg":"none"}'),
-    "Typ": text(header=b'{"alg":"ES256","typ":"at+jwt"}'),
-    "Kid": text(header=b'{"alg":"ES256","kid":1}'),
-    "PayloadSpelling": parts(1, "*"),
-    "PayloadNotObject": text(payload=b"7"),
-    "SignatureSpelling": parts(2, ""),
-    "Sub": token(sub="billing"),
-    "Aud": token(aud=[]),
-    "Exp": token(exp=None),
-    "Nbf": token(nbf=1.5),
-    "Jti": token(jti=5),
-    "NotAudience": token(aud="other"),
-    "Expired": token(exp=NOW),
-    "NotYet": token(nbf=NOW + 1),
-    "TooLongLived": token(exp=NOW + 3601),
-    "UnknownDomain": token(sub="spiffe://other.example/api"),
-    "NoKey": token(header={"kid": "k2"}),
-    "BadSignature": token(key=private_key("ES256", 1)),
-    "Withdrawn": token(jti="withdrawn"),
-    "Replayed": token(jti="used"),
+    it.__name__: next(
+        vector
+        for vector in vectors.TOKENS["vectors"]
+        if vector["calls"][-1]["answer"] == f"refused {it.__name__}"
+    )
+    for it in REFUSALS.values()
 }
 
 
 @pytest.fixture
 def checks():
-    with validator(longest=3600) as made:
-        made.check(REFUSED["Replayed"], NOW)
-        made.withdraw(REFUSED["Withdrawn"], NOW)
+    with validator() as made:
         yield made
 
 
 def test_every_refusal_has_a_token():
-    assert [it.__name__ for it in REFUSALS.values()] == list(REFUSED) and len(REFUSED) == 25
+    assert len(REFUSED) == 25
 
 
 @pytest.mark.parametrize("name", REFUSED)
 @pytest.mark.parametrize("spelled", [str, str.encode])
-def test_refusal(checks, name, spelled):
-    before = checks.report()
-    for ask in checks.check, checks.judge:
-        with pytest.raises(svid.Refused) as raised:
-            ask(spelled(REFUSED[name]), NOW)
-        assert type(raised.value) is getattr(svid, name)
-        assert raised.value.name == name
-        assert str(raised.value).startswith(name + ": ")
-    assert checks.report() == before
+def test_refusal(name, spelled):
+    *calls, last = REFUSED[name]["calls"]
+    with vectors.opened(REFUSED[name]) as checks:
+        for call in calls:
+            assert vectors.called(checks, call) == call["answer"]
+        before = checks.report()
+        for ask in checks.check, checks.judge:
+            with pytest.raises(svid.Refused) as raised:
+                ask(spelled(last["token"]), last["now"])
+            assert type(raised.value) is getattr(svid, name)
+            assert raised.value.name == name
+            assert str(raised.value).startswith(name + ": ")
+        assert checks.report().uses == before.uses
 
 
 def test_refusals_say_what_is_wrong_and_nothing_of_the_token():

@@ -26,9 +26,9 @@ func withdraw(args []string, std stdio) int {
 	f := flag.NewFlagSet("svidd withdraw", flag.ContinueOnError)
 	f.SetOutput(std.err)
 	socket := f.String("admin", "", "unix socket `PATH` of the sidecar")
-	key := f.String("key", "", "the token's key as 64 `HEX` digits, as the log and the report have it")
+	key := f.String("key", "", usages["key"])
 	var exp seconds
-	f.Var(&exp, "exp", "when the token of --key expires, in `SECONDS` since 1970")
+	f.Var(&exp, "exp", usages["exp"])
 	if err := parse(f, &options{}, args); err != nil {
 		return fail(std, err)
 	}
@@ -73,7 +73,7 @@ func report(args []string, std stdio) int {
 	f := flag.NewFlagSet("svidd report", flag.ContinueOnError)
 	f.SetOutput(std.err)
 	socket := f.String("admin", "", "unix socket `PATH` of the sidecar")
-	asJSON := f.Bool("json", false, "print one JSON object")
+	asJSON := f.Bool("json", false, usages["json"])
 	if err := parse(f, &options{}, args); err != nil {
 		return fail(std, err)
 	}
@@ -107,7 +107,7 @@ func resume(args []string, std stdio) int {
 	f := flag.NewFlagSet("svidd resume", flag.ContinueOnError)
 	f.SetOutput(std.err)
 	socket := f.String("admin", "", "unix socket `PATH` of the sidecar")
-	anyway := f.Bool("anyway", false, "go on; else only say what that risks")
+	anyway := f.Bool("anyway", false, usages["anyway"])
 	if err := parse(f, &options{}, args); err != nil {
 		return fail(std, err)
 	}

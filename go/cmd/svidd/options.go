@@ -90,33 +90,33 @@ const (
 
 // addCommon adds the options that serve and verify share.
 func (o *options) addCommon(f *flag.FlagSet) {
-	f.Var(&o.audiences, "audience", "`NAME` by which tokens may call the service; may be repeated")
-	f.Var(&o.bundles, "bundle", "trust bundle `DOMAIN=FILE` (JWK set, as spire-server bundle show -format spiffe prints it)\nor DOMAIN=https://..; may be repeated")
-	f.StringVar(&o.bundleFolder, "bundles", "", "folder `DIR` of trust bundles, each DOMAIN.json")
-	f.StringVar(&o.workload, "workload-api", "", "`ADDRESS` of the SPIFFE Workload API that gives the trust bundles, as unix:///run/spire/agent.sock;\nSPIFFE_ENDPOINT_SOCKET counts where no bundles are given")
-	f.Var(&o.longest, "longest", "the most `SECONDS` that a token may have to live")
-	f.IntVar(&o.rsaBits, "rsa-bits", svid.UsualRSABits, "the most `BITS` that an RSA key may have, 2048 to 16384")
-	f.StringVar(&o.config, "config", "", "`FILE` of options, as TOML (audience = [\"ledger\"]) or as a JSON object")
+	f.Var(&o.audiences, "audience", usages["audience"])
+	f.Var(&o.bundles, "bundle", usages["bundle"])
+	f.StringVar(&o.bundleFolder, "bundles", "", usages["bundles"])
+	f.StringVar(&o.workload, "workload-api", "", usages["workload-api"])
+	f.Var(&o.longest, "longest", usages["longest"])
+	f.IntVar(&o.rsaBits, "rsa-bits", svid.UsualRSABits, usages["rsa-bits"])
+	f.StringVar(&o.config, "config", "", usages["config"])
 }
 
 func (o *options) addServe(f *flag.FlagSet) {
 	o.ahead = seconds{value: aheadDefault, given: true}
-	f.Var(&o.ahead, "ahead", "the most `SECONDS` that clocks of the group may differ")
-	f.StringVar(&o.listen, "listen", listenDefault, "`ADDRESS` to answer /check on: HOST:PORT or unix:PATH")
-	f.StringVar(&o.admin, "admin", "", "unix socket `PATH` for withdraw, report, resume and reload; none without")
-	f.StringVar(&o.replay, "replay", string(server.Once), "`MODE`: once, strict or reuse")
-	f.Var(&o.nats, "nats", "NATS server `URL` of the group, nats://HOST:PORT; may be repeated, or several with commas")
-	f.StringVar(&o.files.CA, "nats-ca", "", "`FILE` of the authorities (PEM) of the NATS servers' certificates; the system's without")
-	f.StringVar(&o.files.Cert, "nats-cert", "", "`FILE` of this sidecar's certificate (PEM) for the NATS servers, such as an X.509-SVID")
-	f.StringVar(&o.files.Key, "nats-key", "", "`FILE` of its key (PEM)")
-	f.StringVar(&o.files.Creds, "nats-creds", "", "`FILE` of a NATS user's credentials, as nsc writes it")
-	f.StringVar(&o.group, "group", "svid", "`NAME` of the group's bucket")
-	f.IntVar(&o.replicas, "replicas", 1, "`NUMBER` of NATS servers that keep the bucket, if it must be made")
-	f.DurationVar(&o.wait, "wait", 2*time.Second, "the longest `TIME` that one request waits for the group, or for the disk")
-	f.DurationVar(&o.summaries, "summaries", 5*time.Minute, "`TIME` between two repairs by summaries")
-	f.StringVar(&o.state, "state", "", "folder `DIR` where the record is kept")
-	f.StringVar(&o.log, "log", "decisions", "`LEVEL`: errors, decisions or all")
-	f.BoolVar(&o.check, "check-config", false, "say what is wrong with the options, and start nothing")
+	f.Var(&o.ahead, "ahead", usages["ahead"])
+	f.StringVar(&o.listen, "listen", listenDefault, usages["listen"])
+	f.StringVar(&o.admin, "admin", "", usages["admin"])
+	f.StringVar(&o.replay, "replay", string(server.Once), usages["replay"])
+	f.Var(&o.nats, "nats", usages["nats"])
+	f.StringVar(&o.files.CA, "nats-ca", "", usages["nats-ca"])
+	f.StringVar(&o.files.Cert, "nats-cert", "", usages["nats-cert"])
+	f.StringVar(&o.files.Key, "nats-key", "", usages["nats-key"])
+	f.StringVar(&o.files.Creds, "nats-creds", "", usages["nats-creds"])
+	f.StringVar(&o.group, "group", "svid", usages["group"])
+	f.IntVar(&o.replicas, "replicas", 1, usages["replicas"])
+	f.DurationVar(&o.wait, "wait", 2*time.Second, usages["wait"])
+	f.DurationVar(&o.summaries, "summaries", 5*time.Minute, usages["summaries"])
+	f.StringVar(&o.state, "state", "", usages["state"])
+	f.StringVar(&o.log, "log", "decisions", usages["log"])
+	f.BoolVar(&o.check, "check-config", false, usages["check-config"])
 }
 
 // parse reads the options of the command line, then those that are not given there

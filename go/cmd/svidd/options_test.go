@@ -2,6 +2,7 @@ package main
 
 import (
 	"bytes"
+	"flag"
 	"net"
 	"net/http"
 	"os"
@@ -19,6 +20,19 @@ func here(stdin string, args ...string) (status int, out, err string) {
 	var o, e bytes.Buffer
 	status = run(args, stdio{strings.NewReader(stdin), &o, &e})
 	return status, o.String(), e.String()
+}
+
+// Each option of serve and verify has its sentence of lists/svidd.toml.
+func TestEachOptionHasItsUsage(t *testing.T) {
+	for _, add := range []func(*options, *flag.FlagSet){(*options).addCommon, (*options).addServe} {
+		f := flag.NewFlagSet("", flag.ContinueOnError)
+		add(&options{}, f)
+		f.VisitAll(func(option *flag.Flag) {
+			if option.Usage == "" || option.Usage != usages[option.Name] {
+				t.Errorf("--%s: %q", option.Name, option.Usage)
+			}
+		})
+	}
 }
 
 // What would end serve, or leave it without work, is said before it starts.

@@ -14,7 +14,7 @@ import (
 func checkState(args []string, std stdio) int {
 	f := flag.NewFlagSet("svidd check-state", flag.ContinueOnError)
 	f.SetOutput(std.err)
-	asMessages := f.Bool("messages", false, "write the messages of the folder to standard output, for svid report")
+	asMessages := f.Bool("messages", false, usages["messages"])
 	if err := parse(f, &options{}, args); err != nil {
 		return fail(std, err)
 	}

@@ -13,8 +13,12 @@ import (
 	"math/big"
 )
 
-// Algorithms are the nine algorithms of JWT-SVIDs.
+// lists:begin algorithms (written by tools/lists from lists/algorithms.toml)
+
+// Algorithms are the 9 algorithms of JWT-SVIDs.
 var Algorithms = []string{"RS256", "RS384", "RS512", "ES256", "ES384", "ES512", "PS256", "PS384", "PS512"}
+
+// lists:end
 
 // An Issuer signs tokens for one trust domain. It has one RSA key, and an EC key
 // a curve. All its methods may be called by many goroutines at once.
@@ -88,14 +92,6 @@ func (i *Issuer) Token(algorithm string, claims map[string]any) string {
 func (i *Issuer) Sign(algorithm, header, payload string) string {
 	signed := encode([]byte(header)) + "." + encode([]byte(payload))
 	return signed + "." + encode(i.signature(algorithm, signed))
-}
-
-// Salted is Sign by PS256 with another length of the salt.
-func (i *Issuer) Salted(claims map[string]any, salt int) string {
-	header := marshal(map[string]any{"alg": "PS256", "kid": KeyID("PS256")})
-	signed := encode(header) + "." + encode(marshal(claims))
-	signature, err := rsa.SignPSS(rand.Reader, i.rsa, crypto.SHA256, digest(crypto.SHA256, signed), &rsa.PSSOptions{SaltLength: salt})
-	return signed + "." + encode(must(signature, err))
 }
 
 var hashes = map[string]crypto.Hash{"256": crypto.SHA256, "384": crypto.SHA384, "512": crypto.SHA512}

@@ -20,7 +20,7 @@ import (
 // at once.
 type Metrics struct {
 	accepted    atomic.Uint64
-	refused     [25]atomic.Uint64 // by refusal, in their order
+	refused     [64]atomic.Uint64 // by the number of a refusal, from that of TooLong on
 	unavailable atomic.Uint64
 	noToken     atomic.Uint64
 	seconds     histogram

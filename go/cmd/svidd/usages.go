@@ -1,0 +1,37 @@
+package main
+
+// lists:begin usages (written by tools/lists from lists/svidd.toml)
+
+// usages are what --help says of each option. Where two commands have one of the same name, that is what serve says.
+var usages = map[string]string{
+	"audience":     "`NAME` by which tokens may call the service; may be repeated",
+	"workload-api": "`ADDRESS` of the SPIFFE Workload API that gives the trust bundles, as unix:///run/spire/agent.sock;\nSPIFFE_ENDPOINT_SOCKET counts where no bundles are given",
+	"bundle":       "trust bundle `DOMAIN=FILE` (JWK set, as spire-server bundle show -format spiffe prints it)\nor DOMAIN=https://..; may be repeated",
+	"bundles":      "folder `DIR` of trust bundles, each DOMAIN.json",
+	"longest":      "the most `SECONDS` that a token may have to live",
+	"rsa-bits":     "the most `BITS` that an RSA key may have, 2048 to 16384",
+	"ahead":        "the most `SECONDS` that clocks of the group may differ",
+	"replay":       "`MODE`: once, strict or reuse",
+	"listen":       "`ADDRESS` to answer /check on: HOST:PORT or unix:PATH",
+	"admin":        "unix socket `PATH` for withdraw, report, resume and reload; none without",
+	"state":        "folder `DIR` where the record is kept",
+	"log":          "`LEVEL`: errors, decisions or all",
+	"nats":         "NATS server `URL` of the group, nats://HOST:PORT; may be repeated, or several with commas",
+	"group":        "`NAME` of the group's bucket",
+	"replicas":     "`NUMBER` of NATS servers that keep the bucket, if it must be made",
+	"nats-ca":      "`FILE` of the authorities (PEM) of the NATS servers' certificates; the system's without",
+	"nats-cert":    "`FILE` of this sidecar's certificate (PEM) for the NATS servers, such as an X.509-SVID",
+	"nats-key":     "`FILE` of its key (PEM)",
+	"nats-creds":   "`FILE` of a NATS user's credentials, as nsc writes it",
+	"wait":         "the longest `TIME` that one request waits for the group, or for the disk",
+	"summaries":    "`TIME` between two repairs by summaries",
+	"config":       "`FILE` of options, as TOML (audience = [\"ledger\"]) or as a JSON object",
+	"check-config": "say what is wrong with the options, and start nothing",
+	"key":          "the token's key as 64 `HEX` digits, as the log and the report have it",
+	"exp":          "when the token of --key expires, in `SECONDS` since 1970",
+	"json":         "print one JSON object",
+	"anyway":       "go on; else only say what that risks",
+	"messages":     "write the messages of the folder to standard output, for svid report",
+}
+
+// lists:end

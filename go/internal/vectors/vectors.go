@@ -1,0 +1,71 @@
+// Package vectors reads the files of the folder vectors/, which the tests of every language read.
+//
+// The files are outside of the module, so `go test` does not see that one has changed: run it with -count=1.
+package vectors
+
+import (
+	"encoding/hex"
+	"encoding/json"
+	"os"
+	"path/filepath"
+	"runtime"
+	"strings"
+	"testing"
+)
+
+// Each vector has these.
+type Each struct {
+	Name    string `json:"name"`
+	Readers string `json:"readers"`
+}
+
+func (e Each) each() Each { return e }
+
+// Read reads a file into file, which has what stands beside the vectors, and returns the vectors that are for Go. There are
+// as many as the file says.
+func Read[Vector interface{ each() Each }](t testing.TB, name string, file any) []Vector {
+	t.Helper()
+	_, here, _, _ := runtime.Caller(0)
+	text, err := os.ReadFile(filepath.Join(filepath.Dir(here), "../../../vectors", name+".json"))
+	if err != nil {
+		t.Fatal(err)
+	}
+	var all struct {
+		Counts  map[string]int `json:"counts"`
+		Vectors []Vector       `json:"vectors"`
+	}
+	if err := json.Unmarshal(text, &all); err != nil {
+		t.Fatal(err)
+	}
+	if file != nil {
+		if err := json.Unmarshal(text, file); err != nil {
+			t.Fatal(err)
+		}
+	}
+	var mine []Vector
+	for _, v := range all.Vectors {
+		for _, reader := range strings.Fields(v.each().Readers) {
+			if reader == "go" {
+				mine = append(mine, v)
+			}
+		}
+	}
+	if len(mine) != all.Counts["go"] || len(mine) == 0 {
+		t.Fatalf("%s: %d vectors are for Go, and not %d", name, len(mine), all.Counts["go"])
+	}
+	return mine
+}
+
+// Bytes are bytes that stand in a file as hexadecimal digits.
+type Bytes []byte
+
+// UnmarshalJSON reads them.
+func (b *Bytes) UnmarshalJSON(text []byte) error {
+	var digits string
+	if err := json.Unmarshal(text, &digits); err != nil {
+		return err
+	}
+	var err error
+	*b, err = hex.DecodeString(digits)
+	return err
+}

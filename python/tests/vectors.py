@@ -1,0 +1,70 @@
+"""The files of vectors/, which the tests of every language read (vectors/README.md)."""
+
+import json
+import os
+import pathlib
+
+import svid
+
+# (a copy of the package, as python/wrong/run makes them, has the program of a checkout)
+PLACES = (pathlib.Path(__file__).parents[2], pathlib.Path(os.environ["SVID"]).parent)
+HERE = next(it / "vectors" for it in PLACES if (it / "vectors" / "tokens.json").exists())
+READER = "python"
+
+
+def read(name):
+    """A file, with the vectors that are for this package alone. There are as many as it says."""
+    made = json.loads((HERE / f"{name}.json").read_text(encoding="utf-8"))
+    made["vectors"] = [it for it in made["vectors"] if READER in it["readers"].split()]
+    assert len(made["vectors"]) == made["counts"][READER] > 0
+    return made
+
+
+def name_of(vector):
+    """The name of a test of this vector."""
+    return vector["name"] if isinstance(vector, dict) else None
+
+
+TOKENS = read("tokens")
+NO_LIMIT = 2**64 - 1
+
+
+def opened(vector):
+    """The validator that a vector of tokens.json calls."""
+    given = TOKENS["setting"] | vector.get("setting", {})
+    limits = {it: None if given[it] is None else int(given[it]) for it in ("longest", "step")}
+    return svid.Validator(
+        audiences=given["audiences"],
+        bundles=TOKENS["bundles"][given["bundles"]].encode(),
+        ahead=int(given["ahead"] or NO_LIMIT),
+        place=bytes.fromhex(given["place"]),
+        **limits,
+    )
+
+
+def called(checks, call):
+    """What a call of a validator answers, in the words of the vectors."""
+    now = call.get("now")
+    try:
+        match call["call"]:
+            case "check" | "judge":
+                accepted = getattr(checks, call["call"])(call["token"], now)
+                return f"accepted {accepted.spiffe_id} {accepted.expires}"
+            case "withdraw":
+                checks.withdraw_key(bytes.fromhex(call["key"]), call["exp"], now)
+                return "withdrawn"
+            case "take":
+                checks.take(bytes.fromhex(call["messages"]), now)
+                return "taken"
+            case "tick":
+                checks.tick(now)
+                return "ticked"
+            case "tell":
+                return b"".join(checks.parts()).hex()
+    except svid.Refused as why:
+        return f"refused {why.name}"
+    except svid.BadMessages as why:
+        return f"{why.reason} {why.message} {why.place}"
+    except (svid.Jump, svid.Gone, svid.TooFar) as why:
+        return type(why).__name__
+    raise AssertionError(call["call"])
