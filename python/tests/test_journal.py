@@ -569,6 +569,10 @@ def test_each_write_says_where_the_validator_is_in_its_log(tmp_path):
     assert found(tmp_path) == {1}
     with contextlib.closing(svid.Journal(tmp_path)) as journal:
         assert journal.log_place == (3, 0, 5)
+        journal.bear(lambda: LogPlace(4, 0, 0))
+        journal.append(b"")
+    with contextlib.closing(svid.Journal(tmp_path)) as journal:
+        assert journal.log_place == (4, 0, 0)
 
 
 def test_what_is_kept_behind_an_answer_may_fail(tmp_path, monkeypatch, caplog):

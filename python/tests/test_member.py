@@ -17,6 +17,7 @@ import pytest
 import svid
 from logs import FileLog, MemoryLog
 from making import bundle, entry, fresh, private_key
+from svid._frames import LogPlace
 from svid.asgi import SvidMiddleware
 from svid.records import batches
 
@@ -816,13 +817,20 @@ def kept(one):
     return one._journal._keeper._numbers._folder.count
 
 
+def log_of(values):
+    """A log that has these values, and never had others."""
+    made = MemoryLog()
+    for it in values:
+        made.append(it)
+    return made
+
+
 def test_a_member_goes_on_with_its_record_and_its_place(log, tmp_path):
     used = fresh()
     with member(log, state=tmp_path) as one:
         use = one.check(used).use
         until(lambda: kept(one) == 1)
     assert log_place(tmp_path) == (1, 0, 0)
-    log.replace(log.values)
     with member(log, state=tmp_path) as one:
         assert verdict(one, used) == "Replayed"
         assert verdict(one, fresh(jti="2")).place == use.place
@@ -846,21 +854,38 @@ def test_a_gap_outlives_a_restart(log, tmp_path):
         deaf = one.deaf_until
         until(lambda: kept(one) == 1)
     assert log_place(tmp_path)[2] == deaf
-    log.replace([*values, *values])
+    log = log_of([*values, *values])
     for _ in range(2):
         with member(log, state=tmp_path) as one:
             until(lambda: one._position == 6)
             assert one.deaf_until == deaf
             assert verdict(one, fresh(jti="on")) == "Unavailable"
     with member(log, state=tmp_path) as one:
-        until(lambda: one._position == 6 and kept(one) == 1)
+        until(lambda: one._position == 6)
         one.go_on()
-        until(lambda: kept(one) == 2)
-        assert isinstance(verdict(one, fresh(jti="on")), svid.Use)
-    assert log_place(tmp_path)[2] == 0
+    assert log_place(tmp_path) == (6, 0, 0)
     with member(log, state=tmp_path) as one:
         assert one.deaf_until == 0
         assert isinstance(verdict(one, fresh(jti="further")), svid.Use)
+
+
+def test_a_snapshot_at_the_start_keeps_the_place(log, tmp_path, monkeypatch):
+    """It drops the journals that had it, before the member has begun to read the log."""
+    with contextlib.closing(svid.Journal(tmp_path)) as journal:
+        journal.bear(lambda: LogPlace(0, 0, 2**40))
+        journal.append(b"")
+        assert journal.wants_snapshot
+
+    def fails():
+        raise ValueError("no log")
+
+    monkeypatch.setattr(log, "bounds", fails)
+    with pytest.raises(ValueError):
+        member(log, state=tmp_path)
+    assert (tmp_path / "snapshot").exists() and log_place(tmp_path) == (0, 0, 2**40)
+    monkeypatch.undo()
+    with member(log, state=tmp_path) as one:
+        assert one.deaf_until == 2**40
 
 
 def test_a_log_that_was_put_back_is_seen(log, tmp_path, caplog):
@@ -868,7 +893,7 @@ def test_a_log_that_was_put_back_is_seen(log, tmp_path, caplog):
         for it in range(2):
             one.check(fresh(jti=str(it)))
         until(lambda: kept(one) == 2)
-    log.replace(log.values[:1])
+    log = log_of(log.values[:1])
     now = int(time.time())
     with member(log, state=tmp_path) as one:
         assert now + LONGEST <= one.deaf_until <= now + LONGEST + 60
@@ -877,4 +902,4 @@ def test_a_log_that_was_put_back_is_seen(log, tmp_path, caplog):
         assert "the log ends at 1, and this member has read it up to 2" in caplog.text
         deaf = one.deaf_until
         until(lambda: kept(one))
-    assert log_place(tmp_path) == (1, 0, deaf)
+    assert log_place(tmp_path)[2] == deaf

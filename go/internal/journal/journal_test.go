@@ -1027,6 +1027,107 @@ func BenchmarkAppend(b *testing.B) {
 	})
 }
 
+// BenchmarkStart reads a record of a million uses into a validator: from frames, as a start does, and from the same messages in a file
+// without frames, as version 0.1 did. cpu-ms is the time of all processors.
+func BenchmarkStart(b *testing.B) {
+	const many = 1_000_000
+	validator := func() *svid.Validator {
+		v, err := svid.Open(svid.Options{Audiences: []string{"ledger"}, Bundles: []byte("{}"), Longest: svid.NoLimit, Step: svid.NoLimit})
+		if err != nil {
+			b.Fatal(err)
+		}
+		return v
+	}
+	full := validator()
+	defer full.Close()
+	random := rand.New(rand.NewSource(1))
+	for n := 0; n < many; n += 4096 {
+		uses := make([]svid.Use, 4096)
+		for i := range uses {
+			uses[i] = svid.Use{Expires: 101 + uint64(random.Intn(3600)), At: 100}
+			random.Read(uses[i].Key[:])
+		}
+		if err := full.Take(100, svid.Batches(uses)); err != nil {
+			b.Fatal(err)
+		}
+	}
+	dir, plain := b.TempDir(), filepath.Join(b.TempDir(), "messages")
+	j, err := load(Open(dir))
+	if err != nil {
+		b.Fatal(err)
+	}
+	var messages bytes.Buffer
+	if err := full.Save(&messages); err != nil {
+		b.Fatal(err)
+	}
+	if err := j.Snapshot(full.Save); err != nil {
+		b.Fatal(err)
+	}
+	if err := j.Close(); err != nil {
+		b.Fatal(err)
+	}
+	if err := os.WriteFile(plain, messages.Bytes(), 0o600); err != nil {
+		b.Fatal(err)
+	}
+	take := func(v *svid.Validator) func(messages []byte) error {
+		return func(messages []byte) error {
+			for _, piece := range svid.Split(messages, pieceOfMessages) {
+				if err := v.Take(100, piece); err != nil {
+					return err
+				}
+			}
+			return nil
+		}
+	}
+	busy := func() time.Duration {
+		var used syscall.Rusage
+		if err := syscall.Getrusage(syscall.RUSAGE_SELF, &used); err != nil {
+			b.Fatal(err)
+		}
+		return time.Duration(used.Utime.Nano() + used.Stime.Nano())
+	}
+	for name, start := range map[string]func(take func([]byte) error) error{
+		"frames": func(take func([]byte) error) error {
+			j, err := Open(dir)
+			if err != nil {
+				return err
+			}
+			defer j.Close()
+			return j.Load(take)
+		},
+		"messages": func(take func([]byte) error) error {
+			text, err := regular.Read(plain, mostFile)
+			if err != nil {
+				return err
+			}
+			return take(text)
+		},
+	} {
+		b.Run(name, func(b *testing.B) {
+			from := busy()
+			for i := 0; i < b.N; i++ {
+				v := validator()
+				if err := start(take(v)); err != nil {
+					b.Fatal(err)
+				}
+				v.Close()
+			}
+			b.ReportMetric(float64((busy()-from).Milliseconds())/float64(b.N), "cpu-ms/op")
+		})
+	}
+}
+
+// BenchmarkEmptyJournal reads a journal that has grown by zeros and has nothing else.
+func BenchmarkEmptyJournal(b *testing.B) {
+	zeros := make([]byte, growth)
+	b.SetBytes(growth)
+	for i := 0; i < b.N; i++ {
+		if _, err := svid.NewFileReader(svid.Place{}, 1).Next(zeros); err != io.EOF {
+			b.Fatal(err)
+		}
+	}
+}
+
 // The files are this user's alone, whatever the umask is.
 func TestModesOfTheFiles(t *testing.T) {
 	defer syscall.Umask(syscall.Umask(0))

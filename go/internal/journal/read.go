@@ -75,7 +75,7 @@ type contents struct {
 }
 
 // pieceOfMessages is how many bytes of messages readAll gives away at once, where payloads are shorter.
-const pieceOfMessages = 1 << 20
+const pieceOfMessages = 256 << 10
 
 // readAll reads the place, the snapshot and the journals, in this order. Where give is not nil, it is given the messages of
 // frames, as they are read, and no file keeps them.

@@ -13,8 +13,8 @@ import (
 )
 
 const (
-	// takePiece is how many bytes of messages the record takes under one lock.
-	takePiece = 1 << 20
+	// takePiece is how many bytes of messages the record takes under one lock. Of a snapshot, more at once take longer.
+	takePiece = 256 << 10
 	// smallJournal is the length of a journal below which no snapshot is worth it.
 	smallJournal = 8 << 20
 	// mostSettle is how many seconds a summary may be on its way until uses that have
