@@ -15,6 +15,7 @@ fn key_call(out: &mut Out<'_>, env: &Env, trust: &mut Trust, words: &[&str]) -> 
         "table" => keys::table(out, env, trust, words),
         "verify" => keys::verify(out, env, trust, words),
         "lines" => keys::lines(out, env, words),
+        "key_spki" => keys::spki(out, env, words),
         _ => Err(Stop::NoCall),
     }
 }

@@ -1,4 +1,4 @@
-use crate::refusing::{bundles_refused, table_refused};
+use crate::refusing::{bundles_refused, key_refused, table_refused};
 use crate::trust::Trust;
 use std::io::Write;
 use svid_keys::{Bundles, JwtKey, Lines, TableVerifier, Verifier, question};
@@ -7,7 +7,8 @@ use svid_script_base::env::Env;
 use svid_script_base::out::Out;
 use svid_script_base::say::{say_bool, say_bytes, say_digits, say_text};
 use svid_script_base::stop::Stop;
-use svid_script_base::words::{text, text_if_any, word};
+use svid_script_base::words::{number, text, text_if_any, word};
+use svid_spki::key_spki;
 use svid_token::Alg;
 
 // The most bytes of a token, and so of what is signed and of a signature.
@@ -16,6 +17,17 @@ const MOST: usize = 65536;
 // The algorithm that a word names.
 fn alg(word: &str) -> Result<Alg, Stop> {
     Alg::of(word).ok_or(Stop::Script("no algorithm"))
+}
+
+/// `key_spki ALG BITS BYTES`
+pub fn spki(out: &mut Out<'_>, env: &Env, words: &[&str]) -> Result<(), Stop> {
+    let alg = alg(word(words, 1))?;
+    let most_bits = number(word(words, 2))? as usize;
+    let key = bytes(env, word(words, 3))?;
+    match key_spki(env.alloc, &key, alg, most_bits) {
+        Ok(der) => say_bytes(out, &der),
+        Err(fault) => key_refused(out, fault),
+    }
 }
 
 /// `bundles NAME BYTES`

@@ -5,6 +5,7 @@ use svid_keys::{BundleFault, TableFault};
 use svid_script_base::out::Out;
 use svid_script_base::say::say_fault;
 use svid_script_base::stop::Stop;
+use svid_spki::KeyFault;
 use svid_token::{PartFault, Refusal};
 
 pub(crate) fn id_refused(out: &mut Out<'_>, fault: IdFault) -> Result<(), Stop> {
@@ -26,4 +27,8 @@ pub(crate) fn bundles_refused(out: &mut Out<'_>, fault: BundleFault) -> Result<(
 
 pub(crate) fn table_refused(out: &mut Out<'_>, fault: TableFault) -> Result<(), Stop> {
     say_fault(out, fault, matches!(fault, TableFault::OutOfMemory))
+}
+
+pub(crate) fn key_refused(out: &mut Out<'_>, fault: KeyFault) -> Result<(), Stop> {
+    say_fault(out, fault, matches!(fault, KeyFault::OutOfMemory))
 }
