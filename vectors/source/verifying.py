@@ -183,11 +183,11 @@ def modulus():
     for bits in (1024, 2047, 2048):
         own = crypto.rsa_key("lengths", bits)
         yield row(f"RS256, a token by a key of {bits:,} bits", least, [entry(own)], token("RS256", own), accepted() if bits >= 2048 else BAD)
-    # (the Go library and the Python package take such a key for the number that it says)
+    # (Nobody reads these yet: Chromium refuses such a key, and Firefox, Go and Python take it for the number that it says.)
     least_bytes = "RFC 7518, section 2: a number has the minimum number of octets (Base64urlUInt)"
     for name in "ne":
         zero = {**good, name: b64(bytes(1) + unb64(good[name]))}
-        yield row(f"RS256, an {name} with a zero in front", least_bytes, [zero], made, BAD, readers=["page"])
+        yield row(f"RS256, an {name} with a zero in front", least_bytes, [zero], made, BAD, readers=[])
     bound = 'docs/SIDECAR.md, "Keys": at most 4,096 bits, or what the caller allows'
     for bits, most, answer in (
         (4096, None, accepted()), (4096, 4095, BAD), (4096, 2048, BAD), (4097, None, BAD), (4097, 4096, BAD), (4097, 4097, accepted()),
