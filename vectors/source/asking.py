@@ -30,8 +30,11 @@ def yes(bundles, token):
 
 def is_candidate(key, header, alg):
     return (
-        isinstance(key, dict) and key.get("use") == "jwt-svid" and isinstance(key.get("kid"), str)
-        and key.get("kty") == KTY[alg[0]] and header.get("kid", key["kid"]) == key["kid"]
+        isinstance(key, dict)
+        and key.get("use") == "jwt-svid"
+        and isinstance(key.get("kid"), str)
+        and key.get("kty") == KTY[alg[0]]
+        and header.get("kid", key["kid"]) == key["kid"]
     )
 
 

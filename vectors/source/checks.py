@@ -3,7 +3,7 @@
 import json
 
 from . import crypto
-from .crypto import b64, json_text
+from .crypto import json_text
 
 NOW = 1_767_225_600  # 2026-01-01
 DOMAIN = "example.org"
@@ -58,6 +58,3 @@ def in_text(members, **values):
     """The JSON text of members, some of which are written as these texts are."""
     known = {name: json.dumps(value, ensure_ascii=False) for name, value in members.items()} | values
     return "{" + ",".join(f'"{name}":{value}' for name, value in known.items()) + "}"
-
-
-__all__ = ["b64", "json_text"]

@@ -44,7 +44,14 @@ def files():
     yield row("a second frame that is cut, and zeros behind it", one + two[:50] + bytes(200), FIRST, at=len(one), end="tear")
     yield row("a byte behind a frame", one + b"\1", FIRST, at=len(one), end="tear")
     yield row("bytes FF behind a frame", one + b"\xff" * 64, FIRST, at=len(one), end="tear")
-    for what, place in {"the tag": 0, "the number": 27, "the format": 28, "the length": 31, "the payload": 40, "the payload's last byte": 31 + len(FIRST)}.items():
+    for what, place in {
+        "the tag": 0,
+        "the number": 27,
+        "the format": 28,
+        "the length": 31,
+        "the payload": 40,
+        "the payload's last byte": 31 + len(FIRST),
+    }.items():
         yield row(f"a bit of {what} has changed in the last frame", one + flipped(two, place), FIRST, at=len(one), end="tear")
         yield row(f"a bit of {what} has changed, and a frame stands behind it", flipped(one, place) + two, at=0, end="damage")
     if len(one) > 32 + len(FIRST):
@@ -64,13 +71,17 @@ def files():
     newer = frame(PLACE, 3, 2, SECOND, FORMAT + 1)
     yield row("a frame of another format", one + newer, FIRST, at=len(one), end="format", format=FORMAT + 1)
     yield row("a first frame of the format 254", frame(PLACE, 3, 1, FIRST, 254), at=0, end="format", format=254)
-    yield row("a frame of another format, and whole ones behind it", one + newer + three, FIRST, at=len(one), end="format", format=FORMAT + 1)
+    yield row(
+        "a frame of another format, and whole ones behind it", one + newer + three, FIRST, at=len(one), end="format", format=FORMAT + 1
+    )
     beyond = frame(PLACE, 3, 3, THIRD, FORMAT + 1)
-    yield row("a frame that has changed, and one of another format behind it", one + flipped(two, 40) + beyond, FIRST, at=len(one), end="damage")
+    yield row(
+        "a frame that has changed, and one of another format behind it", one + flipped(two, 40) + beyond, FIRST, at=len(one), end="damage"
+    )
     cells = (len(two) - len(two) % CELL) // CELL
     far = frame(PLACE, 3, 2 + cells + 1, THIRD)
     yield row("a frame of a number that is too great to follow", one + bytes(len(two)) + far, FIRST, at=len(one), end="tear")
-    yield row("old messages", FIRST + SECOND, at=0, end="tear", source="docs/FORMATS.md, \"Frame\": these are no frames")
+    yield row("old messages", FIRST + SECOND, at=0, end="tear", source='docs/FORMATS.md, "Frame": these are no frames')
 
     snapshot = [frame(PLACE, 0, n, it) for n, it in enumerate((FIRST, SECOND, b""), start=1)]
     whole = b"".join(snapshot)
@@ -111,11 +122,31 @@ def folders():
     yield folder("a journal that is torn", {"journal.1": journal(1, FIRST, SECOND)[:-40]}, READING, **all_of(1))
     yield folder("a journal with zeros behind", {"journal.1": journal(1, FIRST) + bytes(4096)}, **all_of(1))
     yield folder("an empty journal behind another", {"journal.1": journal(1, FIRST), "journal.2": b""}, **all_of(1))
-    yield folder("a snapshot that is not finished", {"snapshot": snapshot, "snapshot.new": b"\1\2\3", "journal.1": journal(1, THIRD)}, **all_of(1, 2, 3))
+    yield folder(
+        "a snapshot that is not finished",
+        {"snapshot": snapshot, "snapshot.new": b"\1\2\3", "journal.1": journal(1, THIRD)},
+        **all_of(1, 2, 3),
+    )
     damaged = flipped(journal(1, FIRST, SECOND), 40)
     yield folder("a journal that is damaged", {"journal.1": damaged}, READING, damaged="journal.1", at=0)
     at = len(frame(PLACE, 1, 1, FIRST))
-    yield folder("a journal that is damaged behind its first frame", {"journal.1": flipped(journal(1, FIRST, SECOND, THIRD), at + 40)}, READING, damaged="journal.1", at=at)
-    yield folder("a snapshot that is damaged", {"snapshot": flipped(snapshot, 40), "journal.1": journal(1, THIRD)}, READING, damaged="snapshot", at=0)
-    yield folder("a snapshot that is cut", {"snapshot": snapshot[: 2 * at], "journal.1": journal(1, THIRD)}, READING, damaged="snapshot", at=2 * at)
-    yield folder("a journal of another format", {"journal.1": journal(1, FIRST) + frame(PLACE, 1, 2, SECOND, FORMAT + 1)}, READING, of_format="journal.1", format=FORMAT + 1)
+    yield folder(
+        "a journal that is damaged behind its first frame",
+        {"journal.1": flipped(journal(1, FIRST, SECOND, THIRD), at + 40)},
+        READING,
+        damaged="journal.1",
+        at=at,
+    )
+    yield folder(
+        "a snapshot that is damaged", {"snapshot": flipped(snapshot, 40), "journal.1": journal(1, THIRD)}, READING, damaged="snapshot", at=0
+    )
+    yield folder(
+        "a snapshot that is cut", {"snapshot": snapshot[: 2 * at], "journal.1": journal(1, THIRD)}, READING, damaged="snapshot", at=2 * at
+    )
+    yield folder(
+        "a journal of another format",
+        {"journal.1": journal(1, FIRST) + frame(PLACE, 1, 2, SECOND, FORMAT + 1)},
+        READING,
+        of_format="journal.1",
+        format=FORMAT + 1,
+    )

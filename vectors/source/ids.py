@@ -16,8 +16,19 @@ def bad(text, fault, place=None, name=None):
 
 def vectors():
     for domain, path in (
-        ("example.org", ""), ("example.org", "/billing/api"), ("a", "/b"), ("a.b_c-d.0", "/A/z/0/9/.../-/_"), (".", ""), ("-", "/-"), ("..", "/a"), ("1.2.3.4", "/a"),
-        ("example.org", "/..."), ("example.org", "/.a/a./..b"), ("a" * 255, "/b"), ("a" * 255, "/" + "b" * 1783), ("a", "/b" * 1019),
+        ("example.org", ""),
+        ("example.org", "/billing/api"),
+        ("a", "/b"),
+        ("a.b_c-d.0", "/A/z/0/9/.../-/_"),
+        (".", ""),
+        ("-", "/-"),
+        ("..", "/a"),
+        ("1.2.3.4", "/a"),
+        ("example.org", "/..."),
+        ("example.org", "/.a/a./..b"),
+        ("a" * 255, "/b"),
+        ("a" * 255, "/" + "b" * 1783),
+        ("a", "/b" * 1019),
     ):
         yield good(domain, path)
     long = "spiffe://a/" + "b" * 2038
@@ -29,8 +40,17 @@ def vectors():
     for text in ("spiffe://", "spiffe:///", "spiffe:///a"):
         yield bad(text, "DomainEmpty")
     for text, place in (
-        ("spiffe://A", 9), ("spiffe://a.B/c", 11), ("spiffe://a b/c", 10), ("spiffe://a:80/c", 10), ("spiffe://u@a/c", 10), ("spiffe://a%41/c", 10), ("spiffe://é/c", 9), ("spiffe://a?b", 10),
-        ("spiffe://a#b", 10), ("spiffe://a\\b", 10), ("spiffe://[::1]/a", 9),
+        ("spiffe://A", 9),
+        ("spiffe://a.B/c", 11),
+        ("spiffe://a b/c", 10),
+        ("spiffe://a:80/c", 10),
+        ("spiffe://u@a/c", 10),
+        ("spiffe://a%41/c", 10),
+        ("spiffe://é/c", 9),
+        ("spiffe://a?b", 10),
+        ("spiffe://a#b", 10),
+        ("spiffe://a\\b", 10),
+        ("spiffe://[::1]/a", 9),
     ):
         yield bad(text, "DomainByte", place)
     yield bad(f"spiffe://{'A' * 256}", "DomainByte", 9, "a name of 256 bytes, the first of which is bad")
@@ -38,7 +58,23 @@ def vectors():
     yield bad(f"spiffe://{'a' * 256}//", "DomainLong", name="a name of 256 bytes, and an empty segment")
     for text, place in (("spiffe://a/", 11), ("spiffe://a//b", 11), ("spiffe://a/b/", 13), ("spiffe://a/b//c", 13), ("spiffe://a//", 11)):
         yield bad(text, "SegmentEmpty", place)
-    for text, place in (("spiffe://a/.", 11), ("spiffe://a/..", 11), ("spiffe://a/b/../c", 13), ("spiffe://a/./b", 11), ("spiffe://a/../%", 11)):
+    for text, place in (
+        ("spiffe://a/.", 11),
+        ("spiffe://a/..", 11),
+        ("spiffe://a/b/../c", 13),
+        ("spiffe://a/./b", 11),
+        ("spiffe://a/../%", 11),
+    ):
         yield bad(text, "SegmentDots", place)
-    for text, place in (("spiffe://a/%41", 11), ("spiffe://a/b c", 12), ("spiffe://a/b?c", 12), ("spiffe://a/b#", 12), ("spiffe://a/é", 11), ("spiffe://a/b/c~", 14), ("spiffe://a/b:c/../d", 12), ("spiffe://a/b+", 12), ("spiffe://a/.%", 12)):
+    for text, place in (
+        ("spiffe://a/%41", 11),
+        ("spiffe://a/b c", 12),
+        ("spiffe://a/b?c", 12),
+        ("spiffe://a/b#", 12),
+        ("spiffe://a/é", 11),
+        ("spiffe://a/b/c~", 14),
+        ("spiffe://a/b:c/../d", 12),
+        ("spiffe://a/b+", 12),
+        ("spiffe://a/.%", 12),
+    ):
         yield bad(text, "PathByte", place)

@@ -11,7 +11,7 @@ NO_KEY = "refused NoKey"
 
 # Members of a key with which it verifies nothing, and with which it does nevertheless.
 CANDIDATE = 'docs/FORMATS.md, "Bundles": an entry is a key only with the text `RSA` or `EC` for `kty` and `jwt-svid` for `use`'
-ALG = 'RFC 7517, section 4.4: the algorithm that the key is for'
+ALG = "RFC 7517, section 4.4: the algorithm that the key is for"
 CRV = "RFC 7518, section 6.2.1.1"
 XY = "RFC 7518, sections 6.2.1.2 and 6.2.1.3"
 NE = "RFC 7518, section 6.3.1"
@@ -20,7 +20,11 @@ PASSED = "RFC 7517, section 4: members that are not understood are passed over"
 
 SPOILING = {
     "ES256": [
-        (ALG, BAD, ['{"alg":null}', '{"alg":""}', '{"alg":"es256"}', '{"alg":"ES256 "}', '{"alg":"ES384"}', '{"alg":"RS256"}', '{"alg":"none"}']),
+        (
+            ALG,
+            BAD,
+            ['{"alg":null}', '{"alg":""}', '{"alg":"es256"}', '{"alg":"ES256 "}', '{"alg":"ES384"}', '{"alg":"RS256"}', '{"alg":"none"}'],
+        ),
         (ALG, BAD, ['{"alg":256}', '{"alg":false}', '{"alg":["ES256"]}', '{"alg":{"ES256":"ES256"}}']),
         (CANDIDATE, NO_KEY, ['{"kty":null}', '{"kty":""}', '{"kty":"ec"}', '{"kty":["EC"]}']),
         (KTY, NO_KEY, ['{"kty":"RSA"}']),
@@ -29,7 +33,11 @@ SPOILING = {
         (XY, BAD, ['{"x":null}', '{"x":7}', '{"y":""}']),
     ],
     "RS256": [
-        (ALG, BAD, ['{"alg":null}', '{"alg":""}', '{"alg":"rs256"}', '{"alg":"RS512"}', '{"alg":"PS256"}', '{"alg":256}', '{"alg":["RS256"]}']),
+        (
+            ALG,
+            BAD,
+            ['{"alg":null}', '{"alg":""}', '{"alg":"rs256"}', '{"alg":"RS512"}', '{"alg":"PS256"}', '{"alg":256}', '{"alg":["RS256"]}'],
+        ),
         (CANDIDATE, NO_KEY, ['{"kty":null}', '{"kty":"rsa"}']),
         (KTY, NO_KEY, ['{"kty":"EC"}']),
         (CANDIDATE, NO_KEY, ['{"use":null}']),
@@ -128,11 +136,38 @@ def elliptic():
     yield row("ES256, an x that begins with a zero", full, [zeros], token(key=short), accepted())
     cut = {**zeros, "x": b64(unb64(zeros["x"])[1:])}
     yield row("ES256, that x without its zero", full, [cut], token(key=short), BAD)
-    yield row("ES256, members in another order, and some more", PASSED, [dict(reversed(list({**good, "x5c": ["MIIB"], "x5t": "AA", "note": {"a": [None]}}.items())))], made, accepted())
-    yield row("ES256, x twice, the last one good", 'docs/FORMATS.md, "Bundles": the last value counts', [json_text(good).replace("{", '{"x":"AA",', 1)], made, accepted())
-    yield row("ES256, x twice, the first one good", 'docs/FORMATS.md, "Bundles": the last value counts', [json_text(good)[:-1] + ',"x":"AA"}'], made, BAD)
+    yield row(
+        "ES256, members in another order, and some more",
+        PASSED,
+        [dict(reversed(list({**good, "x5c": ["MIIB"], "x5t": "AA", "note": {"a": [None]}}.items())))],
+        made,
+        accepted(),
+    )
+    yield row(
+        "ES256, x twice, the last one good",
+        'docs/FORMATS.md, "Bundles": the last value counts',
+        [json_text(good).replace("{", '{"x":"AA",', 1)],
+        made,
+        accepted(),
+    )
+    yield row(
+        "ES256, x twice, the first one good",
+        'docs/FORMATS.md, "Bundles": the last value counts',
+        [json_text(good)[:-1] + ',"x":"AA"}'],
+        made,
+        BAD,
+    )
     whole = 'docs/FORMATS.md, "Bundles": every number inside is a whole one of 64 bits'
-    for text, answer in (("1.5", NO_KEY), ("1e3", NO_KEY), ("-0", NO_KEY), (str(2**64), NO_KEY), (str(-(2**63) - 1), NO_KEY), (str(2**64 - 1), accepted()), (str(-(2**63)), accepted()), ("0", accepted())):
+    for text, answer in (
+        ("1.5", NO_KEY),
+        ("1e3", NO_KEY),
+        ("-0", NO_KEY),
+        (str(2**64), NO_KEY),
+        (str(-(2**63) - 1), NO_KEY),
+        (str(2**64 - 1), accepted()),
+        (str(-(2**63)), accepted()),
+        ("0", accepted()),
+    ):
         yield row(f"ES256, with the number {text}", whole, [json_text(good)[:-1] + f',"more":[{text}]}}'], made, answer)
     most = 'docs/FORMATS.md, "Bundles": the compact text has at most 65,536 bytes'
     for size, answer in ((65_536, accepted()), (65_537, NO_KEY)):
@@ -155,7 +190,7 @@ def modulus():
     good, made = entry(crypto.key("RS256")), token("RS256")
     least = "RFC 7518, section 3.3: 2,048 bits or more"
     spelt = "RFC 7515, section 2: base64url without padding, line ends or other characters"
-    odd = "RFC 8017, section 3.1: an odd number from 3 on; docs/SIDECAR.md, \"Keys\": up to 2^31-1"
+    odd = 'RFC 8017, section 3.1: an odd number from 3 on; docs/SIDECAR.md, "Keys": up to 2^31-1'
     for name, source, members in (
         ("no n", NE, without(good, "n")),
         ("no e", NE, without(good, "e")),
@@ -189,8 +224,16 @@ def modulus():
         yield row(f"RS256, an {name} with a zero in front", least_bytes, [zero], made, BAD)
     bound = 'docs/SIDECAR.md, "Keys": at most 4,096 bits, or what the caller allows'
     for bits, most, answer in (
-        (4096, None, accepted()), (4096, 4095, BAD), (4096, 2048, BAD), (4097, None, BAD), (4097, 4096, BAD), (4097, 4097, accepted()),
-        (8192, None, BAD), (16_384, None, BAD), (16_384, 16_384, accepted()), (16_385, 16_384, BAD),
+        (4096, None, accepted()),
+        (4096, 4095, BAD),
+        (4096, 2048, BAD),
+        (4097, None, BAD),
+        (4097, 4096, BAD),
+        (4097, 4097, accepted()),
+        (8192, None, BAD),
+        (16_384, None, BAD),
+        (16_384, 16_384, accepted()),
+        (16_385, 16_384, BAD),
     ):
         own = crypto.long_rsa_key(bits)
         allowed = "" if most is None else f" where {most:,} are allowed"
@@ -207,19 +250,44 @@ def many():
     not_svid = {"readers": [it for it in READERS if it != "svid"]}
     for n, key in enumerate(keys_):
         answer, readers = (accepted(), {}) if n < MOST_CANDIDATES else (BAD, not_svid)
-        yield row(f"{len(keys_)} keys, a token without kid by number {n}", tried, named, token(key=key, header={"alg": "ES256"}), answer, **readers)
-        yield row(f"{len(keys_)} keys, a token with the kid of number {n}", tried, named, token(key=key, header={"alg": "ES256", "kid": f"k{n}"}), accepted())
+        yield row(
+            f"{len(keys_)} keys, a token without kid by number {n}",
+            tried,
+            named,
+            token(key=key, header={"alg": "ES256"}),
+            answer,
+            **readers,
+        )
+        yield row(
+            f"{len(keys_)} keys, a token with the kid of number {n}",
+            tried,
+            named,
+            token(key=key, header={"alg": "ES256", "kid": f"k{n}"}),
+            accepted(),
+        )
     same = [entry(key) for key in keys_[: MOST_CANDIDATES - 1]]
     for n in range(len(same)):
         yield row(f"{len(same)} keys of one kid, a token by number {n}", tried, same, token(key=keys_[n]), accepted())
     yield row(f"{len(same)} keys of one kid, a token by another", tried, same, token(key=keys_[-1]), BAD)
     others = [entry(crypto.key("RS256")), entry(crypto.key("ES384"), "k2"), entry(crypto.key("ES256", "two"), "k4")]
-    yield row("keys of three kinds, a token without kid by the last", tried, others, token(key=crypto.key("ES256", "two"), header={"alg": "ES256"}), accepted())
+    yield row(
+        "keys of three kinds, a token without kid by the last",
+        tried,
+        others,
+        token(key=crypto.key("ES256", "two"), header={"alg": "ES256"}),
+        accepted(),
+    )
     unusable = [{**entry(crypto.key("ES256")), "crv": f"P-{n}"} for n in range(MOST_CANDIDATES)]
     good = entry(crypto.key("ES256"))
     yield row("keys that can't be used, as many as are tried, and a good one", tried, [*unusable, good], token(), BAD, **not_svid)
     yield row("one less of these, and a good one", tried, [*unusable[1:], good], token(), accepted())
-    yield row("what is no key, and a good one", CANDIDATE, ["7", "null", "[]", "{}", '{"use":"x509-svid","kty":"EC","x5c":["MIIB"]}', good], token(), accepted())
+    yield row(
+        "what is no key, and a good one",
+        CANDIDATE,
+        ["7", "null", "[]", "{}", '{"use":"x509-svid","kty":"EC","x5c":["MIIB"]}', good],
+        token(),
+        accepted(),
+    )
 
 
 # The first numbers of a jti with which a signature is what the vector asks for. Searching for them would take a minute.
@@ -264,7 +332,13 @@ def good_ones():
         other = swap(alg)
         head = crypto.signing_input({"alg": other, "kid": "k1"}, claims())
         yield row(f"{alg}, under the header of {other}", computed, [entry(key)], f"{head}.{signature}", BAD)
-        yield row(f"{alg}, by the header of {other} and a signature over it by {alg}", computed, [entry(key)], f"{head}.{b64(key.sign(alg, head))}", BAD)
+        yield row(
+            f"{alg}, by the header of {other} and a signature over it by {alg}",
+            computed,
+            [entry(key)],
+            f"{head}.{b64(key.sign(alg, head))}",
+            BAD,
+        )
 
 
 def swap(alg):
@@ -287,7 +361,9 @@ def rsa_forms():
         more = (int.from_bytes(data, "big") + key.modulus).to_bytes(256, "big")
         yield row(f"{alg}, a signature that has other forms", below, [entry(key)], made, accepted())
         for what, it in {
-            "the modulus more": more, "the modulus more, and a zero in front": bytes(1) + more, "a zero in front": bytes(1) + data,
+            "the modulus more": more,
+            "the modulus more, and a zero in front": bytes(1) + more,
+            "a zero in front": bytes(1) + data,
             "the modulus itself": key.modulus.to_bytes(256, "big"),
         }.items():
             yield row(f"{alg}, {what}", below, [entry(key)], f"{signed}.{b64(it)}", BAD)
@@ -329,12 +405,29 @@ def pairs():
         own, order, zero = key.pair(r, s), key.curve.order, bytes(1)
         mirrored = key.pair(r, order - s)
         assert key.made(alg, signed, mirrored)
-        yield row(f"{alg}, s mirrored at the order", "FIPS 186-4, section 6.4: both are good; computed by cryptography", [entry(key)], of(mirrored), accepted())
+        yield row(
+            f"{alg}, s mirrored at the order",
+            "FIPS 186-4, section 6.4: both are good; computed by cryptography",
+            [entry(key)],
+            of(mirrored),
+            accepted(),
+        )
         halves = own[:size], own[size:]
         for what, it in {
-            "0 r s": zero + own, "r 0 s": halves[0] + zero + halves[1], "0 r 0 s": zero + halves[0] + zero + halves[1],
-            "r s 0": own + zero, "r s 0 0": own + 2 * zero, "s r": halves[1] + halves[0], "r alone": halves[0],
-            "r and s of 1": key.pair(1, 1), "r of 0 and s of 1": key.pair(0, 1), "r of 1 and s of 0": key.pair(1, 0), "r of 0": key.pair(0, s), "s of 0": key.pair(r, 0), "r of the order": key.pair(order, s), "s of the order": key.pair(r, order),
+            "0 r s": zero + own,
+            "r 0 s": halves[0] + zero + halves[1],
+            "0 r 0 s": zero + halves[0] + zero + halves[1],
+            "r s 0": own + zero,
+            "r s 0 0": own + 2 * zero,
+            "s r": halves[1] + halves[0],
+            "r alone": halves[0],
+            "r and s of 1": key.pair(1, 1),
+            "r of 0 and s of 1": key.pair(0, 1),
+            "r of 1 and s of 0": key.pair(1, 0),
+            "r of 0": key.pair(0, s),
+            "s of 0": key.pair(r, 0),
+            "r of the order": key.pair(order, s),
+            "s of the order": key.pair(r, order),
         }.items():
             assert not key.made(alg, signed, it)
             yield row(f"{alg}, {what}", length, [entry(key)], of(it), BAD)
@@ -371,13 +464,15 @@ def others():
 def of_rfc_7515():
     """RFC 7515, appendix A.3: a key and a signature that someone else made. It is no token of a SPIFFE ID."""
     key = {
-        "kty": "EC", "crv": "P-256", "x": "f83OJ3D2xF1Bg8vub9tLe1gHMzV76e8Tus9uPHvRVEU", "y": "x_FEzRu9m36HLN_tue659LNpXW6pCyStikYjKIWI5a0",
-        "use": "jwt-svid", "kid": "k1",
+        "kty": "EC",
+        "crv": "P-256",
+        "x": "f83OJ3D2xF1Bg8vub9tLe1gHMzV76e8Tus9uPHvRVEU",
+        "y": "x_FEzRu9m36HLN_tue659LNpXW6pCyStikYjKIWI5a0",
+        "use": "jwt-svid",
+        "kid": "k1",
     }
     made = (
         "eyJhbGciOiJFUzI1NiJ9.eyJpc3MiOiJqb2UiLA0KICJleHAiOjEzMDA4MTkzODAsDQogImh0dHA6Ly9leGFtcGxlLmNvbS9pc19yb290Ijp0cnVlfQ."
         "DtEhU3ljbEg8L38VWAfUAqOyKAM6-Xx-F4GawxaepmXFCgfTjDxw5djxLa8ISlSApmWQxfKTUJqPP3-Kg6NU1Q"
     )
     return row("the token of RFC 7515, A.3", "RFC 7515, appendix A.3; it has no sub", [key], made, "refused Sub")
-
-
