@@ -19,7 +19,7 @@ from __future__ import annotations
 
 from ._bundles import Bundle, Bundles, from_workload_api
 from ._journal import Journal
-from ._log import Log, OtherLog
+from ._log import Log, OtherLog, UnfitLog
 from ._member import Member
 from ._signatures import Verifies
 from ._validator import Validator
@@ -110,6 +110,7 @@ __all__ = [
     "TooLongLived",
     "Typ",
     "Unavailable",
+    "UnfitLog",
     "UnknownDomain",
     "Use",
     "Validator",

@@ -12,7 +12,9 @@ log to the library in their order, and waits. Its duties are:
 
 from __future__ import annotations
 
+import asyncio
 import collections
+import contextlib
 import logging
 import os
 import threading
@@ -31,6 +33,8 @@ from .records import Accepted, Use, batches
 _LOG = logging.getLogger("svid")
 _MOST_TOGETHER = 512
 """How many uses share a value."""
+_COMPANY = 0.001
+"""How many seconds a value waits for the claims of tokens that are being judged."""
 _READ_WAIT = 0.25
 """How many seconds a read waits for values. So long `close` takes."""
 _PAUSE = 0.1
@@ -38,6 +42,10 @@ _PAUSE = 0.1
 _SAYS = 60.0
 """How many seconds a warning is not said again."""
 _MISSED = "values of the log are missing, and a claim of the token may be among them"
+
+_OTHER = "another request with the token has no answer yet"
+
+_Tell = Callable[[], object]
 
 
 class Member(Validator):
@@ -99,10 +107,14 @@ class Member(Validator):
         self._open: dict[bytes, _Claim] = {}  # by the key of the token
         self._editions: collections.Counter[int] = collections.Counter()  # of the open claims
         self._puts: list[_Put] = []  # what is to go into the log
+        self._judging = 0  # how many tokens may soon have a claim
         self._deaf = 0  # before this moment nothing is accepted
         self._closing = False
+        self._is_begun = False
         try:
             self._begin(b"", 0)
+        except OSError as why:
+            self._say(f"the log can't be reached: {why}")
         except BaseException:
             super().close()
             raise
@@ -120,7 +132,7 @@ class Member(Validator):
     @property
     def is_ready(self) -> bool:
         """Whether it accepts tokens: it has read the log, and no value is missing that may live."""
-        return self._handle.state().accepts
+        return self._is_begun and self._handle.state().accepts
 
     @property
     def deaf_until(self) -> int:
@@ -154,15 +166,37 @@ class Member(Validator):
         """
         end = time.monotonic() + self._wait
         while True:
-            accepted, edition = self._checked(JUDGE, token, now)
-            if self._deaf > accepted.use.at:
-                raise Unavailable(_MISSED)
-            mine = _Claim(accepted, token, edition)
-            other = self._claim(mine)
-            if other is None:
-                return self._outcome(mine, end)
-            if not other.done.wait(max(0.0, end - time.monotonic())):
-                raise Unavailable("another request with the token has no answer yet")
+            ended = threading.Event()
+            mine, claim = self._claimed(token, now, ended.set)
+            ended.wait(max(0.0, end - time.monotonic()))
+            if claim is mine:
+                return self._outcome(mine)
+            if not claim.is_ended:
+                raise Unavailable(_OTHER)
+
+    async def check_soon(self, token: Token, now: float | None = None) -> Accepted:
+        """Does what `check` does, and lets the event loop go on while it waits for the log.
+
+        Any number of checks may wait at once, and none of them needs a thread. The token is judged
+        on the event loop: that takes little more than to verify one signature.
+        """
+        loop, end = asyncio.get_running_loop(), time.monotonic() + self._wait
+        while True:
+            ended = loop.create_future()
+            mine, claim = self._claimed(token, now, _teller(loop, ended))
+            timer = loop.call_later(max(0.0, end - time.monotonic()), _tell, ended)
+            try:
+                await ended
+            except asyncio.CancelledError:
+                if claim is mine:
+                    self._give_up(mine)
+                raise
+            finally:
+                timer.cancel()
+            if claim is mine:
+                return self._outcome(mine)
+            if not claim.is_ended:
+                raise Unavailable(_OTHER)
 
     def withdraw_key(self, key: bytes, expires: int, now: float | None = None) -> Use:
         """Withdraws the token with this key of 32 bytes (`Use.key`), which expires at `expires`.
@@ -171,42 +205,73 @@ class Member(Validator):
         Unavailable if the log has not got it in time: make the call again then.
         """
         use = super().withdraw_key(key, expires, now)
-        put = _Put(use)
+        landed = threading.Event()
         with self._gate:
-            self._put(put)
-        if not put.done.wait(self._wait):
+            self._put(_Put(use, landed.set))
+        if not landed.wait(self._wait):
             raise Unavailable("the log did not take the withdrawal in time")
         return use
 
     # -- Claims
 
-    def _claim(self, mine: _Claim) -> _Claim | None:
-        """Opens a claim, or gives the one that is open for the same token."""
+    def _claimed(self, token: Token, now: float | None, tell: _Tell) -> tuple[_Claim, _Claim]:
+        """Judges a token, and opens a claim of it.
+
+        Gives this claim and the one to wait for, which is that of another request where this has
+        the same token. `tell` is called at its end.
+        """
         with self._gate:
-            other = self._open.get(mine.use.key)
-            if other is None:
+            self._judging += 1
+        try:
+            accepted, edition = self._checked(JUDGE, token, now)
+            if not self._is_begun:
+                raise Unavailable("the log was not reached yet")
+            if self._deaf > accepted.use.at:
+                raise Unavailable(_MISSED)
+        except BaseException:
+            with self._gate:
+                self._end_judging()
+            raise
+        with self._gate:
+            self._end_judging()
+            mine = _Claim(accepted, token, edition)
+            claim = self._open.get(mine.use.key)
+            if claim is None:
+                claim = mine
                 self._put(mine)
                 self._open[mine.use.key] = mine
-                self._editions[mine.edition] += 1
-            return other
+                self._editions[edition] += 1
+            claim.tells.append(tell)
+            return mine, claim
 
-    def _outcome(self, mine: _Claim, end: float) -> Accepted:
-        """Waits for what becomes of a claim."""
-        mine.done.wait(max(0.0, end - time.monotonic()))
-        with self._gate:
-            if not mine.done.is_set():
-                self._puts = [it for it in self._puts if it is not mine]
-                self._end(mine, Unavailable("the log did not answer in time"))
+    def _end_judging(self) -> None:
+        """A token was judged, with the gate held. A value may wait for its claim."""
+        self._judging -= 1
+        if self._puts and not self._judging:
+            self._gate.notify_all()
+
+    def _outcome(self, mine: _Claim) -> Accepted:
+        """What became of a claim that has ended, or whose time is up."""
+        self._give_up(mine)
         if mine.why is not None:
             raise mine.why
         return mine.accepted
+
+    def _give_up(self, mine: _Claim) -> None:
+        """Ends a claim that is still open, and does not send it where it has not gone out."""
+        with self._gate:
+            if not mine.is_ended:
+                self._puts = [it for it in self._puts if it is not mine]
+                self._end(mine, Unavailable("the log did not answer in time"))
 
     def _end(self, claim: _Claim, why: Exception | None) -> None:
         """Ends an open claim, with the gate held."""
         del self._open[claim.use.key]
         self._editions -= collections.Counter([claim.edition])
         claim.why = why
-        claim.done.set()
+        claim.is_ended = True
+        for tell in claim.tells:
+            tell()
 
     def _end_all(self, why: Callable[[], Exception]) -> None:
         """Ends the claims that are open, with the gate held."""
@@ -228,6 +293,7 @@ class Member(Validator):
         while True:
             with self._gate:
                 self._gate.wait_for(lambda: self._puts or self._closing)
+                self._gate.wait_for(lambda: not self._judging or self._closing, _COMPANY)
                 if self._closing:
                     return
                 these = self._puts[:_MOST_TOGETHER]
@@ -257,11 +323,14 @@ class Member(Validator):
         passed, last = self._log.bounds()
         self._handle.log(passed, last, self._lasts, deaf, beside)
         self._deaf, self._position = deaf, passed
+        self._is_begun = True
 
     def _read_all(self) -> None:
         """Reads one value after the other."""
         while not self._closing:
             try:
+                if not self._is_begun:
+                    self._begin(b"", 0)
                 for position, value in self._log.read(self._position, _READ_WAIT):
                     self._read(position, value)
                     if self._closing:
@@ -339,7 +408,7 @@ class Member(Validator):
             except (Error, MemoryError) as error:
                 why = Unavailable(f"the token can't be judged by the new bundles: {error}")
             with self._gate:
-                if claim.done.is_set():
+                if claim.is_ended:
                     continue
                 if why is not None:
                     self._end(claim, why)
@@ -369,30 +438,44 @@ class Member(Validator):
 
 
 class _Put:
-    """A use on its way into the log."""
+    """A use on its way into the log. `tell` is called once the log has it."""
 
-    def __init__(self, use: Use) -> None:
+    def __init__(self, use: Use, tell: _Tell) -> None:
         self.use = use
         self.is_sent = False
-        self.done = threading.Event()
-
-    def landed(self) -> None:
-        """The log has it."""
-        self.done.set()
+        self.landed = tell
 
 
 class _Claim(_Put):
-    """The claim of a token, on its way through the log: it is done once it was read there."""
+    """The claim of a token, on its way through the log: it ends once it was read there."""
 
     def __init__(self, accepted: Accepted, token: Token, edition: int) -> None:
-        super().__init__(accepted.use)
+        super().__init__(accepted.use, _wait_on)
         self.accepted = accepted
         self.token = token
         self.edition = edition
+        self.is_ended = False
         self.why: Exception | None = None
+        self.tells: list[_Tell] = []  # are called at its end
 
-    def landed(self) -> None:
-        """It waits until it is read."""
+
+def _wait_on() -> None:
+    """A claim that is in the log waits until it is read."""
+
+
+def _teller(loop: asyncio.AbstractEventLoop, ended: asyncio.Future[None]) -> _Tell:
+    """What lets an event loop know that a claim has ended, from any thread."""
+
+    def tell() -> None:
+        with contextlib.suppress(RuntimeError):  # (a loop that is closed waits for nothing)
+            loop.call_soon_threadsafe(_tell, ended)
+
+    return tell
+
+
+def _tell(ended: asyncio.Future[None]) -> None:
+    if not ended.done():
+        ended.set_result(None)
 
 
 def _outcome_of(fate: int) -> Exception | None:

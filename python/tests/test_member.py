@@ -498,13 +498,34 @@ def test_claims_that_were_read_in_the_log_before(log):
         assert verdict(checks, made) == "Replayed"
 
 
-def test_a_member_of_a_log_that_is_not_there():
-    class Away(MemoryLog):
-        def bounds(self):
-            raise ConnectionError("away")
+def test_a_member_of_a_log_that_is_not_there_yet(caplog):
+    """A server that restarts a worker meanwhile goes on."""
 
-    with pytest.raises(ConnectionError):
-        member(Away())
+    class Away(MemoryLog):
+        is_away = True
+
+        def bounds(self):
+            if self.is_away:
+                raise ConnectionError("away")
+            return super().bounds()
+
+    log = Away()
+    with caplog.at_level(logging.WARNING, "svid"), member(log) as checks:
+        made = fresh()
+        assert verdict(checks, made) == "Unavailable" and not checks.is_ready
+        log.is_away = False
+        until(lambda: checks.is_ready)
+        assert isinstance(verdict(checks, made), svid.Use)  # no claim burnt it
+    assert "the log can't be reached: away" in caplog.messages
+
+
+def test_a_log_that_can_not_carry_a_group():
+    class Unfit(MemoryLog):
+        def bounds(self):
+            raise svid.UnfitLog("it forgets values")
+
+    with pytest.raises(svid.UnfitLog, match="it forgets values"):
+        member(Unfit())
 
 
 # -- Clocks, bundles, withdrawals
@@ -617,6 +638,94 @@ def test_a_token_is_withdrawn_while_its_claim_is_on_its_way(log):
         checks.withdraw(made)
         log.go()
         assert answer() == "Withdrawn"
+
+
+# -- An event loop
+
+
+def test_an_event_loop_goes_on_while_checks_wait(log):
+    """A thousand of them wait at once, and a refusal waits for none of them."""
+
+    async def main(checks):
+        waiting = [asyncio.create_task(said_soon(checks, it)) for it in tokens]
+        assert await said_soon(checks, "no token") == "NotThreeParts"
+        assert not any(it.done() for it in waiting)
+        log.go()
+        return await asyncio.gather(*waiting)
+
+    tokens = [fresh(jti=str(it)) for it in range(500)] * 2
+    with member(log) as checks:
+        log.hold()
+        said = asyncio.run(main(checks))
+    assert said.count("Replayed") == 500 and sum(isinstance(it, svid.Use) for it in said) == 500
+
+
+async def said_soon(checks, token):
+    try:
+        return (await checks.check_soon(token)).use
+    except svid.Error as why:
+        return type(why).__name__
+
+
+def test_an_event_loop_waits_no_longer_than_it_may(log):
+    async def main(checks, count):
+        return await asyncio.gather(*(said_soon(checks, it) for it in [made] * count))
+
+    with member(log, wait=0.2) as checks:
+        made = fresh()
+        log.hold()
+        assert in_thread(lambda: asyncio.run(main(checks, 3)))() == ["Unavailable"] * 3
+        log.go()
+        until(lambda: checks.report().uses)
+        assert asyncio.run(main(checks, 2)) == ["Replayed"] * 2
+
+
+def test_a_check_that_is_cancelled_holds_nothing_up(log):
+    async def main(checks):
+        first = asyncio.create_task(said_soon(checks, made))
+        await asyncio.sleep(0)
+        second = asyncio.create_task(said_soon(checks, made))
+        await asyncio.sleep(0)
+        first.cancel()
+        with pytest.raises(asyncio.CancelledError):
+            await first
+        log.go()
+        return await second
+
+    class Slow(MemoryLog):
+        def append(self, value):
+            assert go.wait(60)
+            super().append(value)
+
+    for sent in True, False:
+        log, go = Slow(), threading.Event()
+        with member(log) as checks:
+            made = fresh()
+            if sent:
+                go.set()
+                log.hold()
+                assert asyncio.run(main(checks)) == "Replayed"
+            else:
+                answer = in_thread(verdict, checks, fresh(jti="other"))
+                until(lambda: checks._open and not waiting(checks))
+                second = in_thread(lambda: asyncio.run(main(checks)))
+                until(lambda: waiting(checks) == 1)
+                go.set()
+                assert isinstance(answer(), svid.Use) and isinstance(second(), svid.Use)
+
+
+def test_a_loop_that_has_ended_stops_no_reader(log):
+    """Of a server that was stopped: its check is waited for by nobody."""
+    with member(log) as checks:
+        log.hold()
+        loop = asyncio.new_event_loop()
+        task = loop.create_task(said_soon(checks, fresh(jti="1")))
+        loop.run_until_complete(asyncio.sleep(0))
+        loop.close()
+        log.go()
+        assert isinstance(verdict(checks, fresh(jti="2")), svid.Use)
+        assert not task.done()
+        task._log_destroy_pending = False
 
 
 # -- The end
