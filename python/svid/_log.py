@@ -9,7 +9,7 @@ from .errors import Error
 
 
 class Log(Protocol):
-    """What `Member` wants of a log: a stream of Redis, a table of PostgreSQL, a file with a lock.
+    """What `Member` wants of a log. `svid.logs` has those of Redis and of PostgreSQL.
 
     Values have positions that are counted from 1 without gaps. Each reader gets them in this order,
     each one whole. A log keeps a value for at least `longest` plus twice `ahead` seconds of its

@@ -28,6 +28,7 @@ from ._log import Log, OtherLog
 from ._signatures import USUAL_RSA_BITS, Verifies
 from ._validator import Token, Validator
 from .errors import REFUSALS, Closed, Error, Jump, Refused, Unavailable
+from .logs import GROUP, Carrier, open_log
 from .records import Accepted, Use, batches
 
 _LOG = logging.getLogger("svid")
@@ -53,18 +54,22 @@ class Member(Validator):
 
     ::
 
+        log = "redis://localhost"
         with svid.Member(log=log, longest=3600, audiences=["ledger"], bundles="bundles") as member:
             accepted = member.check(token)
 
     Of the claims of a token that are in the log, the first counts. `check` puts a claim there, and
     returns once this member has read it and all in front of it. Make one in each process, after the
     process was forked, and close it.
+
+    It starts where the log is away, too. Until it has read the log, and whenever that is away,
+    checks raise Unavailable.
     """
 
     def __init__(
         self,
         *,
-        log: Log,
+        log: Log | str,
         longest: int,
         audiences: str | Iterable[str],
         bundles: Bundles,
@@ -75,16 +80,21 @@ class Member(Validator):
         verifies: Verifies | None = None,
         rsa_bits: int = USUAL_RSA_BITS,
         wait: float = 2.0,
+        group: str = GROUP,
     ) -> None:
         """Makes a member, and begins to read the log.
 
-        log: the log of the group; see `svid.Log`.
+        log: the log of the group: the URL of a server of Redis or PostgreSQL (see `svid.logs`), or
+            an object of your own (see `svid.Log`).
         longest: how many seconds a token may still live. Uses stay in the log for so long, and for
-            twice `ahead`.
+            twice `ahead`. All members have the same two.
         wait: how many seconds `check` and `withdraw` wait for the log, until they raise
             Unavailable.
+        group: what the group is called where the log is a URL. Groups of different names share
+            nothing.
 
-        The others are those of `Validator`. Raises what it does, and what the log's `bounds` does.
+        The others are those of `Validator`. Raises what it does, and UnfitLog where the log may
+        lose values. Where the log is away, a warning says so.
         """
         super().__init__(
             audiences=audiences,
@@ -98,7 +108,6 @@ class Member(Validator):
             rsa_bits=rsa_bits,
             wait=wait,
         )
-        self._log = log
         self._lasts = min(longest + 2 * ahead, lib.NO_LIMIT)
         self._process = os.getpid()
         self._said: dict[str, float] = {}  # when a warning was said last
@@ -111,12 +120,16 @@ class Member(Validator):
         self._deaf = 0  # before this moment nothing is accepted
         self._closing = False
         self._is_begun = False
+        self._opened: Carrier | None = None
         try:
+            if isinstance(log, str):
+                log = self._opened = open_log(log, self._lasts, group)
+            self._log = log
             self._begin(b"", 0)
         except OSError as why:
             self._say(f"the log can't be reached: {why}")
         except BaseException:
-            super().close()
+            self._free()
             raise
         self._threads = [
             threading.Thread(target=work, name=name, daemon=True)
@@ -148,7 +161,10 @@ class Member(Validator):
         self._deaf = 0
 
     def close(self) -> None:
-        """Ends the checks that wait, and frees the record. It may take a quarter of a second."""
+        """Ends the checks that wait, and frees the record.
+
+        It may take a quarter of a second, and longer where the log's server does not answer.
+        """
         if self._process != os.getpid():
             return
         with self._gate:
@@ -157,6 +173,11 @@ class Member(Validator):
             self._gate.notify_all()
         for it in self._threads:
             it.join()
+        self._free()
+
+    def _free(self) -> None:
+        if self._opened is not None:
+            self._opened.close()
         super().close()
 
     def check(self, token: Token, now: float | None = None) -> Accepted:

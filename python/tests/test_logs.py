@@ -1,0 +1,634 @@
+"""The logs of Redis and PostgreSQL, by their real servers."""
+
+import contextlib
+import itertools
+import logging
+import os
+import pathlib
+import socket
+import subprocess
+import threading
+import time
+
+import psycopg2
+import pytest
+import redis
+import svid
+from making import bundle, entry, fresh, private_key
+from servers import PostgresServer, RedisServer, until
+from svid.logs import open_log
+
+KINDS = {"redis": RedisServer, "postgresql": PostgresServer}
+KEEP = 3620
+KNOWN = bundle(entry(private_key("ES256"), "k1"))
+numbers = itertools.count()
+
+
+@pytest.fixture(params=KINDS)
+def kind(request):
+    return KINDS[request.param]
+
+
+@pytest.fixture(scope="module", params=KINDS)
+def shared(request):
+    """A server for tests that leave it as it is. Each has groups of its own."""
+    with KINDS[request.param]() as server:
+        yield server
+
+
+@pytest.fixture
+def server(kind):
+    """A server for one test."""
+    with kind() as server:
+        yield server
+
+
+@contextlib.contextmanager
+def opened(server, group=None, keep=KEEP, timeout=30, url=None):
+    """A log that has begun to be read."""
+    log = open_log(url or server.url, keep, group or f"g{next(numbers)}", timeout)
+    try:
+        log.bounds()
+        yield log
+    finally:
+        log.close()
+
+
+@contextlib.contextmanager
+def several(server, count, **more):
+    """Logs of one group."""
+    more["group"] = more.get("group") or f"g{next(numbers)}"
+    with contextlib.ExitStack() as stack:
+        yield [stack.enter_context(opened(server, **more)) for _ in range(count)]
+
+
+def all_of(log, after=0):
+    """All values behind a position."""
+    values = []
+    while more := list(log.read(values[-1][0] if values else after, 0)):
+        values += more
+    return values
+
+
+def tried(call, *given):
+    """Makes a call until it works: its server is being restarted."""
+    end = time.monotonic() + 60
+    while True:
+        try:
+            return call(*given)
+        except OSError:
+            assert time.monotonic() < end
+            time.sleep(0.01)
+
+
+def execute(server, text, *given):
+    """A command for the server, of any kind."""
+    with contextlib.closing(server.client()) as client:
+        if isinstance(server, RedisServer):
+            return client.execute_command(text, *given)
+        with client.cursor() as cursor:
+            cursor.execute(text, given)
+            return cursor.fetchall() if cursor.description else None
+
+
+def remove_log(server, log):
+    if isinstance(server, RedisServer):
+        execute(server, "FLUSHALL")
+    else:
+        execute(server, f'DROP SCHEMA "{log.group}" CASCADE')
+
+
+def remove_value(server, log, position):
+    if isinstance(server, RedisServer):
+        assert execute(server, "XDEL", f"svid:{{{log.group}}}:log", f"1-{position}") == 1
+    else:
+        execute(server, f'DELETE FROM "{log.group}".value WHERE position = %s', position)
+
+
+# -- One order for all
+
+
+def test_values_have_one_order(shared):
+    with several(shared, 3) as logs:
+        assert all(it.bounds() == (0, 0) and list(it.read(0, 0)) == [] for it in logs)
+
+        def put(log, name):
+            for it in range(40):
+                log.append(b"%d %d" % (name, it))
+
+        threads = [threading.Thread(target=put, args=it) for it in zip(logs * 2, range(6))]
+        for it in threads:
+            it.start()
+        late = all_of(logs[0])
+        for it in threads:
+            it.join()
+        late += all_of(logs[0], len(late))
+        assert late == all_of(logs[1]) == all_of(logs[2])
+        assert [position for position, _ in late] == list(range(1, 241))
+        for name in range(6):
+            mine = [it for _, it in late if it.startswith(b"%d " % name)]
+            assert mine == [b"%d %d" % (name, it) for it in range(40)]
+        assert [it.bounds() for it in logs] == [(0, 240)] * 3
+
+
+@pytest.mark.parametrize("value", [b"", b"\0", bytes(range(256)) * 100, b"'%s\\x00"])
+def test_a_value_is_any_bytes(shared, value):
+    with opened(shared) as log:
+        log.append(value)
+        assert list(log.read(0, 30)) == [(1, value)]
+
+
+def test_a_reader_is_woken(shared):
+    """It need not wait to the end."""
+    with several(shared, 2) as (one, two):
+        for it in range(3):
+            said = []
+            reading = threading.Thread(target=lambda: said.extend(two.read(it, 600)))
+            reading.start()
+            one.append(b"%d" % it)
+            reading.join(30)
+            assert said == [(it + 1, b"%d" % it)]
+
+
+def test_a_reader_waits_for_so_long(shared):
+    with opened(shared) as log:
+        begun = time.monotonic()
+        assert list(log.read(0, 0.3)) == []
+        assert 0.25 < time.monotonic() - begun
+
+
+def test_groups_share_nothing(shared):
+    with opened(shared, "one") as one, opened(shared, "two") as two:
+        one.append(b"1")
+        assert two.bounds() == (0, 0) and all_of(two) == []
+
+
+@pytest.mark.parametrize("name", ["", "a b", 'a"', "a}", "a.b", "ä", "a" * 41])
+def test_a_name_of_a_group(kind, name):
+    url = "redis://localhost" if kind is RedisServer else "postgresql://localhost"
+    with pytest.raises(ValueError, match="letters"):
+        open_log(url, KEEP, name)
+
+
+@pytest.mark.parametrize("url", ["nats://localhost", "", "localhost", "file:///tmp/log"])
+def test_a_url_of_no_log(url):
+    with pytest.raises(ValueError, match="begins with redis"):
+        open_log(url, KEEP)
+
+
+def test_members_that_make_a_log_at_once(shared):
+    """All of them read the same one."""
+    logs = [open_log(shared.url, KEEP, "at-once", 30) for _ in range(8)]
+    threads = [threading.Thread(target=it.bounds) for it in logs]
+    for it in threads:
+        it.start()
+    for it in threads:
+        it.join()
+    assert len({it._made for it in logs}) == 1 and logs[0]._made
+    for it in logs:
+        it.append(b"")
+        it.close()
+
+
+# -- What is no value of a member
+
+
+def test_an_entry_that_no_member_has_put(shared):
+    if not isinstance(shared, RedisServer):
+        pytest.skip("a table has columns")
+    with opened(shared) as log:
+        key = f"svid:{{{log.group}}}:log"
+        for fields in ["a", "b"], ["value", "1", "value", "2"], ["value", "v" * 1_048_577]:
+            execute(shared, "XADD", key, "1-*", *fields)
+        log.append(b"last")
+        assert all_of(log) == [(1, b""), (2, b"1"), (3, b""), (4, b"last")]
+
+
+def test_the_scripts_are_those_of_the_sidecar():
+    """Of the Go library, whose members may be in the same group."""
+    from svid.logs import postgresql, redis as carried
+
+    go = pathlib.Path(os.environ["SVID"]).parent / "go" / "internal" / "carrier"
+    for name, text in ("make", carried._MAKE), ("append", carried._APPEND), ("trim", carried._TRIM):
+        assert commands(text) == commands((go / "redis" / f"{name}.lua").read_text()), name
+    assert postgresql.SCHEMA == (go / "postgres" / "schema.sql").read_text()
+
+
+def commands(text):
+    return [it for it in text.splitlines() if it and not it.startswith("--")]
+
+
+# -- Restarts, crashes, pauses
+
+
+@pytest.mark.parametrize("way", ["stop", "kill"])
+def test_a_server_that_is_restarted(server, way):
+    """No value is lost that was told to be there, and none is out of order."""
+    with several(server, 2) as (one, two):
+        told, is_over = [], threading.Event()
+
+        def put():
+            for it in itertools.count():
+                if is_over.is_set():
+                    return
+                tried(one.append, b"%d" % it)
+                told.append(b"%d" % it)
+
+        putting = threading.Thread(target=put)
+        putting.start()
+        for _ in range(2):
+            count = len(told)
+            until(lambda: len(told) > count + 20)
+            getattr(server, way)()
+            server.start()
+        count = len(told)
+        until(lambda: len(told) > count + 20)
+        is_over.set()
+        putting.join()
+        values = tried(all_of, two)
+        assert [position for position, _ in values] == list(range(1, len(values) + 1))
+        firsts = list(dict.fromkeys(value for _, value in values))
+        assert firsts == told  # (some may be there twice: an answer was lost)
+        assert tried(all_of, one) == values
+
+
+def test_a_server_that_hangs(server):
+    """No call waits for longer than it may, and each works again once the server does."""
+    with opened(server, timeout=0.5) as log:
+        tried(log.append, b"1")
+        assert list(tried(log.read, 0, 30)) == [(1, b"1")]
+        server.pause()
+        try:
+            for call in lambda: log.append(b"2"), lambda: log.read(1, 0.1), log.bounds:
+                begun = time.monotonic()
+                with pytest.raises(OSError):
+                    call()
+                assert time.monotonic() - begun < 30
+        finally:
+            server.go()
+        tried(log.append, b"3")
+        assert [value for _, value in tried(all_of, log)][-1] == b"3"
+
+
+class Proxy:
+    """Carries bytes to a server. It may swallow the answers."""
+
+    def __init__(self, port):
+        self.port, self.swallows, self.cut = port, False, threading.Event()
+        self.listener = socket.create_server(("127.0.0.1", 0))
+        threading.Thread(target=self.serve, daemon=True).start()
+
+    def serve(self):
+        with contextlib.suppress(OSError):
+            while True:
+                near, _ = self.listener.accept()
+                far = socket.create_connection(("127.0.0.1", self.port))
+                for way in (near, far, False), (far, near, True):
+                    threading.Thread(target=self.carry, args=way, daemon=True).start()
+
+    def carry(self, source, target, is_answer):
+        with contextlib.suppress(OSError):
+            while data := source.recv(65536):
+                if is_answer and self.swallows:
+                    self.swallows = False
+                    self.cut.set()
+                    break
+                target.sendall(data)
+        for it in source, target:
+            with contextlib.suppress(OSError):
+                it.shutdown(socket.SHUT_RDWR)
+
+
+def test_a_lost_answer(shared):
+    """The value is put again, and is there twice."""
+    proxy = Proxy(shared.port)
+    url = shared.url.replace(str(shared.port), str(proxy.listener.getsockname()[1]))
+    with opened(shared, url=url) as log:
+        log.append(b"1")
+        proxy.swallows = True
+        with pytest.raises(OSError):
+            log.append(b"2")
+        assert proxy.cut.is_set()
+        log.append(b"2")
+        assert [value for _, value in all_of(log)] == [b"1", b"2", b"2"]
+    proxy.listener.close()
+
+
+# -- A log that has lost values
+
+
+def test_values_that_are_removed(server):
+    """A position is missing, and the core sees that."""
+    with several(server, 2) as (log, other):
+        for it in b"1", b"2", b"3":
+            log.append(it)
+        remove_value(server, log, 2)
+        assert all_of(log) == [(1, b"1"), (3, b"3")]
+        remove_value(server, log, 1)
+        assert all_of(other) == [(3, b"3")] and other.bounds() == (0, 3)
+
+
+def test_a_log_that_is_removed(server):
+    with several(server, 2) as (log, other):
+        log.append(b"1")
+        assert all_of(log) == [(1, b"1")]
+        remove_log(server, log)
+        for _ in range(2):
+            with pytest.raises(svid.OtherLog, match="removed, or made anew"):
+                log.read(1, 0)
+        with pytest.raises((svid.OtherLog, OSError)):
+            log.append(b"2")
+        assert other.bounds() == (0, 0)
+        for it in range(3):
+            other.append(b"new %d" % it)
+        for _ in range(2):
+            with pytest.raises(svid.OtherLog):
+                log.read(1, 0)
+        with pytest.raises((svid.OtherLog, OSError)):
+            log.append(b"2")
+        assert log.bounds() == (0, 3) and len(all_of(log)) == 3
+
+
+def test_an_older_copy_that_is_put_back(server):
+    with several(server, 3) as (log, early, writer):
+        writer.append(b"1")
+        server.stop()
+        server.keep_copy()
+        server.start()
+        tried(writer.append, b"2")
+        tried(writer.append, b"3")
+        assert len(tried(all_of, log)) == 3 and len(list(tried(early.read, 0, 30))) == 3
+        server.stop()
+        server.put_copy_back()
+        server.start()
+        with pytest.raises(svid.OtherLog, match="an older copy"):
+            tried(log.read, 3, 0)
+        with pytest.raises(svid.OtherLog, match="an older copy"):
+            log.read(3, 0)
+        for it in range(5):
+            tried(writer.append, b"new %d" % it)
+        # It has grown past what was read, and is another one all the same.
+        for it in log, early:
+            with pytest.raises(svid.OtherLog, match="an older copy"):
+                tried(it.read, 3, 0)
+        # The writer has read nothing, but knows what it has put.
+        with pytest.raises(svid.OtherLog, match="an older copy"):
+            tried(writer.read, 0, 0)
+        assert log.bounds()[1] >= 6 and log.read(0, 0)
+
+
+def test_a_member_sees_that_its_log_is_another_one(server, caplog):
+    terms = {"audiences": "ledger", "bundles": KNOWN, "longest": 3600, "wait": 30}
+    with caplog.at_level(logging.WARNING, "svid"), svid.Member(log=server.url, **terms) as member:
+        made = fresh()
+        member.check(made)
+        remove_log(server, member._log)
+        until(lambda: member.deaf_until)
+        with pytest.raises(svid.Unavailable):
+            member.check(fresh(jti="2"))
+        with pytest.raises(svid.Replayed):
+            member.check(made)
+        member.go_on()
+        member.check(fresh(jti="3"))
+    assert any("the log is another one" in it for it in caplog.messages)
+
+
+# -- Which logs a member does not join
+
+UNFIT = {
+    RedisServer: [
+        (["--appendonly", "no"], "appendonly is no and must be yes"),
+        (["--appendfsync", "everysec"], "appendfsync is everysec and must be always"),
+        (["--no-appendfsync-on-rewrite", "yes"], "no-appendfsync-on-rewrite is yes"),
+        (["--maxmemory-policy", "allkeys-lru"], "maxmemory-policy is allkeys-lru"),
+    ],
+    PostgresServer: [
+        (["-c", "fsync=off"], "fsync is off and must be on"),
+        (["-c", "full_page_writes=off"], "full_page_writes is off and must be on"),
+    ],
+}
+
+
+@pytest.mark.parametrize(
+    "kind, settings, said", [(kind, *it) for kind, rows in UNFIT.items() for it in rows]
+)
+def test_a_server_that_may_lose_values(kind, settings, said):
+    with kind(*settings) as server:
+        log = open_log(server.url, KEEP)
+        with pytest.raises(svid.UnfitLog, match=said):
+            log.bounds()
+        with pytest.raises(svid.UnfitLog, match=said):
+            svid.Member(log=server.url, audiences="a", bundles=KNOWN, longest=60)
+        log.close()
+
+
+@pytest.mark.parametrize("weak, due", [("off", "on"), ("local", "on"), ("remote_apply", None)])
+def test_a_commit_waits_for_the_disk(weak, due):
+    with PostgresServer("-c", f"synchronous_commit={weak}") as server, opened(server) as log:
+        assert log._writer.run("SHOW synchronous_commit") == [(due or weak,)]
+
+
+def test_a_log_that_keeps_values_for_too_short(shared):
+    with opened(shared, "short", keep=100):
+        with pytest.raises(svid.UnfitLog, match="for 100 seconds, and this member needs 101"):
+            open_log(shared.url, 101, "short").bounds()
+        with opened(shared, "short", keep=99):
+            pass
+
+
+def test_a_log_of_another_format(shared):
+    with opened(shared, "format") as log:
+        if isinstance(shared, RedisServer):
+            execute(shared, "HSET", "svid:{format}:head", "format", "2")
+        else:
+            execute(shared, 'UPDATE "format".log SET format = 2')
+        with pytest.raises(svid.OtherLog):
+            log.read(0, 0)
+        with pytest.raises(svid.UnfitLog, match="has format 2, and not format 1"):
+            log.bounds()
+        if isinstance(shared, RedisServer):
+            execute(shared, "DEL", "svid:{format}:head")
+        else:
+            execute(shared, 'DELETE FROM "format".log')
+        with pytest.raises(svid.UnfitLog, match="lost its own row"):
+            log.bounds()
+
+
+def test_a_server_that_is_away(kind):
+    server = kind()
+    log = open_log(server.url, KEEP, timeout=1)
+    with pytest.raises(OSError, match=kind.__name__[:5]):
+        log.bounds()
+    server.start()
+    assert log.bounds() == (0, 0)
+    log.close()
+    server.__exit__()
+
+
+# -- Old values
+
+
+def test_old_values_are_removed(server):
+    """Those alone that are older than the log keeps them, and nobody takes that for a gap."""
+    with several(server, 3, keep=1) as (log, sleeper, other):
+        for it in range(100):
+            log.append(b"%d" % it)
+        assert len(all_of(log)) == len(all_of(sleeper, 0)) == 100
+
+        def is_trimmed():
+            log._trims_at = 0
+            assert list(log.read(100, 0)) == []
+            return log.bounds.__self__._glance(2**60).gone == 100
+
+        until(is_trimmed)
+        log.append(b"young")
+        assert all_of(log, 100) == [(101, b"young")]
+        assert all_of(sleeper, 100) == [(101, b"young")]
+        # One that slept for longer reads nothing in their place.
+        assert all_of(other) == [*((it, b"") for it in range(1, 101)), (101, b"young")]
+        assert other.bounds() == (100, 101)
+
+
+def test_young_values_stay(server):
+    with opened(server) as log:
+        for it in range(5):
+            log.append(b"%d" % it)
+        assert len(all_of(log)) == 5
+        log._trims_at = 0
+        log.read(5, 0)
+        assert log._glance(2**60).gone == 0 and len(all_of(log)) == 5
+
+
+# -- Passwords and certificates
+
+
+@pytest.fixture(scope="module")
+def certificates(tmp_path_factory):
+    """A folder with a certificate of a server, and one of its authority, that anybody may read."""
+    import tempfile
+
+    with tempfile.TemporaryDirectory(prefix="svid-test-", dir="/tmp") as folder:
+        os.chmod(folder, 0o755)
+        run = [
+            "openssl req -x509 -newkey ec -pkeyopt ec_paramgen_curve:P-256 -nodes -days 9"
+            " -keyout ca.key -out ca.pem -subj /CN=ca",
+            "openssl req -newkey ec -pkeyopt ec_paramgen_curve:P-256 -nodes -keyout key.pem"
+            " -out request -subj /CN=server",
+            "openssl x509 -req -in request -CA ca.pem -CAkey ca.key -CAcreateserial -days 9"
+            " -out cert.pem -extfile names",
+        ]
+        pathlib.Path(folder, "names").write_text("subjectAltName=DNS:localhost\n")
+        for it in run:
+            subprocess.run(it.split(), cwd=folder, check=True, capture_output=True)
+        yield pathlib.Path(folder)
+
+
+def test_redis_with_a_password_and_certificates(certificates, tmp_path, monkeypatch):
+    files = ["--tls-cert-file", certificates / "cert.pem", "--tls-key-file", certificates / "key.pem"]
+    from servers import free_port
+
+    tls = free_port()
+    words = [*files, "--tls-ca-cert-file", certificates / "ca.pem", "--tls-auth-clients", "no"]
+    with RedisServer("--requirepass", "se:c/ret", "--tls-port", str(tls), *words) as server:
+        ca = f"ssl_ca_certs={certificates / 'ca.pem'}"
+        good = f"rediss://:se%3Ac%2Fret@localhost:{tls}/0?{ca}"
+        with opened(server, url=good) as log:
+            log.append(b"1")
+            assert all_of(log) == [(1, b"1")]
+        (tmp_path / "password").write_text("se:c/ret\nmore\n")
+        with opened(server, url=f"{server.url}?password_file={tmp_path / 'password'}"):
+            pass
+        for url in server.url, f"redis://:wrong@127.0.0.1:{server.port}/0":
+            with pytest.raises(svid.UnfitLog, match="refuses this user"):
+                open_log(url, KEEP).bounds()
+        for bad in (
+            good.replace("localhost", "127.0.0.1"),  # (which the certificate does not name)
+            good.partition("?")[0],  # (the system's authorities)
+        ):
+            with pytest.raises(ConnectionError, match="[Cc]ertificate"):
+                open_log(bad, KEEP).bounds()
+        monkeypatch.setenv("REDISCLI_AUTH", "se:c/ret")
+        with opened(server):
+            pass
+
+
+def test_redis_with_the_least_rights(shared):
+    """What docs/SIDECAR.md lists is enough."""
+    if not isinstance(shared, RedisServer):
+        pytest.skip("PostgreSQL has a test of its own")
+    rights = (
+        "~svid:{rights}:* +eval +evalsha +xadd +xread +xrange +xinfo|stream +xtrim +hget +hmget +hset"
+        " +exists +del +time +info +wait +set +config|get +select +role +ping +multi +exec"
+        " +script|load"
+    )
+    execute(shared, "ACL", "SETUSER", "member", "reset", "on", ">word", *rights.split())
+    url = shared.url.replace("redis://", "redis://member:word@")
+    with opened(shared, "rights", url=url) as log:
+        log.append(b"1")
+        assert list(log.read(0, 30)) == [(1, b"1")] and list(log.read(1, 0.01)) == []
+        log._trims_at = 0
+        log.read(1, 0)
+    with pytest.raises(svid.UnfitLog, match="refuses this user"):
+        open_log(url, KEEP, "another").bounds()
+    execute(shared, "ACL", "SETUSER", "member", "-config|get")
+    with pytest.raises(svid.UnfitLog, match="settings=unchecked"):
+        open_log(url, KEEP, "rights").bounds()
+    with opened(shared, "rights", url=url + "?settings=unchecked"):
+        pass
+
+
+def test_postgresql_with_a_password_and_certificates(certificates, monkeypatch):
+    with PostgresServer() as server:
+        for name in "cert.pem", "key.pem":
+            path = pathlib.Path(server.folder, name)
+            path.write_bytes((certificates / name).read_bytes())
+            os.chmod(path, 0o600)
+            if server.user:
+                os.chown(path, server.user["user"], server.user["group"])
+        execute(server, "CREATE ROLE owner LOGIN PASSWORD 'se:c/ret'")
+        execute(server, "GRANT CREATE ON DATABASE postgres TO owner")
+        execute(server, "CREATE ROLE member LOGIN PASSWORD 'word'")
+        server.stop()
+        pathlib.Path(server.folder, "data", "pg_hba.conf").write_text(
+            "hostnossl all svid 127.0.0.1/32 trust\nhostssl all all all scram-sha-256\n"
+        )
+        files = [f"ssl_{it}_file={server.folder}/{it}.pem" for it in ("cert", "key")]
+        server.settings = ["-c", "ssl=on", "-c", files[0], "-c", files[1]]
+        server.start()
+        rest = f"localhost:{server.port}/postgres?sslmode=verify-full&sslrootcert={certificates}/ca.pem"
+        good = f"postgresql://owner:se%3Ac%2Fret@{rest}"
+        # Who may not make a log learns so; with the least rights a member joins one that is there.
+        member = f"postgres://member:word@{rest}"
+        with pytest.raises(svid.UnfitLog, match="lets this user make none"):
+            open_log(member, KEEP, "tls").bounds()
+        with opened(server, "tls", url=good) as log:
+            log.append(b"1")
+            execute(server, 'GRANT USAGE ON SCHEMA "tls" TO member')
+            execute(server, 'GRANT SELECT ON ALL TABLES IN SCHEMA "tls" TO member')
+            execute(server, 'GRANT EXECUTE ON ALL FUNCTIONS IN SCHEMA "tls" TO member')
+        with opened(server, "tls", url=member) as log:
+            log.append(b"2")
+            assert all_of(log) == [(1, b"1"), (2, b"2")]
+            log._trims_at = 0
+            log.read(2, 0)
+        for bad in (
+            good.replace("se%3Ac%2Fret", "wrong"),
+            good.replace("localhost", "127.0.0.1"),
+            good.replace("owner", "svid").replace("verify-full", "disable").replace("@", "@no-"),
+        ):
+            with pytest.raises(OSError):
+                open_log(bad, KEEP, "tls").bounds()
+        monkeypatch.setenv("PGPASSWORD", "word")
+        with opened(server, "tls", url=member.replace(":word", "")):
+            pass
+
+
+def test_a_replica_is_no_log(shared):
+    if not isinstance(shared, RedisServer):
+        pytest.skip("Redis alone")
+    with RedisServer("--replicaof", f"127.0.0.1 {shared.port}") as replica:
+        with pytest.raises(ConnectionError, match="is a replica: name the primary"):
+            open_log(replica.url, KEEP).bounds()
+
+
+assert psycopg2 and redis
