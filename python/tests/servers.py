@@ -75,20 +75,11 @@ class Server:
 
     def keep_copy(self):
         """A copy of its data, while it is stopped."""
-        shutil.copytree(f"{self.folder}/data", f"{self.folder}/copy", copy_function=copied)
+        subprocess.run(["cp", "-a", "data", "copy"], cwd=self.folder, check=True)
 
     def put_copy_back(self):
         shutil.rmtree(f"{self.folder}/data")
-        owner = os.stat(f"{self.folder}/copy")
         os.rename(f"{self.folder}/copy", f"{self.folder}/data")
-        os.chown(f"{self.folder}/data", owner.st_uid, owner.st_gid)
-
-
-def copied(source, target):
-    shutil.copy2(source, target)
-    it = os.stat(source)
-    os.chown(target, it.st_uid, it.st_gid)
-    os.chown(os.path.dirname(target), it.st_uid, it.st_gid)
 
 
 class RedisServer(Server):

@@ -7,16 +7,16 @@ import os
 import pathlib
 import socket
 import subprocess
+import tempfile
 import threading
 import time
 
-import psycopg2
 import pytest
-import redis
 import svid
 from making import bundle, entry, fresh, private_key
-from servers import PostgresServer, RedisServer, until
-from svid.logs import open_log
+from servers import PostgresServer, RedisServer, free_port, until
+from svid.logs import open_log, postgresql
+from svid.logs import redis as carried
 
 KINDS = {"redis": RedisServer, "postgresql": PostgresServer}
 KEEP = 3620
@@ -33,6 +33,12 @@ def kind(request):
 def shared(request):
     """A server for tests that leave it as it is. Each has groups of its own."""
     with KINDS[request.param]() as server:
+        yield server
+
+
+@pytest.fixture(scope="module")
+def shared_redis():
+    with RedisServer() as server:
         yield server
 
 
@@ -193,25 +199,46 @@ def test_members_that_make_a_log_at_once(shared):
 # -- What is no value of a member
 
 
-def test_an_entry_that_no_member_has_put(shared):
-    if not isinstance(shared, RedisServer):
-        pytest.skip("a table has columns")
-    with opened(shared) as log:
-        key = f"svid:{{{log.group}}}:log"
-        for fields in ["a", "b"], ["value", "1", "value", "2"], ["value", "v" * 1_048_577]:
-            execute(shared, "XADD", key, "1-*", *fields)
+def test_an_entry_that_no_member_has_put(shared_redis):
+    """It is an empty value, but where it is just as a member puts it."""
+    good, most = ("at", "1", "kind", "c", "value", "1"), "v" * 1_048_576
+    rows = [
+        (good, b"1"),
+        (("at", "-1", "kind", "", "value", most), most.encode()),
+        (("at", "1", "kind", "c", "value", most + "v"), b""),
+        (("a", "b"), b""),
+        ((*good, "value", "2"), b""),
+        (("kind", "c", "at", "1", "value", "1"), b""),
+        (("at", "1 ", "kind", "c", "value", "1"), b""),
+        (("at", str(2**63), "kind", "c", "value", "1"), b""),
+        (("at", "1", "kind", "c", "Value", "1"), b""),
+    ]
+    with opened(shared_redis) as log:
+        for fields, _ in rows:
+            execute(shared_redis, "XADD", f"svid:{{{log.group}}}:log", "1-*", *fields)
         log.append(b"last")
-        assert all_of(log) == [(1, b""), (2, b"1"), (3, b""), (4, b"last")]
+        assert all_of(log) == [*enumerate((it for _, it in rows), 1), (10, b"last")]
+
+
+def test_an_entry_at_no_position(shared_redis):
+    """Nobody reads it, and nothing can be put behind it."""
+    with opened(shared_redis) as log:
+        log.append(b"1")
+        fields = ("at", "1", "kind", "c", "value", "2")
+        execute(shared_redis, "XADD", f"svid:{{{log.group}}}:log", "2-7", *fields)
+        assert all_of(log) == [(1, b"1")]
+        with pytest.raises(OSError, match="equal or smaller"):
+            log.append(b"3")
 
 
 def test_the_scripts_are_those_of_the_sidecar():
     """Of the Go library, whose members may be in the same group."""
-    from svid.logs import postgresql, redis as carried
-
     go = pathlib.Path(os.environ["SVID"]).parent / "go" / "internal" / "carrier"
-    for name, text in ("make", carried._MAKE), ("append", carried._APPEND), ("trim", carried._TRIM):
-        assert commands(text) == commands((go / "redis" / f"{name}.lua").read_text()), name
-    assert postgresql.SCHEMA == (go / "postgres" / "schema.sql").read_text()
+    ours = {"make": carried._MAKE, "append": carried._APPEND, "trim": carried._TRIM}
+    for it in go.glob("redis/*.lua"):
+        assert commands(ours[it.stem]) == commands(it.read_text()), it.name
+    for it in go.glob("postgres/*.sql"):
+        assert pathlib.Path(carried.__file__).with_name(it.name).read_bytes() == it.read_bytes()
 
 
 def commands(text):
@@ -271,7 +298,7 @@ def test_a_server_that_hangs(server):
 
 
 class Proxy:
-    """Carries bytes to a server. It may swallow the answers."""
+    """Carries bytes to a server. It may cut a connection at its next answer."""
 
     def __init__(self, port):
         self.port, self.swallows, self.cut = port, False, threading.Event()
@@ -290,7 +317,6 @@ class Proxy:
         with contextlib.suppress(OSError):
             while data := source.recv(65536):
                 if is_answer and self.swallows:
-                    self.swallows = False
                     self.cut.set()
                     break
                 target.sendall(data)
@@ -309,8 +335,9 @@ def test_a_lost_answer(shared):
         with pytest.raises(OSError):
             log.append(b"2")
         assert proxy.cut.is_set()
+        proxy.swallows = False
         log.append(b"2")
-        assert [value for _, value in all_of(log)] == [b"1", b"2", b"2"]
+        assert [value for _, value in tried(all_of, log)] == [b"1", b"2", b"2"]
     proxy.listener.close()
 
 
@@ -365,16 +392,36 @@ def test_an_older_copy_that_is_put_back(server):
             tried(log.read, 3, 0)
         with pytest.raises(svid.OtherLog, match="an older copy"):
             log.read(3, 0)
-        for it in range(5):
-            tried(writer.append, b"new %d" % it)
+        with opened(server, log.group) as new:
+            for it in range(5):
+                new.append(b"new %d" % it)
         # It has grown past what was read, and is another one all the same.
-        for it in log, early:
-            with pytest.raises(svid.OtherLog, match="an older copy"):
-                tried(it.read, 3, 0)
+        with pytest.raises(svid.OtherLog, match="not the value 3 that was read: an older copy"):
+            tried(early.read, 3, 0)
         # The writer has read nothing, but knows what it has put.
-        with pytest.raises(svid.OtherLog, match="an older copy"):
+        with pytest.raises(svid.OtherLog, match="not the value 2 that was put: an older copy"):
             tried(writer.read, 0, 0)
-        assert log.bounds()[1] >= 6 and log.read(0, 0)
+        for it in log, writer:
+            with pytest.raises(svid.OtherLog):
+                it.append(b"more")
+            assert it.bounds() == (0, 6) and len(list(it.read(0, 0))) == 6
+
+
+def test_a_position_that_is_given_a_second_time(server):
+    """By a log that was put back from an older copy, to one that did not look meanwhile."""
+    with several(server, 2) as (writer, _):
+        writer.append(b"1")
+        server.stop()
+        server.keep_copy()
+        server.start()
+        tried(writer.append, b"2")
+        server.stop()
+        server.put_copy_back()
+        server.start()
+        with pytest.raises(svid.OtherLog, match="gives the position 2 a second time"):
+            tried(writer.append, b"3")
+        with pytest.raises(svid.OtherLog):
+            tried(writer.read, 0, 0)
 
 
 def test_a_member_sees_that_its_log_is_another_one(server, caplog):
@@ -457,7 +504,7 @@ def test_a_log_of_another_format(shared):
 def test_a_server_that_is_away(kind):
     server = kind()
     log = open_log(server.url, KEEP, timeout=1)
-    with pytest.raises(OSError, match=kind.__name__[:5]):
+    with pytest.raises(OSError, match="(?i)" + kind.__name__[:5]):
         log.bounds()
     server.start()
     assert log.bounds() == (0, 0)
@@ -505,8 +552,6 @@ def test_young_values_stay(server):
 @pytest.fixture(scope="module")
 def certificates(tmp_path_factory):
     """A folder with a certificate of a server, and one of its authority, that anybody may read."""
-    import tempfile
-
     with tempfile.TemporaryDirectory(prefix="svid-test-", dir="/tmp") as folder:
         os.chmod(folder, 0o755)
         run = [
@@ -525,8 +570,6 @@ def certificates(tmp_path_factory):
 
 def test_redis_with_a_password_and_certificates(certificates, tmp_path, monkeypatch):
     files = ["--tls-cert-file", certificates / "cert.pem", "--tls-key-file", certificates / "key.pem"]
-    from servers import free_port
-
     tls = free_port()
     words = [*files, "--tls-ca-cert-file", certificates / "ca.pem", "--tls-auth-clients", "no"]
     with RedisServer("--requirepass", "se:c/ret", "--tls-port", str(tls), *words) as server:
@@ -552,10 +595,9 @@ def test_redis_with_a_password_and_certificates(certificates, tmp_path, monkeypa
             pass
 
 
-def test_redis_with_the_least_rights(shared):
+def test_redis_with_the_least_rights(shared_redis):
     """What docs/SIDECAR.md lists is enough."""
-    if not isinstance(shared, RedisServer):
-        pytest.skip("PostgreSQL has a test of its own")
+    shared = shared_redis
     rights = (
         "~svid:{rights}:* +eval +evalsha +xadd +xread +xrange +xinfo|stream +xtrim +hget +hmget +hset"
         " +exists +del +time +info +wait +set +config|get +select +role +ping +multi +exec"
@@ -594,18 +636,20 @@ def test_postgresql_with_a_password_and_certificates(certificates, monkeypatch):
         )
         files = [f"ssl_{it}_file={server.folder}/{it}.pem" for it in ("cert", "key")]
         server.settings = ["-c", "ssl=on", "-c", files[0], "-c", files[1]]
+        server.url += "?sslmode=disable"
         server.start()
         rest = f"localhost:{server.port}/postgres?sslmode=verify-full&sslrootcert={certificates}/ca.pem"
         good = f"postgresql://owner:se%3Ac%2Fret@{rest}"
         # Who may not make a log learns so; with the least rights a member joins one that is there.
         member = f"postgres://member:word@{rest}"
-        with pytest.raises(svid.UnfitLog, match="lets this user make none"):
+        with pytest.raises(svid.UnfitLog, match="may not make, or not use"):
             open_log(member, KEEP, "tls").bounds()
         with opened(server, "tls", url=good) as log:
             log.append(b"1")
-            execute(server, 'GRANT USAGE ON SCHEMA "tls" TO member')
-            execute(server, 'GRANT SELECT ON ALL TABLES IN SCHEMA "tls" TO member')
-            execute(server, 'GRANT EXECUTE ON ALL FUNCTIONS IN SCHEMA "tls" TO member')
+            with pytest.raises(svid.UnfitLog, match="may not make, or not use"):
+                open_log(member, KEEP, "tls").bounds()
+            grants = postgresql.schema("tls", KEEP, "member").partition("-- A member may")[2]
+            execute(server, "-- A member may" + grants)
         with opened(server, "tls", url=member) as log:
             log.append(b"2")
             assert all_of(log) == [(1, b"1"), (2, b"2")]
@@ -614,7 +658,7 @@ def test_postgresql_with_a_password_and_certificates(certificates, monkeypatch):
         for bad in (
             good.replace("se%3Ac%2Fret", "wrong"),
             good.replace("localhost", "127.0.0.1"),
-            good.replace("owner", "svid").replace("verify-full", "disable").replace("@", "@no-"),
+            good.replace("verify-full", "disable"),
         ):
             with pytest.raises(OSError):
                 open_log(bad, KEEP, "tls").bounds()
@@ -623,12 +667,106 @@ def test_postgresql_with_a_password_and_certificates(certificates, monkeypatch):
             pass
 
 
-def test_a_replica_is_no_log(shared):
-    if not isinstance(shared, RedisServer):
-        pytest.skip("Redis alone")
-    with RedisServer("--replicaof", f"127.0.0.1 {shared.port}") as replica:
+# -- Replicas
+
+
+@contextlib.contextmanager
+def replica_of(primary):
+    """A replica that has all that the primary has."""
+    with RedisServer("--replicaof", f"127.0.0.1 {primary.port}") as it:
+        until(lambda: it.client().info("replication")["master_link_status"] == "up")
+        until(lambda: primary.client().info("replication")["connected_slaves"] >= 1)
+        yield it
+
+
+def test_a_replica_is_no_log(shared_redis):
+    with replica_of(shared_redis) as replica:
         with pytest.raises(ConnectionError, match="is a replica: name the primary"):
             open_log(replica.url, KEEP).bounds()
 
 
-assert psycopg2 and redis
+@contextlib.contextmanager
+def moved(one, two):
+    """A port behind which the one server is, and from `go` on the other one."""
+    proxy = Proxy(one.port)
+
+    def go():
+        proxy.port = two.port
+        one.kill()
+        execute(two, "REPLICAOF", "NO", "ONE")
+
+    try:
+        yield one.url.replace(str(one.port), str(proxy.listener.getsockname()[1])), go
+    finally:
+        proxy.listener.close()
+
+
+def test_a_replica_takes_over_that_may_lack_values():
+    """Nobody can say whether it does."""
+    with RedisServer() as primary, replica_of(primary) as replica:
+        with moved(primary, replica) as (url, go), opened(primary, url=url) as log:
+            log.append(b"1")
+            assert all_of(log) == [(1, b"1")]
+            until(lambda: execute(replica, "XLEN", f"svid:{{{log.group}}}:log") == 1)
+            go()
+            with pytest.raises(svid.OtherLog, match="another server has taken over"):
+                tried(log.read, 1, 0)
+            assert log.bounds() == (0, 1)
+            log.append(b"2")
+            assert all_of(log) == [(1, b"1"), (2, b"2")]
+
+
+def test_a_value_waits_for_its_replica():
+    """So none is missing where that takes over."""
+    with RedisServer() as primary, replica_of(primary) as replica:
+        with moved(primary, replica) as (url, go):
+            with opened(primary, url=url + "?replicas=2", timeout=1) as log:
+                log.append(b"1")
+                assert execute(replica, "XLEN", f"svid:{{{log.group}}}:log") == 1
+                assert all_of(log) == [(1, b"1")]
+                replica.pause()
+                with pytest.raises(OSError, match="0 replicas have the value, and 1 must"):
+                    log.append(b"2")
+                with pytest.raises(OSError, match="0 replicas have the value, and 1 must"):
+                    log.read(1, 0)
+                replica.go()
+                assert tried(log.read, 1, 0) == [(2, b"2")]
+                go()
+                assert tried(log.read, 2, 0) == []
+                until(lambda: "0 replicas have" in said_of(log.append, b"3"))
+
+
+def said_of(call, *given):
+    try:
+        return str(call(*given))
+    except OSError as why:
+        return str(why)
+
+
+def test_a_standby_takes_over_that_may_lack_values():
+    """It begins another timeline."""
+    with PostgresServer() as server, opened(server) as log:
+        log.append(b"1")
+        assert all_of(log) == [(1, b"1")]
+        server.stop()
+        pathlib.Path(server.folder, "data", "standby.signal").touch()
+        server.start()
+        with pytest.raises(OSError, match="recovery"):
+            tried_until_refused(log)
+        execute(server, "SELECT pg_promote()")
+        with pytest.raises(svid.OtherLog, match="another server has taken over"):
+            tried(log.read, 1, 0)
+        assert log.bounds() == (0, 1)
+
+
+def tried_until_refused(log):
+    """Reads until the server is there, which is a standby."""
+    end = time.monotonic() + 60
+    while True:
+        try:
+            return log.bounds()
+        except ConnectionError as why:
+            if "standby" in str(why):
+                raise OSError("recovery") from why
+            assert time.monotonic() < end
+

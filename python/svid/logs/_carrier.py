@@ -24,7 +24,7 @@ _OWN = 256
 """How many of its own values a member remembers until it has read them."""
 _NOWHERE = 2**63 - 2
 """A position that no value has."""
-_NAME = re.compile(r"[A-Za-z0-9_-]{1,40}")
+_NAME = re.compile(r"(?!pg_)[A-Za-z0-9_-]{1,40}")
 _Stamp = tuple[int, bytes]
 
 
@@ -54,6 +54,8 @@ class Glance(NamedTuple):
     """The time by the server's clock, in microseconds since 1970."""
     rows: list[Row]
     """The value that was read last, where it is still there, and those behind it."""
+    history: str = ""
+    """Another one where a server has taken over that may lack the last values."""
 
 
 class Carrier:
@@ -61,11 +63,12 @@ class Carrier:
 
     def __init__(self, keep: int, group: str) -> None:
         if not _NAME.fullmatch(group):
-            raise ValueError("a group's name has 1 to 40 letters, digits, - and _")
+            raise ValueError("a group's name has 1 to 40 letters, digits, - and _, and no pg_ first")
         self.keep = keep
         self.group = group
         self._guard = threading.Lock()  # guards what follows
         self._made = ""
+        self._history = ""
         self._last = 0  # the log had a value at this position
         self._stamps: dict[int, _Stamp] = {}  # of the values that were read last
         self._own: dict[int, int] = {}  # when the server got values that were not read yet
@@ -119,19 +122,27 @@ class Carrier:
         last = glance.last or 0
         with self._guard:
             self._made, self._last, self._other = glance.made, last, ""
+            self._history = glance.history
             self._stamps, self._own, self._ages = {}, {}, []
         return glance.gone, max(glance.gone, last)
 
     def append(self, value: bytes) -> None:
         """Puts a value behind all others, and returns once it is there to stay."""
-        made = self._made
+        with self._guard:
+            made, known = self._made, self._last
+            if self._other:
+                raise OtherLog(self._other)
         position, at = self._put(made, value)
         with self._guard:
-            if made == self._made:
-                self._last = max(self._last, position)
-                self._own[position] = at
-                while len(self._own) > _OWN:
-                    del self._own[next(iter(self._own))]
+            if made != self._made:
+                return
+            if position <= known:
+                self._other = f"it gives the position {position} a second time: an older copy"
+                raise OtherLog(self._other)
+            self._last = max(self._last, position)
+            self._own[position] = at
+            while len(self._own) > _OWN:
+                del self._own[next(iter(self._own))]
 
     def read(self, after: int, wait: float) -> Iterable[tuple[int, bytes]]:
         """Values behind a position, or none where none came within `wait` seconds."""
@@ -162,6 +173,8 @@ class Carrier:
         """Why the log is another one than was read so far, or nothing."""
         if glance.format != FORMAT or glance.made != self._made:
             return "it was removed, or made anew"
+        if glance.history != self._history:
+            return "another server has taken over, which may lack the last values"
         if glance.last is not None and glance.last < known:
             return f"it ends at value {glance.last}, and had {known}: an older copy"
         stamp = self._stamps.get(after)

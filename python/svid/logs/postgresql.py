@@ -16,13 +16,14 @@ from psycopg2 import errors, extensions
 from .._log import OtherLog, UnfitLog
 from ._carrier import AT_ONCE, MOST_VALUE, Carrier, Glance, Row
 
-SCHEMA = pathlib.Path(__file__).with_name("schema.sql").read_text()
-"""What makes a log, with {{NAME}} for the name of the group."""
+_FILES = pathlib.Path(__file__).parent
 _CLAIMS = "c"
-_OTHER = "SV001"
+_GONE = ("SV001", "42P01", "3F000", "42883")  # another log; no table, no schema, no function
 _MICROS = "(extract(epoch from {}) * 1000000)::bigint"
 _GLANCE = f"""
 SELECT l.format, l.made::text, l.keep, l.gone, l.last, {_MICROS.format("clock_timestamp()")},
+  CASE WHEN current_setting('synchronous_standby_names') <> '' THEN ''
+    ELSE substr(pg_walfile_name(pg_current_wal_lsn()), 1, 8) END,
   v.position, {_MICROS.format("v.at")}, v.value
 FROM "{{{{NAME}}}}".log l LEFT JOIN LATERAL (
   SELECT * FROM "{{{{NAME}}}}".value WHERE position >= %s ORDER BY position LIMIT %s
@@ -41,30 +42,54 @@ WHERE current_setting('synchronous_commit') NOT IN ('on', 'remote_apply')
 """
 
 
+def schema(group: str, keep: int, role: str = "") -> str:
+    """The SQL by which an administrator makes the log of a group, and gives a role its rights.
+
+    keep: see `svid.logs.open_log`. A member does the first part by itself where it may.
+    """
+    text = (_FILES / "schema.sql").read_text()
+    if role:
+        text += (_FILES / "grants.sql").read_text()
+    for name, value in ("NAME", group), ("KEEP", str(keep)), ("ROLE", role.replace('"', '""')):
+        text = text.replace("{{" + name + "}}", value)
+    return text
+
+
 class PostgresLog(Carrier):
     """A log in a PostgreSQL server, at a URL as libpq has it, and with the environment of libpq."""
 
     def __init__(self, url: str, keep: int, group: str, timeout: float) -> None:
         super().__init__(keep, group)
+        self._joiner = _Line(url, timeout, _WAITS_FOR_THE_DISK)
         self._writer = _Line(url, timeout, _WAITS_FOR_THE_DISK)
         self._reader = _Line(url, timeout, f'LISTEN "svid_{group}"')
 
     def close(self) -> None:
-        self._writer.close()
-        self._reader.close()
+        for it in self._joiner, self._writer, self._reader:
+            it.close()
 
     def _join(self) -> None:
-        is_replica = self._writer.run("SELECT pg_is_in_recovery()")
-        if is_replica != [(False,)]:
-            raise ConnectionError("the server of PostgreSQL is a replica: name the primary")
-        self._check_settings()
-        there = "SELECT to_regclass(%s) IS NOT NULL"
-        if self._writer.run(there, f'"{self.group}".log') != [(True,)]:
+        try:
+            self._check_settings()
             self._make()
+        except _Refused as why:
+            if isinstance(why.__cause__, errors.InsufficientPrivilege):
+                raise self._unfit(why) from why
+            raise
+        finally:
+            self._joiner.close()
+
+    def _unfit(self, why: Exception) -> UnfitLog:
+        return UnfitLog(
+            f"this user may not make, or not use, the log of the group {self.group} ({why}): an"
+            " administrator makes it, and gives the rights, by what svid.logs.postgresql.schema says"
+        )
 
     def _check_settings(self) -> None:
         names = ", ".join(f"current_setting('{it}')" for it in _SETTINGS)
-        [told] = self._writer.run(f"SELECT {names}")
+        [(is_replica, *told)] = self._joiner.run(f"SELECT pg_is_in_recovery(), {names}")
+        if is_replica:
+            raise ConnectionError("PostgreSQL: the server is a standby: name the primary")
         wrong = [
             f"{name} is {is_} and must be {due[0]}"
             for (name, due), is_ in zip(_SETTINGS.items(), told)
@@ -77,58 +102,51 @@ class PostgresLog(Carrier):
             )
 
     def _make(self) -> None:
-        """Makes the log. Another member may do so at the same time."""
-        text = self._named(SCHEMA)
-        row = self._named('INSERT INTO "{{NAME}}".log (keep) VALUES (%s)')
-        try:
-            self._writer.run(f"BEGIN; {text.replace('%', '%%')}; {row}; COMMIT", self.keep)
-        except _Refused as why:
-            if why.code not in (errors.DuplicateSchema, errors.UniqueViolation):
-                raise UnfitLog(
-                    f"PostgreSQL has no log of the group {self.group}, and lets this user make none"
-                    f" ({why}): let a user that may do so be the first member"
-                ) from why
+        """Makes the log where there is none. Members that start together do so by turns."""
+        self._joiner.run("BEGIN")
+        self._joiner.run("SELECT pg_advisory_xact_lock(hashtext('svid ' || %s))", self.group)
+        if self._joiner.run("SELECT to_regclass(%s) IS NULL", f'"{self.group}".log') == [(True,)]:
+            self._joiner.run(schema(self.group, self.keep))
+        self._joiner.run("COMMIT")
 
     def _glance(self, after: int) -> Glance:
         try:
             rows = self._reader.run(self._named(_GLANCE), after, AT_ONCE + 1)
         except _Refused as why:
-            if why.code in (errors.UndefinedTable, errors.InvalidSchemaName):
+            if isinstance(why.__cause__, (errors.UndefinedTable, errors.InvalidSchemaName)):
                 return Glance("", "", 0, 0, 0, 0, [])
+            if isinstance(why.__cause__, errors.InsufficientPrivilege):
+                raise self._unfit(why) from why
             raise
         if not rows:
             return Glance("", "", 0, 0, 0, 0, [])
-        format_, made, keep, gone, last, now = rows[0][:6]
-        values = [_row(*it[6:]) for it in rows if it[6] is not None]
-        return Glance(str(format_), made, keep, gone, last, now, values)
+        format_, made, keep, gone, last, now, timeline = rows[0][:7]
+        values = [_row(*it[7:]) for it in rows if it[7] is not None]
+        return Glance(str(format_), made, keep, gone, last, now, values, timeline)
 
     def _wait(self, after: int, seconds: float) -> bool:
         return self._reader.wait(seconds)
 
     def _put(self, made: str, value: bytes) -> tuple[int, int]:
-        text = f'SELECT position, {_MICROS.format("at")} FROM "{{{{NAME}}}}".append(%s, %s, %s)'
+        text = f'SELECT place, {_MICROS.format("stored")} FROM "{{{{NAME}}}}".append(%s, %s, %s)'
         try:
             given = (made, _CLAIMS, psycopg2.Binary(value))
             [(position, at)] = self._writer.run(self._named(text), *given)
         except _Refused as why:
-            if why.state == _OTHER:
+            if why.__cause__ is not None and getattr(why.__cause__, "pgcode", "") in _GONE:
                 raise OtherLog("it was removed, or made anew") from why
             raise
         return position, at
 
     def _trim(self, made: str, position: int) -> None:
-        self._reader.run(self._named('SELECT "{{NAME}}".trim(%s)'), made)
+        self._reader.run(self._named('SELECT "{{NAME}}".expire(%s)'), made)
 
     def _named(self, text: str) -> str:
         return text.replace("{{NAME}}", self.group)
 
 
 class _Refused(OSError):
-    """The server refused a statement."""
-
-    def __init__(self, why: psycopg2.Error) -> None:
-        super().__init__(f"PostgreSQL: {_text(why)}")
-        self.code, self.state = type(why), why.pgcode
+    """The server refused a statement, for the cause that it has."""
 
 
 class _Line:
@@ -170,7 +188,7 @@ class _Line:
 
     def _execute(self, text: str, given: tuple[Any, ...], end: float) -> list[tuple[Any, ...]]:
         with self._connection.cursor() as cursor:
-            cursor.execute(text, given)
+            cursor.execute(text, given or None)
             self._answer(end)
             return cursor.fetchall() if cursor.description else []
 
@@ -198,7 +216,7 @@ class _Line:
             self._drop()
             if why.pgcode is None or isinstance(why, psycopg2.OperationalError):
                 raise ConnectionError(f"PostgreSQL: {_text(why)}") from why
-            raise _Refused(why) from why
+            raise _Refused(f"PostgreSQL: {_text(why)}") from why
         except BaseException:
             self._drop()
             raise

@@ -5,6 +5,7 @@ from __future__ import annotations
 import contextlib
 import os
 import pathlib
+import re
 from collections.abc import Iterator
 from typing import Any
 from urllib.parse import parse_qsl, urlencode, urlsplit, urlunsplit
@@ -45,10 +46,10 @@ end
 return {head, redis.call('TIME'), last, rows}
 """
 _TRIM = """
-if redis.call('HGET', KEYS[2], 'made') ~= ARGV[1] then return 0 end
-if tonumber(ARGV[2]) > tonumber(redis.call('HGET', KEYS[2], 'gone')) then
-  redis.call('HSET', KEYS[2], 'gone', ARGV[2])
+if redis.call('HGET', KEYS[2], 'made') ~= ARGV[1] then
+  return redis.error_reply('NOLOG the log is gone, or another one')
 end
+if tonumber(ARGV[2]) > tonumber(redis.call('HGET', KEYS[2], 'gone')) then redis.call('HSET', KEYS[2], 'gone', ARGV[2]) end
 return redis.call('XTRIM', KEYS[1], 'MINID', '=', '1-' .. ARGV[3])
 """
 _CLAIMS = "c"
@@ -59,23 +60,33 @@ _SETTINGS = {
     "maxmemory-policy": "noeviction",
 }
 """Those without which a crash, or want of memory, loses values."""
+_NAMES = [b"at", b"kind", b"value"]
+_NUMBER = re.compile(rb"[+-]?[0-9]{1,30}")
 
 
 class RedisLog(Carrier):
     """A log in a Redis server, at a URL as `redis.Redis.from_url` has it.
 
-    Of its parameters, two are of this class: `password_file` names a file whose first line is the
-    password, and `settings=unchecked` lets members join where the server does not tell its
-    settings. Without a password there, that of REDISCLI_AUTH is taken.
+    Of its parameters, three are of this class:
+
+    - `password_file` names a file whose first line is the password. Without a password in the URL,
+      that of the variable REDISCLI_AUTH is taken.
+    - `settings=unchecked` lets members join where the server does not tell its settings.
+    - `replicas=N`: a value counts once N servers have it, the primary and its replicas.
     """
 
     def __init__(self, url: str, keep: int, group: str, timeout: float) -> None:
         super().__init__(keep, group)
         url, own = _split(url)
         self._is_unchecked = own.get("settings") == "unchecked"
+        self._others = int(own.get("replicas", "1")) - 1
+        self._patience = timeout / 2
         at = urlsplit(url)
         self._server = f"redis at {at.hostname or at.path}"
         more: dict[str, Any] = {"socket_timeout": timeout, "socket_connect_timeout": timeout}
+        more["redis_connect_func"] = self._connected
+        self._is_new = True  # a connection was made behind the last look at who the server is
+        self._run_id, self._takeovers = "", 0
         if at.scheme == "rediss" and ("ssl_cert_reqs", "none") not in parse_qsl(at.query):
             more["ssl_check_hostname"] = True  # (the package's own default does not look at it)
         if "password_file" in own:
@@ -84,6 +95,7 @@ class RedisLog(Carrier):
             more["password"] = os.environ["REDISCLI_AUTH"]
         self._client = redis.Redis.from_url(url, **more)
         self._keys = [f"svid:{{{group}}}:log", f"svid:{{{group}}}:head"]
+        self._mark = f"svid:{{{group}}}:sync"
         self._scripts = {it: self._client.register_script(it) for it in _SCRIPTS}
 
     def close(self) -> None:
@@ -91,15 +103,27 @@ class RedisLog(Carrier):
 
     def _join(self) -> None:
         with self._faults():
-            self._check_role()
+            self._run_id = ""
+            self._look_who_it_is()
             if not self._is_unchecked:
                 self._check_settings()
             self._run(_MAKE, os.urandom(16).hex(), self.keep)
 
-    def _check_role(self) -> None:
-        role = self._client.info("replication")["role"]
-        if role != "master":
+    def _connected(self, connection: Any) -> None:
+        connection.on_connect()
+        self._is_new = True
+
+    def _look_who_it_is(self) -> None:
+        """Sees whether a replica has taken over: it may lack values that nobody here has read."""
+        self._is_new = False
+        told = self._client.info("replication")
+        if told["role"] != "master":
+            self._is_new = True
             raise ConnectionError(f"{self._server} is a replica: name the primary in the URL")
+        run_id, before = str(told["master_replid"]), str(told["master_replid2"])
+        if self._run_id not in ("", run_id) and before.strip("0") and not self._others:
+            self._takeovers += 1
+        self._run_id = run_id
 
     def _check_settings(self) -> None:
         try:
@@ -121,6 +145,11 @@ class RedisLog(Carrier):
     def _glance(self, after: int) -> Glance:
         with self._faults():
             head, now, last, entries = self._run(_GLANCE, after, AT_ONCE + 1)
+            if self._is_new:
+                self._look_who_it_is()
+            rows = [_row(*it) for it in entries]
+            if self._others and any(it.position > after for it in rows):
+                self._await(self._client.pipeline(transaction=False).set(self._mark, 1))
         format_, made, keep, gone = ((it or b"").decode("latin-1") for it in head)
         return Glance(
             format_,
@@ -129,7 +158,8 @@ class RedisLog(Carrier):
             _number(gone.encode()),
             _last(last) if len(entries) <= AT_ONCE else None,
             int(now[0]) * 1_000_000 + int(now[1]),
-            [_row(*it) for it in entries],
+            rows,
+            str(self._takeovers),
         )
 
     def _wait(self, after: int, seconds: float) -> bool:
@@ -139,8 +169,22 @@ class RedisLog(Carrier):
 
     def _put(self, made: str, value: bytes) -> tuple[int, int]:
         with self._faults():
-            id_, at = self._run(_APPEND, made, _CLAIMS, value)
+            if self._others:
+                keys_and_more = (2, *self._keys, made, _CLAIMS, value)
+                together = self._client.pipeline(transaction=False).eval(_APPEND, *keys_and_more)
+                id_, at = self._await(together)
+            else:
+                id_, at = self._run(_APPEND, made, _CLAIMS, value)
         return int(id_.split(b"-")[1]), int(at)
+
+    def _await(self, together: Any) -> Any:
+        """What a command answers, once replicas have all that its connection has written."""
+        answer, count = together.wait(self._others, int(self._patience * 1000)).execute()
+        if count < self._others:
+            raise ConnectionError(
+                f"{self._server}: {count} replicas have the value, and {self._others} must"
+            )
+        return answer
 
     def _trim(self, made: str, position: int) -> None:
         with self._faults():
@@ -161,12 +205,14 @@ class RedisLog(Carrier):
         except redis.ResponseError as why:
             if str(why).startswith("NOLOG"):
                 raise OtherLog("it was removed, or made anew") from why
+            if str(why).startswith("WRONGPASS"):
+                raise UnfitLog(f"{self._server} refuses this user: {why}") from why
             raise OSError(f"{self._server}: {why}") from why
 
 
 _SCRIPTS = (_MAKE, _APPEND, _GLANCE, _TRIM)
 _NOT_ALLOWED = redis.exceptions.NoPermissionError
-_OWN = ("password_file", "settings")
+_OWN = ("password_file", "settings", "replicas")
 
 
 def _split(url: str) -> tuple[str, dict[str, str]]:
@@ -192,9 +238,8 @@ def _last(id_: bytes) -> int | None:
 
 def _row(id_: bytes, fields: list[bytes]) -> Row:
     """The value of an entry. One that no member has put is empty, for every reader alike."""
-    told: dict[bytes, bytes] = {}
-    for name, text in zip(fields[::2], fields[1::2]):
-        told.setdefault(name, text)
-    value = told.get(b"value", b"")
-    at = _number(told.get(b"at", b""))
-    return Row(int(id_.split(b"-")[1]), at, value if len(value) <= MOST_VALUE else b"")
+    position = int(id_.split(b"-")[1])
+    if fields[::2] != _NAMES or not _NUMBER.fullmatch(fields[1]) or len(fields[5]) > MOST_VALUE:
+        return Row(position, 0, b"")
+    at = int(fields[1])
+    return Row(position, at, fields[5]) if -(2**63) <= at < 2**63 else Row(position, 0, b"")
