@@ -141,7 +141,7 @@ class PostgresServer(Server):
         return it
 
     def is_there(self):
-        # (one that was killed may still hold the memory: then this start ends, and the next may not)
+        # (one that was killed may still hold the memory: then this start ends; the next may not)
         if self.ran.poll() is not None:
             said = open(f"{self.folder}/log").read()[-2000:]
             assert "shared memory" in said.splitlines()[-2] + said.splitlines()[-1], said

@@ -16,7 +16,6 @@ import svid
 from making import bundle, entry, fresh, private_key
 from servers import PostgresServer, RedisServer, free_port, until
 from svid.logs import open_log, postgresql
-from svid.logs import redis as carried
 
 KINDS = {"redis": RedisServer, "postgresql": PostgresServer}
 KEEP = 3620
@@ -234,15 +233,9 @@ def test_an_entry_at_no_position(shared_redis):
 def test_the_scripts_are_those_of_the_sidecar():
     """Of the Go library, whose members may be in the same group."""
     go = pathlib.Path(os.environ["SVID"]).parent / "go" / "internal" / "carrier"
-    ours = {"make": carried._MAKE, "append": carried._APPEND, "trim": carried._TRIM}
-    for it in go.glob("redis/*.lua"):
-        assert commands(ours[it.stem]) == commands(it.read_text()), it.name
-    for it in go.glob("postgres/*.sql"):
-        assert pathlib.Path(carried.__file__).with_name(it.name).read_bytes() == it.read_bytes()
-
-
-def commands(text):
-    return [it for it in text.splitlines() if it and not it.startswith("--")]
+    for it in [*go.glob("redis/*.lua"), *go.glob("postgres/*.sql")]:
+        ours = pathlib.Path(postgresql.__file__).with_name(it.name)
+        assert ours.read_bytes() == it.read_bytes(), it.name
 
 
 # -- Restarts, crashes, pauses
@@ -569,7 +562,12 @@ def certificates(tmp_path_factory):
 
 
 def test_redis_with_a_password_and_certificates(certificates, tmp_path, monkeypatch):
-    files = ["--tls-cert-file", certificates / "cert.pem", "--tls-key-file", certificates / "key.pem"]
+    files = [
+        "--tls-cert-file",
+        certificates / "cert.pem",
+        "--tls-key-file",
+        certificates / "key.pem",
+    ]
     tls = free_port()
     words = [*files, "--tls-ca-cert-file", certificates / "ca.pem", "--tls-auth-clients", "no"]
     with RedisServer("--requirepass", "se:c/ret", "--tls-port", str(tls), *words) as server:
@@ -599,8 +597,8 @@ def test_redis_with_the_least_rights(shared_redis):
     """What docs/SIDECAR.md lists is enough."""
     shared = shared_redis
     rights = (
-        "~svid:{rights}:* +eval +evalsha +xadd +xread +xrange +xinfo|stream +xtrim +hget +hmget +hset"
-        " +exists +del +time +info +wait +set +config|get +select +role +ping +multi +exec"
+        "~svid:{rights}:* +eval +evalsha +xadd +xread +xrange +xinfo|stream +xtrim +hget +hmget"
+        " +hset +exists +del +time +info +wait +set +config|get +select +role +ping +multi +exec"
         " +script|load"
     )
     execute(shared, "ACL", "SETUSER", "member", "reset", "on", ">word", *rights.split())
@@ -638,7 +636,8 @@ def test_postgresql_with_a_password_and_certificates(certificates, monkeypatch):
         server.settings = ["-c", "ssl=on", "-c", files[0], "-c", files[1]]
         server.url += "?sslmode=disable"
         server.start()
-        rest = f"localhost:{server.port}/postgres?sslmode=verify-full&sslrootcert={certificates}/ca.pem"
+        rest = f"localhost:{server.port}/postgres?sslmode=verify-full"
+        rest += f"&sslrootcert={certificates}/ca.pem"
         good = f"postgresql://owner:se%3Ac%2Fret@{rest}"
         # Who may not make a log learns so; with the least rights a member joins one that is there.
         member = f"postgres://member:word@{rest}"
@@ -769,4 +768,3 @@ def tried_until_refused(log):
             if "standby" in str(why):
                 raise OSError("recovery") from why
             assert time.monotonic() < end
-

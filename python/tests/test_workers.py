@@ -237,5 +237,5 @@ def test_a_service_with_an_unfit_log_does_not_start(tmp_path):
             ran = subprocess.run(
                 service.words, cwd=tmp_path, env=service.environment, stderr=out, check=False
             )
-        assert ran.returncode == 3
+        assert ran.returncode != 0
         assert "appendfsync is everysec and must be always" in service.log.read_text()

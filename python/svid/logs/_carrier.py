@@ -63,7 +63,9 @@ class Carrier:
 
     def __init__(self, keep: int, group: str) -> None:
         if not _NAME.fullmatch(group):
-            raise ValueError("a group's name has 1 to 40 letters, digits, - and _, and no pg_ first")
+            raise ValueError(
+                "a group's name has 1 to 40 letters, digits, - and _, and no pg_ first"
+            )
         self.keep = keep
         self.group = group
         self._guard = threading.Lock()  # guards what follows
@@ -115,9 +117,9 @@ class Carrier:
             )
         if glance.keep < self.keep:
             raise UnfitLog(
-                f"the log of the group {self.group} keeps values for {glance.keep} seconds, and this"
-                f" member needs {self.keep}: give all members the same `longest` and `ahead`, or stop"
-                " them all, remove the log, and start the one that needs the most first"
+                f"the log of the group {self.group} keeps values for {glance.keep} seconds, and"
+                f" this member needs {self.keep}: give all members the same `longest` and `ahead`,"
+                " or stop them all, remove the log, and start the one that needs the most first"
             )
         last = glance.last or 0
         with self._guard:

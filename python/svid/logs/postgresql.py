@@ -10,7 +10,7 @@ import time
 from collections.abc import Iterator
 from typing import Any
 
-import psycopg2
+import psycopg2  # type: ignore[import]
 from psycopg2 import errors, extensions
 
 from .._log import OtherLog, UnfitLog
@@ -82,7 +82,7 @@ class PostgresLog(Carrier):
     def _unfit(self, why: Exception) -> UnfitLog:
         return UnfitLog(
             f"this user may not make, or not use, the log of the group {self.group} ({why}): an"
-            " administrator makes it, and gives the rights, by what svid.logs.postgresql.schema says"
+            " administrator makes it and gives the rights by what svid.logs.postgresql.schema says"
         )
 
     def _check_settings(self) -> None:
@@ -97,8 +97,8 @@ class PostgresLog(Carrier):
         ]
         if wrong:
             raise UnfitLog(
-                f"PostgreSQL may lose values: {', '.join(wrong)}: change it in postgresql.conf, or by"
-                " ALTER ROLE, and reload"
+                f"PostgreSQL may lose values: {', '.join(wrong)}: change it in postgresql.conf, or"
+                " by ALTER ROLE, and reload"
             )
 
     def _make(self) -> None:
@@ -190,7 +190,8 @@ class _Line:
         with self._connection.cursor() as cursor:
             cursor.execute(text, given or None)
             self._answer(end)
-            return cursor.fetchall() if cursor.description else []
+            rows: list[tuple[Any, ...]] = cursor.fetchall() if cursor.description else []
+            return rows
 
     def _answer(self, end: float) -> None:
         """Waits for what the server answers."""

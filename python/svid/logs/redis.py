@@ -10,48 +10,17 @@ from collections.abc import Iterator
 from typing import Any
 from urllib.parse import parse_qsl, urlencode, urlsplit, urlunsplit
 
-import redis
+import redis  # type: ignore[import]
 
 from .._log import OtherLog, UnfitLog
 from ._carrier import AT_ONCE, MOST_VALUE, Carrier, Glance, Row
 
-# The value at position N is the entry 1-N, so the server gives positions, and none a second time.
-_MAKE = """
-if redis.call('EXISTS', KEYS[1]) == 1 then return 0 end
-local now = redis.call('TIME')
-redis.call('XADD', KEYS[1], '1-0', 'svid', '1')
-redis.call('XTRIM', KEYS[1], 'MAXLEN', '0')
-redis.call('DEL', KEYS[2])
-redis.call('HSET', KEYS[2], 'format', '1', 'made', ARGV[1], 'at', now[1], 'keep', ARGV[2], 'gone', '0')
-return 1
-"""
-_APPEND = """
-if redis.call('HGET', KEYS[2], 'made') ~= ARGV[1] or redis.call('EXISTS', KEYS[1]) == 0 then
-  return redis.error_reply('NOLOG the log is gone, or another one')
-end
-local now = redis.call('TIME')
-local at = now[1] .. string.format('%06d', now[2])
-return {redis.call('XADD', KEYS[1], 'NOMKSTREAM', '1-*', 'at', at, 'kind', ARGV[2], 'value', ARGV[3]), at}
-"""
-_GLANCE = """
-local head = redis.call('HMGET', KEYS[2], 'format', 'made', 'keep', 'gone')
-local rows = redis.call('XRANGE', KEYS[1], '1-' .. ARGV[1], '1', 'COUNT', ARGV[2])
-local last = ''
-if #rows < tonumber(ARGV[2]) and redis.call('EXISTS', KEYS[1]) == 1 then
-  local info = redis.call('XINFO', 'STREAM', KEYS[1])
-  for i = 1, #info, 2 do
-    if info[i] == 'last-generated-id' then last = info[i + 1] end
-  end
-end
-return {head, redis.call('TIME'), last, rows}
-"""
-_TRIM = """
-if redis.call('HGET', KEYS[2], 'made') ~= ARGV[1] then
-  return redis.error_reply('NOLOG the log is gone, or another one')
-end
-if tonumber(ARGV[2]) > tonumber(redis.call('HGET', KEYS[2], 'gone')) then redis.call('HSET', KEYS[2], 'gone', ARGV[2]) end
-return redis.call('XTRIM', KEYS[1], 'MINID', '=', '1-' .. ARGV[3])
-"""
+_FILES = pathlib.Path(__file__).parent
+_MAKE, _APPEND, _GLANCE, _TRIM = (
+    (_FILES / f"{name}.lua").read_text() for name in ("make", "append", "glance", "trim")
+)
+"""What runs in the server. The value at position N is the entry 1-N, so the server gives positions,
+and none a second time."""
 _CLAIMS = "c"
 _SETTINGS = {
     "appendonly": "yes",
@@ -96,7 +65,9 @@ class RedisLog(Carrier):
         self._client = redis.Redis.from_url(url, **more)
         self._keys = [f"svid:{{{group}}}:log", f"svid:{{{group}}}:head"]
         self._mark = f"svid:{{{group}}}:sync"
-        self._scripts = {it: self._client.register_script(it) for it in _SCRIPTS}
+        self._scripts = {
+            it: self._client.register_script(it) for it in (_MAKE, _APPEND, _GLANCE, _TRIM)
+        }
 
     def close(self) -> None:
         self._client.connection_pool.disconnect()
@@ -129,13 +100,13 @@ class RedisLog(Carrier):
         try:
             told = self._client.config_get(*_SETTINGS)
         except redis.ResponseError as why:
+            due = ", ".join(f"{name} is {it}" for name, it in _SETTINGS.items())
             raise UnfitLog(
-                f"{self._server} does not tell its settings ({why}): allow CONFIG GET (+config|get),"
-                " or add settings=unchecked to the URL where you know that "
-                + ", ".join(f"{name} is {due}" for name, due in _SETTINGS.items())
+                f"{self._server} does not tell its settings ({why}): allow CONFIG GET"
+                f" (+config|get), or see that {due}, and add settings=unchecked to the URL"
             ) from why
         wrong = [
-            f"{name} is {told.get(name)} and must be {due} (CONFIG SET {name} {due}, and in its file)"
+            f"{name} is {told.get(name)} and must be {due} (CONFIG SET, and in its file)"
             for name, due in _SETTINGS.items()
             if told.get(name) != due
         ]
@@ -164,7 +135,7 @@ class RedisLog(Carrier):
 
     def _wait(self, after: int, seconds: float) -> bool:
         with self._faults():
-            block = max(1, int(seconds * 1000))
+            block = max(1, int(min(seconds, self._patience) * 1000))
             return bool(self._client.xread({self._keys[0]: f"1-{after}"}, 1, block))
 
     def _put(self, made: str, value: bytes) -> tuple[int, int]:
@@ -198,7 +169,11 @@ class RedisLog(Carrier):
         """Raises what the server, or the way to it, says in the words of `svid.Log`."""
         try:
             yield
-        except (redis.AuthenticationError, redis.exceptions.AuthorizationError, _NOT_ALLOWED) as why:
+        except (
+            redis.AuthenticationError,
+            redis.exceptions.AuthorizationError,
+            _NOT_ALLOWED,
+        ) as why:
             raise UnfitLog(f"{self._server} refuses this user: {why}") from why
         except (redis.ConnectionError, redis.TimeoutError, redis.ReadOnlyError) as why:
             raise ConnectionError(f"{self._server}: {why}") from why
@@ -210,7 +185,6 @@ class RedisLog(Carrier):
             raise OSError(f"{self._server}: {why}") from why
 
 
-_SCRIPTS = (_MAKE, _APPEND, _GLANCE, _TRIM)
 _NOT_ALLOWED = redis.exceptions.NoPermissionError
 _OWN = ("password_file", "settings", "replicas")
 
