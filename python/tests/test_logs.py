@@ -148,7 +148,7 @@ def test_a_reader_is_woken(shared):
     with several(shared, 2) as (one, two):
         for it in range(3):
             said = []
-            reading = threading.Thread(target=lambda: said.extend(two.read(it, 600)))
+            reading = threading.Thread(target=lambda: said.extend(two.read(it, 600)), daemon=True)
             reading.start()
             one.append(b"%d" % it)
             reading.join(30)
@@ -280,10 +280,11 @@ def test_a_server_that_hangs(server):
         server.pause()
         try:
             for call in lambda: log.append(b"2"), lambda: log.read(1, 0.1), log.bounds:
-                begun = time.monotonic()
-                with pytest.raises(OSError):
-                    call()
-                assert time.monotonic() - begun < 30
+                said = []
+                calling = threading.Thread(target=lambda: said.append(said_of(call)), daemon=True)
+                calling.start()
+                calling.join(30)
+                assert said and said != ["[]"], "it waits, or has an answer"
         finally:
             server.go()
         tried(log.append, b"3")
@@ -398,6 +399,28 @@ def test_an_older_copy_that_is_put_back(server):
             with pytest.raises(svid.OtherLog):
                 it.append(b"more")
             assert it.bounds() == (0, 6) and len(list(it.read(0, 0))) == 6
+
+
+def test_another_log_stays_so_until_it_is_begun(server):
+    """Though it has grown past all that was known of it meanwhile."""
+    with several(server, 2) as (writer, log):
+        writer.append(b"1")
+        assert all_of(log) == [(1, b"1")]
+        server.stop()
+        server.keep_copy()
+        server.start()
+        tried(writer.append, b"2")
+        assert tried(log.bounds) == (0, 2)
+        server.stop()
+        server.put_copy_back()
+        server.start()
+        with pytest.raises(svid.OtherLog, match="ends at value 1, and had 2: an older copy"):
+            tried(log.read, 1, 0)
+        with opened(server, log.group) as new:
+            new.append(b"new")
+            new.append(b"new")
+        with pytest.raises(svid.OtherLog):
+            tried(log.read, 1, 0)
 
 
 def test_a_position_that_is_given_a_second_time(server):

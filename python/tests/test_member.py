@@ -152,6 +152,48 @@ def test_a_value_has_so_many_uses(log, monkeypatch):
         assert max(map(len, log.values)) <= 2 * 17 + 4 * 65
 
 
+def test_a_value_waits_for_tokens_that_are_being_judged(log, monkeypatch):
+    """Their claims share it."""
+    monkeypatch.setattr(svid._member, "_COMPANY", 60)
+    begun, go = threading.Event(), threading.Event()
+
+    def verifies(_key, _alg, text, _signature):
+        if text.startswith(slow.encode()):
+            begun.set()
+            assert go.wait(60)
+        return True
+
+    slow = fresh(jti="slow").rpartition(".")[0]
+    with member(log, verifies=verifies) as checks:
+        answers = [in_thread(verdict, checks, slow + ".AA")]
+        assert begun.wait(60)
+        answers.append(in_thread(verdict, checks, fresh(jti="quick")))
+        until(lambda: waiting(checks) == 1)
+        go.set()
+        assert all(isinstance(it(), svid.Use) for it in answers) and len(log.values) == 1
+        assert verdict(checks, "no token") == "NotThreeParts"
+        assert isinstance(verdict(checks, fresh(jti="later")), svid.Use)
+
+
+def test_a_value_does_not_wait_for_long(log):
+    """For a token whose judgment takes long."""
+    begun, go = threading.Event(), threading.Event()
+
+    def verifies(_key, _alg, text, _signature):
+        if text.startswith(slow.encode()):
+            begun.set()
+            assert go.wait(60)
+        return True
+
+    slow = fresh(jti="slow").rpartition(".")[0]
+    with member(log, verifies=verifies) as checks:
+        first = in_thread(verdict, checks, slow + ".AA")
+        assert begun.wait(60)
+        assert isinstance(in_thread(verdict, checks, fresh(jti="quick"))(), svid.Use)
+        go.set()
+        assert isinstance(first(), svid.Use)
+
+
 def test_uses_as_messages():
     """Those of one moment are one batch, in which they rise."""
     uses = [svid.Use(9, bytes([key]) * 32, bytes(16), at) for key, at in ((2, 1), (3, 2), (1, 1))]
@@ -665,6 +707,37 @@ async def said_soon(checks, token):
         return (await checks.check_soon(token)).use
     except svid.Error as why:
         return type(why).__name__
+
+
+def test_the_middleware_needs_no_thread_for_each_request(log):
+    """A hundred requests wait for the log, and one with a bad token is answered."""
+
+    async def main(app):
+        waiting = [asyncio.create_task(status_of(app, it)) for it in tokens]
+        assert await asyncio.wait_for(status_of(app, "no token"), 30) == 401
+        assert not any(it.done() for it in waiting)
+        log.go()
+        return await asyncio.gather(*waiting)
+
+    async def inner(scope, receive, send):
+        await send({"status": 200})
+
+    tokens = [fresh(jti=str(it)) for it in range(100)]
+    with member(log) as checks:
+        log.hold()
+        said = in_thread(lambda: asyncio.run(main(SvidMiddleware(inner, checks))))
+        assert said() == [200] * 100
+
+
+async def status_of(app, token):
+    said = []
+
+    async def send(message):
+        said.append(message.get("status"))
+
+    headers = [(b"authorization", b"Bearer " + token.encode())]
+    await app({"type": "http", "headers": headers}, None, send)
+    return said[0]
 
 
 def test_an_event_loop_waits_no_longer_than_it_may(log):

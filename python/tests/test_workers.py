@@ -47,6 +47,8 @@ SERVICES = {
     "wsgi": (WSGI, [*GUNICORN, "127.0.0.1:0", "--threads", "4"]),
     "asgi": (ASGI, [*GUNICORN, "127.0.0.1:0", "-k", "uvicorn.workers.UvicornWorker"]),
 }
+PAGE = (EXAMPLES.parent / "README.md").read_text()
+[OF_THE_PAGE] = [it for it in PAGE.split("```python\n") if "(hello, member)" in it]
 
 
 @pytest.fixture(params=KINDS)
@@ -59,7 +61,7 @@ class Service:
     """A service with four workers, behind a port."""
 
     def __init__(self, folder, kind, url):
-        text, words = SERVICES[kind]
+        text, words = SERVICES.get(kind) or (kind, SERVICES["wsgi"][1])
         (folder / "service.py").write_text(text)
         bundles = folder / "bundles.json"
         bundles.write_text(json.dumps(bundle(entry(private_key("ES256"), "k1"))))
@@ -216,6 +218,17 @@ def test_no_token_is_accepted_twice_where_processes_are_killed(server, kind, tmp
     once = sum((clients.said[it] + last.said[it]).count(200) for it in tokens)
     assert once > TOKENS * 0.6, once
     assert report(server).twice == {}
+
+
+def test_the_service_of_the_page(server, tmp_path):
+    text = OF_THE_PAGE.partition("```")[0].replace("redis://localhost", server.url)
+    text = text.replace("examples/bundles.json", "bundles.json")
+    tokens = [fresh(jti=str(it)) for it in range(100)]
+    with Service(tmp_path, text, server.url) as service:
+        until(lambda: service.get(fresh(jti="first"))[0])
+        clients = Clients(service, tokens, 4)
+        clients.end()
+    assert {clients.said[it].count(200) for it in tokens} == {1}
 
 
 def test_a_service_whose_log_is_away_starts(tmp_path):

@@ -1,7 +1,7 @@
 """Logs that carry a group: a stream of Redis, or a table of PostgreSQL.
 
-``svid.Member(log=URL, ..)`` opens one. The sidecar svidd has the same logs (its option --log), so
-sidecars and Python processes may be members of one group. docs/FORMATS.md says what stands there.
+``svid.Member(log=URL, ..)`` opens one. The sidecar svidd has the same logs, so
+sidecars and Python processes may be members of one group.
 """
 
 from __future__ import annotations
