@@ -27,7 +27,7 @@ from ._handle import JUDGE, Read
 from ._log import Log, OtherLog
 from ._signatures import USUAL_RSA_BITS, Verifies
 from ._validator import Token, Validator
-from .errors import REFUSALS, Closed, Error, Jump, Refused, Unavailable
+from .errors import REFUSALS, Closed, Error, Forked, Jump, Refused, Unavailable
 from .logs import GROUP, Carrier, open_log
 from .records import Accepted, Use, batches
 
@@ -115,7 +115,7 @@ class Member(Validator):
         self._gate = threading.Condition()  # guards what follows, and the claims
         self._open: dict[bytes, _Claim] = {}  # by the key of the token
         self._editions: collections.Counter[int] = collections.Counter()  # of the open claims
-        self._puts: list[_Put] = []  # what is to go into the log
+        self._puts: collections.deque[_Put] = collections.deque()  # what is to go into the log
         self._judging = 0  # how many tokens may soon have a claim
         self._deaf = 0  # before this moment nothing is accepted
         self._closing = False
@@ -241,6 +241,8 @@ class Member(Validator):
         Gives this claim and the one to wait for, which is that of another request where this has
         the same token. `tell` is called at its end.
         """
+        if self._process != os.getpid():
+            raise Forked  # (before the gate: a thread of the parent process may have held it)
         with self._gate:
             self._judging += 1
         try:
@@ -282,7 +284,6 @@ class Member(Validator):
         """Ends a claim that is still open, and does not send it where it has not gone out."""
         with self._gate:
             if not mine.is_ended:
-                self._puts = [it for it in self._puts if it is not mine]
                 self._end(mine, Unavailable("the log did not answer in time"))
 
     def _end(self, claim: _Claim, why: Exception | None) -> None:
@@ -296,7 +297,6 @@ class Member(Validator):
 
     def _end_all(self, why: Callable[[], Exception]) -> None:
         """Ends the claims that are open, with the gate held."""
-        self._puts = [it for it in self._puts if not isinstance(it, _Claim)]
         for claim in list(self._open.values()):
             self._end(claim, why())
 
@@ -317,13 +317,20 @@ class Member(Validator):
                 self._gate.wait_for(lambda: not self._judging or self._closing, _COMPANY)
                 if self._closing:
                     return
-                these = self._puts[:_MOST_TOGETHER]
-                del self._puts[:_MOST_TOGETHER]
-                for it in these:
-                    it.is_sent = True
-            if self._append(batches(it.use for it in these)):
+                these = self._next()
+            if these and self._append(batches(it.use for it in these)):
                 for it in these:
                     it.landed()
+
+    def _next(self) -> list[_Put]:
+        """The uses of the next value, with the gate held: not those that were given up."""
+        these: list[_Put] = []
+        while self._puts and len(these) < _MOST_TOGETHER:
+            it = self._puts.popleft()
+            if not it.is_ended:
+                it.is_sent = True
+                these.append(it)
+        return these
 
     def _append(self, value: bytes) -> bool:
         """Puts a value into the log, and says whether it is there: tries while anybody waits."""
@@ -464,6 +471,7 @@ class _Put:
     def __init__(self, use: Use, tell: _Tell) -> None:
         self.use = use
         self.is_sent = False
+        self.is_ended = False
         self.landed = tell
 
 
@@ -475,7 +483,6 @@ class _Claim(_Put):
         self.accepted = accepted
         self.token = token
         self.edition = edition
-        self.is_ended = False
         self.why: Exception | None = None
         self.tells: list[_Tell] = []  # are called at its end
 

@@ -757,6 +757,8 @@ def test_a_check_that_is_cancelled_holds_nothing_up(log):
     async def main(checks):
         first = asyncio.create_task(said_soon(checks, made))
         await asyncio.sleep(0)
+        while sent and not log.values:
+            await asyncio.sleep(0.001)
         second = asyncio.create_task(said_soon(checks, made))
         await asyncio.sleep(0)
         first.cancel()

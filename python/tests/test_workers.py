@@ -22,17 +22,24 @@ KINDS = {"redis": RedisServer, "postgresql": PostgresServer}
 WORKERS = 4
 TOKENS = 1000
 HELLO = b"hello spiffe://example.org/billing/api"
-# The example, which also says which process answers.
-WSGI = """
-import os
+# The example, which also says which process answers. The machine may be slow, so a check may wait.
+BEGIN = """
+import functools, os, svid
+svid.Member = functools.partial(svid.Member, wait=float(os.environ["WAIT"]))
+"""
+WSGI = (
+    BEGIN
+    + """
 from gunicorn_app import app as inner
 def app(environ, start_response):
     def begin(status, headers):
         return start_response(status, [*headers, ("X-Worker", str(os.getpid()))])
     return inner(environ, begin)
 """
-ASGI = """
-import os
+)
+ASGI = (
+    BEGIN
+    + """
 from starlette_app import app as inner
 async def app(scope, receive, send):
     async def say(message):
@@ -42,6 +49,7 @@ async def app(scope, receive, send):
         await send(message)
     await inner(scope, receive, say)
 """
+)
 GUNICORN = [sys.executable, "-m", "gunicorn", "-w", str(WORKERS), "service:app", "-b"]
 SERVICES = {
     "wsgi": (WSGI, [*GUNICORN, "127.0.0.1:0", "--threads", "4"]),
@@ -60,7 +68,7 @@ def server(request):
 class Service:
     """A service with four workers, behind a port."""
 
-    def __init__(self, folder, kind, url):
+    def __init__(self, folder, kind, url, wait=60):
         text, words = SERVICES.get(kind) or (kind, SERVICES["wsgi"][1])
         (folder / "service.py").write_text(text)
         bundles = folder / "bundles.json"
@@ -71,6 +79,7 @@ class Service:
             **os.environ,
             "PYTHONPATH": os.pathsep.join(paths),
             "SVID_LOG": url,
+            "WAIT": str(wait),
             "SVID_BUNDLES": str(bundles),
         }
         self.log = folder / "said"
@@ -191,7 +200,7 @@ def test_four_workers_accept_each_token_once(server, kind, tmp_path):
 def test_no_token_is_accepted_twice_where_processes_are_killed(server, kind, tmp_path):
     """Workers, and the server of the log. Where nobody was killed, each token is accepted once."""
     tokens, chance = [fresh(jti=str(it)) for it in range(TOKENS)], random.Random(7)
-    with Service(tmp_path, kind, server.url) as service:
+    with Service(tmp_path, kind, server.url, wait=2) as service:
         service.wait()
         clients = Clients(service, tokens, 4)
         for it in range(1, 8):
@@ -222,7 +231,7 @@ def test_no_token_is_accepted_twice_where_processes_are_killed(server, kind, tmp
 
 def test_the_service_of_the_page(server, tmp_path):
     text = OF_THE_PAGE.partition("```")[0].replace("redis://localhost", server.url)
-    text = text.replace("examples/bundles.json", "bundles.json")
+    text = BEGIN + text.replace("examples/bundles.json", "bundles.json")
     tokens = [fresh(jti=str(it)) for it in range(100)]
     with Service(tmp_path, text, server.url) as service:
         until(lambda: service.get(fresh(jti="first"))[0])

@@ -151,8 +151,9 @@ class Carrier:
         if time.monotonic() >= self._trims_at:
             self._trims_at = time.monotonic() + _TRIMS
             self._trim_old()
+        end = time.monotonic() + wait
         values = self._values(after)
-        if not values and self._wait(after, wait):
+        while not values and (left := end - time.monotonic()) > 0 and self._wait(after, left):
             values = self._values(after)
         return values
 
