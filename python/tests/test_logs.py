@@ -203,7 +203,11 @@ def test_an_entry_that_no_member_has_put(shared_redis):
     good, most = ("at", "1", "kind", "c", "value", "1"), "v" * 1_048_576
     rows = [
         (good, b"1"),
-        (("at", "-1", "kind", "", "value", most), most.encode()),
+        (("at", "0001", "kind", "", "value", most), most.encode()),
+        (("at", str(2**63 - 1), "kind", "x", "value", ""), b""),
+        (("at", "+1", "kind", "c", "value", "1"), b""),
+        (("at", "1" * 5000, "kind", "c", "value", "1"), b""),
+        (("at", "", "kind", "c", "value", "1"), b""),
         (("at", "1", "kind", "c", "value", most + "v"), b""),
         (("a", "b"), b""),
         ((*good, "value", "2"), b""),
@@ -216,7 +220,7 @@ def test_an_entry_that_no_member_has_put(shared_redis):
         for fields, _ in rows:
             execute(shared_redis, "XADD", f"svid:{{{log.group}}}:log", "1-*", *fields)
         log.append(b"last")
-        assert all_of(log) == [*enumerate((it for _, it in rows), 1), (10, b"last")]
+        assert all_of(log) == [*enumerate((it for _, it in rows), 1), (14, b"last")]
 
 
 def test_an_entry_at_no_position(shared_redis):
@@ -495,6 +499,12 @@ def test_a_log_that_keeps_values_for_too_short(shared):
     with opened(shared, "short", keep=100):
         with pytest.raises(svid.UnfitLog, match="for 100 seconds, and this member needs 101"):
             open_log(shared.url, 101, "short").bounds()
+        if isinstance(shared, RedisServer):
+            execute(shared, "HSET", "svid:{short}:head", "keep", "101")
+        else:
+            execute(shared, 'UPDATE "short".log SET keep = 101')
+        with opened(shared, "short", keep=101):
+            pass
         with opened(shared, "short", keep=99):
             pass
 
@@ -620,9 +630,8 @@ def test_redis_with_the_least_rights(shared_redis):
     """What docs/SIDECAR.md lists is enough."""
     shared = shared_redis
     rights = (
-        "~svid:{rights}:* +eval +evalsha +xadd +xread +xrange +xinfo|stream +xtrim +hget +hmget"
-        " +hset +exists +del +time +info +wait +set +config|get +select +role +ping +multi +exec"
-        " +script|load"
+        "~svid:{rights}:* resetchannels -@all +eval +xadd +xread +xrange +xinfo|stream +xtrim +hget"
+        " +hmget +hset +exists +del +time +info +wait +set +config|get +role +multi +exec"
     )
     execute(shared, "ACL", "SETUSER", "member", "reset", "on", ">word", *rights.split())
     url = shared.url.replace("redis://", "redis://member:word@")

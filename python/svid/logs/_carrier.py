@@ -84,6 +84,10 @@ class Carrier:
         """Makes the log where there is none. Raises UnfitLog where the server may lose values."""
         raise NotImplementedError
 
+    def _keeping(self, seconds: int) -> str:
+        """The command by which a log keeps values for so long."""
+        raise NotImplementedError
+
     def _glance(self, after: int) -> Glance:
         """The log as it is, with the value at this position and those behind it."""
         raise NotImplementedError
@@ -119,7 +123,7 @@ class Carrier:
             raise UnfitLog(
                 f"the log of the group {self.group} keeps values for {glance.keep} seconds, and"
                 f" this member needs {self.keep}: give all members the same `longest` and `ahead`,"
-                " or stop them all, remove the log, and start the one that needs the most first"
+                f" or let it keep them for longer ({self._keeping(self.keep)})"
             )
         last = glance.last or 0
         with self._guard:

@@ -85,6 +85,9 @@ class PostgresLog(Carrier):
             " administrator makes it and gives the rights by what svid.logs.postgresql.schema says"
         )
 
+    def _keeping(self, seconds: int) -> str:
+        return self._named(f'UPDATE "{{{{NAME}}}}".log SET keep = {seconds}')
+
     def _check_settings(self) -> None:
         names = ", ".join(f"current_setting('{it}')" for it in _SETTINGS)
         [(is_replica, *told)] = self._joiner.run(f"SELECT pg_is_in_recovery(), {names}")

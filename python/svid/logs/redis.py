@@ -30,7 +30,7 @@ _SETTINGS = {
 }
 """Those without which a crash, or want of memory, loses values."""
 _NAMES = [b"at", b"kind", b"value"]
-_NUMBER = re.compile(rb"[+-]?[0-9]{1,30}")
+_NUMBER = re.compile(rb"0*([0-9]{1,19})")
 
 
 class RedisLog(Carrier):
@@ -65,9 +65,6 @@ class RedisLog(Carrier):
         self._client = redis.Redis.from_url(url, **more)
         self._keys = [f"svid:{{{group}}}:log", f"svid:{{{group}}}:head"]
         self._mark = f"svid:{{{group}}}:sync"
-        self._scripts = {
-            it: self._client.register_script(it) for it in (_MAKE, _APPEND, _GLANCE, _TRIM)
-        }
 
     def close(self) -> None:
         self._client.connection_pool.disconnect()
@@ -79,6 +76,9 @@ class RedisLog(Carrier):
             if not self._is_unchecked:
                 self._check_settings()
             self._run(_MAKE, os.urandom(16).hex(), self.keep)
+
+    def _keeping(self, seconds: int) -> str:
+        return f"HSET {self._keys[1]} keep {seconds}"
 
     def _connected(self, connection: Any) -> None:
         connection.on_connect()
@@ -121,12 +121,12 @@ class RedisLog(Carrier):
             rows = [_row(*it) for it in entries]
             if self._others and any(it.position > after for it in rows):
                 self._await(self._client.pipeline(transaction=False).set(self._mark, 1))
-        format_, made, keep, gone = ((it or b"").decode("latin-1") for it in head)
+        format_, made, keep, gone = (it or b"" for it in head)
         return Glance(
-            format_,
-            made,
-            _number(keep.encode()),
-            _number(gone.encode()),
+            format_.decode("latin-1"),
+            made.decode("latin-1"),
+            _number(keep) or 0,
+            _number(gone) or 0,
             _last(last) if len(entries) <= AT_ONCE else None,
             int(now[0]) * 1_000_000 + int(now[1]),
             rows,
@@ -162,7 +162,7 @@ class RedisLog(Carrier):
             self._run(_TRIM, made, position, position + 1)
 
     def _run(self, script: str, *given: Any) -> Any:
-        return self._scripts[script](keys=self._keys, args=given)
+        return self._client.eval(script, 2, *self._keys, *given)
 
     @contextlib.contextmanager
     def _faults(self) -> Iterator[None]:
@@ -198,8 +198,11 @@ def _split(url: str) -> tuple[str, dict[str, str]]:
     return urlunsplit((at.scheme, at.netloc, at.path, rest, at.fragment)), own
 
 
-def _number(text: bytes) -> int:
-    return int(text) if text.isdigit() and len(text) < 20 else 0
+def _number(text: bytes) -> int | None:
+    """A decimal number of 63 bits, or None where it is none."""
+    digits = _NUMBER.fullmatch(text)
+    number = -1 if digits is None else int(digits[1])
+    return number if 0 <= number < 2**63 else None
 
 
 def _last(id_: bytes) -> int | None:
@@ -213,7 +216,7 @@ def _last(id_: bytes) -> int | None:
 def _row(id_: bytes, fields: list[bytes]) -> Row:
     """The value of an entry. One that no member has put is empty, for every reader alike."""
     position = int(id_.split(b"-")[1])
-    if fields[::2] != _NAMES or not _NUMBER.fullmatch(fields[1]) or len(fields[5]) > MOST_VALUE:
+    at = _number(fields[1]) if fields[::2] == _NAMES else None
+    if at is None or len(fields[5]) > MOST_VALUE:
         return Row(position, 0, b"")
-    at = int(fields[1])
-    return Row(position, at, fields[5]) if -(2**63) <= at < 2**63 else Row(position, 0, b"")
+    return Row(position, at, fields[5])
