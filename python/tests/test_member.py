@@ -167,8 +167,10 @@ def test_a_value_waits_for_tokens_that_are_being_judged(log, monkeypatch):
     with member(log, verifies=verifies) as checks:
         answers = [in_thread(verdict, checks, slow + ".AA")]
         assert begun.wait(60)
-        answers.append(in_thread(verdict, checks, fresh(jti="quick")))
-        until(lambda: waiting(checks) == 1)
+        for count in range(1, 9):
+            answers.append(in_thread(verdict, checks, fresh(jti=f"quick {count}")))
+            until(lambda: len(checks._open) == count)
+        assert waiting(checks) == 8
         go.set()
         assert all(isinstance(it(), svid.Use) for it in answers) and len(log.values) == 1
         assert verdict(checks, "no token") == "NotThreeParts"
@@ -791,14 +793,24 @@ def test_a_check_that_is_cancelled_holds_nothing_up(log):
 
 def test_a_loop_that_has_ended_stops_no_reader(log):
     """Of a server that was stopped: its check is waited for by nobody."""
+
+    class Slow(MemoryLog):
+        def append(self, value):
+            assert go.wait(60)
+            super().append(value)
+
+    log, go = Slow(), threading.Event()
     with member(log) as checks:
-        log.hold()
+        answers = [in_thread(verdict, checks, fresh(jti="first"))]
+        until(lambda: checks._open and not waiting(checks))
         loop = asyncio.new_event_loop()
-        task = loop.create_task(said_soon(checks, fresh(jti="1")))
+        task = loop.create_task(said_soon(checks, fresh(jti="of the loop")))
         loop.run_until_complete(asyncio.sleep(0))
         loop.close()
-        log.go()
-        assert isinstance(verdict(checks, fresh(jti="2")), svid.Use)
+        answers.append(in_thread(verdict, checks, fresh(jti="last")))
+        until(lambda: waiting(checks) == 2)
+        go.set()
+        assert all(isinstance(it(), svid.Use) for it in answers) and len(log.values) == 2
         assert not task.done()
         task._log_destroy_pending = False
 
