@@ -33,7 +33,7 @@ class Server:
     def __init__(self):
         # (not below the folder of the tests: PostgreSQL runs as another user)
         self.folder = tempfile.mkdtemp(prefix="svid-test-", dir="/tmp")
-        self.port, self.ran, self.words = free_port(), None, []
+        self.port, self.ran, self.limit = free_port(), None, None
 
     def __enter__(self):
         self.start()
@@ -70,6 +70,9 @@ class Server:
             return [self.ran.pid, *map(int, file.read().split())]
 
     def spawn(self, *words, **more):
+        if self.limit:  # how many bytes a file may have, as on a disk that is full
+            limited = 'trap "" XFSZ; exec prlimit --fsize="$0" "$@"'
+            words = ["sh", "-c", limited, str(self.limit), *words]
         with open(f"{self.folder}/log", "ab") as out:
             self.ran = subprocess.Popen(words, stdout=out, stderr=out, cwd=self.folder, **more)
 

@@ -175,6 +175,35 @@ def test_a_name_of_a_group(kind, name):
         open_log(url, KEEP, name)
 
 
+@pytest.mark.parametrize(
+    "url",
+    [
+        "redis://localhost?colour=red",
+        "redis://localhost?replicas=0",
+        "redis://localhost?replicas=many",
+        "redis://localhost?settings=checked",
+        "redis://localhost?socket_timeout=soon",
+        "rediss://localhost?ssl_cert_reqs=maybe",
+        "postgresql://localhost?colour=red",
+    ],
+)
+def test_a_url_with_a_wrong_parameter(url):
+    with pytest.raises(ValueError):
+        open_log(url, KEEP)
+
+
+def test_a_socket_of_the_machine(tmp_path):
+    with RedisServer("--unixsocket", str(tmp_path / "redis")) as server:
+        with opened(server, url=f"unix://{tmp_path / 'redis'}?db=0&settings=unchecked") as log:
+            log.append(b"1")
+            assert all_of(log) == [(1, b"1")]
+    with PostgresServer() as server:
+        url = f"postgresql:///postgres?host={server.folder}&port={server.port}&user=svid"
+        with opened(server, url=url) as log:
+            log.append(b"1")
+            assert all_of(log) == [(1, b"1")]
+
+
 @pytest.mark.parametrize("url", ["nats://localhost", "", "localhost", "file:///tmp/log"])
 def test_a_url_of_no_log(url):
     with pytest.raises(ValueError, match="begins with redis"):
@@ -295,6 +324,31 @@ def test_a_server_that_hangs(server):
         assert [value for _, value in tried(all_of, log)][-1] == b"3"
 
 
+@pytest.mark.parametrize("kind, limit", [(RedisServer, 2**21), (PostgresServer, 17 * 2**20)])
+def test_a_full_disk(kind, limit):
+    """A value that has no room raises, and those that were told to be there stay."""
+    told = []
+    with kind() as server, opened(server) as log:
+        server.stop()
+        server.limit = limit
+        server.start()
+        tried(log.append, b"first")
+        with pytest.raises(OSError):
+            while True:
+                value = os.urandom(limit // 20)
+                log.append(value)
+                told.append(value)
+        assert told
+        with contextlib.suppress(ProcessLookupError):
+            server.kill()
+        server.limit = None
+        server.start()
+        tried(log.append, b"last")
+        values = [value for _, value in tried(all_of, log)]
+        assert set(told) < set(values) and values[-1] == b"last"
+        assert [it for it in values if it in set(told)] == told
+
+
 class Proxy:
     """Carries bytes to a server. It may cut a connection at its next answer."""
 
@@ -354,9 +408,9 @@ def test_values_that_are_removed(server):
 
 
 def test_a_log_that_is_removed(server):
-    with several(server, 2) as (log, other):
+    with several(server, 3) as (log, other, late):
         log.append(b"1")
-        assert all_of(log) == [(1, b"1")]
+        assert all_of(log) == [(1, b"1")] and late.bounds() == (0, 1)
         remove_log(server, log)
         for _ in range(2):
             with pytest.raises(svid.OtherLog, match="removed, or made anew"):
@@ -366,6 +420,8 @@ def test_a_log_that_is_removed(server):
         assert other.bounds() == (0, 0)
         for it in range(3):
             other.append(b"new %d" % it)
+        with pytest.raises(svid.OtherLog, match="removed, or made anew"):
+            late.read(0, 0)
         for _ in range(2):
             with pytest.raises(svid.OtherLog):
                 log.read(1, 0)

@@ -803,11 +803,13 @@ def test_a_loop_that_has_ended_stops_no_reader(log):
     with member(log) as checks:
         answers = [in_thread(verdict, checks, fresh(jti="first"))]
         until(lambda: checks._open and not waiting(checks))
+        # (The uses of a value rise by their keys: this one stands in front of the other.)
+        made = sorted((fresh(jti=it) for it in "12"), key=lambda it: checks.judge(it).use.key)
         loop = asyncio.new_event_loop()
-        task = loop.create_task(said_soon(checks, fresh(jti="of the loop")))
+        task = loop.create_task(said_soon(checks, made[0]))
         loop.run_until_complete(asyncio.sleep(0))
         loop.close()
-        answers.append(in_thread(verdict, checks, fresh(jti="last")))
+        answers.append(in_thread(verdict, checks, made[1]))
         until(lambda: waiting(checks) == 2)
         go.set()
         assert all(isinstance(it(), svid.Use) for it in answers) and len(log.values) == 2

@@ -60,6 +60,10 @@ class PostgresLog(Carrier):
 
     def __init__(self, url: str, keep: int, group: str, timeout: float) -> None:
         super().__init__(keep, group)
+        try:
+            extensions.parse_dsn(url)
+        except psycopg2.ProgrammingError as why:
+            raise ValueError(f"the URL of the log is none of PostgreSQL: {_text(why)}") from why
         self._joiner = _Line(url, timeout, _WAITS_FOR_THE_DISK)
         self._writer = _Line(url, timeout, _WAITS_FOR_THE_DISK)
         self._reader = _Line(url, timeout, f'LISTEN "svid_{group}"')

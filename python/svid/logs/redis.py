@@ -30,6 +30,7 @@ _SETTINGS = {
 }
 """Those without which a crash, or want of memory, loses values."""
 _NAMES = [b"at", b"kind", b"value"]
+_COUNT = re.compile("[1-9]|[1-5][0-9]|6[0-4]")
 _NUMBER = re.compile(rb"0*([0-9]{1,19})")
 
 
@@ -47,12 +48,17 @@ class RedisLog(Carrier):
     def __init__(self, url: str, keep: int, group: str, timeout: float) -> None:
         super().__init__(keep, group)
         url, own = _split(url)
+        replicas = own.get("replicas", "1")
         self._is_unchecked = own.get("settings") == "unchecked"
-        self._others = int(own.get("replicas", "1")) - 1
+        if own.get("settings", "unchecked") != "unchecked" or not _COUNT.fullmatch(replicas):
+            raise ValueError("in the URL of the log, settings is unchecked, and replicas 1 to 64")
+        self._others = int(replicas) - 1
         self._patience = timeout / 2
         at = urlsplit(url)
         self._server = f"redis at {at.hostname or at.path}"
-        more: dict[str, Any] = {"socket_timeout": timeout, "socket_connect_timeout": timeout}
+        more: dict[str, Any] = {"socket_timeout": timeout}
+        if at.scheme != "unix":
+            more["socket_connect_timeout"] = timeout
         more["redis_connect_func"] = self._connected
         self._is_new = True  # a connection was made behind the last look at who the server is
         self._run_id, self._takeovers = "", 0
@@ -63,6 +69,10 @@ class RedisLog(Carrier):
         elif at.password is None and "REDISCLI_AUTH" in os.environ:
             more["password"] = os.environ["REDISCLI_AUTH"]
         self._client = redis.Redis.from_url(url, **more)
+        try:
+            self._client.connection_pool.make_connection()  # (it does not connect yet)
+        except (TypeError, redis.RedisError) as why:
+            raise ValueError(f"the URL of the log has a wrong parameter: {why}") from why
         self._keys = [f"svid:{{{group}}}:log", f"svid:{{{group}}}:head"]
         self._mark = f"svid:{{{group}}}:sync"
 
