@@ -11,8 +11,9 @@
         print("refused:", why)
 
 `Validator` is the whole of it for one process, and `Validator(state=..)` keeps its record over
-restarts. Several processes are each a `Member` of one log. `Refused` has a subclass for each of the
-25 reasons to refuse a token. `svid.asgi` and `svid.wsgi` are middlewares for web services.
+restarts. Several processes are each a `Member` of one log, in Redis or PostgreSQL. `Refused` has a
+subclass for each of the 25 reasons to refuse a token. `svid.asgi` and `svid.wsgi` are middlewares
+for web services.
 """
 
 from __future__ import annotations

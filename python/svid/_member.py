@@ -44,6 +44,7 @@ _SAYS = 60.0
 """How many seconds a warning is not said again."""
 _MISSED = "values of the log are missing, and a claim of the token may be among them"
 
+_LATE = "the log did not answer in time"
 _OTHER = "another request with the token has no answer yet"
 
 _Tell = Callable[[], object]
@@ -116,7 +117,7 @@ class Member(Validator):
         self._open: dict[bytes, _Claim] = {}  # by the key of the token
         self._editions: collections.Counter[int] = collections.Counter()  # of the open claims
         self._puts: collections.deque[_Put] = collections.deque()  # what is to go into the log
-        self._judging = 0  # how many tokens may soon have a claim
+        self._judging: collections.deque[None] = collections.deque()  # as many tokens are judged
         self._deaf = 0  # before this moment nothing is accepted
         self._closing = False
         self._is_begun = False
@@ -169,8 +170,8 @@ class Member(Validator):
             return
         with self._gate:
             self._closing = True
-            self._end_all(Closed)
             self._gate.notify_all()
+        self._end_all(Closed)
         for it in self._threads:
             it.join()
         self._free()
@@ -243,8 +244,7 @@ class Member(Validator):
         """
         if self._process != os.getpid():
             raise Forked  # (before the gate: a thread of the parent process may have held it)
-        with self._gate:
-            self._judging += 1
+        self._judging.append(None)  # (without the gate: the reader has it when it wakes a request)
         try:
             accepted, edition = self._checked(JUDGE, token, now)
             if not self._is_begun:
@@ -269,13 +269,14 @@ class Member(Validator):
 
     def _end_judging(self) -> None:
         """A token was judged, with the gate held. A value may wait for its claim."""
-        self._judging -= 1
+        self._judging.pop()
         if self._puts and not self._judging:
             self._gate.notify_all()
 
     def _outcome(self, mine: _Claim) -> Accepted:
         """What became of a claim that has ended, or whose time is up."""
-        self._give_up(mine)
+        if not mine.is_ended:
+            self._give_up(mine)
         if mine.why is not None:
             raise mine.why
         return mine.accepted
@@ -283,22 +284,23 @@ class Member(Validator):
     def _give_up(self, mine: _Claim) -> None:
         """Ends a claim that is still open, and does not send it where it has not gone out."""
         with self._gate:
-            if not mine.is_ended:
-                self._end(mine, Unavailable("the log did not answer in time"))
+            tells = [] if mine.is_ended else self._end(mine, Unavailable(_LATE))
+        _call(tells)
 
-    def _end(self, claim: _Claim, why: Exception | None) -> None:
-        """Ends an open claim, with the gate held."""
+    def _end(self, claim: _Claim, why: Exception | None) -> list[_Tell]:
+        """Ends an open claim, with the gate held, and says what to call without it."""
         del self._open[claim.use.key]
         self._editions -= collections.Counter([claim.edition])
         claim.why = why
         claim.is_ended = True
-        for tell in claim.tells:
-            tell()
+        return claim.tells
 
     def _end_all(self, why: Callable[[], Exception]) -> None:
-        """Ends the claims that are open, with the gate held."""
-        for claim in list(self._open.values()):
-            self._end(claim, why())
+        """Ends the claims that are open."""
+        with self._gate:
+            these = list(self._open.values())
+            tells = [tell for claim in these for tell in self._end(claim, why())]
+        _call(tells)
 
     # -- Putting values
 
@@ -415,11 +417,13 @@ class Member(Validator):
 
     def _end_read(self, read: Read) -> None:
         """Ends the claims whose uses were read: only those that are on their way."""
+        tells: list[_Tell] = []
         with self._gate:
             for use, fate in read.fates:
                 claim = self._open.get(use.key)
                 if claim is not None and claim.is_sent and claim.use == use:
-                    self._end(claim, _outcome_of(fate))
+                    tells += self._end(claim, _outcome_of(fate))
+        _call(tells)
 
     def _judge_renewed(self, edition: int) -> None:
         """Judges claims again, by their tokens, that were judged by other bundles."""
@@ -438,19 +442,19 @@ class Member(Validator):
             with self._gate:
                 if claim.is_ended:
                     continue
-                if why is not None:
-                    self._end(claim, why)
+                if why is None:
+                    self._editions -= collections.Counter([claim.edition])
+                    self._editions[judged_by] += 1
+                    claim.edition = judged_by
+                    claim.accepted = Accepted(again.spiffe_id, claim.use)
                     continue
-                self._editions -= collections.Counter([claim.edition])
-                self._editions[judged_by] += 1
-                claim.edition = judged_by
-                claim.accepted = Accepted(again.spiffe_id, claim.use)
+                tells = self._end(claim, why)
+            _call(tells)
 
     def _miss(self, why: str) -> None:
         """Ends all claims: it is not known any more what stands in front of them."""
         self._say(f"{why}: no token is accepted for {self._lasts} seconds")
-        with self._gate:
-            self._end_all(lambda: Unavailable(_MISSED))
+        self._end_all(lambda: Unavailable(_MISSED))
 
     def _pause(self) -> bool:
         """Waits before a call is made again, and says whether it is to be: not once closed."""
@@ -485,6 +489,12 @@ class _Claim(_Put):
         self.edition = edition
         self.why: Exception | None = None
         self.tells: list[_Tell] = []  # are called at its end
+
+
+def _call(tells: Iterable[_Tell]) -> None:
+    """Lets requests go on. (Without the gate, which each of them takes.)"""
+    for tell in tells:
+        tell()
 
 
 def _wait_on() -> None:

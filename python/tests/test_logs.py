@@ -148,7 +148,7 @@ def test_a_reader_is_woken(shared):
     with several(shared, 2) as (one, two):
         for it in range(3):
             said = []
-            reading = threading.Thread(target=lambda: said.extend(two.read(it, 600)), daemon=True)
+            reading = threading.Thread(target=lambda: said.extend(two.read(it, 60)), daemon=True)
             reading.start()
             one.append(b"%d" % it)
             reading.join(30)
