@@ -781,7 +781,10 @@ def test_a_check_that_is_cancelled_holds_nothing_up(log):
             if sent:
                 go.set()
                 log.hold()
-                assert asyncio.run(main(checks)) == "Replayed"
+                # (Its claim may be the same use as the one that was given up: then that counts.)
+                said = asyncio.run(main(checks))
+                assert said == "Replayed" or isinstance(said, svid.Use)
+                assert verdict(checks, made) == "Replayed"
             else:
                 answer = in_thread(verdict, checks, fresh(jti="other"))
                 until(lambda: checks._open and not waiting(checks))
