@@ -803,7 +803,7 @@ def test_a_loop_that_has_ended_stops_no_reader(log):
             super().append(value)
 
     log, go = Slow(), threading.Event()
-    with member(log) as checks:
+    with member(log, wait=600) as checks:
         answers = [in_thread(verdict, checks, fresh(jti="first"))]
         until(lambda: checks._open and not waiting(checks))
         # (The uses of a value rise by their keys: this one stands in front of the other.)

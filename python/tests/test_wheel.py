@@ -91,6 +91,7 @@ def test_a_source_distribution_has_the_library_too(tmp_path):
     [made] = tmp_path.glob("*.whl")
     with zipfile.ZipFile(made) as file:
         assert file.read("svid/libsvid.so") == library
+        assert {"svid/logs/append.lua", "svid/logs/schema.sql"} < set(file.namelist())
 
 
 def test_the_library_of_the_system(tmp_path):
