@@ -1,9 +1,14 @@
 """A web service by Starlette that knows who calls it: the SPIFFE ID of the bearer token.
 
+    SVID_BUNDLES=bundles SVID_LOG=redis://localhost \\
+        gunicorn -k uvicorn.workers.UvicornWorker -w 4 starlette_app:app
+
+SVID_LOG is the URL of a server of Redis or PostgreSQL. There the worker processes share a log, so
+that all of them together accept a token once. Without it, run one process:
+
     SVID_BUNDLES=bundles uvicorn starlette_app:app
 
-The validator is made when the server starts. Run one worker process: each would have its own.
-Where SVID_STATE names a folder, that keeps the record over restarts.
+Where SVID_STATE names a folder, that keeps the record of one process over restarts.
 """
 
 from __future__ import annotations
@@ -19,12 +24,15 @@ from starlette.routing import Route
 import svid
 from svid.asgi import SvidMiddleware
 
-validator = svid.Validator(
-    audiences="ledger",
-    bundles=os.environ["SVID_BUNDLES"],
-    longest=3600,
-    state=os.environ.get("SVID_STATE"),
-)
+bundles = os.environ["SVID_BUNDLES"]
+if "SVID_LOG" in os.environ:
+    log = os.environ["SVID_LOG"]
+    validator: svid.Validator = svid.Member(
+        log=log, audiences="ledger", bundles=bundles, longest=3600
+    )
+else:
+    state = os.environ.get("SVID_STATE")
+    validator = svid.Validator(audiences="ledger", bundles=bundles, longest=3600, state=state)
 
 
 async def hello(request: Request) -> PlainTextResponse:

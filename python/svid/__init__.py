@@ -11,15 +11,16 @@
         print("refused:", why)
 
 `Validator` is the whole of it for one process, and `Validator(state=..)` keeps its record over
-restarts. Several processes are each a `Member` of one log. `Refused` has a subclass for each of the
-25 reasons to refuse a token. `svid.asgi` and `svid.wsgi` are middlewares for web services.
+restarts. Several processes are each a `Member` of one log, in Redis or PostgreSQL. `Refused` has a
+subclass for each of the 25 reasons to refuse a token. `svid.asgi` and `svid.wsgi` are middlewares
+for web services.
 """
 
 from __future__ import annotations
 
 from ._bundles import Bundle, Bundles, from_workload_api
 from ._journal import Journal
-from ._log import Log, OtherLog
+from ._log import Log, OtherLog, UnfitLog
 from ._member import Member
 from ._signatures import Verifies
 from ._validator import Validator
@@ -33,7 +34,6 @@ from .errors import (
     Gone,
     Held,
     Jump,
-    Newer,
     Refused,
     TooFar,
     Unavailable,
@@ -93,6 +93,7 @@ __all__ = [
     "Report",
     "TooFar",
     "Unavailable",
+    "UnfitLog",
     "Use",
     "Validator",
     "Verifies",

@@ -2,11 +2,13 @@
 
 from __future__ import annotations
 
+import asyncio
 from collections.abc import Sequence
 from http import HTTPStatus
 from typing import NamedTuple
 
 from . import _library as lib
+from ._member import Member
 from ._validator import Validator
 from .errors import Refused, TooLong, Unavailable
 
@@ -32,21 +34,47 @@ _NOT_BEARER = Admission(
 
 def admit(validator: Validator, authorization: Sequence[bytes]) -> Admission:
     """Checks the one token of a request, by the values of all its headers Authorization."""
+    try:
+        token = _token(authorization)
+        if isinstance(token, Admission):
+            return token
+        return Admission(validator.check(token).spiffe_id)
+    except (Refused, Unavailable) as why:
+        return _turned_away(why)
+
+
+async def admit_soon(validator: Validator, authorization: Sequence[bytes]) -> Admission:
+    """Does the same, and lets the event loop go on while the check waits."""
+    if not validator.waits:
+        return admit(validator, authorization)
+    if not isinstance(validator, Member):
+        return await asyncio.to_thread(admit, validator, authorization)
+    try:
+        token = _token(authorization)
+        if isinstance(token, Admission):
+            return token
+        return Admission((await validator.check_soon(token)).spiffe_id)
+    except (Refused, Unavailable) as why:
+        return _turned_away(why)
+
+
+def _token(authorization: Sequence[bytes]) -> bytes | Admission:
+    """The token, or the answer to a request that has not exactly one. Raises TooLong."""
     value = authorization[0] if authorization else b""
     found = lib.Bearer()
     lent = (len(authorization), value, len(value), lib.address(found))
     status = lib.library.svid_bearer_token(*lent)
     if status == lib.BEARER_SPELLING:
         return _NOT_BEARER
-    if status not in (lib.OK, lib.TOO_LONG):
+    if status == lib.TOO_LONG:
+        raise TooLong()
+    if status != lib.OK:
         return _NO_TOKEN
-    try:
-        if status == lib.TOO_LONG:
-            raise TooLong()
-        token = value[found.at : found.at + found.len]
-        return Admission(validator.check(token).spiffe_id)
-    except Refused as why:
-        challenge = f'Bearer error="invalid_token", error_description="{why.name}"'
-        return Admission(None, HTTPStatus.UNAUTHORIZED, challenge)
-    except Unavailable:
+    return value[found.at : found.at + found.len]
+
+
+def _turned_away(why: Refused | Unavailable) -> Admission:
+    if isinstance(why, Unavailable):
         return Admission(None, HTTPStatus.SERVICE_UNAVAILABLE)
+    challenge = f'Bearer error="invalid_token", error_description="{why.name}"'
+    return Admission(None, HTTPStatus.UNAUTHORIZED, challenge)

@@ -5,9 +5,11 @@ from __future__ import annotations
 from collections.abc import Iterable
 from typing import Protocol
 
+from .errors import Error
+
 
 class Log(Protocol):
-    """What `Member` wants of a log: a stream of Redis, a table of PostgreSQL, a file with a lock.
+    """What `Member` wants of a log. `svid.logs` has those of Redis and of PostgreSQL.
 
     Values have positions that are counted from 1 without gaps. Each reader gets them in this order,
     each one whole. A log keeps a value for at least `longest` plus twice `ahead` seconds of its
@@ -17,7 +19,9 @@ class Log(Protocol):
     def bounds(self) -> tuple[int, int]:
         """The position in front of the first value that the log has, and that of the last value.
 
-        Both are 0 in a log that never had any.
+        Both are 0 in a log that never had any. Raises OSError where the log is away: a member tries
+        again then, and accepts nothing until it is there. Raises `UnfitLog` where no member may
+        join.
         """
 
     def append(self, value: bytes) -> None:
@@ -33,6 +37,10 @@ class Log(Protocol):
         none. Where the log is another one than was read so far (it was lost, or an older copy was
         put back), raise `OtherLog`.
         """
+
+
+class UnfitLog(Error):
+    """The log may lose values while they live. The message says why, and what to change."""
 
 
 class OtherLog(Exception):

@@ -12,7 +12,9 @@ log to the library in their order, and waits. Its duties are:
 
 from __future__ import annotations
 
+import asyncio
 import collections
+import contextlib
 import logging
 import os
 import threading
@@ -26,12 +28,15 @@ from ._handle import JUDGE, Read
 from ._log import Log, OtherLog
 from ._signatures import USUAL_RSA_BITS, Verifies
 from ._validator import Token, Validator
-from .errors import REFUSALS, Closed, Error, Jump, Refused, Unavailable
+from .errors import REFUSALS, Closed, Error, Forked, Jump, Refused, Unavailable
+from .logs import GROUP, Carrier, open_log
 from .records import Accepted, Use, batches
 
 _LOG = logging.getLogger("svid")
 _MOST_TOGETHER = 512
 """How many uses share a value."""
+_COMPANY = 0.001
+"""How many seconds a value waits for the claims of tokens that are being judged."""
 _READ_WAIT = 0.25
 """How many seconds a read waits for values. So long `close` takes."""
 _PAUSE = 0.1
@@ -40,18 +45,27 @@ _SAYS = 60.0
 """How many seconds a warning is not said again."""
 _MISSED = "values of the log are missing, and a claim of the token may be among them"
 
+_LATE = "the log did not answer in time"
+_OTHER = "another request with the token has no answer yet"
+
+_Tell = Callable[[], object]
+
 
 class Member(Validator):
     """A `Validator` of a group whose members read one log: each token is accepted once in all.
 
     ::
 
+        log = "redis://localhost"
         with svid.Member(log=log, longest=3600, audiences=["ledger"], bundles="bundles") as member:
             accepted = member.check(token)
 
     Of the claims of a token that are in the log, the first counts. `check` puts a claim there, and
     returns once this member has read it and all in front of it. Make one in each process, after the
     process was forked, and close it.
+
+    It starts where the log is away, too. Until it has read the log, and whenever that is away,
+    checks raise Unavailable.
     """
 
     _recalled: LogPlace | None = None  # where an earlier life was in the log, until that has begun
@@ -59,7 +73,7 @@ class Member(Validator):
     def __init__(
         self,
         *,
-        log: Log,
+        log: Log | str,
         longest: int,
         audiences: str | Iterable[str],
         bundles: Bundles,
@@ -71,20 +85,25 @@ class Member(Validator):
         rsa_bits: int = USUAL_RSA_BITS,
         state: Path | None = None,
         wait: float = 2.0,
+        group: str = GROUP,
     ) -> None:
         """Makes a member, and begins to read the log.
 
-        log: the log of the group; see `svid.Log`.
+        log: the log of the group: the URL of a server of Redis or PostgreSQL (see `svid.logs`), or
+            an object of your own (see `svid.Log`).
         longest: how many seconds a token may still live. Uses stay in the log for so long, and for
-            twice `ahead`.
+            twice `ahead`. All members have the same two.
         state: a folder that keeps the record, and where this member is in the log. No check waits
             for it. Where values of the log were missing, a restart changes nothing: the member
             accepts nothing until the same time. Where the log ends in front of what the member had
             read, it is another one, or an older copy: then it does the same.
         wait: how many seconds `check` and `withdraw` wait for the log, until they raise
             Unavailable.
+        group: what the group is called where the log is a URL. Groups of different names share
+            nothing.
 
-        The others are those of `Validator`. Raises what it does, and what the log's `bounds` does.
+        The others are those of `Validator`. Raises what it does, and UnfitLog where the log may
+        lose values. Where the log is away, a warning says so.
         """
         super().__init__(
             audiences=audiences,
@@ -99,7 +118,6 @@ class Member(Validator):
             state=state,
             wait=wait,
         )
-        self._log = log
         self._lasts = min(longest + 2 * ahead, lib.NO_LIMIT)
         self._process = os.getpid()
         self._said: dict[str, float] = {}  # when a warning was said last
@@ -107,13 +125,21 @@ class Member(Validator):
         self._gate = threading.Condition()  # guards what follows, and the claims
         self._open: dict[bytes, _Claim] = {}  # by the key of the token
         self._editions: collections.Counter[int] = collections.Counter()  # of the open claims
-        self._puts: list[_Put] = []  # what is to go into the log
+        self._puts: collections.deque[_Put] = collections.deque()  # what is to go into the log
+        self._judging: collections.deque[None] = collections.deque()  # as many tokens are judged
         self._deaf = 0  # before this moment nothing is accepted
         self._closing = False
+        self._is_begun = False
+        self._opened: Carrier | None = None
         try:
+            if isinstance(log, str):
+                log = self._opened = open_log(log, self._lasts, group)
+            self._log = log
             self._begin(b"", 0)
+        except OSError as why:
+            self._say(f"the log can't be reached: {why}")
         except BaseException:
-            super().close()
+            self._free()
             raise
         self._threads = [
             threading.Thread(target=work, name=name, daemon=True)
@@ -129,7 +155,7 @@ class Member(Validator):
     @property
     def is_ready(self) -> bool:
         """Whether it accepts tokens: it has read the log, and no value is missing that may live."""
-        return self._handle.state().accepts
+        return self._is_begun and self._handle.state().accepts
 
     @property
     def deaf_until(self) -> int:
@@ -146,15 +172,23 @@ class Member(Validator):
         self._keep_soon(b"")
 
     def close(self) -> None:
-        """Ends the checks that wait, and frees the record. It may take a quarter of a second."""
+        """Ends the checks that wait, and frees the record.
+
+        It may take a quarter of a second, and longer where the log's server does not answer.
+        """
         if self._process != os.getpid():
             return
         with self._gate:
             self._closing = True
-            self._end_all(Closed)
             self._gate.notify_all()
+        self._end_all(Closed)
         for it in self._threads:
             it.join()
+        self._free()
+
+    def _free(self) -> None:
+        if self._opened is not None:
+            self._opened.close()
         super().close()
 
     def check(self, token: Token, now: float | None = None) -> Accepted:
@@ -164,15 +198,37 @@ class Member(Validator):
         """
         end = time.monotonic() + self._wait
         while True:
-            accepted, edition = self._checked(JUDGE, token, now)
-            if self._deaf > accepted.use.at:
-                raise Unavailable(_MISSED)
-            mine = _Claim(accepted, token, edition)
-            other = self._claim(mine)
-            if other is None:
-                return self._outcome(mine, end)
-            if not other.done.wait(max(0.0, end - time.monotonic())):
-                raise Unavailable("another request with the token has no answer yet")
+            ended = threading.Event()
+            mine, claim = self._claimed(token, now, ended.set)
+            ended.wait(max(0.0, end - time.monotonic()))
+            if claim is mine:
+                return self._outcome(mine)
+            if not claim.is_ended:
+                raise Unavailable(_OTHER)
+
+    async def check_soon(self, token: Token, now: float | None = None) -> Accepted:
+        """Does what `check` does, and lets the event loop go on while it waits for the log.
+
+        Any number of checks may wait at once, and none of them needs a thread. The token is judged
+        on the event loop: that takes little more than to verify one signature.
+        """
+        loop, end = asyncio.get_running_loop(), time.monotonic() + self._wait
+        while True:
+            ended = loop.create_future()
+            mine, claim = self._claimed(token, now, _teller(loop, ended))
+            timer = loop.call_later(max(0.0, end - time.monotonic()), _tell, ended)
+            try:
+                await ended
+            except asyncio.CancelledError:
+                if claim is mine:
+                    self._give_up(mine)
+                raise
+            finally:
+                timer.cancel()
+            if claim is mine:
+                return self._outcome(mine)
+            if not claim.is_ended:
+                raise Unavailable(_OTHER)
 
     def withdraw_key(self, key: bytes, expires: int, now: float | None = None) -> Use:
         """Withdraws the token with this key of 32 bytes (`Use.key`), which expires at `expires`.
@@ -181,48 +237,80 @@ class Member(Validator):
         Unavailable if the log has not got it in time: make the call again then.
         """
         use = super().withdraw_key(key, expires, now)
-        put = _Put(use)
+        landed = threading.Event()
         with self._gate:
-            self._put(put)
-        if not put.done.wait(self._wait):
+            self._put(_Put(use, landed.set))
+        if not landed.wait(self._wait):
             raise Unavailable("the log did not take the withdrawal in time")
         return use
 
     # -- Claims
 
-    def _claim(self, mine: _Claim) -> _Claim | None:
-        """Opens a claim, or gives the one that is open for the same token."""
+    def _claimed(self, token: Token, now: float | None, tell: _Tell) -> tuple[_Claim, _Claim]:
+        """Judges a token, and opens a claim of it.
+
+        Gives this claim and the one to wait for, which is that of another request where this has
+        the same token. `tell` is called at its end.
+        """
+        if self._process != os.getpid():
+            raise Forked  # (before the gate: a thread of the parent process may have held it)
+        self._judging.append(None)  # (without the gate: the reader has it when it wakes a request)
+        try:
+            accepted, edition = self._checked(JUDGE, token, now)
+            if not self._is_begun:
+                raise Unavailable("the log was not reached yet")
+            if self._deaf > accepted.use.at:
+                raise Unavailable(_MISSED)
+        except BaseException:
+            with self._gate:
+                self._end_judging()
+            raise
         with self._gate:
-            other = self._open.get(mine.use.key)
-            if other is None:
+            self._end_judging()
+            mine = _Claim(accepted, token, edition)
+            claim = self._open.get(mine.use.key)
+            if claim is None:
+                claim = mine
                 self._put(mine)
                 self._open[mine.use.key] = mine
-                self._editions[mine.edition] += 1
-            return other
+                self._editions[edition] += 1
+            claim.tells.append(tell)
+            return mine, claim
 
-    def _outcome(self, mine: _Claim, end: float) -> Accepted:
-        """Waits for what becomes of a claim."""
-        mine.done.wait(max(0.0, end - time.monotonic()))
-        with self._gate:
-            if not mine.done.is_set():
-                self._puts = [it for it in self._puts if it is not mine]
-                self._end(mine, Unavailable("the log did not answer in time"))
+    def _end_judging(self) -> None:
+        """A token was judged, with the gate held. A value may wait for its claim."""
+        self._judging.pop()
+        if self._puts and not self._judging:
+            self._gate.notify_all()
+
+    def _outcome(self, mine: _Claim) -> Accepted:
+        """What became of a claim that has ended, or whose time is up."""
+        if not mine.is_ended:
+            self._give_up(mine)
         if mine.why is not None:
             raise mine.why
         return mine.accepted
 
-    def _end(self, claim: _Claim, why: Exception | None) -> None:
-        """Ends an open claim, with the gate held."""
+    def _give_up(self, mine: _Claim) -> None:
+        """Ends a claim that is still open, and does not send it where it has not gone out."""
+        with self._gate:
+            tells = [] if mine.is_ended else self._end(mine, Unavailable(_LATE))
+        _call(tells)
+
+    def _end(self, claim: _Claim, why: Exception | None) -> list[_Tell]:
+        """Ends an open claim, with the gate held, and says what to call without it."""
         del self._open[claim.use.key]
         self._editions -= collections.Counter([claim.edition])
         claim.why = why
-        claim.done.set()
+        claim.is_ended = True
+        return claim.tells
 
     def _end_all(self, why: Callable[[], Exception]) -> None:
-        """Ends the claims that are open, with the gate held."""
-        self._puts = [it for it in self._puts if not isinstance(it, _Claim)]
-        for claim in list(self._open.values()):
-            self._end(claim, why())
+        """Ends the claims that are open."""
+        with self._gate:
+            these = list(self._open.values())
+            tells = [tell for claim in these for tell in self._end(claim, why())]
+        _call(tells)
 
     # -- Putting values
 
@@ -238,15 +326,23 @@ class Member(Validator):
         while True:
             with self._gate:
                 self._gate.wait_for(lambda: self._puts or self._closing)
+                self._gate.wait_for(lambda: not self._judging or self._closing, _COMPANY)
                 if self._closing:
                     return
-                these = self._puts[:_MOST_TOGETHER]
-                del self._puts[:_MOST_TOGETHER]
-                for it in these:
-                    it.is_sent = True
-            if self._append(batches(it.use for it in these)):
+                these = self._next()
+            if these and self._append(batches(it.use for it in these)):
                 for it in these:
                     it.landed()
+
+    def _next(self) -> list[_Put]:
+        """The uses of the next value, with the gate held: not those that were given up."""
+        these: list[_Put] = []
+        while self._puts and len(these) < _MOST_TOGETHER:
+            it = self._puts.popleft()
+            if not it.is_ended:
+                it.is_sent = True
+                these.append(it)
+        return these
 
     def _append(self, value: bytes) -> bool:
         """Puts a value into the log, and says whether it is there: tries while anybody waits."""
@@ -288,6 +384,7 @@ class Member(Validator):
         deaf = max(deaf, self._recall(last))
         self._handle.log(passed, last, self._lasts, deaf, beside)
         self._deaf, self._position, self._recalled = deaf, passed, None
+        self._is_begun = True
         if deaf:
             self._keep_soon(b"")
 
@@ -308,6 +405,8 @@ class Member(Validator):
         """Reads one value after the other."""
         while not self._closing:
             try:
+                if not self._is_begun:
+                    self._begin(b"", 0)
                 for position, value in self._log.read(self._position, _READ_WAIT):
                     self._read(position, value)
                     if self._closing:
@@ -368,11 +467,13 @@ class Member(Validator):
         accepted = [use for use, fate in read.fates if fate == lib.FATE_ACCEPTED]
         if accepted:
             self._keep_soon(batches(accepted))
+        tells: list[_Tell] = []
         with self._gate:
             for use, fate in read.fates:
                 claim = self._open.get(use.key)
                 if claim is not None and claim.is_sent and claim.use == use:
-                    self._end(claim, _outcome_of(fate))
+                    tells += self._end(claim, _outcome_of(fate))
+        _call(tells)
 
     def _judge_renewed(self, edition: int) -> None:
         """Judges claims again, by their tokens, that were judged by other bundles."""
@@ -389,21 +490,21 @@ class Member(Validator):
             except (Error, MemoryError) as error:
                 why = Unavailable(f"the token can't be judged by the new bundles: {error}")
             with self._gate:
-                if claim.done.is_set():
+                if claim.is_ended:
                     continue
-                if why is not None:
-                    self._end(claim, why)
+                if why is None:
+                    self._editions -= collections.Counter([claim.edition])
+                    self._editions[judged_by] += 1
+                    claim.edition = judged_by
+                    claim.accepted = Accepted(again.spiffe_id, claim.use)
                     continue
-                self._editions -= collections.Counter([claim.edition])
-                self._editions[judged_by] += 1
-                claim.edition = judged_by
-                claim.accepted = Accepted(again.spiffe_id, claim.use)
+                tells = self._end(claim, why)
+            _call(tells)
 
     def _miss(self, why: str) -> None:
         """Ends all claims: it is not known any more what stands in front of them."""
         self._say(f"{why}: no token is accepted for {self._lasts} seconds")
-        with self._gate:
-            self._end_all(lambda: Unavailable(_MISSED))
+        self._end_all(lambda: Unavailable(_MISSED))
 
     def _pause(self) -> bool:
         """Waits before a call is made again, and says whether it is to be: not once closed."""
@@ -419,30 +520,50 @@ class Member(Validator):
 
 
 class _Put:
-    """A use on its way into the log."""
+    """A use on its way into the log. `tell` is called once the log has it."""
 
-    def __init__(self, use: Use) -> None:
+    def __init__(self, use: Use, tell: _Tell) -> None:
         self.use = use
         self.is_sent = False
-        self.done = threading.Event()
-
-    def landed(self) -> None:
-        """The log has it."""
-        self.done.set()
+        self.is_ended = False
+        self.landed = tell
 
 
 class _Claim(_Put):
-    """The claim of a token, on its way through the log: it is done once it was read there."""
+    """The claim of a token, on its way through the log: it ends once it was read there."""
 
     def __init__(self, accepted: Accepted, token: Token, edition: int) -> None:
-        super().__init__(accepted.use)
+        super().__init__(accepted.use, _wait_on)
         self.accepted = accepted
         self.token = token
         self.edition = edition
         self.why: Exception | None = None
+        self.tells: list[_Tell] = []  # are called at its end
 
-    def landed(self) -> None:
-        """It waits until it is read."""
+
+def _call(tells: Iterable[_Tell]) -> None:
+    """Lets requests go on. (Without the gate, which each of them takes.)"""
+    for tell in tells:
+        tell()
+
+
+def _wait_on() -> None:
+    """A claim that is in the log waits until it is read."""
+
+
+def _teller(loop: asyncio.AbstractEventLoop, ended: asyncio.Future[None]) -> _Tell:
+    """What lets an event loop know that a claim has ended, from any thread."""
+
+    def tell() -> None:
+        with contextlib.suppress(RuntimeError):  # (a loop that is closed waits for nothing)
+            loop.call_soon_threadsafe(_tell, ended)
+
+    return tell
+
+
+def _tell(ended: asyncio.Future[None]) -> None:
+    if not ended.done():
+        ended.set_result(None)
 
 
 def _outcome_of(fate: int) -> Exception | None:

@@ -2,12 +2,11 @@
 
 from __future__ import annotations
 
-import asyncio
 from collections.abc import Awaitable, Callable, MutableMapping
 from http import HTTPStatus
 from typing import Any
 
-from ._bearer import admit
+from ._bearer import admit_soon
 from ._validator import Validator
 
 Scope = MutableMapping[str, Any]
@@ -23,11 +22,12 @@ class SvidMiddleware:
     There `scope["spiffe_id"]` is the SPIFFE ID of the token's subject, a str. Any other request is
     answered with status 401, and any other websocket is closed before it is accepted. Where a check
     is Unavailable, the status is 503. A check runs on the event loop: it takes little more than to
-    verify one signature. One that waits for a disk or for other workers runs in a thread.
+    verify one signature. The loop goes on while a `Member` waits for its log. A check that waits
+    for a disk runs in a thread.
 
-    Run one process with a `Validator`: a server with several workers accepts a token once in each
-    of them. For several, give each worker a `Member` of one log, or put the sidecar svidd in front
-    of the service (docs/SIDECAR.md).
+    A `Validator` belongs to one process: a server with several workers accepts a token once in
+    each. With a `Member` of one log in each worker, all workers together accept a token once. So do
+    all services behind the sidecar svidd (docs/SIDECAR.md).
     """
 
     def __init__(self, app: App, validator: Validator) -> None:
@@ -38,10 +38,7 @@ class SvidMiddleware:
         if scope["type"] == "lifespan":
             return await self.app(scope, receive, send)
         given = [value for name, value in scope["headers"] if name.lower() == b"authorization"]
-        if self.validator.waits:
-            admission = await asyncio.to_thread(admit, self.validator, given)
-        else:
-            admission = admit(self.validator, given)
+        admission = await admit_soon(self.validator, given)
         if admission.spiffe_id is not None:
             await self.app({**scope, "spiffe_id": admission.spiffe_id}, receive, send)
         elif scope["type"] == "websocket":

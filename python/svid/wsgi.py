@@ -20,9 +20,9 @@ class SvidMiddleware:
     request is answered with status 401, and with 503 where a check is Unavailable. Servers with
     several threads may use it.
 
-    Run one process with a `Validator`: a server with several workers accepts a token once in each
-    of them. For several, give each worker a `Member` of one log, or put the sidecar svidd in front
-    of the service (docs/SIDECAR.md).
+    A `Validator` belongs to one process: a server with several workers accepts a token once in
+    each. With a `Member` of one log in each worker, all workers together accept a token once. So do
+    all services behind the sidecar svidd (docs/SIDECAR.md).
     """
 
     def __init__(self, app: App, validator: Validator) -> None:

@@ -153,6 +153,50 @@ def test_a_value_has_so_many_uses(log, monkeypatch):
         assert max(map(len, log.values)) <= 2 * 17 + 4 * 65
 
 
+def test_a_value_waits_for_tokens_that_are_being_judged(log, monkeypatch):
+    """Their claims share it."""
+    monkeypatch.setattr(svid._member, "_COMPANY", 60)
+    begun, go = threading.Event(), threading.Event()
+
+    def verifies(_key, _alg, text, _signature):
+        if text.startswith(slow.encode()):
+            begun.set()
+            assert go.wait(60)
+        return True
+
+    slow = fresh(jti="slow").rpartition(".")[0]
+    with member(log, verifies=verifies) as checks:
+        answers = [in_thread(verdict, checks, slow + ".AA")]
+        assert begun.wait(60)
+        for count in range(1, 9):
+            answers.append(in_thread(verdict, checks, fresh(jti=f"quick {count}")))
+            until(lambda: len(checks._open) == count)
+        assert waiting(checks) == 8
+        go.set()
+        assert all(isinstance(it(), svid.Use) for it in answers) and len(log.values) == 1
+        assert verdict(checks, "no token") == "NotThreeParts"
+        assert isinstance(verdict(checks, fresh(jti="later")), svid.Use)
+
+
+def test_a_value_does_not_wait_for_long(log):
+    """For a token whose judgment takes long."""
+    begun, go = threading.Event(), threading.Event()
+
+    def verifies(_key, _alg, text, _signature):
+        if text.startswith(slow.encode()):
+            begun.set()
+            assert go.wait(60)
+        return True
+
+    slow = fresh(jti="slow").rpartition(".")[0]
+    with member(log, verifies=verifies) as checks:
+        first = in_thread(verdict, checks, slow + ".AA")
+        assert begun.wait(60)
+        assert isinstance(in_thread(verdict, checks, fresh(jti="quick"))(), svid.Use)
+        go.set()
+        assert isinstance(first(), svid.Use)
+
+
 def test_uses_as_messages():
     """Those of one moment are one batch, in which they rise."""
     uses = [svid.Use(9, bytes([key]) * 32, bytes(16), at) for key, at in ((2, 1), (3, 2), (1, 1))]
@@ -499,13 +543,34 @@ def test_claims_that_were_read_in_the_log_before(log):
         assert verdict(checks, made) == "Replayed"
 
 
-def test_a_member_of_a_log_that_is_not_there():
-    class Away(MemoryLog):
-        def bounds(self):
-            raise ConnectionError("away")
+def test_a_member_of_a_log_that_is_not_there_yet(caplog):
+    """A server that restarts a worker meanwhile goes on."""
 
-    with pytest.raises(ConnectionError):
-        member(Away())
+    class Away(MemoryLog):
+        is_away = True
+
+        def bounds(self):
+            if self.is_away:
+                raise ConnectionError("away")
+            return super().bounds()
+
+    log = Away()
+    with caplog.at_level(logging.WARNING, "svid"), member(log) as checks:
+        made = fresh()
+        assert verdict(checks, made) == "Unavailable" and not checks.is_ready
+        log.is_away = False
+        until(lambda: checks.is_ready)
+        assert isinstance(verdict(checks, made), svid.Use)  # no claim burnt it
+    assert "the log can't be reached: away" in caplog.messages
+
+
+def test_a_log_that_can_not_carry_a_group():
+    class Unfit(MemoryLog):
+        def bounds(self):
+            raise svid.UnfitLog("it forgets values")
+
+    with pytest.raises(svid.UnfitLog, match="it forgets values"):
+        member(Unfit())
 
 
 # -- Clocks, bundles, withdrawals
@@ -618,6 +683,142 @@ def test_a_token_is_withdrawn_while_its_claim_is_on_its_way(log):
         checks.withdraw(made)
         log.go()
         assert answer() == "Withdrawn"
+
+
+# -- An event loop
+
+
+def test_an_event_loop_goes_on_while_checks_wait(log):
+    """A thousand of them wait at once, and a refusal waits for none of them."""
+
+    async def main(checks):
+        waiting = [asyncio.create_task(said_soon(checks, it)) for it in tokens]
+        assert await said_soon(checks, "no token") == "NotThreeParts"
+        assert not any(it.done() for it in waiting)
+        log.go()
+        return await asyncio.gather(*waiting)
+
+    tokens = [fresh(jti=str(it)) for it in range(500)] * 2
+    with member(log) as checks:
+        log.hold()
+        said = asyncio.run(main(checks))
+    assert said.count("Replayed") == 500 and sum(isinstance(it, svid.Use) for it in said) == 500
+
+
+async def said_soon(checks, token):
+    try:
+        return (await checks.check_soon(token)).use
+    except svid.Error as why:
+        return type(why).__name__
+
+
+def test_the_middleware_needs_no_thread_for_each_request(log):
+    """A hundred requests wait for the log, and one with a bad token is answered."""
+
+    async def main(app):
+        waiting = [asyncio.create_task(status_of(app, it)) for it in tokens]
+        assert await asyncio.wait_for(status_of(app, "no token"), 30) == 401
+        assert not any(it.done() for it in waiting)
+        log.go()
+        return await asyncio.gather(*waiting)
+
+    async def inner(scope, receive, send):
+        await send({"status": 200})
+
+    tokens = [fresh(jti=str(it)) for it in range(100)]
+    with member(log) as checks:
+        log.hold()
+        said = in_thread(lambda: asyncio.run(main(SvidMiddleware(inner, checks))))
+        assert said() == [200] * 100
+
+
+async def status_of(app, token):
+    said = []
+
+    async def send(message):
+        said.append(message.get("status"))
+
+    headers = [(b"authorization", b"Bearer " + token.encode())]
+    await app({"type": "http", "headers": headers}, None, send)
+    return said[0]
+
+
+def test_an_event_loop_waits_no_longer_than_it_may(log):
+    async def main(checks, count):
+        return await asyncio.gather(*(said_soon(checks, it) for it in [made] * count))
+
+    with member(log, wait=0.2) as checks:
+        made = fresh()
+        log.hold()
+        assert in_thread(lambda: asyncio.run(main(checks, 3)))() == ["Unavailable"] * 3
+        log.go()
+        until(lambda: checks.report().uses)
+        assert asyncio.run(main(checks, 2)) == ["Replayed"] * 2
+
+
+def test_a_check_that_is_cancelled_holds_nothing_up(log):
+    async def main(checks):
+        first = asyncio.create_task(said_soon(checks, made))
+        await asyncio.sleep(0)
+        while sent and not log.values:
+            await asyncio.sleep(0.001)
+        second = asyncio.create_task(said_soon(checks, made))
+        await asyncio.sleep(0)
+        first.cancel()
+        with pytest.raises(asyncio.CancelledError):
+            await first
+        log.go()
+        return await second
+
+    class Slow(MemoryLog):
+        def append(self, value):
+            assert go.wait(60)
+            super().append(value)
+
+    for sent in True, False:
+        log, go = Slow(), threading.Event()
+        with member(log) as checks:
+            made = fresh()
+            if sent:
+                go.set()
+                log.hold()
+                # (Its claim may be the same use as the one that was given up: then that counts.)
+                said = asyncio.run(main(checks))
+                assert said == "Replayed" or isinstance(said, svid.Use)
+                assert verdict(checks, made) == "Replayed"
+            else:
+                answer = in_thread(verdict, checks, fresh(jti="other"))
+                until(lambda: checks._open and not waiting(checks))
+                second = in_thread(lambda: asyncio.run(main(checks)))
+                until(lambda: waiting(checks) == 1)
+                go.set()
+                assert isinstance(answer(), svid.Use) and isinstance(second(), svid.Use)
+
+
+def test_a_loop_that_has_ended_stops_no_reader(log):
+    """Of a server that was stopped: its check is waited for by nobody."""
+
+    class Slow(MemoryLog):
+        def append(self, value):
+            assert go.wait(60)
+            super().append(value)
+
+    log, go = Slow(), threading.Event()
+    with member(log, wait=600) as checks:
+        answers = [in_thread(verdict, checks, fresh(jti="first"))]
+        until(lambda: checks._open and not waiting(checks))
+        # (The uses of a value rise by their keys: this one stands in front of the other.)
+        made = sorted((fresh(jti=it) for it in "12"), key=lambda it: checks.judge(it).use.key)
+        loop = asyncio.new_event_loop()
+        task = loop.create_task(said_soon(checks, made[0]))
+        loop.run_until_complete(asyncio.sleep(0))
+        loop.close()
+        answers.append(in_thread(verdict, checks, made[1]))
+        until(lambda: waiting(checks) == 2)
+        go.set()
+        assert all(isinstance(it(), svid.Use) for it in answers) and len(log.values) == 2
+        assert not task.done()
+        task._log_destroy_pending = False
 
 
 # -- The end

@@ -1,0 +1,156 @@
+"""Real servers of Redis and PostgreSQL for tests: each in a folder of its own, at a free port."""
+
+import os
+import pwd
+import shutil
+import signal
+import socket
+import subprocess
+import tempfile
+import time
+
+import psycopg2
+import redis
+
+
+def until(true, seconds=60):
+    """Waits until something is true."""
+    end = time.monotonic() + seconds
+    while not true():
+        assert time.monotonic() < end, "it does not come to be"
+        time.sleep(0.005)
+
+
+def free_port():
+    with socket.socket() as it:
+        it.bind(("127.0.0.1", 0))
+        return it.getsockname()[1]
+
+
+class Server:
+    """A server that a test may stop, kill, pause and start again. Its data stay."""
+
+    def __init__(self):
+        # (not below the folder of the tests: PostgreSQL runs as another user)
+        self.folder = tempfile.mkdtemp(prefix="svid-test-", dir="/tmp")
+        self.port, self.ran, self.limit = free_port(), None, None
+
+    def __enter__(self):
+        self.start()
+        return self
+
+    def __exit__(self, *_):
+        self.kill()
+        shutil.rmtree(self.folder, ignore_errors=True)
+
+    def start(self, *more):
+        self.run(*more)
+        until(self.is_there)
+
+    def stop(self):
+        """As an operator restarts it."""
+        self.ran.send_signal(self.stops_by)
+        self.ran.wait(60)
+
+    def kill(self):
+        self.ran.kill()
+        self.ran.wait(60)
+
+    def pause(self):
+        for it in self.processes():
+            os.kill(it, signal.SIGSTOP)
+
+    def go(self):
+        for it in self.processes():
+            os.kill(it, signal.SIGCONT)
+
+    def processes(self):
+        """The server and what it has started."""
+        with open(f"/proc/{self.ran.pid}/task/{self.ran.pid}/children") as file:
+            return [self.ran.pid, *map(int, file.read().split())]
+
+    def spawn(self, *words, **more):
+        if self.limit:  # how many bytes a file may have, as on a disk that is full
+            limited = 'trap "" XFSZ; exec prlimit --fsize="$0" "$@"'
+            words = ["sh", "-c", limited, str(self.limit), *words]
+        with open(f"{self.folder}/log", "ab") as out:
+            self.ran = subprocess.Popen(words, stdout=out, stderr=out, cwd=self.folder, **more)
+
+    def keep_copy(self):
+        """A copy of its data, while it is stopped."""
+        subprocess.run(["cp", "-a", "data", "copy"], cwd=self.folder, check=True)
+
+    def put_copy_back(self):
+        shutil.rmtree(f"{self.folder}/data")
+        os.rename(f"{self.folder}/copy", f"{self.folder}/data")
+
+
+class RedisServer(Server):
+    stops_by = signal.SIGTERM
+
+    def __init__(self, *settings):
+        super().__init__()
+        os.mkdir(f"{self.folder}/data")
+        self.settings = settings
+        self.url = f"redis://127.0.0.1:{self.port}/0"
+
+    def run(self, *more):
+        good = ["--appendonly", "yes", "--appendfsync", "always", "--save", ""]
+        words = ["redis-server", "--port", str(self.port), "--bind", "127.0.0.1", "--dir", "data"]
+        self.spawn(*words, *good, *self.settings, *more)
+
+    def client(self):
+        return redis.Redis.from_url(self.url, socket_timeout=5)
+
+    def is_there(self):
+        assert self.ran.poll() is None, open(f"{self.folder}/log").read()[-2000:]
+        try:
+            return self.client().ping()
+        except redis.AuthenticationError:
+            return True
+        except redis.RedisError:
+            return False
+
+
+class PostgresServer(Server):
+    stops_by = signal.SIGINT  # (a fast shutdown)
+    binaries = "/usr/lib/postgresql/15/bin"
+
+    def __init__(self, *settings):
+        super().__init__()
+        self.settings, self.user = settings, {}
+        if os.geteuid() == 0:  # (PostgreSQL does not run as root)
+            it = pwd.getpwnam("postgres")
+            os.chown(self.folder, it.pw_uid, it.pw_gid)
+            self.user = {"user": it.pw_uid, "group": it.pw_gid, "extra_groups": []}
+        words = [self.command("initdb"), "-D", "data", "-U", "svid", "-A", "trust", "--no-sync"]
+        made = subprocess.run(
+            [*words, "--locale=C", "-E", "UTF8"], cwd=self.folder, capture_output=True, **self.user
+        )
+        assert made.returncode == 0, made.stderr.decode()
+        self.url = f"postgresql://svid@127.0.0.1:{self.port}/postgres"
+
+    def command(self, name):
+        return f"{self.binaries}/{name}"
+
+    def run(self, *more):
+        words = [self.command("postgres"), "-D", "data", "-p", str(self.port), "-k", self.folder]
+        words += ["-c", "shared_buffers=16MB", "-c", "listen_addresses=127.0.0.1"]
+        self.spawn(*words, *self.settings, *more, **self.user)
+
+    def client(self):
+        it = psycopg2.connect(self.url, connect_timeout=5)
+        it.autocommit = True
+        return it
+
+    def is_there(self):
+        # (one that was killed may still hold the memory: then this start ends; the next may not)
+        if self.ran.poll() is not None:
+            said = open(f"{self.folder}/log").read()[-2000:]
+            assert "shared memory" in said.splitlines()[-2] + said.splitlines()[-1], said
+            self.run()
+        try:
+            self.client().close()
+            return True
+        except psycopg2.Error:
+            return False
