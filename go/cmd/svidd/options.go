@@ -18,6 +18,7 @@ import (
 	"github.com/BurntSushi/toml"
 
 	"svid.example/go/internal/bundles"
+	"svid.example/go/internal/carrier"
 	"svid.example/go/internal/group"
 	"svid.example/go/internal/regular"
 	"svid.example/go/internal/server"
@@ -314,7 +315,7 @@ func (o *options) problems() problems {
 		wrong(!good, "--nats: address %d is not like nats://HOST:PORT", i+1)
 		wrong(good && !natsSchemes[u.Scheme], "--nats: address %d must begin with nats://, tls://, ws:// or wss://", i+1)
 	}
-	wrong(!group.ValidName(o.group), "--group %q can't name a NATS bucket: use letters, digits, - and _", o.group)
+	wrong(!carrier.ValidName(o.group), "--group %q can't name a NATS bucket: use letters, digits, - and _", o.group)
 	wrong(o.replicas < 1 || o.replicas > group.MostReplicas, "--replicas must be from 1 to %d: so many NATS servers keep the bucket", group.MostReplicas)
 	if _, err := o.files.Connect(); err != nil {
 		wrong(true, "--nats-ca, --nats-cert, --nats-key, --nats-creds: %v", err)

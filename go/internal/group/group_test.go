@@ -204,7 +204,7 @@ func wantValues(t *testing.T, m *member, want ...Value) {
 	t.Helper()
 	got := m.inOrder()
 	for i := range got {
-		got[i].from = ""
+		got[i].From = ""
 	}
 	if fmt.Sprint(got) != fmt.Sprint(want) {
 		t.Errorf("%v, want %v", got, want)

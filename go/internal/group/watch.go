@@ -1,13 +1,14 @@
 package group
 
 import (
-	"context"
 	"errors"
 	"fmt"
 	"strings"
 	"time"
 
 	"github.com/nats-io/nats.go"
+
+	"svid.example/go/internal/carrier"
 )
 
 const (
@@ -71,7 +72,7 @@ func (g *Group) watch(b bucket) {
 			g.log("reading the bucket anew", "behind", r.seen, "why", err)
 		}
 		said, behind = err.Error(), r.seen
-		pause(g.life, rest)
+		carrier.Pause(g.life, rest)
 	}
 }
 
@@ -93,14 +94,6 @@ func (r *reader) front() (missed bool) {
 func (r *reader) mayHaveExpired() bool {
 	b := r.bucket
 	return b.keeps > 0 && time.Since(b.created) >= b.keeps && (r.since.IsZero() || time.Since(r.since) >= b.keeps)
-}
-
-// pause returns after d, or when ctx ends.
-func pause(ctx context.Context, d time.Duration) {
-	select {
-	case <-ctx.Done():
-	case <-time.After(d):
-	}
 }
 
 // read reads values behind the last one until something is wrong.
@@ -251,7 +244,7 @@ func (r *reader) isLost(info *streamInfo, ask func() (streamInfo, error)) (lost 
 			r.begin(bucketOf(*info), true)
 			return true, errAnother
 		}
-		pause(r.group.life, lossPause)
+		carrier.Pause(r.group.life, lossPause)
 		if *info, err = ask(); err != nil {
 			return false, err
 		}
@@ -274,7 +267,7 @@ func (r *reader) mind(c config) {
 
 // valueOf reads a value's key. One that no member wrote is taken as uses, and put aside if it is none.
 func (g *Group) valueOf(m *nats.Msg, place uint64) Value {
-	v := Value{Kind: Uses, Position: place, Message: m.Data, from: m.Subject}
+	v := Value{Kind: Uses, Position: place, Message: m.Data, From: m.Subject}
 	if strings.HasPrefix(strings.TrimPrefix(m.Subject, g.subject), "c.") {
 		v.Kind = Claims
 	}

@@ -1,0 +1,236 @@
+package postgres
+
+import (
+	"context"
+	"fmt"
+	"net/url"
+	"os"
+	"os/exec"
+	"strings"
+	"testing"
+	"time"
+
+	"svid.example/go/internal/broker"
+	"svid.example/go/internal/carrier"
+	"svid.example/go/internal/carrier/logtest"
+)
+
+// A machine is a server of PostgreSQL of a test.
+type machine struct{ *broker.Postgres }
+
+// start starts a server, which ends with the test.
+func start(t testing.TB, more ...string) *machine {
+	t.Helper()
+	dir, err := broker.Folder()
+	if err != nil {
+		t.Fatal(err)
+	}
+	t.Cleanup(func() { os.RemoveAll(dir) })
+	p, err := broker.NewPostgres(dir, more...)
+	if err != nil {
+		t.Fatal(err)
+	}
+	t.Cleanup(p.Kill)
+	s := &machine{p}
+	s.Start(t)
+	return s
+}
+
+func (s *machine) Start(t testing.TB) {
+	t.Helper()
+	if err := s.Postgres.Start(); err != nil {
+		t.Fatal(err)
+	}
+}
+
+func (s *machine) Join(ctx context.Context, o logtest.Options, sink carrier.Sink) (carrier.Group, error) {
+	address := s.URL
+	if o.Address != "" {
+		address = strings.Replace(address, s.Postgres.Address, o.Address, 1)
+	}
+	store, err := New(Options{URLs: []string{address}, Name: o.Name, Keep: o.Keep})
+	if err != nil {
+		return nil, err
+	}
+	return carrier.Join(ctx, store, carrier.Options{Keep: o.Keep, Log: o.Log}, sink)
+}
+
+func (s *machine) Address() string   { return s.Postgres.Address }
+func (s *machine) Kill(testing.TB)   { s.Postgres.Kill() }
+func (s *machine) Stop(testing.TB)   { s.Postgres.Stop() }
+func (s *machine) Pause(testing.TB)  { s.Postgres.Pause() }
+func (s *machine) Resume(testing.TB) { s.Postgres.Resume() }
+func (s *machine) Lose([]byte)       {}
+
+func (s *machine) do(t testing.TB, query string, values ...any) {
+	t.Helper()
+	if err := s.Do(query, values...); err != nil {
+		t.Fatal(query, err)
+	}
+}
+
+func (s *machine) Remove(t testing.TB, name string, position uint64) {
+	s.do(t, fmt.Sprintf(`DELETE FROM "%s".value WHERE position = %d`, name, position))
+}
+
+func (s *machine) Garbage(t testing.TB, name string) int {
+	s.do(t, fmt.Sprintf(`SELECT a.place FROM "%s".log l, "%[1]s".append(l.made, 'c', 'garbage') a`, name))
+	s.do(t, fmt.Sprintf(`SELECT a.place FROM "%s".log l, "%[1]s".append(l.made, 'u', '') a`, name))
+	for _, wrong := range []string{`'x', 'good'`, `'c', NULL`, `NULL, 'good'`, `'c', convert_to(repeat('x', 2000000), 'UTF8')`} {
+		if err := s.Do(fmt.Sprintf(`SELECT a.place FROM "%s".log l, "%[1]s".append(l.made, %s) a`, name, wrong)); err == nil {
+			t.Errorf("%s was appended", wrong)
+		}
+	}
+	return 2
+}
+
+func (s *machine) Copy(t testing.TB) func() {
+	t.Helper()
+	kept := t.TempDir()
+	s.Postgres.Stop()
+	copyAll(t, s.Dir, kept)
+	s.Start(t)
+	return func() {
+		s.Postgres.Kill()
+		copyAll(t, kept, s.Dir)
+		s.Start(t)
+	}
+}
+
+// copyAll puts what a folder has into another one, instead of what that has.
+func copyAll(t testing.TB, from, to string) {
+	t.Helper()
+	for _, words := range [][]string{{"find", to, "-mindepth", "1", "-delete"}, {"cp", "-a", from + "/.", to}} {
+		if out, err := exec.Command(words[0], words[1:]...).CombinedOutput(); err != nil {
+			t.Fatalf("%v: %v %s", words, err, out)
+		}
+	}
+}
+
+func (s *machine) Destroy(t testing.TB, name string) {
+	s.do(t, fmt.Sprintf(`DROP SCHEMA "%s" CASCADE`, name))
+}
+
+func TestLog(t *testing.T) { logtest.Run(t, start(t)) }
+
+// A deaf sink takes all, and keeps nothing.
+type deaf struct{}
+
+func (deaf) Begin(carrier.Start)          {}
+func (deaf) Take([]carrier.Value) []error { return nil }
+
+// join joins a group, and ends with the test.
+func join(t *testing.T, o Options) (*carrier.Member, error) {
+	t.Helper()
+	if o.Name == "" {
+		o.Name = "svid"
+	}
+	if o.Keep == 0 {
+		o.Keep = time.Hour
+	}
+	store, err := New(o)
+	if err != nil {
+		return nil, err
+	}
+	ctx, cancel := context.WithTimeout(context.Background(), 30*time.Second)
+	defer cancel()
+	m, err := carrier.Join(ctx, store, carrier.Options{Keep: o.Keep}, deaf{})
+	if err == nil {
+		t.Cleanup(func() { m.Close() })
+	}
+	return m, err
+}
+
+// as is the URL of a server for a user.
+func (s *machine) as(user, password string) string {
+	u, err := url.Parse(s.URL)
+	if err != nil {
+		panic(err)
+	}
+	u.User = url.UserPassword(user, password)
+	return u.String()
+}
+
+// Members with the rights that an administrator gives them append and read, and can't change or remove what is there.
+func TestRights(t *testing.T) {
+	s := start(t)
+	s.do(t, `CREATE ROLE "the member" LOGIN PASSWORD 'secret'`)
+	url := s.as("the member", "secret")
+	_, err := join(t, Options{URLs: []string{url}})
+	if err == nil || !strings.Contains(err.Error(), "svidd schema") || strings.Contains(err.Error(), "secret") {
+		t.Errorf("%v", err)
+	}
+	s.do(t, Schema("svid", time.Hour, "the member"))
+	m, err := join(t, Options{URLs: []string{url}})
+	if err != nil {
+		t.Fatal(err)
+	}
+	ctx, cancel := context.WithTimeout(context.Background(), 10*time.Second)
+	defer cancel()
+	if err := m.Put(ctx, carrier.Claims, 1, []byte("x")); err != nil {
+		t.Fatal(err)
+	}
+	member := &machine{&broker.Postgres{URL: url}}
+	for _, query := range []string{
+		`INSERT INTO svid.value VALUES (2, now(), 'c', 'x')`, `INSERT INTO svid.value VALUES (1, now(), 'c', 'x') ON CONFLICT (position) DO UPDATE SET value = 'x'`,
+		`UPDATE svid.value SET value = 'y'`, `DELETE FROM svid.value`, `TRUNCATE svid.value`, `DROP TABLE svid.value`, `ALTER TABLE svid.value ADD more text`,
+		`UPDATE svid.log SET last = 0`, `UPDATE svid.log SET keep = 0`, `DELETE FROM svid.log`, `INSERT INTO svid.log (keep) VALUES (1)`, `TRUNCATE svid.log`,
+		`SELECT 1 FROM svid.log FOR UPDATE`, `LOCK TABLE svid.log IN ACCESS EXCLUSIVE MODE`, `DROP SCHEMA svid CASCADE`, `CREATE TABLE svid.more (x int)`,
+		`CREATE OR REPLACE FUNCTION svid.expire(log uuid) RETURNS bigint LANGUAGE sql AS 'SELECT 1'`, `CREATE TRIGGER t BEFORE INSERT ON svid.value EXECUTE FUNCTION svid.expire()`,
+		`SELECT svid.append('00000000-0000-0000-0000-000000000000', 'c', 'x')`,
+	} {
+		if err := member.Do(query); err == nil {
+			t.Errorf("a member may: %s", query)
+		}
+	}
+	// What a member calls by other names does not stand in for what the functions call.
+	if err := member.Do(`CREATE TEMP TABLE value (position bigint); CREATE TEMP TABLE log (made uuid, last bigint)`); err != nil {
+		t.Fatal(err)
+	}
+	if err := member.Do(`SELECT svid.expire(made) FROM svid.log`); err != nil {
+		t.Errorf("a member may not: %v", err)
+	}
+	s.do(t, `DO $$ BEGIN ASSERT (SELECT count(*) FROM svid.value) = 1; END $$`)
+}
+
+// A server that could lose what it has committed is not used.
+func TestJoinRefusesAServerThatForgets(t *testing.T) {
+	for setting, want := range map[string]string{
+		"fsync=off": "fsync is off and must be on", "full_page_writes=off": "full_page_writes is off and must be on",
+	} {
+		s := start(t, "-c", setting)
+		if _, err := join(t, Options{URLs: []string{s.URL}}); err == nil || !strings.Contains(err.Error(), want) {
+			t.Errorf("%s: %v", setting, err)
+		}
+		s.Postgres.Kill()
+	}
+	s := start(t, "-c", "synchronous_commit=off", "-c", "default_transaction_isolation=serializable")
+	if _, err := join(t, Options{URLs: []string{s.URL}}); err != nil {
+		t.Errorf("where each session can set it: %v", err)
+	}
+	if _, err := join(t, Options{URLs: []string{s.URL}, Replicas: 2}); err == nil || !strings.Contains(err.Error(), "synchronous_standby_names is empty") {
+		t.Errorf("%v", err)
+	}
+}
+
+// URLs that can't be used are errors that have no secret of them.
+func TestURLs(t *testing.T) {
+	for text, want := range map[string]string{
+		"postgres://u:secret@h/d":                        "",
+		"postgresql://u@h/d?sslmode=verify-full":         "",
+		"postgres:///d?host=/var/run/postgresql":         "",
+		"postgres://u:secret@h:x/d":                      "it is no URL",
+		"postgres://u:secret@h1,h2/d":                    "several servers",
+		"redis://u:secret@h":                             "not like postgres://",
+		"postgres://u:secret@h/d?connect_timeout=secret": "",
+	} {
+		_, err := New(Options{URLs: []string{text}, Name: "svid"})
+		if (err == nil) != (want == "") || err != nil && (!strings.Contains(err.Error(), want) || strings.Contains(err.Error(), "secret")) {
+			t.Errorf("%s: %v", text, err)
+		}
+	}
+	t.Setenv("PGSERVICE", "x")
+	if _, err := New(Options{URLs: []string{"postgres://h/d"}, Name: "svid"}); err == nil {
+		t.Error("what the library can't use is no error")
+	}
+}

@@ -1,0 +1,301 @@
+package redis
+
+import (
+	"context"
+	"fmt"
+	"os"
+	"os/exec"
+	"strings"
+	"testing"
+	"time"
+
+	"svid.example/go/internal/broker"
+	"svid.example/go/internal/carrier"
+	"svid.example/go/internal/carrier/logtest"
+)
+
+// A machine is a redis-server of a test.
+type machine struct {
+	*broker.Redis
+	replicas int
+}
+
+// start starts a server, which ends with the test.
+func start(t testing.TB, more ...string) *machine {
+	t.Helper()
+	r, err := broker.NewRedis(t.TempDir(), more...)
+	if err != nil {
+		t.Fatal(err)
+	}
+	t.Cleanup(r.Kill)
+	s := &machine{Redis: r}
+	s.Start(t)
+	return s
+}
+
+func (s *machine) Start(t testing.TB) {
+	t.Helper()
+	if err := s.Redis.Start(); err != nil {
+		t.Fatal(err)
+	}
+	logtest.Await(t, "redis-server", s.Answers)
+}
+
+func (s *machine) Join(ctx context.Context, o logtest.Options, sink carrier.Sink) (carrier.Group, error) {
+	url := s.URL
+	if o.Address != "" {
+		url = "redis://" + o.Address
+	}
+	store, err := New(Options{URLs: []string{url}, Name: o.Name, Keep: o.Keep, Replicas: s.replicas})
+	if err != nil {
+		return nil, err
+	}
+	return carrier.Join(ctx, store, carrier.Options{Keep: o.Keep, Log: o.Log}, sink)
+}
+
+func (s *machine) Address() string   { return s.Redis.Address }
+func (s *machine) Kill(testing.TB)   { s.Redis.Kill() }
+func (s *machine) Stop(testing.TB)   { s.Redis.Stop() }
+func (s *machine) Pause(testing.TB)  { s.Redis.Pause() }
+func (s *machine) Resume(testing.TB) { s.Redis.Resume() }
+func (s *machine) Lose([]byte)       {}
+func stream(name string) string      { return "svid:{" + name + "}:log" }
+func (s *machine) do(t testing.TB, words ...string) string {
+	t.Helper()
+	answer, err := s.Do(words...)
+	if err != nil {
+		t.Fatal(err)
+	}
+	return answer
+}
+
+func (s *machine) Remove(t testing.TB, name string, position uint64) {
+	s.do(t, "XDEL", stream(name), id(position))
+}
+
+func (s *machine) Garbage(t testing.TB, name string) int {
+	s.do(t, "XADD", stream(name), "1-*", "foo", "bar")
+	s.do(t, "XADD", stream(name), "1-*", "at", "0", "kind", "c", "value", "garbage")
+	s.do(t, "XADD", stream(name), "1-*", "at", "soon", "kind", "c", "value", "good but without a time")
+	s.do(t, "XADD", stream(name), "1-*", "at", "0", "kind", "c", "value", "good but "+strings.Repeat("x", 2<<20))
+	many := []string{"XADD", stream(name), "1-*"}
+	for i := 0; i < 3000; i++ {
+		many = append(many, "field", "value")
+	}
+	s.do(t, many...)
+	return 5
+}
+
+func (s *machine) Copy(t testing.TB) func() {
+	t.Helper()
+	kept := t.TempDir()
+	s.Redis.Stop()
+	copyAll(t, s.Dir, kept)
+	s.Start(t)
+	return func() {
+		s.Redis.Kill()
+		copyAll(t, kept, s.Dir)
+		s.Start(t)
+	}
+}
+
+// copyAll puts what a folder has into another one, instead of what that has.
+func copyAll(t testing.TB, from, to string) {
+	t.Helper()
+	for _, words := range [][]string{{"find", to, "-mindepth", "1", "-delete"}, {"cp", "-a", from + "/.", to}} {
+		if out, err := exec.Command(words[0], words[1:]...).CombinedOutput(); err != nil {
+			t.Fatalf("%v: %v %s", words, err, out)
+		}
+	}
+}
+
+func (s *machine) Destroy(t testing.TB, name string) {
+	s.do(t, "DEL", stream(name), "svid:{"+name+"}:head")
+}
+
+func TestLog(t *testing.T) { logtest.Run(t, start(t)) }
+
+// join joins a group, and ends with the test.
+func join(t *testing.T, o Options, sink carrier.Sink, log func(string, ...any)) (*carrier.Member, error) {
+	t.Helper()
+	if o.Name == "" {
+		o.Name = "svid"
+	}
+	if o.Keep == 0 {
+		o.Keep = time.Hour
+	}
+	store, err := New(o)
+	if err != nil {
+		return nil, err
+	}
+	ctx, cancel := context.WithTimeout(context.Background(), 30*time.Second)
+	defer cancel()
+	m, err := carrier.Join(ctx, store, carrier.Options{Keep: o.Keep, Log: log}, sink)
+	if err == nil {
+		t.Cleanup(func() { m.Close() })
+	}
+	return m, err
+}
+
+// A deaf sink takes all, and keeps nothing.
+type deaf struct{}
+
+func (deaf) Begin(carrier.Start)          {}
+func (deaf) Take([]carrier.Value) []error { return nil }
+
+// A server that could lose what it has answered is not used, and the error says by which setting.
+func TestJoinRefusesAServerThatForgets(t *testing.T) {
+	for name, row := range map[string]struct {
+		setting, value, want string
+	}{
+		"no file":        {"appendonly", "no", "appendonly is no and must be yes"},
+		"each second":    {"appendfsync", "everysec", "appendfsync is everysec and must be always"},
+		"never":          {"appendfsync", "no", "appendfsync is no and must be always"},
+		"not meanwhile":  {"no-appendfsync-on-rewrite", "yes", "no-appendfsync-on-rewrite is yes and must be no"},
+		"evicts":         {"maxmemory-policy", "allkeys-lru", "maxmemory-policy is allkeys-lru and must be noeviction"},
+		"evicts by time": {"maxmemory-policy", "volatile-ttl", "maxmemory-policy is volatile-ttl and must be noeviction"},
+	} {
+		s := start(t)
+		s.do(t, "CONFIG", "SET", row.setting, row.value)
+		if _, err := join(t, Options{URLs: []string{s.URL}}, deaf{}, nil); err == nil || !strings.Contains(err.Error(), row.want) {
+			t.Errorf("%s: %v", name, err)
+		}
+		if _, err := join(t, Options{URLs: []string{s.URL + "?settings=unchecked"}}, deaf{}, nil); err != nil {
+			t.Errorf("%s: unchecked: %v", name, err)
+		}
+		s.Redis.Kill()
+	}
+}
+
+// Members need some rights alone. One that may not read the settings says so.
+func TestRights(t *testing.T) {
+	s := start(t)
+	acl := strings.Fields("ACL SETUSER member on >secret ~svid:{svid}:* resetchannels -@all +eval +xadd +xread +xrange +xinfo|stream +xtrim +hget +hmget +hset " +
+		"+exists +del +time +info +wait +set +config|get +role +multi +exec")
+	s.do(t, acl...)
+	url := strings.Replace(s.URL, "redis://", "redis://member:secret@", 1)
+	m, err := join(t, Options{URLs: []string{url}}, deaf{}, nil)
+	if err != nil {
+		t.Fatal(err)
+	}
+	ctx, cancel := context.WithTimeout(context.Background(), 10*time.Second)
+	defer cancel()
+	if err := m.Put(ctx, carrier.Claims, 1, []byte("x")); err != nil {
+		t.Fatal(err)
+	}
+	s.do(t, "ACL", "SETUSER", "member", "-config|get")
+	_, err = join(t, Options{URLs: []string{url}}, deaf{}, nil)
+	if err == nil || !strings.Contains(err.Error(), "does not tell its settings") || strings.Contains(err.Error(), "secret") {
+		t.Errorf("%v", err)
+	}
+	if _, err := join(t, Options{URLs: []string{url + "?settings=unchecked"}}, deaf{}, nil); err != nil {
+		t.Error(err)
+	}
+	wrong := strings.Replace(s.URL, "redis://", "redis://member:wrong@", 1)
+	store, err := New(Options{URLs: []string{wrong}, Name: "svid"})
+	if err != nil {
+		t.Fatal(err)
+	}
+	defer store.Close()
+	if _, err := store.Open(ctx); err == nil || !strings.Contains(err.Error(), "WRONGPASS") {
+		t.Errorf("%v", err)
+	}
+}
+
+// A password may stand in the URL, in a file, or in the environment.
+func TestPasswords(t *testing.T) {
+	s := start(t)
+	s.do(t, "CONFIG", "SET", "requirepass", "sesame")
+	file := t.TempDir() + "/password"
+	if err := os.WriteFile(file, []byte("sesame\n"), 0o600); err != nil {
+		t.Fatal(err)
+	}
+	for name, row := range map[string]struct {
+		url, variable string
+		good          bool
+	}{
+		"none":        {s.URL, "", false},
+		"url":         {strings.Replace(s.URL, "redis://", "redis://:sesame@", 1), "", true},
+		"file":        {s.URL + "?password_file=" + file, "", true},
+		"environment": {s.URL, "sesame", true},
+	} {
+		t.Run(name, func(t *testing.T) {
+			t.Setenv(passwordVariable, row.variable)
+			store, err := New(Options{URLs: []string{row.url}, Name: "svid", Keep: time.Hour})
+			if err != nil {
+				t.Fatal(err)
+			}
+			defer store.Close()
+			ctx, cancel := context.WithTimeout(context.Background(), 10*time.Second)
+			defer cancel()
+			if _, err = store.Open(ctx); (err == nil) != row.good || err != nil && strings.Contains(err.Error(), "sesame") {
+				t.Error(err)
+			}
+		})
+	}
+}
+
+// URLs that can't be used are errors that have no secret of them.
+func TestURLs(t *testing.T) {
+	for text, want := range map[string]string{
+		"redis://h":                           "",
+		"redis://h:1/3":                       "",
+		"rediss://u:secret@[::1]:6380/0":      "",
+		"redis://u:secret@h:x":                "it is no URL",
+		"redis://u:secret%zz@h":               "it is no URL",
+		"redis:":                              "not like redis://",
+		"http://h":                            "not like redis://",
+		"redis://h/x":                         "not the number of a database",
+		"redis://h/01":                        "not the number of a database",
+		"redis://u:secret@h?foo=secret":       `"foo" is none of`,
+		"redis://h?settings=none":             "settings can only be unchecked",
+		"redis://h?ssl_ca_certs=x":            "rediss:// alone",
+		"rediss://h?ssl_certfile=x":           "only of use together",
+		"rediss://h?ssl_ca_certs=/nowhere":    "/nowhere",
+		"redis://h?password_file=/nowhere":    "/nowhere",
+		"redis://u:secret@h?password_file=%z": "what stands behind its ?",
+	} {
+		_, err := New(Options{URLs: []string{text}, Name: "svid"})
+		if (err == nil) != (want == "") || err != nil && (!strings.Contains(err.Error(), want) || strings.Contains(err.Error(), "secret")) {
+			t.Errorf("%s: %v", text, err)
+		}
+	}
+}
+
+// Garbage of a member that lies: an entry behind which nothing can be appended is said, and a trim of young values is seen.
+func TestLiar(t *testing.T) {
+	s := start(t)
+	said := make(chan string, 100)
+	log := func(event string, fields ...any) { said <- fmt.Sprint(append([]any{event}, fields...)...) }
+	m, err := join(t, Options{URLs: []string{s.URL}}, deaf{}, log)
+	if err != nil {
+		t.Fatal(err)
+	}
+	ctx, cancel := context.WithTimeout(context.Background(), 30*time.Second)
+	defer cancel()
+	for i := 0; i < 3; i++ {
+		if err := m.Put(ctx, carrier.Claims, 1, []byte("x")); err != nil {
+			t.Fatal(err)
+		}
+	}
+	s.do(t, "XTRIM", stream("svid"), "MAXLEN", "1")
+	begun := make(starts, 100)
+	if _, err := join(t, Options{URLs: []string{s.URL}}, begun, nil); err != nil {
+		t.Fatal(err)
+	}
+	if got := <-begun; !got.Missed || got.Passed != 2 {
+		t.Errorf("began %+v", got)
+	}
+	s.do(t, "XADD", stream("svid"), "7-7", "foo", "bar")
+	for line := range said {
+		if strings.Contains(line, "no value, and nothing can be appended") {
+			break
+		}
+	}
+}
+
+// starts tells of beginnings.
+type starts chan carrier.Start
+
+func (s starts) Begin(start carrier.Start)    { s <- start }
+func (s starts) Take([]carrier.Value) []error { return nil }
