@@ -43,6 +43,7 @@ const (
 	connectWait  = 250 * time.Millisecond // between two tries to reach a server
 	pingEvery    = 5 * time.Second        // a server that misses two pings counts as gone
 	attemptWait  = time.Second            // for the broker's answer, before it is asked again
+	firstWait    = attemptWait / 4        // the same where a value is put for the first time: its server may have been restarted
 	makeWait     = 5 * time.Second        // the same where the bucket is made
 	readWait     = 2 * time.Second        // the same where reading it begins, at first; longer after each failure
 	mostReadWait = 30 * time.Second       // and at the most, for a broker that is busy
@@ -229,9 +230,13 @@ func (g *Group) keyOf(kind Kind, number uint64) string {
 // later, but never twice: the broker takes a value only if its key has none yet.
 func (g *Group) Put(ctx context.Context, kind Kind, number uint64, message []byte) error {
 	subject := g.subject + g.keyOf(kind, number)
+	wait := firstWait
 	return carrier.Persist(ctx, "group: put", func() (bool, error) {
-		attempt, cancel := context.WithTimeout(ctx, attemptWait)
+		attempt, cancel := context.WithTimeout(ctx, wait)
 		defer cancel()
+		if wait *= 2; wait > attemptWait {
+			wait = attemptWait
+		}
 		m := &nats.Msg{Subject: subject, Header: nats.Header{}, Data: message}
 		ack, err := g.js.PublishMsg(m, nats.Context(attempt), nats.ExpectLastSequencePerSubject(0))
 		switch {

@@ -443,9 +443,8 @@ func TestReadingBeginsAnewForAnOwnValue(t *testing.T) {
 		}
 	}
 	awaitHeld(t, a, tell(t, a, 2))
-	if !a.logged("no value came") {
-		t.Error(a.lines)
-	}
+	natstest.Await(t, "another feed", func() bool { return a.logged("no value came") })
+	awaitHeld(t, a, tell(t, a, 3))
 }
 
 // A broker that says nothing any more is asked anew, though nobody waits for a value.
@@ -1046,7 +1045,7 @@ func TestValuesBeforeALossAreTaken(t *testing.T) {
 		if err == nil {
 			err = r.values(f, m, about)
 		}
-		if err != errLost || len(s.order) != 2 || r.seen != 2 || len(s.begun) != 0 {
+		if err != errSkipped || len(s.order) != 2 || r.seen != 2 || len(s.begun) != 0 {
 			t.Errorf("%s: %v, %d values, seen %d, began %v", name, err, len(s.order), r.seen, s.begun)
 		}
 	}
