@@ -394,10 +394,11 @@ func valueOf(entry any) (v carrier.Stored, at int64) {
 	when, _ := fields[1].(string)
 	kind, _ := fields[3].(string)
 	message, is := fields[5].(string)
-	at, err := strconv.ParseInt(when, 10, 64)
-	if !is || err != nil || len(message) > carrier.MostValue {
+	time, ok := number(when)
+	if !is || !ok || len(message) > carrier.MostValue {
 		return v, 0
 	}
+	at = int64(time)
 	if kind == string(rune(carrier.Claims)) {
 		v.Kind = carrier.Claims
 	}
