@@ -6,9 +6,12 @@ import (
 	"context"
 	"errors"
 	"fmt"
+	"os"
+	"path/filepath"
 	"strings"
 	"sync"
 	"sync/atomic"
+	"syscall"
 	"testing"
 	"time"
 
@@ -674,4 +677,72 @@ func (s *suite) serverComesLater(t *testing.T) {
 	late := <-joined
 	m.put(t, "good 2")
 	same(t, holds([]string{"good 2"}), m, late)
+}
+
+// Full lets a server have no room for a while. What it can't store is an error, and nothing that was answered is lost; nor does
+// anybody say so.
+func Full(t *testing.T, server Server, fill, free func()) {
+	s := &suite{server: server}
+	o := Options{Name: s.name()}
+	members := []*member{s.join(t, o), s.join(t, o)}
+	end := load(t, members[0])
+	Await(t, "some values", func() bool { return members[1].Taken() > 20 })
+	fill()
+	padding := strings.Repeat("x", 50<<10)
+	var answered []string
+	for n := 0; ; n++ {
+		message := fmt.Sprint("good large ", n, padding)
+		if members[1].tryPut(time.Second, message) != nil {
+			break
+		}
+		if answered = append(answered, message); n == 10_000 {
+			t.Fatal("the server has room")
+		}
+	}
+	free()
+	before := members[1].Taken()
+	Await(t, "some values", func() bool { return members[1].Taken() > before+20 })
+	answered = append(answered, end()...)
+	late := s.join(t, o)
+	same(t, holds(answered), append(members, late)...)
+	for _, m := range append(members, late) {
+		if got := m.starts(); len(got) != 1 || m.said("gone") || m.said("anew") {
+			t.Errorf("began %v, and said %q", got, m.lines)
+		}
+	}
+}
+
+// Small is a small disk, and ends with the test. fill leaves no room on it, and free gives that back. Only root can have one: ok says
+// whether that went.
+func Small(t testing.TB, megabytes int) (dir string, fill, free func(), ok bool) {
+	t.Helper()
+	dir, err := os.MkdirTemp("", "svid-small-")
+	if err != nil {
+		t.Fatal(err)
+	}
+	t.Cleanup(func() { os.RemoveAll(dir) })
+	if err := syscall.Mount("tmpfs", dir, "tmpfs", 0, fmt.Sprintf("size=%dm,mode=755", megabytes)); err != nil {
+		return "", nil, nil, false
+	}
+	t.Cleanup(func() { syscall.Unmount(dir, syscall.MNT_DETACH) })
+	filler := filepath.Join(dir, "filler")
+	fill = func() {
+		file, err := os.Create(filler)
+		if err != nil {
+			t.Fatal(err)
+		}
+		defer file.Close()
+		for err == nil {
+			_, err = file.Write(make([]byte, 4<<10))
+		}
+		if !errors.Is(err, syscall.ENOSPC) {
+			t.Fatal(err)
+		}
+	}
+	free = func() {
+		if err := os.Remove(filler); err != nil {
+			t.Fatal(err)
+		}
+	}
+	return dir, fill, free, true
 }

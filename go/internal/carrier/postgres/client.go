@@ -77,9 +77,15 @@ func (d *dialer) DialTimeout(network, address string, wait time.Duration) (net.C
 
 // A conn is a connection. It is for one goroutine at a time, but close may come at any time.
 type conn struct {
-	raw net.Conn
-	db  driver.Conn
+	raw    net.Conn
+	db     driver.Conn
+	warned string // what the server has warned of in this query
 }
+
+// errWarned: a commit that did not wait for standbys, as it had to, is no error for the server.
+type errWarned string
+
+func (e errWarned) Error() string { return "the server warns: " + string(e) }
 
 // dial connects.
 func dial(ctx context.Context, text string) (*conn, error) {
@@ -96,7 +102,12 @@ func dial(ctx context.Context, text string) (*conn, error) {
 		}
 		return nil, err
 	}
-	one := &conn{d.last, db}
+	one := &conn{raw: d.last, db: db}
+	pq.SetNoticeHandler(db, func(said *pq.Error) {
+		if said.Severity == "WARNING" {
+			one.warned = said.Message
+		}
+	})
 	if _, err := one.query(ctx, begin); err != nil {
 		one.close()
 		return nil, err
@@ -120,6 +131,7 @@ func (c *conn) query(ctx context.Context, text string, values ...any) ([][]drive
 	for i, v := range values {
 		named[i] = driver.NamedValue{Ordinal: i + 1, Value: v}
 	}
+	c.warned = ""
 	found, err := c.db.(driver.QueryerContext).QueryContext(context.Background(), text, named)
 	if err != nil {
 		return nil, err
@@ -130,6 +142,9 @@ func (c *conn) query(ctx context.Context, text string, values ...any) ([][]drive
 		row := make([]driver.Value, len(found.Columns()))
 		err := found.Next(row)
 		if err == io.EOF {
+			if c.warned != "" {
+				return nil, errWarned(c.warned)
+			}
 			return rows, nil
 		}
 		if err != nil {

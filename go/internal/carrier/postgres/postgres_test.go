@@ -7,6 +7,7 @@ import (
 	"os"
 	"os/exec"
 	"strings"
+	"sync"
 	"testing"
 	"time"
 
@@ -26,6 +27,11 @@ func start(t testing.TB, more ...string) *machine {
 		t.Fatal(err)
 	}
 	t.Cleanup(func() { os.RemoveAll(dir) })
+	return startIn(t, dir, more...)
+}
+
+func startIn(t testing.TB, dir string, more ...string) *machine {
+	t.Helper()
 	p, err := broker.NewPostgres(dir, more...)
 	if err != nil {
 		t.Fatal(err)
@@ -112,6 +118,178 @@ func (s *machine) Destroy(t testing.TB, name string) {
 }
 
 func TestLog(t *testing.T) { logtest.Run(t, start(t)) }
+
+// A server whose disk is full refuses values, or ends. It goes on once there is room.
+func TestFullDisk(t *testing.T) {
+	dir, fill, free, ok := logtest.Small(t, 96)
+	if !ok {
+		t.Log("no small disk without root")
+		return
+	}
+	if err := broker.Own(dir); err != nil {
+		t.Fatal(err)
+	}
+	s := startIn(t, dir)
+	logtest.Full(t, s, fill, func() {
+		free()
+		s.Postgres.Kill()
+		s.Start(t)
+	})
+}
+
+// A standby that is promoted lacks the last values of its primary: each member sees that some may be lost. Where values wait for the
+// standby, it lacks none that counts, and nobody says so.
+func TestFailover(t *testing.T) {
+	for _, replicas := range []int{1, 2} {
+		t.Run(fmt.Sprint(replicas), func(t *testing.T) {
+			var more []string
+			if replicas == 2 {
+				more = []string{"-c", "synchronous_standby_names=*"}
+			}
+			primary := start(t, more...)
+			standby := follow(t, primary, more...)
+			all := make([]*told, 3)
+			for i := range all {
+				all[i] = &told{begun: make(chan carrier.Start, 100), taken: make(chan carrier.Value, 1000)}
+				store, err := New(Options{URLs: []string{primary.URL, standby.URL}, Name: "svid", Keep: time.Hour, Replicas: replicas})
+				if err != nil {
+					t.Fatal(err)
+				}
+				ctx, cancel := context.WithTimeout(context.Background(), 30*time.Second)
+				defer cancel()
+				if all[i].Member, err = carrier.Join(ctx, store, carrier.Options{Keep: time.Hour, Log: all[i].log}, all[i]); err != nil {
+					t.Fatal(err)
+				}
+				defer all[i].Close()
+				<-all[i].begun
+			}
+			put := func(m *told, text string, wait time.Duration) error {
+				ctx, cancel := context.WithTimeout(context.Background(), wait)
+				defer cancel()
+				return m.Put(ctx, carrier.Claims, 1, []byte(text))
+			}
+			if err := put(all[0], "there", 20*time.Second); err != nil {
+				t.Fatal(err)
+			}
+			for _, m := range all {
+				m.want(t, "there")
+			}
+			logtest.Await(t, "the standby to have it", func() bool {
+				return standby.Do(`DO $$ BEGIN ASSERT (SELECT count(*) FROM svid.value) = 1; END $$`) == nil
+			})
+			standby.Postgres.Kill() // It gets nothing from here on.
+			if err := put(all[1], "lost", 2*time.Second); (err == nil) != (replicas == 1) {
+				t.Fatalf("with %d replicas: %v", replicas, err)
+			}
+			if replicas == 1 {
+				for _, m := range all {
+					m.want(t, "lost")
+				}
+			} else {
+				// An administrator who cancels the wait lets the value be visible. It counts for nobody.
+				if err := primary.Do(`SELECT pg_cancel_backend(pid) FROM pg_stat_activity WHERE wait_event = 'SyncRep'`); err != nil {
+					t.Fatal(err)
+				}
+				logtest.Await(t, "the value to be visible", func() bool {
+					return primary.Do(`DO $$ BEGIN ASSERT (SELECT count(*) FROM svid.value) > 1; END $$`) == nil
+				})
+			}
+			primary.Postgres.Kill()
+			standby.Start(t)
+			if replicas == 2 {
+				if err := standby.Do(`ALTER SYSTEM SET synchronous_standby_names = ''`); err != nil {
+					t.Fatal(err)
+				}
+			}
+			if err := standby.Do("SELECT pg_promote()"); err != nil {
+				t.Fatal(err)
+			}
+			other := follow(t, standby, more...)
+			defer other.Postgres.Kill()
+			if err := put(all[2], "behind", 30*time.Second); err != nil {
+				t.Fatal(err)
+			}
+			for _, m := range all {
+				if replicas == 1 {
+					select {
+					case start := <-m.begun:
+						if !start.Missed || start.Passed != 0 {
+							t.Errorf("began %+v", start)
+						}
+					case <-time.After(30 * time.Second):
+						t.Fatal("a loss was not seen")
+					}
+				}
+				m.want(t, "behind")
+				if replicas == 2 && (len(m.begun) > 0 || m.lost) {
+					t.Errorf("nothing was lost that counts, and it began %d times, and took it %v: %q", len(m.begun), m.lost, m.said())
+				}
+			}
+		})
+	}
+}
+
+// follow starts a standby of a server.
+func follow(t *testing.T, primary *machine, more ...string) *machine {
+	t.Helper()
+	dir, err := broker.Folder()
+	if err != nil {
+		t.Fatal(err)
+	}
+	t.Cleanup(func() { os.RemoveAll(dir) })
+	host, port, _ := strings.Cut(primary.Postgres.Address, ":")
+	if out, err := primary.Command("pg_basebackup", "-D", dir+"/data", "-h", host, "-p", port, "-U", "svid", "-R", "-c", "fast").CombinedOutput(); err != nil {
+		t.Fatalf("%v %s", err, out)
+	}
+	return startIn(t, dir, more...)
+}
+
+// told is a member, with what its sink is told.
+type told struct {
+	*carrier.Member
+	begun chan carrier.Start
+	taken chan carrier.Value
+	mu    sync.Mutex
+	lines []string
+	lost  bool // a value came that is to be lost
+}
+
+func (t *told) Begin(start carrier.Start) { t.begun <- start }
+
+func (t *told) Take(values []carrier.Value) []error {
+	for _, v := range values {
+		t.taken <- v
+	}
+	return nil
+}
+
+func (t *told) log(event string, fields ...any) {
+	t.mu.Lock()
+	defer t.mu.Unlock()
+	t.lines = append(t.lines, fmt.Sprint(append([]any{event}, fields...)...))
+}
+
+func (t *told) said() []string {
+	t.mu.Lock()
+	defer t.mu.Unlock()
+	return append([]string(nil), t.lines...)
+}
+
+// want waits for a value.
+func (t *told) want(test *testing.T, text string) {
+	test.Helper()
+	for end := time.After(30 * time.Second); ; {
+		select {
+		case v := <-t.taken:
+			if string(v.Message) == text {
+				return
+			}
+			t.lost = t.lost || string(v.Message) == "lost"
+		case <-end:
+			test.Fatalf("%q did not come: %q", text, t.said())
+		}
+	}
+}
 
 // A deaf sink takes all, and keeps nothing.
 type deaf struct{}

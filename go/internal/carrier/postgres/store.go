@@ -40,7 +40,7 @@ type Options struct {
 	URLs     []string      // of servers, of which one is the primary, or of the only one
 	Name     string        // the group's: that of the schema
 	Keep     time.Duration // how long a log keeps values that this member makes
-	Replicas int           // more than 1 wants a server that waits for standbys before it commits
+	Replicas int           // more than 1 wants a server that waits for standbys, and values count once these have them
 }
 
 // Schema is what makes the log of a group, and gives members their rights, as SQL. role may be "".
@@ -325,8 +325,7 @@ func (s *Store) State(ctx context.Context, at uint64) (state carrier.State, err 
 	if is := text(row[10]); is != "on" && is != "remote_apply" {
 		wrong = append(wrong, "synchronous_commit is "+is+" and must be on")
 	}
-	waits := text(row[11]) != ""
-	if s.options.Replicas > 1 && !waits {
+	if s.options.Replicas > 1 && text(row[11]) == "" {
 		wrong = append(wrong, "synchronous_standby_names is empty, and a value is to be on more than one server")
 	}
 	state.Unsafe = strings.Join(wrong, ", ")
@@ -334,7 +333,7 @@ func (s *Store) State(ctx context.Context, at uint64) (state carrier.State, err 
 	if timeline == "" {
 		return state, errStandby
 	}
-	state.Lost = s.timeline != "" && timeline != s.timeline && !waits
+	state.Lost = s.timeline != "" && timeline != s.timeline && s.options.Replicas <= 1
 	s.timeline = timeline
 	return state, nil
 }
@@ -390,6 +389,12 @@ func (s *Store) values(ctx context.Context, behind uint64) ([]carrier.Stored, er
 		FROM "NAME".value v WHERE v.position > $1 ORDER BY v.position LIMIT $2`, "NAME", s.options.Name), int64(behind), int64(mostAtOnce))
 	if err != nil {
 		return nil, err
+	}
+	if len(rows) > 0 && s.options.Replicas > 1 {
+		// A value is visible before standbys have it where someone cancelled that wait. This commit stands behind it.
+		if _, err := s.ask(ctx, "SELECT pg_logical_emit_message(true, 'svid', '')"); err != nil {
+			return nil, err
+		}
 	}
 	values := make([]carrier.Stored, len(rows))
 	for i, row := range rows {

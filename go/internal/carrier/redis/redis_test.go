@@ -6,6 +6,7 @@ import (
 	"os"
 	"os/exec"
 	"strings"
+	"sync"
 	"testing"
 	"time"
 
@@ -23,7 +24,12 @@ type machine struct {
 // start starts a server, which ends with the test.
 func start(t testing.TB, more ...string) *machine {
 	t.Helper()
-	r, err := broker.NewRedis(t.TempDir(), more...)
+	return startIn(t, t.TempDir(), more...)
+}
+
+func startIn(t testing.TB, dir string, more ...string) *machine {
+	t.Helper()
+	r, err := broker.NewRedis(dir, more...)
 	if err != nil {
 		t.Fatal(err)
 	}
@@ -114,6 +120,157 @@ func (s *machine) Destroy(t testing.TB, name string) {
 }
 
 func TestLog(t *testing.T) { logtest.Run(t, start(t)) }
+
+// A server whose memory is full refuses values, and keeps those that it has.
+func TestFullMemory(t *testing.T) {
+	s := start(t)
+	logtest.Full(t, s, func() { s.do(t, "CONFIG", "SET", "maxmemory", "1mb") }, func() { s.do(t, "CONFIG", "SET", "maxmemory", "0") })
+}
+
+// One whose disk is full ends. It goes on once there is room.
+func TestFullDisk(t *testing.T) {
+	dir, fill, free, ok := logtest.Small(t, 16)
+	if !ok {
+		t.Log("no small disk without root: TestFullMemory alone shows that nothing is lost")
+		return
+	}
+	s := startIn(t, dir)
+	logtest.Full(t, s, fill, func() {
+		free()
+		if !s.Answers() {
+			s.Redis.Kill()
+			s.Start(t)
+		}
+	})
+}
+
+// A replica that takes over lacks the last values of its primary: who has read those sees it, and so does who has not. Where values
+// wait for the replica, it lacks none, and nobody says so.
+func TestFailover(t *testing.T) {
+	for _, replicas := range []int{1, 2} {
+		t.Run(fmt.Sprint(replicas), func(t *testing.T) {
+			primary := start(t)
+			host, port, _ := strings.Cut(primary.Redis.Address, ":")
+			replica := start(t, "--replicaof", host+" "+port)
+			logtest.Await(t, "the replica", func() bool {
+				answer, err := replica.Do("EVAL", "return redis.call('INFO', 'replication'):match('master_link_status:up') or 'down'", "0")
+				return err == nil && strings.HasPrefix(answer, "$21")
+			})
+			proxy := logtest.NewProxy(t, primary.Redis.Address)
+			all := make([]*told, 3)
+			for i := range all {
+				o := Options{URLs: []string{primary.URL, replica.URL}, Replicas: replicas}
+				if i == 2 {
+					o.URLs[0] = "redis://" + proxy.Address
+				}
+				all[i] = &told{begun: make(chan carrier.Start, 100), taken: make(chan carrier.Value, 1000)}
+				m, err := join(t, o, all[i], all[i].log)
+				if err != nil {
+					t.Fatal(err)
+				}
+				all[i].Member = m
+				<-all[i].begun
+			}
+			put := func(m *told, text string, wait time.Duration) error {
+				ctx, cancel := context.WithTimeout(context.Background(), wait)
+				defer cancel()
+				return m.Put(ctx, carrier.Claims, 1, []byte(text))
+			}
+			if err := put(all[0], "there", 10*time.Second); err != nil {
+				t.Fatal(err)
+			}
+			for _, m := range all {
+				m.want(t, "there")
+			}
+			replica.Redis.Kill() // It gets nothing from here on,
+			proxy.Shut(true)     // and the third member reads nothing.
+			err := put(all[1], "lost", time.Second)
+			if (err == nil) != (replicas == 1) {
+				t.Fatalf("with %d replicas: %v", replicas, err)
+			}
+			if replicas == 1 {
+				for _, m := range all[:2] {
+					m.want(t, "lost")
+				}
+			}
+			primary.Redis.Kill()
+			replica.Start(t)
+			replica.do(t, "REPLICAOF", "NO", "ONE")
+			if replicas == 2 {
+				// There is no replica any more, so nothing counts until there is one.
+				if err := put(all[2], "waits", time.Second); err == nil {
+					t.Error("a value counts that one server has")
+				}
+				back := start(t, "--replicaof", "127.0.0.1 "+strings.TrimPrefix(replica.Redis.Address, "127.0.0.1:"))
+				defer back.Redis.Kill()
+			}
+			if err := put(all[2], "behind", 20*time.Second); err != nil {
+				t.Fatal(err)
+			}
+			for _, m := range all {
+				if replicas == 1 {
+					select {
+					case start := <-m.begun:
+						if !start.Missed || start.Passed != 0 {
+							t.Errorf("began %+v", start)
+						}
+					case <-time.After(20 * time.Second):
+						t.Fatal("a loss was not seen")
+					}
+				}
+				m.want(t, "behind")
+				if replicas == 2 && len(m.begun) > 0 {
+					t.Errorf("nothing was lost, and it began %+v: %q", <-m.begun, m.said())
+				}
+			}
+		})
+	}
+}
+
+// told is a member, with what its sink is told.
+type told struct {
+	*carrier.Member
+	begun chan carrier.Start
+	taken chan carrier.Value
+	mu    sync.Mutex
+	lines []string
+}
+
+func (t *told) Begin(start carrier.Start) { t.begun <- start }
+
+func (t *told) Take(values []carrier.Value) []error {
+	for _, v := range values {
+		t.taken <- v
+	}
+	return nil
+}
+
+func (t *told) log(event string, fields ...any) {
+	t.mu.Lock()
+	defer t.mu.Unlock()
+	t.lines = append(t.lines, fmt.Sprint(append([]any{event}, fields...)...))
+}
+
+func (t *told) said() []string {
+	t.mu.Lock()
+	defer t.mu.Unlock()
+	return append([]string(nil), t.lines...)
+}
+
+// want waits for a value.
+func (t *told) want(test *testing.T, text string) {
+	test.Helper()
+	for end := time.After(30 * time.Second); ; {
+		select {
+		case v := <-t.taken:
+			if string(v.Message) == text {
+				return
+			}
+		case <-end:
+			test.Fatalf("%q did not come: %q", text, t.said())
+		}
+	}
+}
 
 // join joins a group, and ends with the test.
 func join(t *testing.T, o Options, sink carrier.Sink, log func(string, ...any)) (*carrier.Member, error) {
