@@ -562,9 +562,15 @@ func (s *suite) putBackAndAhead(t *testing.T) {
 	}
 }
 
-// A log that was removed is made anew, and who has read it says so.
+// A log that was removed is made anew, and who has read it says so. Who had nothing to read goes on in the new one.
 func (s *suite) destroyed(t *testing.T) {
 	o := Options{Name: s.name()}
+	empty := s.join(t, o)
+	s.server.Destroy(t, o.Name)
+	empty.put(t, "good 0")
+	same(t, holds([]string{"good 0"}), empty)
+	empty.Close()
+	o.Name = s.name()
 	m, other := s.join(t, o), s.join(t, o)
 	m.put(t, "good 1")
 	same(t, atLeast(1), m, other)

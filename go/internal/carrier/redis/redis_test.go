@@ -182,6 +182,11 @@ func TestFailover(t *testing.T) {
 			for _, m := range all {
 				m.want(t, "there")
 			}
+			logtest.Await(t, "the replica's disk to have it", func() bool {
+				answer, err := replica.Do("EVAL", "local p = redis.call('INFO', 'persistence'); return p:find('aof_rewrite_in_progress:0') and "+
+					"p:find('aof_rewrite_scheduled:0') and redis.call('XLEN', 'svid:{svid}:log') or 0", "0")
+				return err == nil && answer == ":1"
+			})
 			replica.Redis.Kill() // It gets nothing from here on,
 			proxy.Shut(true)     // and the third member reads nothing.
 			err := put(all[1], "lost", time.Second)
