@@ -17,6 +17,7 @@ type Redis struct {
 	process
 	URL, Address, Dir string
 	args              []string
+	secure            bool
 }
 
 // NewRedis returns a server that does not run yet, with what it keeps in dir, which must be there.
@@ -31,6 +32,13 @@ func NewRedis(dir string, more ...string) (*Redis, error) {
 	return &Redis{URL: "redis://" + address, Address: address, Dir: dir, args: append(args, more...)}, nil
 }
 
+// Secure lets the server speak TLS alone, with this certificate, to those with one of these authorities.
+func (s *Redis) Secure(ca, cert, key string) {
+	_, port, _ := net.SplitHostPort(s.Address)
+	s.args = append(s.args, "--port", "0", "--tls-port", port, "--tls-ca-cert-file", ca, "--tls-cert-file", cert, "--tls-key-file", key)
+	s.URL, s.secure = "rediss://"+s.Address, true
+}
+
 // Start starts the server, for the first time or again. It may take a while until it Answers.
 func (s *Redis) Start() error {
 	if err := s.start(exec.Command("redis-server", s.args...)); err != nil {
@@ -42,8 +50,15 @@ func (s *Redis) Start() error {
 // Stop ends the server as SIGTERM does, and waits until it has ended.
 func (s *Redis) Stop() { s.end(syscall.SIGTERM) }
 
-// Answers says whether the server answers.
+// Answers says whether the server answers, or, with TLS, whether it takes connections.
 func (s *Redis) Answers() bool {
+	if s.secure {
+		c, err := net.DialTimeout("tcp", s.Address, time.Second)
+		if err == nil {
+			c.Close()
+		}
+		return err == nil
+	}
 	answer, err := s.Do("PING")
 	return err == nil && answer == "+PONG"
 }

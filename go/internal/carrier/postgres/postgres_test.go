@@ -391,6 +391,52 @@ func TestJoinRefusesAServerThatForgets(t *testing.T) {
 	}
 }
 
+// With sslmode=verify-full a server is used if the authority knows it, by its name.
+func TestTLS(t *testing.T) {
+	ca, cert, key := logtest.Certificate(t, t.TempDir())
+	otherCA, _, _ := logtest.Certificate(t, t.TempDir())
+	dir, err := broker.Folder()
+	if err != nil {
+		t.Fatal(err)
+	}
+	t.Cleanup(func() { os.RemoveAll(dir) })
+	for from, to := range map[string]string{cert: dir + "/cert.pem", key: dir + "/key.pem"} {
+		text, err := os.ReadFile(from)
+		if err == nil {
+			err = os.WriteFile(to, text, 0o600)
+		}
+		if err == nil {
+			err = broker.Own(to)
+		}
+		if err != nil {
+			t.Fatal(err)
+		}
+	}
+	s := startIn(t, dir, "-c", "ssl=on", "-c", "ssl_cert_file="+dir+"/cert.pem", "-c", "ssl_key_file="+dir+"/key.pem")
+	plain := strings.TrimSuffix(s.URL, "?sslmode=disable")
+	for name, row := range map[string]struct {
+		url  string
+		good bool
+	}{
+		"good":              {plain + "?sslmode=verify-full&sslrootcert=" + ca, true},
+		"another authority": {plain + "?sslmode=verify-full&sslrootcert=" + otherCA, false},
+		"the system's":      {plain + "?sslmode=verify-full", false},
+		"another name":      {strings.Replace(plain, "127.0.0.1", "localhost", 1) + "?sslmode=verify-full&sslrootcert=" + ca, false},
+		"not checked":       {plain, true},
+	} {
+		store, err := New(Options{URLs: []string{row.url}, Name: "svid", Keep: time.Hour})
+		if err != nil {
+			t.Fatal(name, err)
+		}
+		ctx, cancel := context.WithTimeout(context.Background(), 10*time.Second)
+		if _, err := store.Open(ctx); (err == nil) != row.good {
+			t.Errorf("%s: %v", name, err)
+		}
+		cancel()
+		store.Close()
+	}
+}
+
 // URLs that can't be used are errors that have no secret of them.
 func TestURLs(t *testing.T) {
 	for text, want := range map[string]string{

@@ -397,6 +397,44 @@ func TestPasswords(t *testing.T) {
 	}
 }
 
+// Over TLS both sides know each other by certificates. A server that the authority does not know is not used, and a member without
+// a certificate is not served.
+func TestTLS(t *testing.T) {
+	ca, cert, key := logtest.Certificate(t, t.TempDir())
+	otherCA, otherCert, otherKey := logtest.Certificate(t, t.TempDir())
+	r, err := broker.NewRedis(t.TempDir())
+	if err != nil {
+		t.Fatal(err)
+	}
+	t.Cleanup(r.Kill)
+	r.Secure(ca, cert, key)
+	s := &machine{Redis: r}
+	s.Start(t)
+	for name, row := range map[string]struct {
+		url  string
+		good bool
+	}{
+		"good":              {r.URL + "?ssl_ca_certs=" + ca + "&ssl_certfile=" + cert + "&ssl_keyfile=" + key, true},
+		"another authority": {r.URL + "?ssl_ca_certs=" + otherCA + "&ssl_certfile=" + cert + "&ssl_keyfile=" + key, false},
+		"the system's":      {r.URL + "?ssl_certfile=" + cert + "&ssl_keyfile=" + key, false},
+		"no certificate":    {r.URL + "?ssl_ca_certs=" + ca, false},
+		"a stranger":        {r.URL + "?ssl_ca_certs=" + ca + "&ssl_certfile=" + otherCert + "&ssl_keyfile=" + otherKey, false},
+		"another name":      {strings.Replace(r.URL, "127.0.0.1", "localhost", 1) + "?ssl_ca_certs=" + ca + "&ssl_certfile=" + cert + "&ssl_keyfile=" + key, false},
+		"no TLS":            {"redis://" + r.Address, false},
+	} {
+		store, err := New(Options{URLs: []string{row.url}, Name: "svid", Keep: time.Hour})
+		if err != nil {
+			t.Fatal(name, err)
+		}
+		ctx, cancel := context.WithTimeout(context.Background(), 10*time.Second)
+		if _, err := store.Open(ctx); (err == nil) != row.good {
+			t.Errorf("%s: %v", name, err)
+		}
+		cancel()
+		store.Close()
+	}
+}
+
 // URLs that can't be used are errors that have no secret of them.
 func TestURLs(t *testing.T) {
 	for text, want := range map[string]string{
