@@ -116,6 +116,8 @@ type Group struct {
 	tasks sync.WaitGroup
 }
 
+var _ carrier.Group = (*Group)(nil)
+
 // Join connects to the broker, makes the group's bucket where it is not there, and begins to read it. It tries until
 // ctx ends, so a broker that comes up later is waited for.
 //

@@ -716,7 +716,7 @@ func TestValuesAtPlacesThatWereReadBefore(t *testing.T) {
 }
 
 // copyDir copies a folder of a server that does not run.
-func copyDir(t *testing.T, from, to string) {
+func copyDir(t testing.TB, from, to string) {
 	t.Helper()
 	if out, err := exec.Command("cp", "-a", from+"/.", to+"/").CombinedOutput(); err != nil {
 		t.Fatalf("%v: %s", err, out)

@@ -126,6 +126,17 @@ func (s *Store) drop(c *conn) {
 	delete(s.open, c)
 }
 
+// dropIdle ends the connections that wait: what has happened to one has happened to them.
+func (s *Store) dropIdle() {
+	s.mu.Lock()
+	idle := s.idle
+	s.idle = nil
+	s.mu.Unlock()
+	for _, c := range idle {
+		s.drop(c)
+	}
+}
+
 // Close ends all connections.
 func (s *Store) Close() error {
 	s.mu.Lock()
@@ -446,6 +457,7 @@ func (s *Store) write(ctx context.Context, text string, values ...any) ([][]driv
 	rows, err := c.query(ctx, text, values...)
 	if err != nil {
 		s.drop(c) // (A server that has become a standby refuses too.)
+		s.dropIdle()
 		return nil, fault(err)
 	}
 	s.mu.Lock()

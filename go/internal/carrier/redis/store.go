@@ -140,6 +140,17 @@ func (s *Store) drop(c *conn) {
 	delete(s.open, c)
 }
 
+// dropIdle ends the connections that wait: what has happened to one has happened to them.
+func (s *Store) dropIdle() {
+	s.mu.Lock()
+	idle := s.idle
+	s.idle = nil
+	s.mu.Unlock()
+	for _, c := range idle {
+		s.drop(c)
+	}
+}
+
 // Close ends all connections.
 func (s *Store) Close() error {
 	s.mu.Lock()
@@ -537,6 +548,7 @@ func (s *Store) write(ctx context.Context, commands ...[]string) ([]any, error) 
 	}
 	if err != nil && err != carrier.ErrNoLog { // (A server that has become a replica refuses too.)
 		s.drop(c)
+		s.dropIdle()
 		return nil, err
 	}
 	s.mu.Lock()
