@@ -391,6 +391,30 @@ func TestJoinRefusesAServerThatForgets(t *testing.T) {
 	}
 }
 
+// A member that ends leaves no connection, also where it ends while it connects.
+func TestCloseLeavesNothing(t *testing.T) {
+	s := start(t)
+	for i := 0; i < 30; i++ {
+		store, err := New(Options{URLs: []string{s.URL}, Name: "svid", Keep: time.Hour})
+		if err != nil {
+			t.Fatal(err)
+		}
+		ctx, cancel := context.WithTimeout(context.Background(), 30*time.Second)
+		m, err := carrier.Join(ctx, store, carrier.Options{Keep: time.Hour}, deaf{})
+		cancel()
+		if err != nil {
+			t.Fatal(err)
+		}
+		if i%2 == 0 {
+			<-m.Ready()
+		}
+		m.Close()
+	}
+	logtest.Await(t, "all connections to end", func() bool {
+		return s.Do(`DO $$ BEGIN ASSERT (SELECT count(*) FROM pg_stat_activity WHERE backend_type = 'client backend') = 1; END $$`) == nil
+	})
+}
+
 // With sslmode=verify-full a server is used if the authority knows it, by its name.
 func TestTLS(t *testing.T) {
 	ca, cert, key := logtest.Certificate(t, t.TempDir())

@@ -17,16 +17,12 @@ import (
 	"sync"
 	"time"
 
-	"github.com/lib/pq"
-
 	"svid.example/go/internal/carrier"
 )
 
 const (
 	mostAtOnce = 64 // values are read
 	mostIdle   = 4  // connections that wait for an Append
-	pingEvery  = 10 * time.Second
-	mostRetry  = time.Second // between two tries to listen
 )
 
 //go:embed schema.sql
@@ -55,20 +51,20 @@ func Schema(name string, keep time.Duration, role string) string {
 
 // A Store is a log in tables of PostgreSQL.
 type Store struct {
-	options  Options
-	listener *pq.Listener
-	wake     chan struct{} // a value may have come
-	done     chan struct{}
-	tasks    sync.WaitGroup
+	options Options
+	wake    chan struct{} // a value may have come
+	done    chan struct{}
+	tasks   sync.WaitGroup
 
 	// State and Read alone use these.
 	reader   *conn
 	timeline string // of the server's history: another one once a standby took over
 
-	mu     sync.Mutex
-	closed bool
-	open   map[*conn]bool
-	idle   []*conn
+	mu       sync.Mutex
+	closed   bool
+	unlisten func() // ends who listens; nil where nobody does
+	open     map[*conn]bool
+	idle     []*conn
 }
 
 // New returns a store that is not connected yet.
@@ -146,12 +142,11 @@ func (s *Store) Close() error {
 		for c := range s.open {
 			c.close()
 		}
+		if s.unlisten != nil {
+			s.unlisten()
+		}
 	}
-	listener := s.listener
 	s.mu.Unlock()
-	if listener != nil {
-		listener.Close()
-	}
 	s.tasks.Wait()
 	return nil
 }
@@ -171,53 +166,17 @@ func (s *Store) reach(ctx context.Context) error {
 	if s.closed {
 		return context.Canceled
 	}
-	if s.listener != nil {
-		go s.listener.Close() // It may listen to a server that is a standby now.
+	if s.unlisten != nil {
+		s.unlisten() // It may listen to a server that is a standby now.
 	}
-	s.listener = pq.NewListener(bound(url), 50*time.Millisecond, mostRetry, nil)
-	s.tasks.Add(2)
-	go s.listen(s.listener)
-	go s.hear(s.listener)
+	l := &listener{store: s, url: bound(url), done: make(chan struct{})}
+	s.unlisten = l.end
+	s.tasks.Add(1)
+	go l.run()
 	return nil
 }
 
-// bound is the URL with a bound for the time that connecting takes.
-func bound(text string) string {
-	if strings.Contains(text, "connect_timeout=") {
-		return text
-	}
-	if strings.Contains(text, "?") {
-		return text + "&connect_timeout=2"
-	}
-	return text + "?connect_timeout=2"
-}
-
-func (s *Store) listen(l *pq.Listener) {
-	defer s.tasks.Done()
-	_ = l.Listen("svid_" + s.options.Name) // Without, the reader looks each second.
-}
-
-// hear wakes the reader when the server tells of a value, and sees that the server is there.
-func (s *Store) hear(l *pq.Listener) {
-	defer s.tasks.Done()
-	ping := time.NewTicker(pingEvery)
-	defer ping.Stop()
-	for {
-		select {
-		case _, ok := <-l.Notify:
-			if !ok {
-				return
-			}
-			s.awake()
-		case <-ping.C:
-			s.tasks.Add(1)
-			go func() { defer s.tasks.Done(); _ = l.Ping() }()
-		case <-s.done:
-			return
-		}
-	}
-}
-
+// awake lets the reader look for values.
 func (s *Store) awake() {
 	select {
 	case s.wake <- struct{}{}:
