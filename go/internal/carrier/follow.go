@@ -75,6 +75,7 @@ func (f *follower) values(values []Stored) error {
 	for i := range values {
 		v := &values[i]
 		if v.Position <= f.seen {
+			f.member.take(all)
 			return fmt.Errorf("the log has position %d behind %d", v.Position, f.seen)
 		}
 		if v.Position > f.seen+1 {
@@ -100,7 +101,9 @@ func (f *follower) look() (anew bool, err error) {
 	state, err := f.member.store.State(ctx, f.seen)
 	cancel()
 	if errors.Is(err, ErrNoLog) {
-		state, err = f.reopen()
+		if state, err = f.reopen(); err == nil && state.Made == f.state.Made {
+			err = errBack
+		}
 	}
 	if err != nil {
 		return false, err

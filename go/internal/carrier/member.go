@@ -25,6 +25,7 @@ var (
 	errGone = errors.New("someone removed them, or the server lost them: whether they claim a token is unknown to members that " +
 		"have not read them")
 	errAnother = errors.New("the log is another one than before, or has lost values")
+	errBack    = errors.New("the log was not there, and is there again")
 )
 
 // Options are those of a member.
