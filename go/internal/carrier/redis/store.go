@@ -106,6 +106,9 @@ func New(o Options) (*Store, error) {
 		if err != nil {
 			return nil, fmt.Errorf("address %d: %w", i+1, err)
 		}
+		if one.replicas > s.options.Replicas {
+			s.options.Replicas = one.replicas
+		}
 		s.servers = append(s.servers, one)
 	}
 	return s, nil
