@@ -12,14 +12,15 @@ _svidd() {
     before=${COMP_WORDS[COMP_CWORD - 2]}
   fi
   case $COMP_CWORD,${COMP_WORDS[1]} in
-    1,*) COMPREPLY=($(compgen -W 'serve verify withdraw report resume ready check-state version help' -- "$current")) ;;
-    *,serve) options='--audience --workload-api --bundle --bundles --longest --rsa-bits --ahead --replay --listen --admin --state --log --nats --group --replicas --nats-ca --nats-cert --nats-key --nats-creds --wait --summaries --config --check-config --help' ;;
+    1,*) COMPREPLY=($(compgen -W 'serve verify withdraw report resume ready check-state schema version help' -- "$current")) ;;
+    *,serve) options='--audience --workload-api --bundle --bundles --longest --rsa-bits --ahead --replay --listen --admin --state --log --group-log --nats --group --replicas --nats-ca --nats-cert --nats-key --nats-creds --wait --summaries --config --check-config --help' ;;
     *,verify) options='--audience --workload-api --bundle --bundles --longest --rsa-bits --config --help' ;;
     *,withdraw) options='--admin --key --exp --help' ;;
     *,report) options='--admin --json --help' ;;
     *,resume) options='--admin --anyway --help' ;;
     *,ready) options='--listen --help' ;;
     *,check-state) options='--messages --help' files=yes ;;
+    *,schema) options='--longest --ahead --group --role --help' ;;
   esac
   case $before in
     --audience) options='' files='' ;;
@@ -34,6 +35,7 @@ _svidd() {
     --admin) options='' files=yes ;;
     --state) options='' files=yes ;;
     --log) options='' values='errors decisions all' ;;
+    --group-log) options='' files='' ;;
     --nats) options='' files='' ;;
     --group) options='' files='' ;;
     --replicas) options='' files='' ;;
@@ -46,6 +48,7 @@ _svidd() {
     --config) options='' files=yes ;;
     --key) options='' files='' ;;
     --exp) options='' files='' ;;
+    --role) options='' files='' ;;
   esac
   if [ -n "$values" ]; then
     COMPREPLY=($(compgen -W "$values" -- "$current"))

@@ -1,9 +1,11 @@
-// Plain is what a service writes today to accept a JWT-SVID once: Go's HTTP server, and SET NX in Redis. Without the address
-// of a Redis it accepts a token as often as it comes, so it shows what a request costs that is verified, and nothing else.
-// bench/sidecar measures svidd beside it.
+// Plain is what a service writes today to accept a JWT-SVID once: Go's HTTP server, and SET NX in Redis, or INSERT .. ON
+// CONFLICT DO NOTHING in PostgreSQL. Without the address of one of these it accepts a token as often as it comes, so it shows
+// what a request costs that is verified, and nothing else. bench/sidecar measures svidd beside it.
 //
-//	plain standard ADDRESS BUNDLE AUDIENCE [REDIS]   verifies by the standard library, as little as will do
-//	plain jose ADDRESS BUNDLE AUDIENCE [REDIS]       verifies by go-jose, in the steps of go-spiffe
+//	plain standard ADDRESS BUNDLE AUDIENCE [STORE]   verifies by the standard library, as little as will do
+//	plain jose ADDRESS BUNDLE AUDIENCE [STORE]       verifies by go-jose, in the steps of go-spiffe
+//
+// STORE is HOST:PORT of a Redis, or postgres://USER@HOST:PORT/DATABASE.
 package main
 
 import (
@@ -20,7 +22,7 @@ import (
 
 func main() {
 	if len(os.Args) != 5 && len(os.Args) != 6 {
-		log.Fatal("usage: plain standard|jose ADDRESS BUNDLE AUDIENCE [REDIS]")
+		log.Fatal("usage: plain standard|jose ADDRESS BUNDLE AUDIENCE [STORE]")
 	}
 	bundle, err := os.ReadFile(os.Args[3])
 	if err != nil {
@@ -36,7 +38,9 @@ func main() {
 		log.Fatal(err)
 	}
 	if len(os.Args) == 6 {
-		s.redis = &pool{address: os.Args[5], idle: make(chan *conn, 256)}
+		if s.used, err = newStore(os.Args[5]); err != nil {
+			log.Fatal(err)
+		}
 	}
 	log.Fatal(http.ListenAndServe(os.Args[2], s))
 }
@@ -56,7 +60,19 @@ var errToken = errors.New("bad token")
 
 type server struct {
 	verifier
-	redis *pool // nil where no token is remembered
+	used store // nil where no token is remembered
+}
+
+// A store remembers tokens. first says whether one comes for the first time, and keeps it for so many seconds.
+type store interface {
+	first(jti string, seconds int64) (bool, error)
+}
+
+func newStore(address string) (store, error) {
+	if strings.HasPrefix(address, "postgres://") {
+		return newTable(address)
+	}
+	return &pool{address: address, idle: make(chan *conn, 256)}, nil
 }
 
 func (s *server) ServeHTTP(w http.ResponseWriter, r *http.Request) {
@@ -66,8 +82,8 @@ func (s *server) ServeHTTP(w http.ResponseWriter, r *http.Request) {
 		return
 	}
 	first := true
-	if s.redis != nil {
-		first, err = s.redis.setNX(c.Jti, c.Exp-time.Now().Unix())
+	if s.used != nil {
+		first, err = s.used.first(c.Jti, c.Exp-time.Now().Unix())
 	}
 	switch {
 	case err != nil:
@@ -90,8 +106,8 @@ type conn struct {
 	in *bufio.Reader
 }
 
-// setNX sets a key that is not there, for so many seconds, and says whether it did.
-func (p *pool) setNX(key string, seconds int64) (bool, error) {
+// first sets a key that is not there, for so many seconds, and says whether it did.
+func (p *pool) first(key string, seconds int64) (bool, error) {
 	c, err := p.get()
 	if err != nil {
 		return false, err

@@ -35,6 +35,8 @@ type cluster struct {
 	svidd    string
 	nginxAt  string // the folder of nginx's configurations
 	brokers  []*broker.Server
+	store    store  // what the group's log stands in where there are no brokers
+	storeURL string // where it is
 	issuer   *issuer.Issuer
 	bundle   string // a file
 	serial   int    // of the next token
@@ -43,26 +45,37 @@ type cluster struct {
 	nginx    *exec.Cmd
 }
 
-// newCluster makes the folder, the issuer's bundle and the NATS servers.
-func newCluster(svidd, nginx string) (*cluster, error) {
+// A store is a server of Redis or PostgreSQL.
+type store interface {
+	Start() error
+	Answers() bool
+	Kill()
+	Stop()
+}
+
+// newCluster makes the folder, the issuer's bundle and the servers of the log.
+func newCluster(svidd, nginx, log string) (*cluster, error) {
 	dir, err := os.MkdirTemp("", "svid-cluster-")
 	if err != nil {
 		return nil, err
 	}
 	c := &cluster{dir: dir, svidd: svidd, nginxAt: nginx, bundle: filepath.Join(dir, "bundle.json")}
-	if err := c.begin(); err != nil {
+	if err := c.begin(log); err != nil {
 		c.end()
 		return nil, err
 	}
 	return c, nil
 }
 
-func (c *cluster) begin() (err error) {
+func (c *cluster) begin(log string) (err error) {
 	if c.issuer, err = issuer.New(domain); err != nil {
 		return err
 	}
 	if err := os.WriteFile(c.bundle, c.issuer.JWKSet(), 0o644); err != nil {
 		return err
+	}
+	if log != "nats" {
+		return c.beginStore(log)
 	}
 	var dirs []string
 	for _, name := range []string{"nats-1", "nats-2", "nats-3"} {
@@ -89,9 +102,48 @@ func (c *cluster) begin() (err error) {
 	return nil
 }
 
+// beginStore starts a server of Redis or of PostgreSQL.
+func (c *cluster) beginStore(log string) error {
+	dir := filepath.Join(c.dir, log)
+	if err := os.Mkdir(dir, 0o700); err != nil {
+		return err
+	}
+	switch log {
+	case "redis":
+		s, err := broker.NewRedis(dir)
+		if err != nil {
+			return err
+		}
+		c.store, c.storeURL = s, s.URL
+	case "postgres":
+		// (It runs as another user, who must reach its own folder.)
+		if err := os.Chmod(c.dir, 0o711); err != nil {
+			return err
+		}
+		if err := broker.Own(dir); err != nil {
+			return err
+		}
+		s, err := broker.NewPostgres(dir)
+		if err != nil {
+			return err
+		}
+		c.store, c.storeURL = s, s.URL
+	default:
+		return fmt.Errorf("no log stands in %s: nats, redis or postgres", log)
+	}
+	if err := c.store.Start(); err != nil {
+		return err
+	}
+	fmt.Printf("cluster: the group's log stands in %s\n", c.storeURL)
+	return await(log, func() error { return unless(c.store.Answers(), "no answer") })
+}
+
 // end kills what runs, and removes the folder.
 func (c *cluster) end() {
 	c.stopSidecars()
+	if c.store != nil {
+		c.store.Kill()
+	}
 	for _, b := range c.brokers {
 		b.Kill()
 	}
@@ -159,8 +211,11 @@ func (c *cluster) start(names []string, options ...string) error {
 // group is the options of sidecars that share a bucket of the scenario's name.
 func (c *cluster) group(mode string) []string { return c.groupNamed(c.name, mode) }
 
-// groupNamed is the options of sidecars that share a bucket.
+// groupNamed is the options of sidecars that share a bucket, or another log.
 func (c *cluster) groupNamed(name, mode string) []string {
+	if c.store != nil {
+		return []string{"--replay", mode, "--group-log", c.storeURL, "--group", name}
+	}
 	return []string{"--replay", mode, "--nats", strings.Join(broker.URLs(c.brokers), ","), "--group", name, "--replicas", "3"}
 }
 

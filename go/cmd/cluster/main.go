@@ -1,9 +1,9 @@
-// Cluster runs a group of three sidecars on one machine, over a cluster of three NATS servers and behind nginx, and
-// shows what the group promises: examples/cluster/run.
+// Cluster runs a group of three sidecars on one machine, over a cluster of three NATS servers, a Redis or a PostgreSQL, and
+// behind nginx, and shows what the group promises: examples/cluster/run.
 //
-//	cluster --svidd FILE --nginx FOLDER [SCENARIO..]
+//	cluster --svidd FILE --nginx FOLDER [--log nats|redis|postgres] [SCENARIO..]
 //
-// Without a SCENARIO it shows the short ones. It prints a line for each step, and ends with status 1 at the first one
+// Without a SCENARIO it shows the short ones. Over Redis and PostgreSQL there are those of mode strict alone. It prints a line for each step, and ends with status 1 at the first one
 // that is not as it should be.
 package main
 
@@ -21,30 +21,32 @@ import (
 type scenario struct {
 	name string
 	long bool // not among those that are shown where none is named
+	nats bool // over NATS alone
 	show func(*cluster) error
 }
 
 var scenarios = []scenario{
-	{"strict", false, strict},
-	{"once", false, once},
-	{"liar", false, liar},
-	{"split", false, split},
-	{"strict-kills", true, strictKills},
-	{"strict-restarts", true, strictRestarts},
-	{"once-many", true, onceMany},
-	{"kills", true, kills},
+	{"strict", false, false, strict},
+	{"once", false, true, once},
+	{"liar", false, true, liar},
+	{"split", false, false, split},
+	{"strict-kills", true, false, strictKills},
+	{"strict-restarts", true, false, strictRestarts},
+	{"once-many", true, true, onceMany},
+	{"kills", true, true, kills},
 }
 
 func main() {
 	svidd := flag.String("svidd", "", "the program svidd")
 	nginx := flag.String("nginx", "", "folder of nginx's configurations, with SIDECAR_1, NGINX and so on in the place of addresses")
+	log := flag.String("log", "nats", "what the group's log stands in: nats, redis or postgres")
 	flag.IntVar(&tokens, "tokens", tokens, "how many tokens the scenarios strict and once send to all sidecars at once")
 	flag.IntVar(&manyTokens, "many", manyTokens, "the same for strict-kills and once-many")
 	flag.IntVar(&rounds, "rounds", rounds, "how often the scenario kills kills a sidecar")
 	flag.Parse()
-	chosen, err := choose(flag.Args())
+	chosen, err := choose(flag.Args(), *log)
 	if err == nil {
-		err = run(chosen, *svidd, *nginx)
+		err = run(chosen, *svidd, *nginx, *log)
 	}
 	if err != nil {
 		fmt.Println("cluster: FAILED:", err)
@@ -53,22 +55,22 @@ func main() {
 }
 
 // choose finds the named scenarios: long ones by "long", all that are short where none is named.
-func choose(names []string) ([]scenario, error) {
+func choose(names []string, log string) ([]scenario, error) {
 	var chosen []scenario
 	for _, s := range scenarios {
-		if len(names) == 0 && !s.long {
+		if len(names) == 0 && !s.long && (log == "nats" || !s.nats) {
 			chosen = append(chosen, s)
 		}
 	}
 	for _, name := range names {
 		before := len(chosen)
 		for _, s := range scenarios {
-			if s.name == name || name == "long" && s.long {
+			if (s.name == name || name == "long" && s.long) && (log == "nats" || !s.nats) {
 				chosen = append(chosen, s)
 			}
 		}
 		if len(chosen) == before {
-			return nil, fmt.Errorf("no scenario is named %s", name)
+			return nil, fmt.Errorf("no scenario over %s is named %s", log, name)
 		}
 	}
 	return chosen, nil
@@ -76,8 +78,8 @@ func choose(names []string) ([]scenario, error) {
 
 // run starts the brokers once, and shows one scenario after the other. Nothing that it started outlives it, also where
 // a signal ends it.
-func run(chosen []scenario, svidd, nginx string) error {
-	c, err := newCluster(svidd, nginx)
+func run(chosen []scenario, svidd, nginx, log string) error {
+	c, err := newCluster(svidd, nginx, log)
 	if err != nil {
 		return err
 	}

@@ -349,9 +349,13 @@ func strictKills(c *cluster) error {
 	if err := c.start(three, c.group("strict")...); err != nil {
 		return err
 	}
-	return c.onceDuring("two of these and a NATS server were killed", []func() error{
+	what, killServer := "two of these and a NATS server were killed", func() error { return c.killLeaderFor(3 * time.Second) }
+	if c.store != nil {
+		what, killServer = "two of these and the log's server were killed", func() error { return c.awayFor(c.store.Kill, time.Second) }
+	}
+	return c.onceDuring(what, []func() error{
 		func() error { return c.killFor(c.sidecars[0], time.Second) },
-		func() error { return c.killLeaderFor(3 * time.Second) },
+		killServer,
 		func() error { return c.killFor(c.sidecars[1], time.Second) },
 	})
 }
@@ -360,6 +364,10 @@ func strictKills(c *cluster) error {
 func strictRestarts(c *cluster) error {
 	if err := c.start(three, c.group("strict")...); err != nil {
 		return err
+	}
+	if c.store != nil {
+		again := func() error { return c.awayFor(c.store.Stop, time.Second) }
+		return c.onceDuring("the log's server was restarted twice", []func() error{again, again})
 	}
 	var steps []func() error
 	for i := range c.brokers {
@@ -450,6 +458,14 @@ func (c *cluster) restart(i int, while time.Duration) error {
 		}
 		return nil
 	})
+}
+
+// awayFor ends the log's server, and starts it again after a while.
+func (c *cluster) awayFor(end func(), while time.Duration) error {
+	end()
+	c.say("the log's server was ended for %v", while)
+	time.Sleep(while)
+	return c.store.Start()
 }
 
 // killFor kills a sidecar, and starts it again after a while.

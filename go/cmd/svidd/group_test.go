@@ -39,6 +39,11 @@ func several(t *testing.T, n int, mode, urls string, more ...string) []*process 
 // storm sends each token to all sidecars at the same instant, many tokens at a time,
 // and returns how many answered each 200, and how many did not judge it.
 func storm(all []*process, tokens []string, atATime int) (accepted, unjudged []int32) {
+	return stormCounted(all, tokens, atATime, new(int64))
+}
+
+// stormCounted is a storm that counts the tokens that it has begun to send.
+func stormCounted(all []*process, tokens []string, atATime int, begun *int64) (accepted, unjudged []int32) {
 	accepted, unjudged = make([]int32, len(tokens)), make([]int32, len(tokens))
 	next := int64(-1)
 	var workers sync.WaitGroup
@@ -47,6 +52,7 @@ func storm(all []*process, tokens []string, atATime int) (accepted, unjudged []i
 		go func() {
 			defer workers.Done()
 			for i := atomic.AddInt64(&next, 1); i < int64(len(tokens)); i = atomic.AddInt64(&next, 1) {
+				atomic.AddInt64(begun, 1)
 				var asked sync.WaitGroup
 				for _, p := range all {
 					asked.Add(1)

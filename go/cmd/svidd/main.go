@@ -37,6 +37,7 @@ const usage = `usage:
   svidd resume   --admin SOCKET [--anyway]
   svidd ready    [--listen ADDRESS]
   svidd check-state DIR [--messages]
+  svidd schema   --longest SECONDS [--group NAME] [--role ROLE]
   svidd version
 
 BUNDLES: --workload-api unix:///run/spire/agent.sock, --bundle DOMAIN=FILE|https://.. or --bundles DIR
@@ -47,7 +48,7 @@ BUNDLES: --workload-api unix:///run/spire/agent.sock, --bundle DOMAIN=FILE|https
 // commands by name. Each returns the exit status.
 var commands = map[string]func(args []string, std stdio) int{
 	"serve": serve, "verify": verify, "withdraw": withdraw, "report": report, "resume": resume, "ready": ready,
-	"check-state": checkState, "version": printVersion,
+	"check-state": checkState, "schema": schema, "version": printVersion,
 }
 
 // stdio is what a command reads and writes.

@@ -18,6 +18,7 @@ import (
 	"github.com/BurntSushi/toml"
 
 	"svid.example/go/internal/bundles"
+	"svid.example/go/internal/carrier"
 	"svid.example/go/internal/group"
 	"svid.example/go/internal/regular"
 	"svid.example/go/internal/server"
@@ -71,6 +72,7 @@ type options struct {
 
 	listen, admin string
 	replay        string
+	logs          list // addresses of the group's log
 	nats          list
 	files         group.Files // for the NATS servers
 	group         string
@@ -105,6 +107,7 @@ func (o *options) addServe(f *flag.FlagSet) {
 	f.StringVar(&o.listen, "listen", listenDefault, usages["listen"])
 	f.StringVar(&o.admin, "admin", "", usages["admin"])
 	f.StringVar(&o.replay, "replay", string(server.Once), usages["replay"])
+	f.Var(&o.logs, "group-log", usages["group-log"])
 	f.Var(&o.nats, "nats", usages["nats"])
 	f.StringVar(&o.files.CA, "nats-ca", "", usages["nats-ca"])
 	f.StringVar(&o.files.Cert, "nats-cert", "", usages["nats-cert"])
@@ -295,7 +298,7 @@ func (o *options) problems() problems {
 	case server.Once:
 		wrong(o.state == "", "--state is missing: in mode once the record is kept there, since a token that was accepted before a restart must not be accepted behind it")
 	case server.Strict:
-		wrong(len(o.servers()) == 0, "--nats is missing: in mode strict each token is claimed in the group's bucket")
+		wrong(!o.isGrouped(), "--group-log or --nats is missing: in mode strict each token is claimed in the group's log")
 	case server.Reuse:
 	default:
 		wrong(true, "--replay %q is none of once, strict and reuse", o.replay)
@@ -304,6 +307,7 @@ func (o *options) problems() problems {
 	wrong(strings.HasPrefix(o.listen, "unix:") && len(o.listen) > len("unix:")+mostSocket, "--listen: the path of a unix socket has at most %d bytes", mostSocket)
 	wrong(len(o.admin) > mostSocket, "--admin: the path of a unix socket has at most %d bytes", mostSocket)
 	wrong(strings.HasPrefix(o.admin, "@"), "--admin %q is an abstract name, which every local process can reach: write a path", o.admin)
+	o.logProblems(&all)
 	for i, server := range o.servers() {
 		// (its text may hold a password)
 		if !strings.Contains(server, "://") {
@@ -314,13 +318,15 @@ func (o *options) problems() problems {
 		wrong(!good, "--nats: address %d is not like nats://HOST:PORT", i+1)
 		wrong(good && !natsSchemes[u.Scheme], "--nats: address %d must begin with nats://, tls://, ws:// or wss://", i+1)
 	}
-	wrong(!group.ValidName(o.group), "--group %q can't name a NATS bucket: use letters, digits, - and _", o.group)
-	wrong(o.replicas < 1 || o.replicas > group.MostReplicas, "--replicas must be from 1 to %d: so many NATS servers keep the bucket", group.MostReplicas)
+	wrong(!carrier.ValidName(o.group), "--group %q can't name a group: use letters, digits, - and _", o.group)
+	wrong(o.replicas < 1 || o.replicas > group.MostReplicas, "--replicas must be from 1 to %d: so many servers have each value", group.MostReplicas)
 	if _, err := o.files.Connect(); err != nil {
 		wrong(true, "--nats-ca, --nats-cert, --nats-key, --nats-creds: %v", err)
 	}
 	_, ok := logLevels[o.log]
-	wrong(!ok, "--log %q is none of errors, decisions and all", o.log)
+	isURL := strings.Contains(o.log, "://") // which may hold a password
+	wrong(isURL, "--log is the level of lines: errors, decisions or all. The address of the group's log is --group-log")
+	wrong(!ok && !isURL, "--log %q is none of errors, decisions and all", o.log)
 	wrong(o.wait <= 0, "--wait must be greater than 0")
 	wrong(o.summaries <= 0, "--summaries must be greater than 0")
 	return all
@@ -357,7 +363,11 @@ var logLevels = map[string]server.Level{"errors": server.Errors, "decisions": se
 // servers are the NATS servers, each by itself.
 func (o *options) servers() []string {
 	var all []string
-	for _, urls := range o.nats {
+	given := o.nats
+	if kind, _ := o.carrierOf(); kind == "NATS" {
+		given = append(given[:len(given):len(given)], o.logs...)
+	}
+	for _, urls := range given {
 		for _, url := range strings.Split(urls, ",") {
 			if url = strings.TrimSpace(url); url != "" {
 				all = append(all, url)

@@ -15,7 +15,7 @@ import (
 	"time"
 
 	"svid.example/go/internal/bundles"
-	"svid.example/go/internal/group"
+	"svid.example/go/internal/carrier"
 	"svid.example/go/internal/journal"
 	"svid.example/go/internal/server"
 	"svid.example/go/svid"
@@ -102,7 +102,7 @@ type sidecar struct {
 	spare   []byte        // counts as in use, and costs only addresses, since nobody writes to it
 
 	joining sync.Mutex
-	group   *group.Group // nil until it is joined
+	group   carrier.Group // nil until it is joined
 }
 
 // run serves until a signal ends it, or something fails that it can't go on
@@ -129,7 +129,7 @@ func (s *sidecar) run(signals chan os.Signal) error {
 	var keeping sync.WaitGroup
 	keeping.Add(1)
 	go func() { defer keeping.Done(); s.engine.Run(ctx) }()
-	if len(s.servers()) > 0 {
+	if s.isGrouped() {
 		go s.join(ctx)
 	}
 	notify("READY=1")
@@ -204,7 +204,7 @@ func (s *sidecar) open(ctx context.Context) error {
 	}
 	s.engine, err = server.NewEngine(server.Options{
 		Mode: server.Mode(s.replay), Audiences: s.audiences, Domains: domains, RSABits: s.rsaBits, Longest: s.longest.value, Ahead: s.ahead.value,
-		Step: clockStep, Jumped: func() { s.fail(errClock) }, Place: place, Journal: kept, Grouped: len(s.servers()) > 0, Wait: s.wait, Log: s.log,
+		Step: clockStep, Jumped: func() { s.fail(errClock) }, Place: place, Journal: kept, Grouped: s.isGrouped(), Wait: s.wait, Log: s.log,
 	})
 	if err != nil {
 		return err
@@ -316,18 +316,7 @@ func (s *sidecar) renew(domains map[string]json.RawMessage) error {
 
 // join joins the group, however long its broker takes to come up.
 func (s *sidecar) join(ctx context.Context) {
-	connect, err := s.files.Connect()
-	if err != nil {
-		s.fail(err)
-		return
-	}
-	g, err := group.Join(ctx, group.Options{
-		Connect: connect, Servers: s.servers(), Name: s.options.group, Place: s.engine.Place, Replicas: s.replicas,
-		// A token lives for --longest by the clock of who accepts it, and that clock
-		// and the one of who asks may both be off by --ahead.
-		TTL: time.Duration(s.longest.value+2*s.ahead.value) * time.Second,
-		Log: s.said,
-	}, s.engine)
+	g, err := s.tie(ctx)
 	if err != nil {
 		if ctx.Err() == nil {
 			s.fail(err)
@@ -338,17 +327,13 @@ func (s *sidecar) join(ctx context.Context) {
 	s.group = g
 	s.joining.Unlock()
 	s.engine.Join(g)
-	strict := s.replay == string(server.Strict)
-	if !strict { // else each reads all values, and an answer would tell of a claim before its value is read: that burns the token
-		g.Summaries(s.summaries, s.engine.Summary, s.engine.Answer)
-	}
 	select {
 	case <-g.Ready():
 		s.log.Event("group", "name", s.options.group, "taken", g.Taken(), "aside", g.Aside())
 	case <-ctx.Done():
 		return
 	}
-	if strict {
+	if s.replay == string(server.Strict) {
 		s.loadBehind(ctx)
 	}
 }

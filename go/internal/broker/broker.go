@@ -84,6 +84,14 @@ func (s *Server) Stop() {
 	}
 }
 
+// Await waits until the server has ended by itself.
+func (s *Server) Await() {
+	if s.run != nil {
+		s.run.Wait()
+		s.run = nil
+	}
+}
+
 // Pid is the server's process, and 0 where it does not run.
 func (s *Server) Pid() int {
 	if s.run == nil {

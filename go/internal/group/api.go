@@ -27,9 +27,10 @@ type config map[string]json.RawMessage
 
 // A stored is a value as the broker has it.
 type stored struct {
-	Place uint64 `json:"seq"`
-	Data  []byte
-	Time  time.Time
+	Place   uint64 `json:"seq"`
+	Subject string
+	Data    []byte
+	Time    time.Time
 }
 
 // ask asks the API, waits so long, and reads the answer into out.

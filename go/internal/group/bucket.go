@@ -11,6 +11,8 @@ import (
 	"time"
 
 	"github.com/nats-io/nats.go"
+
+	"svid.example/go/internal/carrier"
 )
 
 // A bucket is what a member knows of the group's bucket when it begins to read it.
@@ -30,7 +32,7 @@ const mostValue = 64 << 10
 // openBucket makes the bucket, or opens the one that is there if it keeps what it is given. It tries until ctx ends.
 func (g *Group) openBucket(ctx context.Context) (b bucket, err error) {
 	said, same := "", 0
-	err = persist(ctx, "group: open the bucket", func() (bool, error) {
+	err = carrier.Persist(ctx, "group: open the bucket", func() (bool, error) {
 		info, err := g.info(ctx, attemptWait)
 		if errors.Is(err, nats.ErrStreamNotFound) {
 			err = g.makeBucket()

@@ -21,7 +21,7 @@ var silence = silenceWait
 
 var (
 	errNoValue = errors.New("no value came in time")
-	errLost    = errors.New("values were lost on their way")
+	errSkipped = errors.New("the broker's feed has skipped values, which the bucket has")
 	errSilent  = fmt.Errorf("the broker said nothing for %v", silenceWait)
 )
 
@@ -120,7 +120,7 @@ func (f *feed) read(m *nats.Msg) (*nats.MsgMetadata, error) {
 		return nil, nil // Someone lets the broker send other values here.
 	}
 	if f.number++; about.Sequence.Consumer != f.number {
-		return nil, errLost
+		return nil, errSkipped
 	}
 	return about, nil
 }
@@ -135,7 +135,7 @@ func (f *feed) control(m *nats.Msg) error {
 		}
 	}
 	if sent := m.Header.Get("Nats-Last-Consumer"); sent != "" && sent != strconv.FormatUint(f.number, 10) {
-		return errLost
+		return errSkipped
 	}
 	return nil
 }

@@ -35,12 +35,15 @@ import (
 	"time"
 
 	"github.com/nats-io/nats.go"
+
+	"svid.example/go/internal/carrier"
 )
 
 const (
 	connectWait  = 250 * time.Millisecond // between two tries to reach a server
 	pingEvery    = 5 * time.Second        // a server that misses two pings counts as gone
 	attemptWait  = time.Second            // for the broker's answer, before it is asked again
+	firstWait    = attemptWait / 4        // the same where a value is put for the first time: its server may have been restarted
 	makeWait     = 5 * time.Second        // the same where the bucket is made
 	readWait     = 2 * time.Second        // the same where reading it begins, at first; longer after each failure
 	mostReadWait = 30 * time.Second       // and at the most, for a broker that is busy
@@ -71,44 +74,20 @@ type Options struct {
 	Log func(event string, fields ...any)
 }
 
-// A Kind says what a value is.
-type Kind byte
+// What values are, and who is given them, is the same whatever carries a group.
+type (
+	Kind  = carrier.Kind
+	Value = carrier.Value
+	Log   = carrier.Start
+	Sink  = carrier.Sink
+)
 
 // The kinds of values.
 const (
-	Uses   Kind = 'u' // uses and withdrawals, of a key of the bucket that begins with u
-	Claims Kind = 'c' // uses that a member claims, of a key that begins with c
-	Answer Kind = 'a' // a part of an answer to this member's summary, and no value of the bucket
+	Uses   = carrier.Uses   // of a key of the bucket that begins with u
+	Claims = carrier.Claims // of a key that begins with c
+	Answer = carrier.Answer
 )
-
-// A Value is what a Sink is given.
-type Value struct {
-	Kind     Kind
-	Position uint64 // its place in the bucket: 1 for the first, and one more for each; 0 for an Answer
-	Message  []byte // whole batches, if its sender is honest
-
-	from string // its key, or what else to log
-}
-
-// A Log is the bucket, as a member begins to read it.
-type Log struct {
-	Passed uint64 // the position of the last value in front of the first one that will come; 0 if all will come
-	Ready  uint64 // of the last value that the bucket has; an earlier life of this member has read no value behind it
-	Missed bool   // values are gone that may still live, and that this member has not read
-}
-
-// A Sink is what values are given to, in the order that they have in the bucket: a validator. Its methods are called by one
-// goroutine at a time.
-type Sink interface {
-	// Begin comes before the first value of a bucket. It comes again where the values that come next don't stand behind
-	// those that came last: the values in between have expired, or it is another bucket, or one that has lost its last values.
-	Begin(log Log)
-	// Take returns nil if it took all values. Else it returns as many errors as there are values, and one that isn't nil
-	// says that the value is put aside: the group counts it, logs its key and goes on. The bucket still has it.
-	//
-	// Positions rise. Where one is missing, someone removed the value, or the broker lost it.
-	Take(values []Value) []error
-}
 
 // A Group is a member's tie to the others. Its methods may be called from many goroutines at once.
 type Group struct {
@@ -126,9 +105,9 @@ type Group struct {
 	sink   Sink
 	taken  atomic.Uint64
 	aside  atomic.Uint64
-	quiet  quiet // of values that were put aside
-	asked  quiet // of summaries that could not be answered
-	faults quiet // of what the client says of the broker
+	quiet  carrier.Quiet // of values that were put aside
+	asked  carrier.Quiet // of summaries that could not be answered
+	faults carrier.Quiet // of what the client says of the broker
 	fault  string
 
 	ready chan struct{}
@@ -136,6 +115,8 @@ type Group struct {
 	end   context.CancelFunc
 	tasks sync.WaitGroup
 }
+
+var _ carrier.Group = (*Group)(nil)
 
 // Join connects to the broker, makes the group's bucket where it is not there, and begins to read it. It tries until
 // ctx ends, so a broker that comes up later is waited for.
@@ -174,7 +155,7 @@ func (o Options) check() error {
 	switch {
 	case len(o.Servers) == 0:
 		return errors.New("group: no server is named")
-	case !ValidName(o.Name):
+	case !carrier.ValidName(o.Name):
 		return fmt.Errorf("group: the name %q is not letters, digits, - and _ alone", o.Name)
 	case o.TTL <= 0:
 		return errors.New("group: a TTL is needed: the longest life of a token, and twice the bound for clocks")
@@ -182,16 +163,6 @@ func (o Options) check() error {
 		return fmt.Errorf("group: %d replicas: a bucket has 1 to %d", o.Replicas, MostReplicas)
 	}
 	return nil
-}
-
-// ValidName says whether a bucket can have this name: letters, digits, - and _ alone.
-func ValidName(name string) bool {
-	for _, c := range []byte(name) {
-		if !(c >= 'a' && c <= 'z' || c >= 'A' && c <= 'Z' || c >= '0' && c <= '9' || c == '-' || c == '_') {
-			return false
-		}
-	}
-	return name != ""
 }
 
 // connect tries until a server answers or ctx ends.
@@ -207,7 +178,7 @@ func (g *Group) connect(ctx context.Context) error {
 		nats.DisconnectErrHandler(func(_ *nats.Conn, err error) { g.log("broker lost", "why", err) }),
 		nats.ReconnectHandler(func(nc *nats.Conn) { g.log("broker found", "server", nc.ConnectedUrlRedacted()) }),
 		nats.ErrorHandler(func(_ *nats.Conn, _ *nats.Subscription, err error) {
-			held, ok := g.faults.speak(time.Now())
+			held, ok := g.faults.Speak(time.Now())
 			if ok || err.Error() != g.fault { // The client calls this in one goroutine.
 				g.log("broker says", "why", err, "unlogged", held)
 			}
@@ -215,7 +186,7 @@ func (g *Group) connect(ctx context.Context) error {
 		}),
 	}, g.options.Connect...)
 	said := ""
-	return persist(ctx, "group: connect", func() (bool, error) {
+	return carrier.Persist(ctx, "group: connect", func() (bool, error) {
 		nc, err := nats.Connect(strings.Join(g.options.Servers, ","), options...)
 		if err != nil {
 			g.logChange(&said, "broker not reached", err)
@@ -229,22 +200,6 @@ func (g *Group) connect(ctx context.Context) error {
 		g.conn, g.js = nc, js
 		return true, nil
 	})
-}
-
-// persist calls try until it says that it is done, or ctx ends. Each call must end by itself after about attemptWait, or
-// with ctx. The error behind the end of ctx holds both that end and what the last try said.
-func persist(ctx context.Context, what string, try func() (done bool, err error)) error {
-	for {
-		done, err := try()
-		if done {
-			return err
-		}
-		select {
-		case <-ctx.Done():
-			return fmt.Errorf("%s: %w (%v)", what, ctx.Err(), err)
-		case <-time.After(attemptPause):
-		}
-	}
 }
 
 // Ready is closed once the sink was given every value that the bucket held when this member joined.
@@ -277,9 +232,13 @@ func (g *Group) keyOf(kind Kind, number uint64) string {
 // later, but never twice: the broker takes a value only if its key has none yet.
 func (g *Group) Put(ctx context.Context, kind Kind, number uint64, message []byte) error {
 	subject := g.subject + g.keyOf(kind, number)
-	return persist(ctx, "group: put", func() (bool, error) {
-		attempt, cancel := context.WithTimeout(ctx, attemptWait)
+	wait := firstWait
+	return carrier.Persist(ctx, "group: put", func() (bool, error) {
+		attempt, cancel := context.WithTimeout(ctx, wait)
 		defer cancel()
+		if wait *= 2; wait > attemptWait {
+			wait = attemptWait
+		}
 		m := &nats.Msg{Subject: subject, Header: nats.Header{}, Data: message}
 		ack, err := g.js.PublishMsg(m, nats.Context(attempt), nats.ExpectLastSequencePerSubject(0))
 		switch {
@@ -303,7 +262,7 @@ func (g *Group) Put(ctx context.Context, kind Kind, number uint64, message []byt
 
 // Stored returns when the broker stored a value that this member has put, by the broker's clock.
 func (g *Group) Stored(ctx context.Context, kind Kind, number uint64) (at time.Time, err error) {
-	err = persist(ctx, "group: look for a stored value", func() (bool, error) {
+	err = carrier.Persist(ctx, "group: look for a stored value", func() (bool, error) {
 		is, err := g.get(ctx, attemptWait, map[string]any{"last_by_subj": g.subject + g.keyOf(kind, number)})
 		at = is.Time
 		return err == nil, err
@@ -347,9 +306,9 @@ func (g *Group) take(values []Value) {
 		}
 		taken--
 		n := g.aside.Add(1)
-		if held, ok := g.quiet.speak(time.Now()); ok {
+		if held, ok := g.quiet.Speak(time.Now()); ok {
 			v := values[i]
-			g.log("put aside", "from", v.from, "number", v.Position, "bytes", len(v.Message), "why", err, "aside", n, "unlogged", held)
+			g.log("put aside", "from", v.From, "number", v.Position, "bytes", len(v.Message), "why", err, "aside", n, "unlogged", held)
 		}
 	}
 	g.taken.Add(taken)

@@ -7,6 +7,8 @@ import (
 	"time"
 
 	"github.com/nats-io/nats.go"
+
+	"svid.example/go/internal/carrier"
 )
 
 const (
@@ -47,7 +49,7 @@ func (g *Group) Summaries(every time.Duration, summary func() ([]byte, error), a
 			if err := g.repair(subject, summary); err != nil && g.life.Err() == nil {
 				g.log("a summary has no answer", "why", err)
 			}
-			pause(g.life, every/2+time.Duration(rand.Int63n(int64(every)+1))) // Members do not ask all at once.
+			carrier.Pause(g.life, every/2+time.Duration(rand.Int63n(int64(every)+1))) // Members do not ask all at once.
 		}
 	}()
 }
@@ -77,7 +79,7 @@ func (g *Group) repair(subject string, summary func() ([]byte, error)) error {
 		if len(m.Data) == 0 {
 			return nil
 		}
-		g.take([]Value{{Kind: Answer, Message: m.Data, from: "an answer"}})
+		g.take([]Value{{Kind: Answer, Message: m.Data, From: "an answer"}})
 	}
 	return errors.New("it took too long")
 }
@@ -86,7 +88,7 @@ func (g *Group) repair(subject string, summary func() ([]byte, error)) error {
 func (g *Group) answer(m *nats.Msg, answer func([]byte) ([]byte, error)) {
 	batches, err := answer(m.Data)
 	if err != nil {
-		if held, ok := g.asked.speak(time.Now()); ok {
+		if held, ok := g.asked.Speak(time.Now()); ok {
 			g.log("a summary was not answered", "why", err, "bytes", len(m.Data), "unlogged", held)
 		}
 		return

@@ -1,19 +1,21 @@
 package group
 
 import (
-	"context"
 	"errors"
 	"fmt"
 	"strings"
 	"time"
 
 	"github.com/nats-io/nats.go"
+
+	"svid.example/go/internal/carrier"
 )
 
 const (
 	idleUntilReady  = time.Second      // without a value, before the reader asks how far the bucket is
 	idleWait        = 5 * time.Second  // the same once it has caught up
-	ownWait         = time.Second / 2  // without a value though an own one is stored, before reading begins again: a claim waits for it
+	ownWait         = time.Second / 10 // without a value though an own one is stored, before the reader asks for it: a claim waits for it
+	mostLack        = 10               // of these, before another feed is begun
 	stallWait       = 10 * time.Second // without a value that is there, before reading begins anew; longer after each time in vain
 	mostAnewWait    = time.Second / 4  // between two beginnings
 	lossWait        = 3 * time.Second  // for which the broker must say that values are lost, before they are
@@ -40,9 +42,11 @@ type reader struct {
 
 	look   time.Time // when idle asked for the bucket's state last
 	gone   time.Time // since when idle finds that all values behind the last one are gone; zero if it does not
-	lack   int       // how often in a row idle found an own value stored that has not come
+	lack   int       // how often in a row idle found an own value stored that the feed has not brought
+	pulled bool      // values were asked for, and the feed has brought nothing since
 	forget string    // what was said about settings by which the bucket may lose values
 
+	anew bool          // the bucket is read from its first value again
 	room []Value       // for values to take at once
 	wait time.Duration // for the broker's answer where reading begins
 
@@ -68,10 +72,15 @@ func (g *Group) watch(b bucket) {
 			rest = attemptPause
 		}
 		if err.Error() != said || r.seen != behind {
-			g.log("reading the bucket anew", "behind", r.seen, "why", err)
+			event := "another feed"
+			if r.anew {
+				event = "reading the bucket anew"
+			}
+			g.log(event, "behind", r.seen, "why", err)
 		}
+		r.anew = false
 		said, behind = err.Error(), r.seen
-		pause(g.life, rest)
+		carrier.Pause(g.life, rest)
 	}
 }
 
@@ -95,18 +104,10 @@ func (r *reader) mayHaveExpired() bool {
 	return b.keeps > 0 && time.Since(b.created) >= b.keeps && (r.since.IsZero() || time.Since(r.since) >= b.keeps)
 }
 
-// pause returns after d, or when ctx ends.
-func pause(ctx context.Context, d time.Duration) {
-	select {
-	case <-ctx.Done():
-	case <-time.After(d):
-	}
-}
-
 // read reads values behind the last one until something is wrong.
 func (r *reader) read() error {
 	r.catchUp()
-	f, isSlow, err := r.group.feedFrom(r.seen+1, r.wait)
+	f, isSlow, err := r.feed()
 	if errors.Is(err, nats.ErrStreamNotFound) {
 		return r.reopen()
 	}
@@ -136,6 +137,49 @@ func (r *reader) read() error {
 	}
 }
 
+// feed lets the broker send the values behind the last one. While the server is elected that does so, the reader asks for
+// own values itself.
+func (r *reader) feed() (f *feed, isSlow bool, err error) {
+	place, done := r.seen+1, make(chan struct{})
+	go func() {
+		defer close(done)
+		f, isSlow, err = r.group.feedFrom(place, r.wait)
+	}()
+	for {
+		select {
+		case <-done:
+			return f, isSlow, err
+		case <-time.After(ownWait):
+			r.pull()
+		}
+	}
+}
+
+// pull asks for the values behind the last one, each by itself, where the broker has stored an own one that no feed has brought.
+// The bucket's leader answers, whatever else is elected. What may be wrong is left to who reads the feed.
+func (r *reader) pull() {
+	g := r.group
+	var all []Value
+	seen, stamp := r.seen, r.stamp
+	for last := g.stored.Load(); seen < last && len(all) < mostAtOnce && !stamp.IsZero(); seen++ {
+		v, err := g.get(g.life, attemptWait, map[string]any{"seq": seen + 1})
+		if err != nil || v.Place != seen+1 {
+			break
+		}
+		all, stamp = append(all, g.valueAt(v.Subject, v.Data, v.Place)), v.Time
+	}
+	if len(all) == 0 {
+		return
+	}
+	// They stand behind the last one only if that is still there.
+	if is, err := g.get(g.life, attemptWait, map[string]any{"seq": r.seen}); err != nil || !is.Time.Equal(r.stamp) {
+		return
+	}
+	r.seen, r.stamp, r.since, r.gone, r.last, r.pulled = seen, stamp, stamp, time.Time{}, time.Now(), true
+	g.take(all)
+	r.catchUp()
+}
+
 func (r *reader) patience() time.Duration {
 	if r.isReady() {
 		return ownWait
@@ -149,7 +193,9 @@ func (r *reader) values(f *feed, m *nats.Msg, about *nats.MsgMetadata) error {
 	var wrong error
 	for size := 0; wrong == nil; {
 		place := about.Sequence.Stream
+		r.pulled = false
 		if r.wasRead(place, about.Timestamp) {
+			r.lack = 0
 			m, about, wrong = f.next(0)
 			continue
 		}
@@ -163,7 +209,7 @@ func (r *reader) values(f *feed, m *nats.Msg, about *nats.MsgMetadata) error {
 			r.missing(place - 1)
 		}
 		r.seen, r.stamp, r.since, r.gone, r.last, r.vain, r.lack = place, about.Timestamp, about.Timestamp, time.Time{}, time.Now(), 0, 0
-		all = append(all, r.group.valueOf(m, place))
+		all = append(all, r.group.valueAt(m.Subject, m.Data, place))
 		// The sink is told of all that is there, so that none waits for the broker.
 		if size += len(m.Data); len(all) == mostAtOnce || size > mostBytesAtOnce {
 			break
@@ -251,7 +297,7 @@ func (r *reader) isLost(info *streamInfo, ask func() (streamInfo, error)) (lost 
 			r.begin(bucketOf(*info), true)
 			return true, errAnother
 		}
-		pause(r.group.life, lossPause)
+		carrier.Pause(r.group.life, lossPause)
 		if *info, err = ask(); err != nil {
 			return false, err
 		}
@@ -272,10 +318,10 @@ func (r *reader) mind(c config) {
 	r.group.logChange(&r.forget, "bucket", err)
 }
 
-// valueOf reads a value's key. One that no member wrote is taken as uses, and put aside if it is none.
-func (g *Group) valueOf(m *nats.Msg, place uint64) Value {
-	v := Value{Kind: Uses, Position: place, Message: m.Data, from: m.Subject}
-	if strings.HasPrefix(strings.TrimPrefix(m.Subject, g.subject), "c.") {
+// valueAt reads a value's key. One that no member wrote is taken as uses, and put aside if it is none.
+func (g *Group) valueAt(subject string, message []byte, place uint64) Value {
+	v := Value{Kind: Uses, Position: place, Message: message, From: subject}
+	if strings.HasPrefix(strings.TrimPrefix(subject, g.subject), "c.") {
 		v.Kind = Claims
 	}
 	return v
@@ -302,10 +348,11 @@ func (r *reader) idle(f *feed) error {
 	if r.group.conn.IsConnected() && time.Since(f.heard) > silence {
 		return errSilent
 	}
-	if r.lack++; r.group.stored.Load() <= r.seen {
+	if r.lack++; r.group.stored.Load() <= r.seen && !r.pulled {
 		r.lack = 0
 	}
-	isLate := r.lack > 1<<r.vain // Where reading began in vain before, it gets more time.
+	r.pull()
+	isLate := r.lack > mostLack<<r.vain // Where reading began in vain before, it gets more time.
 	if r.isReady() && !isLate && time.Since(r.look) < idleWait {
 		return nil
 	}
@@ -338,8 +385,8 @@ func (r *reader) idle(f *feed) error {
 	switch {
 	case info.State.Last == r.seen && !isLate:
 		r.since = time.Now()
-	case info.State.Last > r.seen && (isLate || time.Since(r.last) > stallWait<<r.vain):
-		r.lack = 0
+	case r.pulled && isLate || info.State.Last > r.seen && (isLate || time.Since(r.last) > stallWait<<r.vain):
+		r.lack, r.pulled = 0, false
 		if r.vain < 3 {
 			r.vain++
 		}
@@ -373,6 +420,7 @@ func (r *reader) reopen() error {
 // begin lets the reader read a bucket from its beginning. lost says that it read another one before, or values that are lost:
 // there may have been more of them.
 func (r *reader) begin(b bucket, lost bool) {
+	r.anew, r.pulled = lost, false
 	r.group.stored.Store(0)
 	r.bucket, r.seen, r.stamp, r.since, r.gone, r.vain, r.lack = b, b.first-1, time.Time{}, time.Time{}, time.Time{}, 0, 0
 	missed := r.front()

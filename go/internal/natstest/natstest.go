@@ -22,14 +22,14 @@ func Start(t testing.TB, more ...string) *broker.Server {
 	return s
 }
 
-// Cluster starts n servers as a cluster, and waits until JetStream has a leader.
-func Cluster(t testing.TB, n int) []*broker.Server {
+// Cluster starts n servers as a cluster, with more words on their command lines, and waits until JetStream has a leader.
+func Cluster(t testing.TB, n int, more ...string) []*broker.Server {
 	t.Helper()
 	dirs := make([]string, n)
 	for i := range dirs {
 		dirs[i] = t.TempDir()
 	}
-	servers, err := broker.NewCluster(dirs)
+	servers, err := broker.NewCluster(dirs, more...)
 	if err != nil {
 		t.Fatal(err)
 	}

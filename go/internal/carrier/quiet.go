@@ -1,4 +1,4 @@
-package group
+package carrier
 
 import (
 	"sync"
@@ -8,15 +8,15 @@ import (
 // quietTime is how long a log is quiet behind a line, so that a member that lies does not fill a disk.
 const quietTime = time.Second
 
-// A quiet lets one line through at a time, and counts those that it holds back.
-type quiet struct {
+// A Quiet lets one line through at a time, and counts those that it holds back.
+type Quiet struct {
 	mu   sync.Mutex
 	next time.Time
 	held uint64
 }
 
-// speak says whether a line may go out now, and how many were held back since the one before.
-func (q *quiet) speak(now time.Time) (held uint64, ok bool) {
+// Speak says whether a line may go out now, and how many were held back since the one before.
+func (q *Quiet) Speak(now time.Time) (held uint64, ok bool) {
 	q.mu.Lock()
 	defer q.mu.Unlock()
 	if now.Before(q.next) {

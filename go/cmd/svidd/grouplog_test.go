@@ -1,0 +1,238 @@
+package main
+
+import (
+	"flag"
+	"fmt"
+	"os"
+	"path/filepath"
+	"strings"
+	"sync/atomic"
+	"testing"
+	"time"
+
+	"svid.example/go/internal/broker"
+	"svid.example/go/internal/natstest"
+)
+
+// long lets a test send 10,000 tokens.
+var long = flag.Bool("long", false, "send ten times as many tokens to a group")
+
+// A logServer is what a group's log stands in.
+type logServer interface {
+	Kill()
+	Stop()
+	Start() error
+}
+
+// logServers start each kind of server, and say by which address the group's log is reached.
+var logServers = map[string]func(t *testing.T) (server logServer, url string){
+	"NATS": func(t *testing.T) (logServer, string) {
+		s := natstest.Start(t)
+		return s, s.URL
+	},
+	"Redis": func(t *testing.T) (logServer, string) {
+		s, err := broker.NewRedis(t.TempDir())
+		if err != nil {
+			t.Fatal(err)
+		}
+		t.Cleanup(s.Kill)
+		if err := s.Start(); err != nil {
+			t.Fatal(err)
+		}
+		return s, s.URL
+	},
+	"PostgreSQL": func(t *testing.T) (logServer, string) {
+		dir, err := broker.Folder()
+		if err != nil {
+			t.Fatal(err)
+		}
+		t.Cleanup(func() { os.RemoveAll(dir) })
+		s, err := broker.NewPostgres(dir)
+		if err != nil {
+			t.Fatal(err)
+		}
+		t.Cleanup(s.Kill)
+		if err := s.Start(); err != nil {
+			t.Fatal(err)
+		}
+		return s, s.URL
+	},
+}
+
+// members starts n sidecars of mode strict that share a log.
+func members(t *testing.T, n int, url string, more ...string) []*process {
+	t.Helper()
+	bundle := bundleOption(bundleFile(t, example))
+	all := make([]*process, n)
+	for i := range all {
+		all[i] = start(t, append([]string{bundle, "--replay", "strict", "--group-log", url, "--log", "errors",
+			"--admin", filepath.Join(t.TempDir(), "admin.sock")}, more...)...)
+	}
+	return all
+}
+
+func many() int {
+	if *long {
+		return 10_000
+	}
+	return 1000
+}
+
+// Whatever carries the log: each token that three sidecars get at once is accepted by exactly one, and all records are equal.
+func TestStrictOverEachLog(t *testing.T) {
+	for name, begin := range logServers {
+		t.Run(name, func(t *testing.T) {
+			_, url := begin(t)
+			all := members(t, 3, url, "--wait", "20s")
+			n := many()
+			accepted, unjudged := storm(all, tokens(t, "each", n), 16)
+			if got := count(accepted); got != fmt.Sprintf("1:%d", n) {
+				t.Errorf("accepted %s; unjudged %s", got, count(unjudged))
+			}
+			equalRecords(t, all)
+			for _, p := range all {
+				if gaps := p.metric("svidd_log_gaps_total"); gaps != "0" {
+					t.Errorf("%s gaps", gaps)
+				}
+			}
+		})
+	}
+}
+
+// The same while two sidecars and the server are killed, and the server is stopped as an administrator does: no token is accepted
+// twice, the records are equal behind it, and nothing says that values are missing.
+func TestKilledOverEachLog(t *testing.T) {
+	for name, begin := range logServers {
+		t.Run(name, func(t *testing.T) {
+			server, url := begin(t)
+			all := members(t, 3, url)
+			n := many()
+			sent := tokens(t, "killed", n)
+			var begun int64
+			done := make(chan error, 1)
+			go func() { done <- troubles(t, &begun, n, server, all) }()
+			accepted, _ := stormCounted(all, sent, 16, &begun)
+			if err := <-done; err != nil {
+				t.Fatal(err)
+			}
+			for _, p := range all {
+				p.await("ready", func() bool { status, _ := p.get("/readyz"); return status == 200 })
+			}
+			again, unjudged := storm(all, sent, 16)
+			total := 0
+			for i := range sent {
+				if accepted[i]+again[i] > 1 {
+					t.Fatalf("token %d was accepted %d times, and %d times behind it", i, accepted[i], again[i])
+				}
+				total += int(accepted[i])
+			}
+			if got := count(unjudged); got != fmt.Sprintf("0:%d", n) {
+				t.Errorf("behind it, unjudged %s", got)
+			}
+			equalRecords(t, all)
+			for _, p := range all {
+				if gaps := p.metric("svidd_log_gaps_total"); gaps != "0" || strings.Contains(p.log.String(), "gone") {
+					t.Errorf("%s gaps, and it said:\n%s", gaps, p.log)
+				}
+			}
+			t.Logf("%d tokens to 3 sidecars: accepted %s", n, count(accepted))
+		})
+	}
+}
+
+// troubles kills two sidecars and the server, each once so many tokens were sent, and stops the server once.
+func troubles(t *testing.T, begun *int64, n int, server logServer, all []*process) error {
+	for i, trouble := range []func() error{
+		func() error { return restartAt(all[1]) },
+		func() error { server.Kill(); time.Sleep(500 * time.Millisecond); return server.Start() },
+		func() error { return restartAt(all[2]) },
+		func() error { server.Stop(); time.Sleep(500 * time.Millisecond); return server.Start() },
+	} {
+		for atomic.LoadInt64(begun) < int64(n*(i+1)/5) {
+			time.Sleep(time.Millisecond)
+		}
+		if err := trouble(); err != nil {
+			return err
+		}
+	}
+	return nil
+}
+
+// restartAt kills a sidecar and starts it again.
+func restartAt(p *process) error {
+	p.kill()
+	p.run = command(p.args...)
+	p.run.Stderr = p.log
+	return p.run.Start()
+}
+
+// A log in another server is chosen by its address, and what can't go with it is said.
+func TestOptionsOfTheLog(t *testing.T) {
+	good := []string{"serve", "--check-config", "--audience", "a", "--longest", "60", "--bundle", "example.org=" + bundleFile(t, example)}
+	for _, row := range []struct {
+		args []string
+		want string // "" where the options are good
+	}{
+		{[]string{"--replay", "strict"}, "--group-log or --nats is missing"},
+		{[]string{"--replay", "strict", "--group-log", "nats://h:4222"}, ""},
+		{[]string{"--replay", "strict", "--group-log", "redis://u:secret@h"}, ""},
+		{[]string{"--replay", "strict", "--group-log", "redis://h1", "--group-log", "redis://h2"}, ""},
+		{[]string{"--replay", "strict", "--group-log", "rediss://u:secret@h?ssl_ca_certs=/none"}, "/none"},
+		{[]string{"--replay", "strict", "--group-log", "postgres://u:secret@h/d"}, ""},
+		{[]string{"--replay", "strict", "--group-log", "postgres://u:secret@h:x/d"}, "it is no URL"},
+		{[]string{"--replay", "strict", "--group-log", "mysql://u:secret@h"}, "address 1 must begin"},
+		{[]string{"--replay", "strict", "--group-log", "redis://h", "--group-log", "nats://u:secret@h"}, "address 2 must begin"},
+		{[]string{"--replay", "strict", "--group-log", "redis://h", "--nats", "nats://u:secret@h"}, "give one of them"},
+		{[]string{"--replay", "reuse", "--group-log", "redis://h"}, ""},
+		{[]string{"--replay", "once", "--state", t.TempDir(), "--group-log", "redis://h"}, "over Redis use strict"},
+		{[]string{"--replay", "once", "--state", t.TempDir(), "--group-log", "postgres://h/d"}, "over PostgreSQL use strict"},
+		{[]string{"--replay", "once", "--state", t.TempDir(), "--group-log", "nats://h"}, ""},
+		{[]string{"--replay", "reuse", "--log", "redis://u:secret@h"}, "is --group-log"},
+		{[]string{"--replay", "strict", "--group-log", "redis://h", "--nats-creds", bundleFile(t, example)}, "are for NATS"},
+		{[]string{"--replay", "strict", "--group-log", "redis://h", "--replicas", "6"}, "from 1 to 5"},
+	} {
+		status, out, err := here("", append(good[:len(good):len(good)], row.args...)...)
+		said := out + err
+		if row.want == "" && (status != 0 || said != "svidd: the options are good\n") || row.want != "" && (status != 2 || !strings.Contains(err, row.want)) {
+			t.Errorf("%q: %d %q, and %q is due", row.args, status, said, row.want)
+		}
+		if strings.Contains(said, "secret") {
+			t.Errorf("%q: a password is printed: %q", row.args, said)
+		}
+	}
+	t.Setenv("SVIDD_GROUP_LOG", "redis://h1,redis://u:secret@h2:x")
+	if status, out, err := here("", append(good, "--replay", "strict")...); status != 2 || !strings.Contains(err, "address 2: it is no URL") || strings.Contains(out+err, "secret") {
+		t.Errorf("%d %q %q", status, out, err)
+	}
+}
+
+// What schema prints makes a log that members with the rights of a role use, and whose values these can't change.
+func TestSchema(t *testing.T) {
+	server, url := logServers["PostgreSQL"](t)
+	postgres := server.(*broker.Postgres)
+	for _, args := range [][]string{{"schema"}, {"schema", "--longest", "0"}, {"schema", "--longest", "60", "--group", "a b"}, {"schema", "--longest", "60", "more"}} {
+		if status, out, _ := here("", args...); status != 2 || out != "" {
+			t.Errorf("%q: %d %q", args, status, out)
+		}
+	}
+	status, text, err := here("", "schema", "--longest", "3600", "--group", "ledger", "--role", "member")
+	if status != 0 || err != "" {
+		t.Fatal(status, err)
+	}
+	if err := postgres.Do("CREATE ROLE member LOGIN; CREATE ROLE other LOGIN"); err != nil {
+		t.Fatal(err)
+	}
+	if err := postgres.Do(text); err != nil {
+		t.Fatal(err)
+	}
+	as := func(user string) string { return strings.Replace(url, "svid@", user+"@", 1) }
+	p := members(t, 1, as("member"), "--group", "ledger")[0]
+	one := token(t, "one", time.Minute)
+	p.want(one, 200, "")
+	p.want(one, 401, "Replayed")
+	other := prepare(t, nil, bundleOption(bundleFile(t, example)), "--replay", "strict", "--group-log", as("other"), "--group", "ledger")
+	other.launch()
+	if err := other.run.Wait(); err == nil || !strings.Contains(other.log.String(), "svidd schema") {
+		t.Errorf("%v: %s", err, other.log)
+	}
+}

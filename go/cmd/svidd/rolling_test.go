@@ -1,0 +1,123 @@
+package main
+
+import (
+	"fmt"
+	"net/http"
+	"os"
+	"os/exec"
+	"path/filepath"
+	"strings"
+	"sync"
+	"testing"
+	"time"
+
+	"github.com/nats-io/nats.go"
+
+	"svid.example/go/internal/broker"
+	"svid.example/go/internal/natstest"
+)
+
+// Three NATS servers are restarted one behind the other, as for an upgrade, while sidecars accept tokens. Each token is accepted
+// once and at the first try, no line says that values are lost, and no sidecar reads the bucket anew. A server that is ended hands
+// over what it leads. Behind one that is killed, requests wait for an election, which takes up to nine seconds.
+func TestServersOfNATSAreRestarted(t *testing.T) {
+	for name, row := range map[string]struct {
+		end  func(*testing.T, *broker.Server)
+		wait string
+	}{
+		"stopped": {func(_ *testing.T, s *broker.Server) { s.Stop() }, "15s"},
+		"lame duck": {func(t *testing.T, s *broker.Server) {
+			if out, err := exec.Command("nats-server", "--signal", fmt.Sprint("ldm=", s.Pid())).CombinedOutput(); err != nil {
+				t.Errorf("%v %s", err, out)
+			}
+			s.Await()
+		}, "15s"},
+		"killed": {func(_ *testing.T, s *broker.Server) { s.Kill() }, "15s"},
+	} {
+		t.Run(name, func(t *testing.T) { rolling(t, row.wait, row.end) })
+	}
+}
+
+func rolling(t *testing.T, wait string, end func(*testing.T, *broker.Server)) {
+	config := filepath.Join(t.TempDir(), "nats.conf")
+	if err := os.WriteFile(config, []byte("lame_duck_duration: 30s\nlame_duck_grace_period: 1s\n"), 0o600); err != nil {
+		t.Fatal(err)
+	}
+	servers := natstest.Cluster(t, 3, "-c", config)
+	all := several(t, 3, "strict", strings.Join(broker.URLs(servers), ","), "--replicas", "3", "--wait", wait)
+	js := stream(t, strings.Join(broker.URLs(servers), ","))
+	stop := make(chan struct{})
+	var mu sync.Mutex
+	var asking sync.WaitGroup
+	sent, worst := 0, time.Duration(0)
+	wrong := map[string]int{}
+	for i := 0; i < 6; i++ {
+		asking.Add(1)
+		go func(i int) {
+			defer asking.Done()
+			for n := 0; ; n++ {
+				select {
+				case <-stop:
+					return
+				case <-time.After(20 * time.Millisecond):
+				}
+				one := token(t, fmt.Sprint("rolling", i, ".", n), time.Hour/2)
+				from := time.Now()
+				status, _, body := all[(i+n)%len(all)].check(one)
+				took := time.Since(from)
+				again, _, _ := all[(i+n+1)%len(all)].check(one)
+				mu.Lock()
+				if sent++; took > worst {
+					worst = took
+				}
+				if status != http.StatusOK || again != http.StatusUnauthorized {
+					wrong[fmt.Sprint(status, " ", again, " ", body)]++
+				}
+				mu.Unlock()
+			}
+		}(i)
+	}
+	for _, s := range servers {
+		mu.Lock()
+		before := sent
+		mu.Unlock()
+		all[0].await("some tokens", func() bool { mu.Lock(); defer mu.Unlock(); return sent > before+30 })
+		end(t, s)
+		time.Sleep(time.Second)
+		if err := s.Start(); err != nil {
+			t.Fatal(err)
+		}
+		all[0].await("all servers to have the bucket", func() bool { return isWhole(js) })
+	}
+	close(stop)
+	asking.Wait()
+	if len(wrong) > 0 {
+		t.Errorf("of %d tokens: %v", sent, wrong)
+	}
+	t.Logf("%d tokens, each accepted at the first try, within %v at the most", sent, worst)
+	for _, p := range all {
+		text := p.log.String()
+		for _, word := range []string{"gone", "lost values", "anew"} {
+			if strings.Contains(text, word) {
+				t.Errorf("a sidecar said: %s", text)
+			}
+		}
+		if gaps := p.metric("svidd_log_gaps_total"); gaps != "0" {
+			t.Errorf("%s gaps", gaps)
+		}
+	}
+}
+
+// isWhole says whether all servers have the bucket as it is.
+func isWhole(js nats.JetStreamContext) bool {
+	info, err := js.StreamInfo("KV_svid")
+	if err != nil || info.Cluster == nil || info.Cluster.Leader == "" {
+		return false
+	}
+	for _, peer := range info.Cluster.Replicas {
+		if !peer.Current || peer.Offline {
+			return false
+		}
+	}
+	return len(info.Cluster.Replicas) == 2
+}

@@ -1,0 +1,164 @@
+package broker
+
+import (
+	"database/sql"
+	"fmt"
+	"os"
+	"os/exec"
+	"os/user"
+	"path/filepath"
+	"strconv"
+	"syscall"
+	"time"
+
+	_ "github.com/lib/pq" // speaks to the server
+)
+
+// postgresBin is where Debian has the programs of PostgreSQL.
+const postgresBin = "/usr/lib/postgresql/15/bin"
+
+// A Postgres is one server of PostgreSQL. It keeps its port and its folder when it is killed and started again. It runs as another
+// user where this process is root, since it refuses to run as that. It is for one goroutine at a time.
+type Postgres struct {
+	process
+	URL, Address, Dir string
+	args              []string
+	as                *syscall.Credential
+}
+
+// NewPostgres makes a server in dir, which must be there, and belong to whom Owner says. It does not run yet.
+func NewPostgres(dir string, more ...string) (*Postgres, error) {
+	ports, err := FreePorts(1)
+	if err != nil {
+		return nil, err
+	}
+	address := fmt.Sprintf("127.0.0.1:%d", ports[0])
+	s := &Postgres{Address: address, URL: "postgres://svid@" + address + "/postgres?sslmode=disable", Dir: filepath.Join(dir, "data")}
+	if s.as, err = owner(); err != nil {
+		return nil, err
+	}
+	s.args = append([]string{"-D", s.Dir, "-p", fmt.Sprint(ports[0]), "-c", "listen_addresses=127.0.0.1", "-c", "unix_socket_directories=",
+		"-c", "shared_buffers=16MB", "-c", "logging_collector=off"}, more...)
+	if _, err := os.Stat(filepath.Join(s.Dir, "PG_VERSION")); err == nil {
+		return s, nil
+	}
+	out, err := s.Command("initdb", "-D", s.Dir, "-U", "svid", "--auth=trust", "--no-sync", "-E", "UTF8", "--locale=C", "--wal-segsize=1").CombinedOutput()
+	if err != nil {
+		return nil, fmt.Errorf("broker: initdb: %w: %s: install Debian's postgresql", err, out)
+	}
+	return s, nil
+}
+
+// owner is who a server of PostgreSQL runs as; nil for who this process is.
+func owner() (*syscall.Credential, error) {
+	if os.Getuid() != 0 {
+		return nil, nil
+	}
+	who, err := user.Lookup("postgres")
+	if err != nil {
+		return nil, err
+	}
+	uid, err := strconv.ParseUint(who.Uid, 10, 32)
+	if err != nil {
+		return nil, err
+	}
+	gid, err := strconv.ParseUint(who.Gid, 10, 32)
+	return &syscall.Credential{Uid: uint32(uid), Gid: uint32(gid)}, err
+}
+
+// Folder makes a new folder for a server of PostgreSQL. Its user may not go through the folders of a test.
+func Folder() (string, error) {
+	dir, err := os.MkdirTemp("", "svid-postgres-")
+	if err != nil {
+		return "", err
+	}
+	return dir, Own(dir)
+}
+
+// Own gives a folder to who a server of PostgreSQL runs as.
+func Own(dir string) error {
+	as, err := owner()
+	if err != nil || as == nil {
+		return err
+	}
+	return os.Chown(dir, int(as.Uid), int(as.Gid))
+}
+
+// Command is a command of PostgreSQL, as the server's user.
+func (s *Postgres) Command(name string, args ...string) *exec.Cmd {
+	run := exec.Command(filepath.Join(postgresBin, name), args...)
+	run.Dir = filepath.Dir(s.Dir)
+	run.Env = append(os.Environ(), "LC_ALL=C")
+	run.SysProcAttr = &syscall.SysProcAttr{Credential: s.as}
+	return run
+}
+
+// Start starts the server, for the first time or again, and waits until it runs: behind a kill it can't before all its processes
+// have ended.
+func (s *Postgres) Start() error {
+	for end := time.Now().Add(30 * time.Second); ; time.Sleep(20 * time.Millisecond) {
+		log, err := os.OpenFile(filepath.Join(filepath.Dir(s.Dir), "log"), os.O_CREATE|os.O_APPEND|os.O_WRONLY, 0o644)
+		if err != nil {
+			return err
+		}
+		run := s.Command("postgres", s.args...)
+		run.Stdout, run.Stderr = log, log
+		err = s.start(run)
+		log.Close()
+		if err != nil {
+			return fmt.Errorf("broker: %w: install Debian's postgresql", err)
+		}
+		ended := make(chan struct{})
+		go func() { defer close(ended); run.Process.Wait() }()
+		for !s.Answers() && time.Now().Before(end) {
+			select {
+			case <-ended:
+			case <-time.After(20 * time.Millisecond):
+				continue
+			}
+			break
+		}
+		if s.Answers() {
+			return nil
+		}
+		s.run = nil
+		if time.Now().After(end) {
+			run.Process.Kill()
+			return fmt.Errorf("broker: the server of PostgreSQL does not run: see %s", filepath.Join(filepath.Dir(s.Dir), "log"))
+		}
+	}
+}
+
+// end sends a signal, and waits until the server has ended.
+func (s *Postgres) end(signal syscall.Signal) {
+	if s.run == nil {
+		return
+	}
+	pid := s.run.Process.Pid
+	s.Resume()
+	syscall.Kill(pid, signal)
+	for syscall.Kill(pid, 0) == nil {
+		time.Sleep(5 * time.Millisecond)
+	}
+	s.run = nil
+}
+
+// Kill ends the server as kill -9 does.
+func (s *Postgres) Kill() { s.end(syscall.SIGKILL) }
+
+// Stop ends the server as an administrator does, who does not wait for those that are connected.
+func (s *Postgres) Stop() { s.end(syscall.SIGINT) }
+
+// Answers says whether the server answers.
+func (s *Postgres) Answers() bool { return s.Do("SELECT 1") == nil }
+
+// Do sends a query, whose rows don't matter.
+func (s *Postgres) Do(query string, values ...any) error {
+	db, err := sql.Open("postgres", s.URL+"&connect_timeout=2")
+	if err != nil {
+		return err
+	}
+	defer db.Close()
+	_, err = db.Exec(query, values...)
+	return err
+}
