@@ -308,3 +308,27 @@ func TestASeldomOfMany(t *testing.T) {
 		t.Errorf("%d lines, and %d are counted", n, s.unlogged)
 	}
 }
+
+// A value that fails once some of its claims have an outcome fails the others alone.
+func TestAValueThatFailsHalfway(t *testing.T) {
+	var failed atomic.Uint64
+	c := newClaims(&failed)
+	one := &claim{use: svid.Use{Key: svid.TokenKey{1}}, done: make(chan struct{})}
+	two := &claim{use: svid.Use{Key: svid.TokenKey{2}}, done: make(chan struct{})}
+	c.begin(one)
+	c.begin(two)
+	number, uses := c.next(func() {})
+	if len(uses) != 2 {
+		t.Fatal(uses)
+	}
+	if n := c.end([]svid.LogUse{{Use: one.use}}, svid.Place{}, func(svid.Fate) error { return nil }); n != 1 {
+		t.Errorf("%d claims have ended", n)
+	}
+	late := errors.New("late")
+	c.landed(number, late)
+	<-one.done
+	<-two.done
+	if one.err != nil || !errors.Is(two.err, late) || failed.Load() != 1 || len(c.sent) != 0 {
+		t.Errorf("%v, %v, %d failed, and %d values are kept", one.err, two.err, failed.Load(), len(c.sent))
+	}
+}
