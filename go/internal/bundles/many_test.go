@@ -110,3 +110,44 @@ func TestNoFileStaysOpen(t *testing.T) {
 		t.Errorf("%d files are open, and %d before", after, before)
 	}
 }
+
+// A bundle that its source gives again is as good as new, though it is the same.
+func TestABundleThatIsGivenAgainIsNew(t *testing.T) {
+	name := filepath.Join(t.TempDir(), "bundle.json")
+	write(t, name, spire)
+	w, o := watch(t, nil, Spec{Domain: "example.org", Source: name})
+	w.mu.Lock()
+	w.held["example.org"].good = time.Now().Add(-time.Hour)
+	w.mu.Unlock()
+	if age, ok := w.Age("example.org"); !ok || age < time.Hour {
+		t.Errorf("it is %v old", age)
+	}
+	w.Reload()
+	if age, ok := w.Age("example.org"); !ok || age > time.Minute {
+		t.Errorf("it is %v old, and was given just now", age)
+	}
+	if o.calls != 1 {
+		t.Errorf("told %d times of one bundle", o.calls)
+	}
+}
+
+// The end of the context ends a pause.
+func TestTheEndEndsAPause(t *testing.T) {
+	e := newEndpoint(t)
+	pauses := make(chan time.Duration, 1)
+	ctx, cancel := context.WithCancel(context.Background())
+	before := runtime.NumGoroutine()
+	o := Options{Every: time.Hour, after: func(d time.Duration) <-chan time.Time { pauses <- d; return nil }}
+	e.trusted(&o)
+	if _, err := Watch(ctx, []Spec{{Domain: "example.org", Source: e.URL}}, func(map[string]json.RawMessage) error { return nil }, o); err != nil {
+		t.Fatal(err)
+	}
+	<-pauses
+	cancel()
+	e.CloseClientConnections() // which have goroutines of their own
+	for end := time.Now().Add(20 * time.Second); runtime.NumGoroutine() > before; time.Sleep(time.Millisecond) {
+		if time.Now().After(end) {
+			t.Fatalf("%d goroutines, and %d before", runtime.NumGoroutine(), before)
+		}
+	}
+}

@@ -104,7 +104,7 @@ func TestAValueInVainLeavesNothing(t *testing.T) {
 	}
 }
 
-// A claim is given up and ended at the same time: one of both counts.
+// A claim is given up and ended at the same time, and its value lands: one of both counts.
 func TestClaimsEndAndAreGivenUpAtOnce(t *testing.T) {
 	c := newClaims(new(atomic.Uint64))
 	again := func() {}
@@ -112,12 +112,14 @@ func TestClaimsEndAndAreGivenUpAtOnce(t *testing.T) {
 		mine := &claim{use: svid.Use{Key: svid.TokenKey{byte(round)}}, done: make(chan struct{})}
 		c.begin(mine)
 		c.at = time.Time{} // so that the value goes out at once
-		if number, _ := c.next(again); number == 0 {
+		number, _ := c.next(again)
+		if number == 0 {
 			t.Fatal("no value goes out")
 		}
 		var both sync.WaitGroup
 		var ends atomic.Int32
-		both.Add(2)
+		both.Add(3)
+		go func() { defer both.Done(); c.landed(number, nil) }()
 		go func() {
 			defer both.Done()
 			if c.giveUp(mine) {
