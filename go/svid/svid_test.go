@@ -805,15 +805,12 @@ func TestSplitLeavesWhatIsNoMessageToTake(t *testing.T) {
 }
 
 func TestErrorsThatAreAboutNoToken(t *testing.T) {
-	bad := options(1)
-	bad.Audiences = []string{"a\nb"}
-	if _, err := svid.Open(bad); !errors.Is(err, svid.ErrAudience) {
-		t.Errorf("audience: %v", err)
-	}
-	bad = options(1)
-	bad.Audiences = []string{"\xff"}
-	if _, err := svid.Open(bad); !errors.Is(err, svid.ErrAudience) {
-		t.Errorf("audience: %v", err)
+	for _, audiences := range [][]string{{"a\nb"}, {"a\r"}, {"\xff"}, {""}, {"a", ""}, {"", "a"}} {
+		bad := options(1)
+		bad.Audiences = audiences
+		if _, err := svid.Open(bad); !errors.Is(err, svid.ErrAudience) {
+			t.Errorf("audiences %q: %v", audiences, err)
+		}
 	}
 	if _, err := svid.NewKeyring([]byte("[]")); !errors.Is(err, svid.ErrBundles) {
 		t.Errorf("bundles: %v", err)

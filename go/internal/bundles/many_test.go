@@ -14,6 +14,8 @@ import (
 	"syscall"
 	"testing"
 	"time"
+
+	"svid.example/go/internal/agenttest"
 )
 
 // A lone says whether what it is told of happens one after the other.
@@ -149,5 +151,21 @@ func TestTheEndEndsAPause(t *testing.T) {
 		if time.Now().After(end) {
 			t.Fatalf("%d goroutines, and %d before", runtime.NumGoroutine(), before)
 		}
+	}
+}
+
+// The bundles of an agent were good until the moment at which it went, also where nobody asked how old they are.
+func TestBundlesAreGoodUntilTheAgentGoes(t *testing.T) {
+	agent := agenttest.Start(t)
+	agent.Give(t, map[string]string{"spiffe://example.org": bare})
+	w, o := watch(t, nil, WorkloadAPI(agent.Address))
+	o.await(t, "the bundle", o.calledTimes(1))
+	w.mu.Lock()
+	w.held["example.org"].good = time.Now().Add(-time.Hour)
+	w.mu.Unlock()
+	agent.Kill(t)
+	o.await(t, "the end of the stream", o.says("bundle not read; the last good one stays source "+agent.Address))
+	if age, ok := w.Age("example.org"); !ok || age > 10*time.Minute {
+		t.Errorf("it is %v old, and the agent went just now", age)
 	}
 }

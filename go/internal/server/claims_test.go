@@ -334,3 +334,43 @@ func TestAValueThatFailsHalfway(t *testing.T) {
 		t.Errorf("%v, %v, %d failed, and %d values are kept", one.err, two.err, failed.Load(), len(c.sent))
 	}
 }
+
+// A claim whose value has not gone out is open still, whatever stands in the bucket.
+func TestAClaimThatHasNotGoneOutStaysOpen(t *testing.T) {
+	c := newClaims(new(atomic.Uint64))
+	mine := &claim{use: svid.Use{Key: svid.TokenKey{1}}, done: make(chan struct{})}
+	c.begin(mine)
+	ended := func() int {
+		return c.end([]svid.LogUse{{Use: mine.use}}, svid.Place{}, func(svid.Fate) error { return nil })
+	}
+	if n := ended(); n != 0 || mine.ended {
+		t.Errorf("%d claims have ended", n)
+	}
+	if number, _ := c.next(func() {}); number != 1 {
+		t.Fatal(number)
+	}
+	if n := ended(); n != 1 || !mine.ended {
+		t.Errorf("%d claims have ended", n)
+	}
+}
+
+// Each claim that waits has its timer, also where an earlier one has run.
+func TestEachClaimThatWaitsHasItsTimer(t *testing.T) {
+	c := newClaims(new(atomic.Uint64))
+	ran := make(chan struct{}, 1)
+	again := func() { ran <- struct{}{} }
+	for i := byte(0); i < 5; i++ {
+		c.begin(&claim{use: svid.Use{Key: svid.TokenKey{i}}, done: make(chan struct{})})
+		c.mu.Lock()
+		c.at = time.Now() // so that a value must wait
+		c.mu.Unlock()
+		if number, _ := c.next(again); number != 0 {
+			t.Fatalf("value %d goes out without a pause", number)
+		}
+		select {
+		case <-ran:
+		case <-time.After(20 * time.Second):
+			t.Fatalf("claim %d waits for ever", i)
+		}
+	}
+}

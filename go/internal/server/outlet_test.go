@@ -175,6 +175,7 @@ func TestAnOutletThatFailsForLong(t *testing.T) {
 
 // Close waits for what came, but not for a writer that hangs, and behind it every line is dropped.
 func TestTheEndOfAnOutlet(t *testing.T) {
+	defer soon(t)()
 	out := newSink()
 	o := NewOutlet(out)
 	give(o, 0, 1000, 20)
@@ -198,6 +199,17 @@ func TestTheEndOfAnOutlet(t *testing.T) {
 	}
 	hung.mu.Unlock()
 	<-o.ended
+}
+
+// A line is written though no other one follows.
+func TestALineIsWrittenAtOnce(t *testing.T) {
+	out := newSink()
+	o := NewOutlet(out)
+	defer o.Close(time.Minute)
+	for _, line := range []string{"one\n", "two\n"} {
+		fmt.Fprint(o, line)
+		await(t, line, func() bool { return strings.HasSuffix(out.String(), line) })
+	}
 }
 
 // Lines of many goroutines are all written or counted, and none is mixed with another one.
