@@ -146,7 +146,7 @@ func TestWalkAnswerRejectsWhatIsNoSummary(t *testing.T) {
 // other buckets each time, so that all come by and by, also where nobody takes them.
 func TestWhatAWalkAnswers(t *testing.T) {
 	v := open(t, 1)
-	const many = 60
+	const many = 100
 	for i := byte(0); i < many; i++ {
 		for _, u := range []svid.Use{{Key: svid.TokenKey{i, 1}, Expires: moment + 5}, {Key: svid.TokenKey{i, 2}, Expires: moment + 100}} {
 			u.At, u.Place = moment, svid.Place{9}

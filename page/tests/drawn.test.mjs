@@ -18,18 +18,20 @@ after(() => browser?.close());
 
 const use = (key, place, at, exp, withdrawn = 0) => ({ key: Buffer.alloc(32, key), place: Buffer.alloc(16, place), at: NOW + at, exp: NOW + exp, withdrawn });
 
-/** Drops a file of messages with these uses on the page, which has no others then. */
-async function drop(...uses) {
+/** Drops a file on the page, whose record is empty then. */
+async function dropFile(name, content) {
   await page.click("forget");
-  await page.run((encoded) => {
+  await page.run((name, encoded) => {
     const content = Uint8Array.from(atob(encoded), (it) => it.charCodeAt(0)), files = new DataTransfer(), told = document.getElementById("record-change");
-    files.items.add(new File([content], "some"));
-    const taken = new Promise((resolve) => new MutationObserver(() => told.textContent.startsWith("some") && resolve()).observe(told, { childList: true }));
+    files.items.add(new File([content], name));
+    const taken = new Promise((resolve) => new MutationObserver(() => told.textContent && !told.textContent.startsWith("The empty record") && resolve()).observe(told, { childList: true }));
     document.body.dispatchEvent(new DragEvent("drop", { bubbles: true, cancelable: true, dataTransfer: files }));
     return taken;
-  }, batch(NOW, uses).toString("base64"));
+  }, name, content.toString("base64"));
   await page.settled();
 }
+
+const drop = (...uses) => dropFile("some", batch(NOW, uses));
 
 // What stands in the timeline: of each row its label and its marks, and of each thing in a lane its kind and its place.
 const drawn = () => page.run(() => [...document.querySelectorAll("#rows .row")].map((row) => ({
@@ -109,6 +111,18 @@ test("of doubled members the last one counts", async () => {
   assert.deepEqual((await members('{"aud":"other","x":1,"aud":"ledger"}')).map(([name, , meaning]) => [name, meaning]), [
     ["aud", "ignored, since a later member has its name"], ["x", "svid does not read it"], ["aud", "whom it is for"],
   ]);
+});
+
+test("text that looks like markup stays text", async () => {
+  const text = "<img src=x onerror=alert(1)>";
+  await dropFile(text, batch(NOW, [use(1, 1, -10, 100)]));
+  assert.match(await page.text("record-change"), /^<img src=x onerror=alert\(1\)> \(1 batch of version 2\): 1 new/);
+  await dropFile(text, Buffer.from([1, 2]));
+  assert.match(await page.text("record-change"), /^<img src=x onerror=alert\(1\)> was not taken/);
+  assert.deepEqual((await members(`{"${text}":"${text}"}`)).map(([name]) => name), [text]);
+  await page.write({ token: [`{"alg":"${text}","kid":"${text}"}`, `{"sub":"${text}"}`, "s"].map((it) => base64url(it)).join(".") });
+  assert.match(await page.text("header"), /<img src=x/);
+  assert.equal(await page.run(() => document.querySelector("img")), null);
 });
 
 test("nothing was complained of", async () => assert.deepEqual(await page.complaints(), []));

@@ -1,9 +1,14 @@
 package main
 
 import (
+	"encoding/pem"
+	"net/http"
+	"net/http/httptest"
 	"os"
 	"path/filepath"
 	"strings"
+	"sync/atomic"
+	"syscall"
 	"testing"
 	"time"
 
@@ -74,5 +79,34 @@ func TestTheBucketKeepsClaimsAsLongAsTokensLive(t *testing.T) {
 	if want := (3600 + 2*20) * time.Second; info.Config.MaxAge != want {
 		t.Errorf("it keeps them for %v, and %v are due", info.Config.MaxAge, want)
 	}
+	p.end()
+}
+
+// SIGHUP, and reload on the admin socket, have an endpoint asked at once, and not only when its bundle's hint says so.
+func TestAnEndpointIsAskedWhereSomeoneWants(t *testing.T) {
+	var asked atomic.Int32
+	endpoint := httptest.NewTLSServer(http.HandlerFunc(func(w http.ResponseWriter, r *http.Request) {
+		asked.Add(1)
+		_, _ = w.Write(example.JWKSet())
+	}))
+	defer endpoint.Close()
+	authorities := filepath.Join(t.TempDir(), "authorities.pem")
+	text := pem.EncodeToMemory(&pem.Block{Type: "CERTIFICATE", Bytes: endpoint.Certificate().Raw})
+	if err := os.WriteFile(authorities, text, 0o600); err != nil {
+		t.Fatal(err)
+	}
+	t.Setenv("SSL_CERT_FILE", authorities)
+	admin := filepath.Join(t.TempDir(), "admin.sock")
+	p := start(t, bundleOption(endpoint.URL), "--replay", "reuse", "--admin", admin)
+	if n := asked.Load(); n != 1 {
+		t.Errorf("at the start it is asked %d times", n)
+	}
+	if err := p.signal(syscall.SIGHUP); err != nil {
+		t.Fatal(err)
+	}
+	p.await("a question behind SIGHUP", func() bool { return asked.Load() == 2 })
+	c := p.dial("unix", admin, "POST /reload HTTP/1.1\r\nHost: a\r\n\r\n")
+	defer c.Close()
+	p.await("a question behind reload", func() bool { return asked.Load() == 3 })
 	p.end()
 }
