@@ -204,7 +204,10 @@ def main(language, words):
             faults += 1
             print(f"wrong: {language.folder}/{name}: it cannot be applied: {why}")
     of = f"of {language.name}"
-    print(f"wrong: {len(names)} {of}, {f'{faults} of them cannot be applied' if faults else 'each can be applied'}", flush=True)
+    print(
+        f"wrong: {len(names)} {of}, {f'{faults} of them cannot be applied' if faults else 'each can be applied'}",
+        flush=True,
+    )
     if not only_applies and (why := language.missing()):
         print(f"wrong: skipped: those {of}, since its tests can't run here: {why}")
     elif not only_applies:
