@@ -374,3 +374,57 @@ func TestEachClaimThatWaitsHasItsTimer(t *testing.T) {
 		}
 	}
 }
+
+// Claims that have no room in a value go out with the next one.
+func TestClaimsWithoutRoomGoOutNext(t *testing.T) {
+	c := newClaims(new(atomic.Uint64))
+	const more = 3
+	for i := 0; i < mostClaims+more; i++ {
+		c.begin(&claim{use: svid.Use{Key: svid.TokenKey{byte(i >> 8), byte(i)}}, done: make(chan struct{})})
+	}
+	seen := map[svid.TokenKey]bool{}
+	for number, want := range []int{mostClaims, more} {
+		c.mu.Lock()
+		c.at = time.Time{} // so that the value goes out at once
+		c.mu.Unlock()
+		got, uses := c.next(func() {})
+		if got != uint64(number+1) || len(uses) != want {
+			t.Errorf("value %d has %d claims, and %d are due", got, len(uses), want)
+		}
+		for _, u := range uses {
+			seen[u.Key] = true
+		}
+		c.landed(got, nil)
+	}
+	if len(seen) != mostClaims+more {
+		t.Errorf("%d claims went out", len(seen))
+	}
+}
+
+// A clock that is wrong for long is said once, and not each time that a value could not be read.
+func TestAWrongClockIsSaidOnce(t *testing.T) {
+	var now, asked atomic.Uint64
+	now.Store(moment)
+	var log lines
+	e := ready(t, engine(t, Options{Mode: Strict, Grouped: true, Step: 600, Log: NewLog(&log, Errors), Now: func() uint64 {
+		asked.Add(1)
+		return now.Load()
+	}}))
+	(&broker{}).join(e)
+	e.tick()
+	now.Store(moment + 100_000)
+	taken := make(chan []error)
+	use := svid.Use{Key: svid.TokenKey{1}, Expires: moment + 300, At: moment, Place: svid.Place{9}}
+	before := asked.Load()
+	go func() { taken <- e.Take([]group.Value{{Kind: group.Claims, Position: 2, Message: use.Batch()}}) }()
+	await(t, "five tries", func() bool { return asked.Load() >= before+5 })
+	now.Store(moment + 50)
+	if errs := <-taken; errs != nil {
+		t.Error(errs)
+	}
+	log.mu.Lock()
+	defer log.mu.Unlock()
+	if n := strings.Count(log.text.String(), `"event":"log"`); n != 1 {
+		t.Errorf("%d lines: %s", n, &log.text)
+	}
+}

@@ -212,6 +212,38 @@ func TestALineIsWrittenAtOnce(t *testing.T) {
 	}
 }
 
+// /metrics asks how many lines were dropped while others are dropped.
+func TestDroppedIsAskedMeanwhile(t *testing.T) {
+	hung := newSink()
+	hung.mu.Lock()
+	o := NewOutlet(hung)
+	done := make(chan struct{})
+	go func() {
+		defer close(done)
+		for i := 0; i < 200; i++ {
+			fmt.Fprintln(o, strings.Repeat("a", mostWaiting/50))
+		}
+	}()
+	last := uint64(0)
+	for ended := false; !ended; {
+		select {
+		case <-done:
+			ended = true
+		default:
+		}
+		n := o.Dropped()
+		if n < last {
+			t.Errorf("%d are dropped, and %d before", n, last)
+		}
+		last = n
+	}
+	if last == 0 {
+		t.Error("no line is dropped")
+	}
+	hung.mu.Unlock()
+	o.Close(time.Minute)
+}
+
 // Lines of many goroutines are all written or counted, and none is mixed with another one.
 func TestAnOutletOfMany(t *testing.T) {
 	out := newSink()
