@@ -4,7 +4,7 @@ import assert from "node:assert/strict";
 import { readFileSync } from "node:fs";
 import { test } from "node:test";
 import { Library } from "../src/library.js";
-import { recordOf } from "../src/record.js";
+import { changesOf, recordOf, useName } from "../src/record.js";
 
 test("a row has all of its key", () => {
   const key = "11".repeat(32), other = "22".repeat(32), place = "33".repeat(16);
@@ -13,6 +13,13 @@ test("a row has all of its key", () => {
   assert.equal(moment, 100n);
   assert.deepEqual(uses.map((it) => it.isWithdrawal), [false, false, false, true]);
   assert.deepEqual(rows.map(({ key, from, exp, isTwice, uses }) => [key, from, exp, isTwice, uses.length]), [[key, 40n, 300n, true, 3], [other, 10n, 200n, false, 1]]);
+});
+
+test("what changed is counted", () => {
+  const use = (at, isWithdrawal = false) => ({ exp: 9n, key: "k", place: "p", at: BigInt(at), isWithdrawal });
+  const before = { uses: [use(1), use(2), use(3), use(4)] }, after = { uses: [use(4), use(4, true), use(5)] };
+  const { gained, known, lost } = changesOf(before, after);
+  assert.deepEqual([[...gained], known, lost], [[use(4, true), use(5)].map(useName), 1, 3]);
 });
 
 test("calls leave nothing in the memory of the module", async () => {
