@@ -141,3 +141,46 @@ func TestWalkAnswerRejectsWhatIsNoSummary(t *testing.T) {
 		t.Errorf("closed: %v", err)
 	}
 }
+
+// An answer has no use that has expired at the summary's moment, though others of its bucket are missing. Small answers are of
+// other buckets each time, so that all come by and by, also where nobody takes them.
+func TestWhatAWalkAnswers(t *testing.T) {
+	v := open(t, 1)
+	const many = 100
+	for i := byte(0); i < many; i++ {
+		for _, u := range []svid.Use{{Key: svid.TokenKey{i, 1}, Expires: moment + 5}, {Key: svid.TokenKey{i, 2}, Expires: moment + 100}} {
+			u.At, u.Place = moment, svid.Place{9}
+			if err := v.Take(moment, u.Batch()); err != nil {
+				t.Fatal(err)
+			}
+		}
+	}
+	other := open(t, 2)
+	if err := other.Tick(moment + 5); err != nil {
+		t.Fatal(err)
+	}
+	summary, err := other.Summary()
+	if err != nil {
+		t.Fatal(err)
+	}
+	buckets := map[byte]bool{}
+	for round := 0; round < 200 && len(buckets) < 10; round++ {
+		answer, err := v.WalkAnswer(moment, 10, summary, 1)
+		if err != nil {
+			t.Fatal(err)
+		}
+		_, uses, err := svid.Uses(answer)
+		if err != nil || len(uses) != 1 || uses[0].Expires != moment+100 {
+			t.Fatalf("%v, %v", uses, err)
+		}
+		buckets[uses[0].Key[0]] = true
+	}
+	if len(buckets) < 10 {
+		t.Errorf("all answers are of %d buckets", len(buckets))
+	}
+	// The core's own answer has as much room as it needs.
+	answer, err := v.Answer(moment, summary)
+	if _, uses, bad := svid.Uses(answer); err != nil || bad != nil || len(uses) != many {
+		t.Errorf("%d uses, %v, %v", len(uses), err, bad)
+	}
+}

@@ -428,6 +428,14 @@ func TestCheckClaimedAddsTheClaimedUse(t *testing.T) {
 	if _, err := v.CheckClaimed(moment+5, token, yes, batch); err != svid.Replayed {
 		t.Errorf("again: %v", err)
 	}
+	// A claim that can't be taken accepts nothing.
+	other := example.Token("ES256", claims("b"))
+	for _, bad := range [][]byte{[]byte("garbage"), batch[:81]} {
+		var fault *svid.MessageError
+		if _, err := v.CheckClaimed(moment+5, other, verified(t, k, other), bad); !errors.As(err, &fault) {
+			t.Errorf("a claim of %d bytes: %v", len(bad), err)
+		}
+	}
 	saved := save(t, v)
 	if !bytes.Contains(saved, batch[17:]) || len(saved) != len(batch) {
 		t.Errorf("the record is %x, the claim %x", saved, batch)
@@ -506,6 +514,24 @@ func TestSaveWritesALargeRecordInPieces(t *testing.T) {
 	if !bytes.Equal(save(t, other), saved) || len(saved) < uses*65 {
 		t.Error("the records differ")
 	}
+	// One that can't be written whole is an error, whichever piece it is.
+	for most := 0; most < len(saved); most += len(saved) / 2 {
+		if err := v.Save(&full{most}); !errors.Is(err, errFull) {
+			t.Errorf("room for %d bytes: %v", most, err)
+		}
+	}
+}
+
+var errFull = errors.New("it is full")
+
+// A full writer has room for so many bytes.
+type full struct{ room int }
+
+func (f *full) Write(b []byte) (int, error) {
+	if f.room -= len(b); f.room < 0 {
+		return 0, errFull
+	}
+	return len(b), nil
 }
 
 func TestAreBatches(t *testing.T) {
@@ -570,6 +596,8 @@ func TestBatches(t *testing.T) {
 func TestSplitLeavesWhatIsNoMessageToTake(t *testing.T) {
 	batch := svid.Use{Expires: 2, At: 1}.Batch()
 	two := append(append([]byte(nil), batch...), batch...)
+	old := append([]byte(nil), batch[:81]...) // a use of version 1 has one byte less
+	old[3] = 1
 	for _, row := range []struct {
 		what     string
 		messages []byte
@@ -580,6 +608,8 @@ func TestSplitLeavesWhatIsNoMessageToTake(t *testing.T) {
 		{"two, one at a time", two, 82, []int{82, 82}},
 		{"two at once", two, 164, []int{164}},
 		{"longer than the most", two, 1, []int{82, 82}},
+		{"three, two of which fit", append(two[:164:164], batch...), 200, []int{164, 82}},
+		{"one of version 1 in front", append(old[:81:81], batch...), 82, []int{81, 82}},
 		{"torn", two[:100], 82, []int{82, 18}},
 		{"garbage", []byte("garbage that is no message"), 5, []int{26}},
 	} {
@@ -594,15 +624,12 @@ func TestSplitLeavesWhatIsNoMessageToTake(t *testing.T) {
 }
 
 func TestErrorsThatAreAboutNoToken(t *testing.T) {
-	bad := options(1)
-	bad.Audiences = []string{"a\nb"}
-	if _, err := svid.Open(bad); !errors.Is(err, svid.ErrAudience) {
-		t.Errorf("audience: %v", err)
-	}
-	bad = options(1)
-	bad.Audiences = []string{"\xff"}
-	if _, err := svid.Open(bad); !errors.Is(err, svid.ErrAudience) {
-		t.Errorf("audience: %v", err)
+	for _, audiences := range [][]string{{"a\nb"}, {"a\r"}, {"\xff"}, {""}, {"a", ""}, {"", "a"}} {
+		bad := options(1)
+		bad.Audiences = audiences
+		if _, err := svid.Open(bad); !errors.Is(err, svid.ErrAudience) {
+			t.Errorf("audiences %q: %v", audiences, err)
+		}
 	}
 	if _, err := svid.NewKeyring([]byte("[]")); !errors.Is(err, svid.ErrBundles) {
 		t.Errorf("bundles: %v", err)

@@ -2,6 +2,7 @@
 
 const LAST_DATE = 253402300799n; // the end of the year 9999
 const UNITS = [["year", 31556952n], ["month", 2629746n], ["day", 86400n], ["h", 3600n], ["min", 60n], ["s", 1n]];
+const WORDS = new Set(["year", "month", "day"]); // the others are signs, which have no plural
 const two = (it) => String(it).padStart(2, "0");
 
 /** A local date and time, as "2026-11-25 19:40:12". */
@@ -17,7 +18,7 @@ export function spanOf(seconds) {
   const length = seconds < 0n ? -seconds : seconds;
   const [name, size] = UNITS.find(([, it]) => length >= it) ?? UNITS.at(-1);
   const count = length / size;
-  return `${count.toLocaleString("en")} ${name}${name.length > 3 && count !== 1n ? "s" : ""}`;
+  return `${count.toLocaleString("en")} ${name}${WORDS.has(name) && count !== 1n ? "s" : ""}`;
 }
 
 /** How a time stands to now: "in 4 min", "4 min ago", "now". */

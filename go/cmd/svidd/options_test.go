@@ -221,6 +221,9 @@ func TestWithdrawOfStandardInput(t *testing.T) {
 		{strings.Repeat("a", 70000), []string{"-"}, "TooLong"},
 		{one, []string{"--key", strings.Repeat("0", 64), "--exp", "4000000000", "-"}, "withdraw wants"},
 		{one, nil, "withdraw wants"},
+		{one, []string{"--key", strings.Repeat("0", 64)}, "withdraw wants"},
+		{one, []string{"--exp", "4000000000"}, "withdraw wants"},
+		{one, []string{"--exp", "4000000000", "-"}, "withdraw wants"},
 	} {
 		args := append([]string{"withdraw", "--admin", admin}, row.args...)
 		if status, _, err := here(row.stdin, args...); status != 2 || !strings.Contains(err, row.want) {

@@ -159,6 +159,7 @@ func TestAStateFolderThatCantBeTaken(t *testing.T) {
 		{"journal.1", future, "set the clock right"},
 		{"snapshot", []byte("garbage"), "snapshot is damaged at byte 0"},
 		{"place", []byte("here\n"), "is not 32 hexadecimal digits"},
+		{"place", []byte("0f0f\n"), "is not 32 hexadecimal digits"},
 	} {
 		state := t.TempDir()
 		for name, content := range map[string][]byte{"place": []byte(strings.Repeat("0f", 16)), row.name: row.content} {

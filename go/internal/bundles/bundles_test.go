@@ -312,6 +312,7 @@ func TestFolder(t *testing.T) {
 	o.want(t, map[string]string{"example.org": spire, "named": spire})
 	o.wantLines(t, 1, `"Example.com" is no trust domain's name`)
 	o.wantLines(t, 1, "the bundle of named comes from "+named)
+	o.wantLines(t, 0, "example.org.txt")
 
 	write(t, filepath.Join(dir, "b.json"), `{"keys":[]}`)
 	write(t, filepath.Join(dir, "example.org.json"), "half")

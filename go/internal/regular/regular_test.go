@@ -6,6 +6,7 @@ import (
 	"net"
 	"os"
 	"path/filepath"
+	"runtime/debug"
 	"strings"
 	"syscall"
 	"testing"
@@ -67,5 +68,35 @@ func TestARegularFile(t *testing.T) {
 	}
 	if _, err := Read(name+"s", 4); !errors.Is(err, fs.ErrNotExist) {
 		t.Error(err)
+	}
+}
+
+// What is no regular file does not stay open, nor does one that is too long.
+func TestNoFileStaysOpen(t *testing.T) {
+	defer debug.SetGCPercent(debug.SetGCPercent(-1)) // which would close what is left open
+	opened := func() int {
+		t.Helper()
+		all, err := os.ReadDir("/proc/self/fd")
+		if err != nil {
+			t.Fatal(err)
+		}
+		return len(all)
+	}
+	name := filepath.Join(t.TempDir(), "file")
+	if err := os.WriteFile(name, []byte("text"), 0o600); err != nil {
+		t.Fatal(err)
+	}
+	const reads = 20
+	before := opened()
+	for i := 0; i < reads; i++ {
+		if _, err := Read("/dev/zero", 3); !errors.Is(err, ErrNot) {
+			t.Error(err)
+		}
+		if _, err := Read(name, 3); err == nil {
+			t.Error("it is too long")
+		}
+	}
+	if after := opened(); after >= before+reads {
+		t.Errorf("%d files are open, and %d before", after, before)
 	}
 }

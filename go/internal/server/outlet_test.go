@@ -175,6 +175,7 @@ func TestAnOutletThatFailsForLong(t *testing.T) {
 
 // Close waits for what came, but not for a writer that hangs, and behind it every line is dropped.
 func TestTheEndOfAnOutlet(t *testing.T) {
+	defer soon(t)()
 	out := newSink()
 	o := NewOutlet(out)
 	give(o, 0, 1000, 20)
@@ -198,6 +199,49 @@ func TestTheEndOfAnOutlet(t *testing.T) {
 	}
 	hung.mu.Unlock()
 	<-o.ended
+}
+
+// A line is written though no other one follows.
+func TestALineIsWrittenAtOnce(t *testing.T) {
+	out := newSink()
+	o := NewOutlet(out)
+	defer o.Close(time.Minute)
+	for _, line := range []string{"one\n", "two\n"} {
+		fmt.Fprint(o, line)
+		await(t, line, func() bool { return strings.HasSuffix(out.String(), line) })
+	}
+}
+
+// /metrics asks how many lines were dropped while others are dropped.
+func TestDroppedIsAskedMeanwhile(t *testing.T) {
+	hung := newSink()
+	hung.mu.Lock()
+	o := NewOutlet(hung)
+	done := make(chan struct{})
+	go func() {
+		defer close(done)
+		for i := 0; i < 200; i++ {
+			fmt.Fprintln(o, strings.Repeat("a", mostWaiting/50))
+		}
+	}()
+	last := uint64(0)
+	for ended := false; !ended; {
+		select {
+		case <-done:
+			ended = true
+		default:
+		}
+		n := o.Dropped()
+		if n < last {
+			t.Errorf("%d are dropped, and %d before", n, last)
+		}
+		last = n
+	}
+	if last == 0 {
+		t.Error("no line is dropped")
+	}
+	hung.mu.Unlock()
+	o.Close(time.Minute)
 }
 
 // Lines of many goroutines are all written or counted, and none is mixed with another one.

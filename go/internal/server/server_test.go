@@ -218,7 +218,14 @@ func engine(t testing.TB, o Options) *Engine {
 		t.Fatal(err)
 	}
 	t.Cleanup(e.Close)
+	t.Cleanup(soon(t))
 	return e
+}
+
+// soon ends all tests where this one hangs: earlier than the test tool's own limit would.
+func soon(t testing.TB) (ended func()) {
+	late := time.AfterFunc(80*time.Second, func() { panic(t.Name() + " hangs") })
+	return func() { late.Stop() }
 }
 
 // ready gives an engine its bundles and an empty record.

@@ -1,0 +1,112 @@
+package main
+
+import (
+	"encoding/pem"
+	"net/http"
+	"net/http/httptest"
+	"os"
+	"path/filepath"
+	"strings"
+	"sync/atomic"
+	"syscall"
+	"testing"
+	"time"
+
+	"github.com/nats-io/nats.go"
+
+	"svid.example/go/internal/natstest"
+)
+
+// What stands on the command line counts before the environment, and that before a file.
+func TestTheCommandLineCountsFirst(t *testing.T) {
+	config := filepath.Join(t.TempDir(), "svidd.toml")
+	if err := os.WriteFile(config, []byte("replay = \"twice\"\nlog = \"loud\"\ngroup = \"a b\"\n"), 0o600); err != nil {
+		t.Fatal(err)
+	}
+	t.Setenv("SVIDD_REPLAY", "never")
+	t.Setenv("SVIDD_LOG", "errors")
+	args := []string{"serve", "--check-config", "--audience", "a", "--longest", "60", bundleOption(bundleFile(t, example)), "--replay", "reuse", "--config", config}
+	status, out, err := here("", args...)
+	if status != 2 || out != "" || !strings.Contains(err, "--group") || strings.Count(err, "\n") != 1 {
+		t.Errorf("%d %q %q", status, out, err)
+	}
+	if status, out, err := here("", append(args, "--group", "g")...); status != 0 || err != "" {
+		t.Errorf("%d %q %q", status, out, err)
+	}
+}
+
+// A sidecar with a state folder has the folder's place, over restarts.
+func TestTheStateFolderHasThePlace(t *testing.T) {
+	state, admin := filepath.Join(t.TempDir(), "state"), filepath.Join(t.TempDir(), "admin.sock")
+	p := start(t, bundleOption(bundleFile(t, example)), "--state", state, "--admin", admin)
+	text, err := os.ReadFile(filepath.Join(state, "place"))
+	if err != nil {
+		t.Fatal(err)
+	}
+	place := strings.TrimSpace(string(text))
+	p.want(token(t, "a", time.Minute), 200, "")
+	p.end()
+	p.start()
+	p.want(token(t, "b", time.Minute), 200, "")
+	for i, line := range p.events("serving") {
+		if line["place"] != place {
+			t.Errorf("start %d: the place is %v, and the folder has %s", i, line["place"], place)
+		}
+	}
+	if status, out, err := svidd(t, "", "report", "--admin", admin); status != 0 || strings.Count(out, " "+place+" ") != 2 {
+		t.Errorf("%d %q %q", status, out, err)
+	}
+	p.end()
+}
+
+// The bucket keeps a claim for as long as any sidecar may accept its token: the longest life, by clocks that may both be off.
+func TestTheBucketKeepsClaimsAsLongAsTokensLive(t *testing.T) {
+	server := natstest.Start(t)
+	p := start(t, bundleOption(bundleFile(t, example)), "--replay", "strict", "--nats", server.URL, "--ahead", "20")
+	conn, err := nats.Connect(server.URL)
+	if err != nil {
+		t.Fatal(err)
+	}
+	defer conn.Close()
+	js, err := conn.JetStream()
+	if err != nil {
+		t.Fatal(err)
+	}
+	info, err := js.StreamInfo("KV_svid")
+	if err != nil {
+		t.Fatal(err)
+	}
+	if want := (3600 + 2*20) * time.Second; info.Config.MaxAge != want {
+		t.Errorf("it keeps them for %v, and %v are due", info.Config.MaxAge, want)
+	}
+	p.end()
+}
+
+// SIGHUP, and reload on the admin socket, have an endpoint asked at once, and not only when its bundle's hint says so.
+func TestAnEndpointIsAskedWhereSomeoneWants(t *testing.T) {
+	var asked atomic.Int32
+	endpoint := httptest.NewTLSServer(http.HandlerFunc(func(w http.ResponseWriter, r *http.Request) {
+		asked.Add(1)
+		_, _ = w.Write(example.JWKSet())
+	}))
+	defer endpoint.Close()
+	authorities := filepath.Join(t.TempDir(), "authorities.pem")
+	text := pem.EncodeToMemory(&pem.Block{Type: "CERTIFICATE", Bytes: endpoint.Certificate().Raw})
+	if err := os.WriteFile(authorities, text, 0o600); err != nil {
+		t.Fatal(err)
+	}
+	t.Setenv("SSL_CERT_FILE", authorities)
+	admin := filepath.Join(t.TempDir(), "admin.sock")
+	p := start(t, bundleOption(endpoint.URL), "--replay", "reuse", "--admin", admin)
+	if n := asked.Load(); n != 1 {
+		t.Errorf("at the start it is asked %d times", n)
+	}
+	if err := p.signal(syscall.SIGHUP); err != nil {
+		t.Fatal(err)
+	}
+	p.await("a question behind SIGHUP", func() bool { return asked.Load() == 2 })
+	c := p.dial("unix", admin, "POST /reload HTTP/1.1\r\nHost: a\r\n\r\n")
+	defer c.Close()
+	p.await("a question behind reload", func() bool { return asked.Load() == 3 })
+	p.end()
+}

@@ -1,0 +1,34 @@
+// JSON as the page reads it: what counts of it, and where it is none.
+
+import assert from "node:assert/strict";
+import { test } from "node:test";
+import { isWhole, JsonFault, member, parse, stringAt } from "../src/json.js";
+
+test("of members of one name the last one counts", () => {
+  const node = parse('{"a":1,"b":"y","a":"x","b":2}');
+  assert.equal(member(node, "a").value.value, "x");
+  assert.equal(stringAt(node, "a"), "x");
+  assert.equal(stringAt(node, "b"), undefined);
+});
+
+test("a number is whole as the library takes it", () => {
+  const rows = { 0: true, "-0": false, "-1": true, 18446744073709551615n: true, 18446744073709551616n: false, 36893488147419103231n: false,
+    "-9223372036854775808": true, "-9223372036854775809": false, "-18446744073709551615": false, "1.0": false, "1e3": false };
+  for (const [text, want] of [...Object.entries(rows), ["18446744073709551615", true], ["18446744073709551616", false]]) assert.equal(isWhole(parse(text)), want, text);
+});
+
+test("the depth of a text has its bound", () => {
+  const deep = (levels) => "[".repeat(levels) + "]".repeat(levels);
+  assert.equal(parse(deep(127)).kind, "array");
+  assert.throws(() => parse(deep(128)), (fault) => fault instanceof JsonFault && fault.at === 127 && /127 levels/.test(fault.message));
+});
+
+test("what is no JSON is told by its place", () => {
+  const rows = [
+    ["", 0, /ends where a value/], ['{"a" 1}', 5, /a colon/], ['{"a":1,}', 7, /a name in quotation marks/], ["[1 2]", 3, /a comma or \]/], ['{"a":1 2}', 7, /a comma or \}/],
+    ['"a\nb"', 2, /a control character/], ['"a\tb"', 2, /a control character/], ['"a\u001fb"', 2, /a control character/], ['"a', 0, /a quotation mark is missing/],
+    ['"\\x"', 1, /this escape is unknown/], ['"\\u12"', 3, /four hexadecimal digits/], ["1 2", 2, /something stands behind/], ["tru", 0, /a value should stand here/],
+    ["-", 0, /this is no number/], [" 1e400", 1, /too large/], ['"\\ud800"', 0, /half of a surrogate pair/],
+  ];
+  for (const [text, at, why] of rows) assert.throws(() => parse(text), (fault) => fault instanceof JsonFault && fault.at === at && why.test(fault.message), JSON.stringify(text));
+});

@@ -1,0 +1,221 @@
+"""Wrong bodies of what nobody proves: for each, the test that it names must fail.
+
+go/wrong/run, page/wrong/run and python/wrong/run say what their language needs, and this does the rest. A wrong body is a
+file NAME.edit of lines:
+
+    file: PATH      a file that it changes, by its path in the language's folder
+    old: TEXT       what stands there once: a line, or a part of one. Several such lines are one text of several lines
+    new: TEXT       what is to stand there instead; further pairs of 'old:' and 'new:' may follow
+    why: TEXT       why that is wrong
+    test: ID        a test that must catch it; further ones may follow
+
+It is caught where a test fails. It is not caught where all its tests pass (it survived), where they don't end within two
+minutes, or where the program does not compile with it, which says nothing of the test. All named tests must pass without a
+wrong body, too. In each run all of them are looked at first, whether they can be applied."""
+
+import os
+import signal
+import subprocess
+import sys
+import tempfile
+import time
+from concurrent.futures import ThreadPoolExecutor
+
+TOP = os.path.dirname(os.path.dirname(os.path.realpath(__file__)))
+LONGEST = 120  # seconds for the tests of one wrong body
+LONGEST_ALL = 1800  # and for those of all, without a wrong body
+DAY = 86_400
+
+
+class Unfit(Exception):
+    """A wrong body that cannot be tried, and why."""
+
+
+def text_of(path):
+    with open(path, encoding="utf-8") as file:
+        return file.read()
+
+
+def write(path, text):
+    with open(path, "w", encoding="utf-8") as file:
+        file.write(text)
+
+
+def run(words, folder, environment, longest):
+    """The exit status of a command, and what it said; None where it did not end. What it began and left is ended too."""
+    with subprocess.Popen(
+        words,
+        cwd=folder,
+        env=environment,
+        stdin=subprocess.DEVNULL,
+        stdout=subprocess.PIPE,
+        stderr=subprocess.STDOUT,
+        start_new_session=True,
+    ) as ran:
+        try:
+            said = ran.communicate(timeout=longest)[0].decode(errors="replace")
+        except subprocess.TimeoutExpired:
+            said = None
+        try:
+            os.killpg(ran.pid, signal.SIGKILL)
+        except ProcessLookupError:
+            pass
+        if said is None:
+            ran.communicate()
+    return (None if said is None else ran.returncode), said or ""
+
+
+class Language:
+    """What a language needs: subclasses say it."""
+
+    name = ""  # for people
+    folder = ""  # of its package, in the checkout
+
+    def __init__(self):
+        self.package = f"{TOP}/{self.folder}"
+        self.bodies = f"{self.package}/wrong"
+
+    def begin(self, room):
+        """Makes what all runs share, in a folder that stays until the last one has ended."""
+
+    def missing(self):
+        """What the tests need and is not there, or nothing."""
+
+    def fault(self, path, text):
+        """Why a file can't have this text, as far as a look at it tells, or nothing."""
+
+    def has(self, test):
+        """Whether there is a test of this name."""
+        raise NotImplementedError
+
+    def run(self, room, changed, tests, longest):
+        """Runs tests in an empty folder with these files changed: the exit status, None if they did not end, and what was said."""
+        raise NotImplementedError
+
+    def broken(self, status, said):
+        """Whether failed tests said that the program does not run, which says nothing of them."""
+        raise NotImplementedError
+
+
+class Wrong:
+    """One wrong body: the texts that it changes, and the tests that must catch it."""
+
+    def __init__(self, language, name):
+        self.name, self.pairs, self.why, self.tests = name, [], "", []
+        path = before = None
+        for line in text_of(f"{language.bodies}/{name}.edit").splitlines():
+            word, _, rest = line.partition(":")
+            rest = rest.removeprefix(" ")
+            if word == "file":
+                path = rest
+            elif word == "old" and path and before == "old":
+                self.pairs[-1][1].append(rest)
+            elif word == "old" and path:
+                self.pairs.append((path, [rest], []))
+            elif word == "new" and before in ("old", "new"):
+                self.pairs[-1][2].append(rest)
+            elif word == "why":
+                self.why = rest
+            elif word == "test":
+                self.tests.append(rest)
+            else:
+                raise Unfit(f"this line stands at no place: {line}")
+            before = word
+        if not (self.pairs and self.why and self.tests and all(new for _, _, new in self.pairs)):
+            raise Unfit("it has no pair of lines 'old:' and 'new:', or no 'why:', or no 'test:'")
+        self.changed = self._changed(language)
+        for test in self.tests:
+            if not language.has(test):
+                raise Unfit(f"there is no test {test}")
+
+    def _changed(self, language):
+        """The files that it changes, by their path, with their new text."""
+        texts = {}
+        for path, old, new in self.pairs:
+            old, new = "\n".join(old), "\n".join(new)
+            text = texts.get(path) or text_of(f"{language.package}/{path}")
+            if text.count(old) != 1:
+                raise Unfit(f"its old text stands in {path} {text.count(old)} times, and not once: {old.strip()}")
+            texts[path] = text.replace(old, new)
+        for path, text in texts.items():
+            if fault := language.fault(path, text):
+                raise Unfit(f"{path} can't be read then: {fault}")
+        return texts
+
+
+def end_of(said):
+    return "\n".join(said.splitlines()[-20:])
+
+
+def tried(language, it):
+    """Why a wrong body is not caught, or nothing."""
+    with tempfile.TemporaryDirectory(prefix="svid-wrong-") as room:
+        status, said = language.run(room, it.changed, it.tests, LONGEST)
+    if status is None:
+        return f"NOT CAUGHT: it took too long: its tests don't end within {LONGEST} seconds"
+    if status == 0:
+        return "NOT CAUGHT: it survived: its tests pass"
+    if language.broken(status, said):
+        return f"NOT CAUGHT: it does not compile, or its tests don't run:\n{end_of(said)}"
+    return ""
+
+
+def passing(language, wrongs):
+    """What the tests of these wrong bodies say where they don't pass with the sources as they are."""
+    tests = sorted({test for it in wrongs for test in it.tests})
+    with tempfile.TemporaryDirectory(prefix="svid-wrong-") as room:
+        status, said = language.run(room, {}, tests, LONGEST_ALL)
+    return "" if status == 0 else said or "they don't end"
+
+
+def try_all(language, wrongs):
+    """How many of them are not caught, where each processor tries one after the other."""
+    faults = 0
+    with tempfile.TemporaryDirectory(prefix="svid-wrong-") as shared:
+        language.begin(shared)
+        with ThreadPoolExecutor(int(os.environ.get("SVID_JOBS") or len(os.sched_getaffinity(0)))) as pool:
+            good = pool.submit(passing, language, wrongs)
+            for it, why in zip(wrongs, pool.map(lambda it: tried(language, it), wrongs)):
+                if why:
+                    faults += 1
+                    print(f"wrong: {language.folder}/{it.name}: {why}", flush=True)
+        if good.result():
+            faults += 1
+            print(f"wrong: the tests fail without a wrong body:\n{good.result()}")
+    return faults
+
+
+def main(language, words):
+    """Tries what the words of the command line name: the exit status."""
+    names = sorted(it.removesuffix(".edit") for it in os.listdir(language.bodies) if it.endswith(".edit"))
+    chosen, only_applies = names, words == ["--applies"]
+    if words[:1] == ["--share"] and len(words) == 2 and words[1].isdigit() and int(words[1]):
+        chosen = names[int(time.time()) // DAY % int(words[1]) :: int(words[1])]
+    elif words and not only_applies:
+        chosen = [os.path.basename(it).removesuffix(".edit") for it in words]
+    if unknown := set(chosen) - set(names):
+        print(f"wrong: there is none of that name: {' '.join(sorted(unknown))}")
+        return 2
+    wrongs, faults = {}, 0
+    for name in names:
+        try:
+            wrongs[name] = Wrong(language, name)
+        except Unfit as why:
+            faults += 1
+            print(f"wrong: {language.folder}/{name}: it cannot be applied: {why}")
+    of = f"of {language.name}"
+    print(
+        f"wrong: {len(names)} {of}, {f'{faults} of them cannot be applied' if faults else 'each can be applied'}",
+        flush=True,
+    )
+    if not only_applies and (why := language.missing()):
+        print(f"wrong: skipped: those {of}, since its tests can't run here: {why}")
+    elif not only_applies:
+        failed = try_all(language, [wrongs[it] for it in chosen if it in wrongs])
+        print(f"wrong: {len(chosen)} {of} tried, {f'{failed} of them NOT caught' if failed else 'each caught'}")
+        faults += failed
+    return 1 if faults or not names else 0
+
+
+def start(language):
+    sys.exit(main(language(), sys.argv[1:]))
