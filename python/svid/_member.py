@@ -399,7 +399,7 @@ class Member(Validator):
             f"the log ends at {last}, and this member has read it up to {before.passed}: it is "
             f"another one, or an older copy: no token is accepted for {self._lasts} seconds"
         )
-        return min(int(time.time()) + self._lasts, lib.NO_LIMIT)
+        return max(before.deaf, min(int(time.time()) + self._lasts, lib.NO_LIMIT))
 
     def _read_all(self) -> None:
         """Reads one value after the other."""

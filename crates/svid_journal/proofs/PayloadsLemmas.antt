@@ -1,8 +1,7 @@
 -- The place of a member in its log, in front of messages.
-use Rattle.std.proofs.Common.{◌≡◌, ◌≢◌, ℕ, ◌+◌, ◌^◌, ◌<◌, List, [], ◌∷◌, ◌++◌, length, take, drop, refl, sym, ◌∙◌, ap, subst, arith, append_assoc, length-append}
-use Rattle.std.specs.Prelude.{codes}
+use Rattle.std.proofs.Common.{◌≡◌, ◌≢◌, ℕ, ◌+◌, ◌<◌, List, [], ◌∷◌, ◌++◌, length, take, drop, refl, sym, ◌∙◌, ap, subst, arith, append_assoc, length-append}
 use Rattle.std.specs.Int.{to_be_bytes, w64}
-use Rattle.std.proofs.lemmas.List.{take_at, drop_at, length-drop, append-nil, take-append-drop}
+use Rattle.std.proofs.lemmas.List.{take_at, length-drop, append-nil, take-append-drop}
 use Rattle.svid_journal.specs.declared.log_place.LogPlace.{LogPlace}
 use Rattle.svid_journal.specs.Payloads.{place_magic, place_text, BeginsWithNoPlace, PlacesAreReadBack, MessagesHaveNoPlace}
 use Rattle.svid_journal.proofs.Lists.{same_parts}

@@ -85,7 +85,7 @@ func TestNobodyWaitsForASnapshot(t *testing.T) {
 	if err := check(e, token("meanwhile")); err != nil {
 		t.Error(err)
 	}
-	if w := request(e.Handler(), "GET", "/metrics"); !strings.Contains(w.Body.String(), "svidd_journal_bytes 128\n") {
+	if w := request(e.Handler(), "GET", "/metrics"); !strings.Contains(w.Body.String(), "svidd_journal_bytes 120\n") {
 		t.Errorf("/metrics: %s", w.Body)
 	}
 	close(goOn)

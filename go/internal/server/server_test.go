@@ -1055,6 +1055,7 @@ func TestWhatAnEarlierLifeMissed(t *testing.T) {
 		"more than the bucket":     {svid.Mark{Passed: 2, Deaf: until + 5}, group.Log{Passed: 1, Ready: 2, Missed: true}, until + 5, ErrMissed},
 		"an older copy":            {svid.Mark{Passed: 3}, group.Log{Ready: 2}, until, errBack},
 		"an older copy with a gap": {svid.Mark{Passed: 3, Deaf: moment + 100}, group.Log{Ready: 2}, until, errBack},
+		"an older copy, and more":  {svid.Mark{Passed: 3, Deaf: until + 5}, group.Log{Ready: 2}, until + 5, errBack},
 		"an empty bucket":          {svid.Mark{Passed: 3}, group.Log{}, until, errBack},
 	} {
 		for _, isLast := range []bool{false, true} {

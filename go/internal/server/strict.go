@@ -165,7 +165,10 @@ func (e *Engine) recall() {
 	before, why := *e.recalled, ErrMissed
 	e.recalled = nil
 	if before.Passed > e.log.Ready {
-		before.Deaf, why = saturated(e.Now(), e.lasts()), errBack
+		why = errBack
+		if until := saturated(e.Now(), e.lasts()); until > before.Deaf {
+			before.Deaf = until
+		}
 	}
 	if err == nil && (why == errBack || before.Deaf > mark.Deaf && before.Deaf > e.Now()) {
 		mark.Deaf = before.Deaf
