@@ -157,7 +157,7 @@ func parseKey(jwk []byte, rsaBits int) *Key {
 		k.fault = fmt.Errorf("%w: %v", ErrKey, err) // (a point that is not on its curve)
 		return k
 	}
-	k.fault = k.hold(der)
+	k.fault = k.hold()
 	return k
 }
 

@@ -14,7 +14,7 @@ type digest []byte
 // A handle is what verifies by OpenSSL. Go's library needs none.
 type handle struct{}
 
-func (k *Key) hold(der []byte) error { return nil }
+func (k *Key) hold() error { return nil }
 
 // made is nil if the key made the signature, which has the length that is due, and else ErrSignature.
 func (k *Key) made(a *algorithm, s *signing) error {

@@ -10,11 +10,12 @@ package svid
 #define OPENSSL_FILE "verify_openssl.go"
 #define OPENSSL_LINE 0
 #include <openssl/bn.h>
+#include <openssl/core_names.h>
 #include <openssl/ecdsa.h>
 #include <openssl/err.h>
 #include <openssl/evp.h>
+#include <openssl/params.h>
 #include <openssl/rsa.h>
-#include <openssl/x509.h>
 #cgo LDFLAGS: -lcrypto
 
 enum { NO, YES, NO_MEMORY };
@@ -41,10 +42,6 @@ typedef struct {
 // start of the process.
 static void begin(void) {
     static const char *const types[] = { "RSA", "EC" }, *const hashes[] = { "SHA256", "SHA384", "SHA512" };
-    // (an RSA key of modulus 15 and exponent 3)
-    static const unsigned char der[] = { 48, 26, 48, 13, 6, 9, 42, 134, 72, 134, 247, 13, 1, 1, 1, 5, 0, 3, 9, 0, 48, 6, 2, 1, 15, 2, 1, 3 };
-    const unsigned char *at = der;
-    EVP_PKEY_free(d2i_PUBKEY(NULL, &at, sizeof der));
     for (size_t i = 0; i < sizeof types / sizeof *types; i++) {
         EVP_PKEY_CTX *making = EVP_PKEY_CTX_new_from_name(NULL, types[i], NULL);
         if (making != NULL) EVP_PKEY_fromdata_init(making);
@@ -56,11 +53,25 @@ static void begin(void) {
     ERR_clear_error();
 }
 
-// The key that SubjectPublicKeyInfo says, which is known to be a good one: so NULL is for want of memory.
-static EVP_PKEY *read_key(const unsigned char *der, long len) {
-    EVP_PKEY *key = d2i_PUBKEY(NULL, &der, len);
+// The key, which is known to be a good one: so NULL is for want of memory. (d2i_PUBKEY of OpenSSL 3.0 takes ten times as long.)
+static EVP_PKEY *make_key(const char *type, OSSL_PARAM *params) {
+    EVP_PKEY *key = NULL;
+    EVP_PKEY_CTX *making = EVP_PKEY_CTX_new_from_name(NULL, type, NULL);
+    if (making == NULL || EVP_PKEY_fromdata_init(making) != 1 || EVP_PKEY_fromdata(making, &key, EVP_PKEY_PUBLIC_KEY, params) != 1) key = NULL;
+    EVP_PKEY_CTX_free(making);
     ERR_clear_error(); // (the queue of errors is the thread's, and would grow)
     return key;
+}
+
+// n begins with its lowest byte.
+static EVP_PKEY *rsa_key(unsigned char *n, size_t n_len, unsigned int e) {
+    OSSL_PARAM params[] = { OSSL_PARAM_construct_BN(OSSL_PKEY_PARAM_RSA_N, n, n_len), OSSL_PARAM_construct_uint(OSSL_PKEY_PARAM_RSA_E, &e), OSSL_PARAM_construct_end() };
+    return make_key("RSA", params);
+}
+
+static EVP_PKEY *ec_key(char *curve, unsigned char *point, size_t point_len) {
+    OSSL_PARAM params[] = { OSSL_PARAM_construct_utf8_string(OSSL_PKEY_PARAM_GROUP_NAME, curve, 0), OSSL_PARAM_construct_octet_string(OSSL_PKEY_PARAM_PUB_KEY, point, point_len), OSSL_PARAM_construct_end() };
+    return make_key("EC", params);
 }
 
 static void close_seat(seat *s) {
@@ -153,6 +164,9 @@ static verdict verify(seat *s, _GoString_ text, digest of, const unsigned char *
 import "C"
 
 import (
+	"crypto/ecdsa"
+	curves "crypto/elliptic"
+	"crypto/rsa"
 	"runtime"
 	"sync/atomic"
 	"unsafe"
@@ -183,9 +197,20 @@ type handle struct {
 	seats [][]C.seat
 }
 
-// hold gives the key, as SubjectPublicKeyInfo, to OpenSSL.
-func (k *Key) hold(der []byte) error {
-	key := C.read_key((*C.uchar)(unsafe.Pointer(&der[0])), C.long(len(der)))
+// hold gives the key to OpenSSL.
+func (k *Key) hold() error {
+	var key *C.EVP_PKEY
+	switch public := k.public.(type) {
+	case *rsa.PublicKey:
+		n := public.N.Bytes()
+		for i, j := 0, len(n)-1; i < j; i, j = i+1, j-1 {
+			n[i], n[j] = n[j], n[i]
+		}
+		key = C.rsa_key((*C.uchar)(unsafe.Pointer(&n[0])), C.size_t(len(n)), C.uint(public.E))
+	case *ecdsa.PublicKey:
+		point := curves.Marshal(public.Curve, public.X, public.Y)
+		key = C.ec_key(curveNames[len(point)], (*C.uchar)(unsafe.Pointer(&point[0])), C.size_t(len(point)))
+	}
 	if key == nil {
 		return ErrNoMemory
 	}
@@ -252,8 +277,11 @@ func (s *signing) verifyBy(seat *C.seat, a *algorithm) C.int {
 	return said.is
 }
 
-// OpenSSL's names of hashes, by the bytes of a digest.
-var hashNames = map[int]*C.char{32: C.CString("SHA256"), 48: C.CString("SHA384"), 64: C.CString("SHA512")}
+// OpenSSL's names of hashes, by the bytes of a digest, and of curves, by the bytes of a point.
+var (
+	hashNames  = map[int]*C.char{32: C.CString("SHA256"), 48: C.CString("SHA384"), 64: C.CString("SHA512")}
+	curveNames = map[int]*C.char{65: C.CString("P-256"), 97: C.CString("P-384"), 133: C.CString("P-521")}
+)
 
 func (h *handle) open(seat *C.seat, a *algorithm) bool {
 	padding := C.int(0)
