@@ -133,6 +133,8 @@ class Wrong:
         texts = {}
         for path, old, new in self.pairs:
             old, new = "\n".join(old), "\n".join(new)
+            if not os.path.isfile(f"{language.package}/{path}"):
+                raise Unfit(f"there is no file {path}")
             text = texts.get(path) or text_of(f"{language.package}/{path}")
             if text.count(old) != 1:
                 raise Unfit(f"its old text stands in {path} {text.count(old)} times, and not once: {old.strip()}")
