@@ -34,6 +34,7 @@ from .errors import (
     Gone,
     Held,
     Jump,
+    OtherFormat,
     Refused,
     TooFar,
     Unavailable,

@@ -220,7 +220,7 @@ def test_state_folders(vector, tmp_path):
             same.take(bytes.fromhex(vector["record"]), 0)
             assert checks.report().uses == same.report().uses
         return
-    with pytest.raises((svid.Damaged, svid.Newer)) as raised:
+    with pytest.raises((svid.Damaged, svid.OtherFormat)) as raised:
         svid.Validator(**terms)
     name = vector.get("damaged") or vector["of_format"]
     assert raised.value.file == str(tmp_path / name)
