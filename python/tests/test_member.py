@@ -767,6 +767,7 @@ def test_a_check_that_is_cancelled_holds_nothing_up(log):
         first.cancel()
         with pytest.raises(asyncio.CancelledError):
             await first
+        begun.set()
         log.go()
         return await second
 
@@ -776,7 +777,7 @@ def test_a_check_that_is_cancelled_holds_nothing_up(log):
             super().append(value)
 
     for sent in True, False:
-        log, go = Slow(), threading.Event()
+        log, go, begun = Slow(), threading.Event(), threading.Event()
         with member(log) as checks:
             made = fresh()
             if sent:
@@ -790,7 +791,7 @@ def test_a_check_that_is_cancelled_holds_nothing_up(log):
                 answer = in_thread(verdict, checks, fresh(jti="other"))
                 until(lambda: checks._open and not waiting(checks))
                 second = in_thread(lambda: asyncio.run(main(checks)))
-                until(lambda: waiting(checks) == 1)
+                assert begun.wait(30)
                 go.set()
                 assert isinstance(answer(), svid.Use) and isinstance(second(), svid.Use)
 
