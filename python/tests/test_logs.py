@@ -266,7 +266,9 @@ def test_an_entry_at_no_position(shared_redis):
 def test_the_scripts_are_those_of_the_sidecar():
     """Of the Go library, whose members may be in the same group."""
     go = pathlib.Path(os.environ["SVID"]).parent / "go" / "internal" / "carrier"
-    for it in [*go.glob("redis/*.lua"), *go.glob("postgres/*.sql")]:
+    theirs = [*go.glob("redis/*.lua"), *go.glob("postgres/*.sql")]
+    assert len(theirs) == 5
+    for it in theirs:
         ours = pathlib.Path(postgresql.__file__).with_name(it.name)
         assert ours.read_bytes() == it.read_bytes(), it.name
 
