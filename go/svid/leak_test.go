@@ -15,7 +15,7 @@ func TestARenewalLeavesNothing(t *testing.T) {
 		t.Helper()
 		text, err := os.ReadFile("/proc/self/statm")
 		if err != nil {
-			t.Skip(err)
+			t.Fatal(err)
 		}
 		var all, pages int
 		if _, err := fmt.Sscan(string(text), &all, &pages); err != nil {
