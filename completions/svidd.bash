@@ -3,7 +3,8 @@
 # lists:begin completion (written by tools/lists from lists/svidd.toml)
 _svidd() {
   local current=${COMP_WORDS[COMP_CWORD]} before=${COMP_WORDS[COMP_CWORD - 1]}
-  local options='' values='' files='' word
+  local commands='serve verify withdraw report resume ready check-state schema version help'
+  local options='' values='' files='' word n
   COMPREPLY=()
   # (bash takes the `=` behind an option for a word of its own)
   if [ "$current" = = ]; then
@@ -12,50 +13,41 @@ _svidd() {
     before=${COMP_WORDS[COMP_CWORD - 2]}
   fi
   case $COMP_CWORD,${COMP_WORDS[1]} in
-    1,*) COMPREPLY=($(compgen -W 'serve verify withdraw report resume ready check-state schema version help' -- "$current")) ;;
-    *,serve) options='--audience --workload-api --bundle --bundles --longest --rsa-bits --ahead --replay --listen --admin --state --log --group-log --nats --group --replicas --nats-ca --nats-cert --nats-key --nats-creds --wait --summaries --config --check-config --help' ;;
-    *,verify) options='--audience --workload-api --bundle --bundles --longest --rsa-bits --config --help' ;;
-    *,withdraw) options='--admin --key --exp --help' ;;
-    *,report) options='--admin --json --help' ;;
-    *,resume) options='--admin --anyway --help' ;;
-    *,ready) options='--listen --help' ;;
-    *,check-state) options='--messages --help' files=yes ;;
-    *,schema) options='--longest --ahead --group --role --help' ;;
+    1,*) COMPREPLY=($(compgen -W "$commands" -- "$current")) ;;
+    *,serve) options='--audience --workload-api --allow --bundle --bundle-id --bundle-ca --bundles --longest --rsa-bits --ahead --replay --listen --envoy --metrics --drain --admin --state --log --group-log --nats --group --replicas --nats-ca --nats-cert --nats-key --nats-creds --wait --summaries --config --check-config -h --help' ;;
+    *,verify) options='--audience --workload-api --bundle --bundle-id --bundle-ca --bundles --longest --rsa-bits --config -h --help' ;;
+    *,withdraw) options='--admin --key --exp -h --help' ;;
+    *,report) options='--admin --json -h --help' ;;
+    *,resume) options='--admin --anyway -h --help' ;;
+    *,ready) options='--listen -h --help' ;;
+    *,check-state) options='--messages -h --help' files=yes ;;
+    *,schema) options='--longest --ahead --group --role -h --help' ;;
   esac
+  # Behind `--` there are no options, and each option stands once, but for those that may be repeated.
+  for ((n = 2; n < COMP_CWORD; n++)); do
+    case ${COMP_WORDS[n]} in
+      --)
+        options='' before=''
+        break
+        ;;
+      --allow | --audience | --bundle | --bundle-ca | --bundle-id | --group-log | --nats) continue ;;
+    esac
+    options=" $options "
+    options=${options/" ${COMP_WORDS[n]} "/ }
+  done
   case $before in
-    --audience) options='' files='' ;;
-    --workload-api) options='' files='' ;;
-    --bundle) options='' files='' ;;
-    --bundles) options='' files=yes ;;
-    --longest) options='' files='' ;;
-    --rsa-bits) options='' files='' ;;
-    --ahead) options='' files='' ;;
-    --replay) options='' values='once strict reuse' ;;
-    --listen) options='' files='' ;;
-    --admin) options='' files=yes ;;
-    --state) options='' files=yes ;;
-    --log) options='' values='errors decisions all' ;;
-    --group-log) options='' files='' ;;
-    --nats) options='' files='' ;;
-    --group) options='' files='' ;;
-    --replicas) options='' files='' ;;
-    --nats-ca) options='' files=yes ;;
-    --nats-cert) options='' files=yes ;;
-    --nats-key) options='' files=yes ;;
-    --nats-creds) options='' files=yes ;;
-    --wait) options='' files='' ;;
-    --summaries) options='' files='' ;;
-    --config) options='' files=yes ;;
-    --key) options='' files='' ;;
-    --exp) options='' files='' ;;
-    --role) options='' files='' ;;
+    --audience | --workload-api | --allow | --bundle | --bundle-id | --bundle-ca | --longest | --rsa-bits | --ahead | --listen | --envoy | --metrics | --drain | --group-log | --nats | --group | --replicas | --wait | --summaries | --key | --exp | --role) options='' files='' ;;
+    --bundles | --admin | --state | --nats-ca | --nats-cert | --nats-key | --nats-creds | --config) options='' files=yes ;;
+    --replay) options='' files='' values='once strict reuse' ;;
+    --log) options='' files='' values='errors decisions all' ;;
   esac
+  # What may be a file is one, unless it begins as an option does.
   if [ -n "$values" ]; then
     COMPREPLY=($(compgen -W "$values" -- "$current"))
-  elif [ -n "$files" ] && [[ $current != -* ]]; then
+  elif [ -n "$files" ] && ! [[ $options == *-* && $current == -* ]]; then
     compopt -o filenames 2>/dev/null
     while IFS= read -r word; do COMPREPLY+=("$word"); done < <(compgen -f -- "$current")
-  elif [ -n "$options" ]; then
+  elif [[ $options == *-* ]]; then
     COMPREPLY=($(compgen -W "$options" -- "$current"))
   fi
 }

@@ -1,4 +1,4 @@
-module svid.example/go
+module svid.example/go/v2
 
 go 1.19
 
@@ -13,6 +13,6 @@ require (
 
 require (
 	github.com/nats-io/nuid v1.0.1 // indirect
-	golang.org/x/crypto v0.0.0-20210314154223-e6e6c4f2bb5b // indirect
+	golang.org/x/crypto v0.4.0 // indirect
 	golang.org/x/text v0.7.0 // indirect
 )

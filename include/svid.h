@@ -10,8 +10,8 @@
  * Words: a *record* is what a validator remembers: the time that it has seen (its *moment*) and the *uses* of tokens that have not yet
  * expired. A *message* tells a record or a part of it to other validators (docs/FORMATS.md). All times are whole seconds since 1970.
  *
- * Results: a call returns a status: SVID_OK, or the number of what went wrong. `svid_strstatus` names it. `told` says more: how long the
- * text is, or which input is at fault and where.
+ * Results: a call returns a status: SVID_OK, or the number of what went wrong. `svid_strstatus` names it, and `svid_strsentence` says it in
+ * words. `told` says more: how long the text is, or which input is at fault and where.
  *
  * Inputs are a pointer and a length in bytes. Where the length is 0, the pointer may be NULL. The library reads inputs only during the
  * call, and you keep them. They must not change while it runs. Inputs may overlap each other, but no output may overlap an input or
@@ -52,6 +52,7 @@ extern "C" {
 #define SVID_FRAME_MORE 39           /* a frame has at most so many bytes more than its payload */
 #define SVID_MOST_CANDIDATES 3       /* how many keys svidd, the Go library and the Python package try for a token: give svid_validator_ask
                                         the same, so that all answer the same (docs/FORMATS.md, "Candidates") */
+#define SVID_SIGNATURE_ROOM 49150    /* enough room for any signature of svid_token_signature */
 #define SVID_USUAL_RSA_BITS 4096     /* how many bits they let an RSA key have, unless an option says more */
 #define SVID_MOST_RSA_BITS 16384     /* no RSA key may have more */
 #define SVID_LEAST_RSA_BITS 2048     /* nor fewer */
@@ -75,7 +76,7 @@ enum svid_status {
     SVID_HAS_LOG = 10, /* svid_validator_check: the validator reads a log, which decides about its tokens; nothing happened */
     SVID_NO_LOG = 19,  /* the validator reads no log; nothing happened */
 
-    /* why an input is no row of messages; told: input, message, place */
+    /* why an input is no row of messages; told: input, message, offset */
     SVID_MAGIC = 11,       /* the first four bytes are those of no version */
     SVID_KIND = 12,        /* the fifth byte is that of no kind of message of the version */
     SVID_COUNT = 13,       /* a batch tells of too many uses */
@@ -85,7 +86,7 @@ enum svid_status {
     SVID_USE_ORDER = 17,   /* a use is not greater than the one before it */
     SVID_TRUNCATED = 18,   /* the bytes end before the message does */
 
-    /* why a text is no SPIFFE ID; svid_id: place, for 24 and 26 to 28; else 0 */
+    /* why a text is no SPIFFE ID; svid_id: offset, for 24 and 26 to 28; else 0 */
     SVID_ID_TOO_LONG = 21,      /* more than 2,048 bytes */
     SVID_ID_SCHEME = 22,        /* does not begin with spiffe:// */
     SVID_ID_DOMAIN_EMPTY = 23,  /* the trust domain name is empty */
@@ -97,10 +98,10 @@ enum svid_status {
 
     /* why bundles, a table of questions or audiences are refused */
     SVID_BUNDLES_NOT_OBJECT = 31, /* no JSON object */
-    SVID_BUNDLES_DOMAIN = 32,     /* a name is no trust domain name; told: place */
-    SVID_BUNDLES_KEYS = 33,       /* a name has no list of keys; told: place */
-    SVID_TABLE_LINE = 34,         /* a line is neither empty nor a question; told: place, the number of the first such line, counted from
-                                     1 */
+    SVID_BUNDLES_DOMAIN = 32,     /* a name is no trust domain name; told: offset */
+    SVID_BUNDLES_KEYS = 33,       /* a name has no list of keys; told: offset */
+    SVID_TABLE_LINE = 34,         /* a line is neither empty nor a question; told: offset, the number of the first such line, counted
+                                     from 1 */
     SVID_OWN_NOT_UTF8 = 35,       /* an audience of the validator's own is not UTF-8 */
     SVID_OWN_LENGTHS = 36,        /* the lengths of the audiences do not add up to the length of `own` */
 
@@ -117,14 +118,14 @@ enum svid_status {
     SVID_FOLDER_TOO_LONG = 50,    /* the payload has more than 16,777,215 bytes */
     SVID_FOLDER_FULL = 51,        /* a number of the folder has come to its end */
 
-    /* where reading a file ends; the place is reader->at */
+    /* where reading a file ends; the offset is reader->at */
     SVID_FILE_END = 52,    /* the end: nothing was written here */
     SVID_FILE_TEAR = 53,   /* a write was cut off: nobody was told that it is on the disk; only a journal has one */
     SVID_FILE_DAMAGE = 54, /* what was synced here has changed */
     SVID_FILE_OTHER = 55,  /* a frame of another format stands here; frame->format is its number */
 
     /* why a key can't be used with an algorithm: the first that holds, in this order. 74 to 76 are of RSA keys alone, and 77 to 79 of EC keys */
-    SVID_NO_ALGORITHM = 70,   /* the algorithm is none of RS256 to PS512 */
+    SVID_NO_ALGORITHM = 70,   /* the algorithm is none of RS256 to RS512, ES256 to ES512 and PS256 to PS512 */
     SVID_KEY_NOT_OBJECT = 71, /* the key is no JSON object */
     SVID_KEY_KTY = 72,        /* its `kty` is not the algorithm's: RSA for RS and PS, EC for ES */
     SVID_KEY_ALG = 73,        /* its `alg` is there, and is not the algorithm */
@@ -140,6 +141,17 @@ enum svid_status {
     SVID_BEARER_SEVERAL = 82,  /* more than one */
     SVID_BEARER_SCHEME = 83,   /* its scheme is not Bearer */
     SVID_BEARER_SPELLING = 84, /* the scheme is not followed by one token */
+
+    /* what svid_id_allows answers about a pattern. 92 to 99: why it is none; svid_id: offset, for 95 and 97 to 99; else 0 */
+    SVID_NOT_ALLOWED = 91,           /* the pattern does not allow the ID; svid_id: the lengths of the ID's parts */
+    SVID_PATTERN_TOO_LONG = 92,      /* the ID in the pattern has more than 2,048 bytes */
+    SVID_PATTERN_SCHEME = 93,        /* the pattern does not begin with spiffe:// */
+    SVID_PATTERN_DOMAIN_EMPTY = 94,  /* the trust domain name of the pattern is empty */
+    SVID_PATTERN_DOMAIN_BYTE = 95,   /* the pattern has a byte that may not stand in a trust domain name */
+    SVID_PATTERN_DOMAIN_LONG = 96,   /* the pattern has a trust domain name of more than 255 bytes */
+    SVID_PATTERN_SEGMENT_EMPTY = 97, /* the pattern has an empty segment */
+    SVID_PATTERN_SEGMENT_DOTS = 98,  /* the pattern has a segment that is . or .. */
+    SVID_PATTERN_PATH_BYTE = 99,     /* the pattern has a byte that may not stand in a path segment */
 
     /* why a token is refused: the first that holds, in this order */
     SVID_TOO_LONG = 101,           /* The token has more than 65,536 bytes. */
@@ -170,10 +182,10 @@ enum svid_status {
     /* lists:end */
 };
 
-/* The lengths of an ID's parts, in bytes, or the place of its fault; 0 elsewhere. The trust domain name stands
+/* The lengths of an ID's parts, in bytes, or the offset of its fault; 0 elsewhere. The trust domain name stands
  * behind `spiffe://`, and the path behind it. */
 typedef struct {
-    size_t place;
+    size_t offset;
     size_t domain_len;
     size_t path_len;
 } svid_id;
@@ -191,22 +203,28 @@ typedef struct {
     size_t texts;       /* how many texts it has: four, and one for each audience */
 } svid_said;
 
+/* What a token's signature is made over. */
+typedef struct {
+    size_t len;         /* how many bytes of the token that are, from its first one */
+} svid_signed;
+
 /* How large a record is. */
 typedef struct {
     uint64_t moment;    /* the time that it has seen, in seconds */
     size_t uses;        /* how many uses it has; withdrawals count too */
 } svid_size;
 
-/* What a call tells beside its status; 0 where there is nothing to tell. `place` is always where in the input the fault is:
+/* What a call tells beside its status; 0 where there is nothing to tell. `offset` is always where in the input the fault is:
  *   SVID_MAGIC to SVID_TRUNCATED    the number of the byte in the message `message` of the input `input`, counted from 0
  *   SVID_BUNDLES_DOMAIN and _KEYS   the number of the trust domain among all names in rising order of their bytes, counted from 0
- *   SVID_TABLE_LINE                 the number of the line, counted from 1 */
+ *   SVID_TABLE_LINE                 the number of the line, counted from 1
+ *   SVID_USE_EXPIRED                of svid_entries_write: the number of the entry, counted from 0 */
 typedef struct {
-    size_t len;      /* the length of the text that was written, or that has no room */
+    size_t len;      /* the length of the text that was written, or that has no room; of svid_entries_read the number of entries */
     size_t input;    /* which input of messages is at fault, counted from 1 over the call's inputs: 1 or 2 of svid_join and svid_answer,
                         4 of svid_check, and 1 of any other call. SVID_TOO_MUCH also: 1 for bundles, 2 for a table of questions */
     size_t message;  /* which of its messages, counted from 1 */
-    size_t place;
+    size_t offset;
     size_t more;     /* of svid_validator_ask and svid_bundles_ask: 1 if more keys may have signed the token than it lists; of
                         svid_validator_mark: 1 if the validator accepts claims */
 } svid_told;
@@ -216,7 +234,7 @@ typedef struct {
     uint64_t moment;    /* of the check, in seconds; where the record's is greater, the token is judged at that */
     uint64_t longest;   /* how many seconds past it, or past the record's moment where that is greater, a
                          * token may expire; UINT64_MAX for any */
-    uint8_t place[16];  /* 16 bytes that name this validator among all that share its record */
+    uint8_t validator_id[16];  /* 16 bytes that name this validator among all that share its record */
 } svid_setting;
 
 /* The use that an acceptance adds to the record. */
@@ -224,16 +242,25 @@ typedef struct {
     uint64_t exp;       /* when the token expires, in seconds */
     uint64_t at;        /* the record's moment when the token was accepted, in seconds */
     uint8_t key[32];    /* by which the uses of the token are told */
-    uint8_t place[16];  /* of the validator */
+    uint8_t validator_id[16];  /* of the validator */
 } svid_use;
+
+/* An entry of a record: a token was accepted, or withdrawn. It has no padding, and its last four fields are those of svid_use. */
+typedef struct {
+    uint64_t withdrawn; /* 0 if the token was accepted, and 1 if it was withdrawn */
+    uint64_t exp;       /* when the token expires, in seconds */
+    uint64_t at;        /* the record's moment when it was accepted or withdrawn, in seconds */
+    uint8_t key[32];    /* by which the uses of the token are told */
+    uint8_t validator_id[16];  /* of the validator that accepted or withdrew it */
+} svid_entry;
 
 /* ---- A validator that you keep ----
  *
  * A `svid_validator` lives in your memory and begins as SVID_VALIDATOR_CLOSED, all bytes 0. Three rules:
  * - Only the calls below write it. Do not copy it while it is open: a copy that is closed too frees the same memory twice.
  * - Give it to one call at a time, from any thread. Order the calls of several threads by a lock.
- * - After fork, only one of the two processes may go on with it. The other process opens its own with another `place`: two validators of
- *   one place accept a token twice.
+ * - After fork, only one of the two processes may go on with it. The other process opens its own with another `validator_id`: two
+ *   validators of one ID accept a token twice.
  * All calls answer SVID_CLOSED on a closed validator, and then do nothing.
  *
  * To check a token:
@@ -252,7 +279,7 @@ typedef struct {
     uint64_t step;      /* a `now` more than so many seconds past the record's moment is answered SVID_JUMP, so that a wrong clock
                            (milliseconds, say) does not expire all that the record knows; UINT64_MAX for no limit. A record that has seen
                            no time yet, whose moment is 0, takes any `now`: so the first one must be right */
-    uint8_t place[16];  /* 16 bytes that name this validator among all that share its record; take random ones for each process */
+    uint8_t validator_id[16];  /* 16 bytes that name this validator among all that share its record; take random ones for each process */
 } svid_terms;
 
 /* The key by which the uses of a token are told: `key` of svid_use. */
@@ -358,7 +385,7 @@ typedef struct {
     uint64_t exp;
     uint64_t at;
     uint8_t key[32];
-    uint8_t place[16];
+    uint8_t validator_id[16];
 } svid_part;
 #define SVID_PART_FIRST { 0, 0, 0, 0, 0, { 0 }, { 0 } }
 
@@ -384,8 +411,8 @@ uint32_t svid_validator_answer(svid_validator *v, uint64_t now, const uint8_t *s
 /* ---- A validator that reads a group's log ----
  *
  * Validators that read one log accept a token once in the whole group. A *log* is a list of values in one order, the same for all; a *value*
- * is a row of messages. A *claim* is a use in a value: it says that the validator of that place wants to accept the token. Of the claims of a
- * token that have not expired, the first in the log counts. The validators of a group have different places.
+ * is a row of messages. A *claim* is a use in a value: it says that the validator of that ID wants to accept the token. Of the claims of a
+ * token that have not expired, the first in the log counts. The validators of a group have different IDs.
  *
  * To check a token:
  *   1. svid_validator_judge refuses the token, or tells its claim in `used`.
@@ -396,7 +423,7 @@ uint32_t svid_validator_answer(svid_validator *v, uint64_t now, const uint8_t *s
 /* What becomes of a use that stands in a log. The other names are those of a status with the same number. */
 enum svid_fates {
     SVID_FATE_ACCEPTED = 0,      /* the first claim of its token, and this validator's own: it accepts the token. The record has the use */
-    SVID_FATE_FIRST = 1,         /* the first claim of its token, which this validator does not accept: it is of another place, or stands at
+    SVID_FATE_FIRST = 1,         /* the first claim of its token, which this validator does not accept: it is of another validator, or stands at
                                     `ready` or in front of it, or the validator is deaf. The record has the use */
     SVID_FATE_WITHDRAWAL = 2,    /* a withdrawal. The record has it */
     SVID_FATE_TOO_FAR_AHEAD = 8, /* it was made more than `ahead` seconds past `now`. It counts as a claim, and nobody that sees it as early
@@ -441,7 +468,7 @@ typedef struct {
  * bytes. The record stays as it is: take one that was saved at that mark or later by svid_validator_take. A validator that reads a log already
  * begins anew.
  *
- * SVID_MAGIC to SVID_TRUNCATED, with `place` told and not `message`; SVID_NO_MEMORY. Then nothing happened. */
+ * SVID_MAGIC to SVID_TRUNCATED, with `offset` told and not `message`; SVID_NO_MEMORY. Then nothing happened. */
 uint32_t svid_validator_log(svid_validator *v, const svid_mark *mark, uint64_t ready, uint64_t lasts,
                             const uint8_t *beside, size_t beside_len, svid_told *told);
 
@@ -449,7 +476,7 @@ uint32_t svid_validator_log(svid_validator *v, const svid_mark *mark, uint64_t r
  * stopped in the value, and writes each use that it reads to `out`, with its fate. `out` has room for `out_len` entries.
  *
  * SVID_OK: the value is read to its end, or was before. SVID_TOO_SHORT: `out` is full, and uses are left. SVID_NO_MEMORY: uses are left, too.
- * After these two, call again with the same value: the validator goes on. SVID_MAGIC to SVID_TRUNCATED, with `place` told and not `message`: the
+ * After these two, call again with the same value: the validator goes on. SVID_MAGIC to SVID_TRUNCATED, with `offset` told and not `message`: the
  * value is no row of messages, so it has no uses, for every validator alike, and it is read to its end. SVID_NO_LOG.
  *
  * The call first advances the record to `now`, and to the time of each use that is not too far ahead. SVID_JUMP: call again with `now` 0, which
@@ -536,7 +563,7 @@ uint32_t svid_validator_renew_by(svid_validator *v, svid_bundles *b, svid_told *
  * is SVID_OK, it stays as it was, and so does each output but `told`.
  *
  * A file is a row of frames, one for each *payload*: any bytes, at most SVID_PAYLOAD_MOST. A frame seals its payload with its number and
- * with the file that it is in. So a frame of another file, of another folder or at another place is not taken for this one's. An empty payload
+ * with the file that it is in. So a frame of another file, of another folder or at another offset is not taken for this one's. An empty payload
  * is a *mark*: it carries nothing, but makes damage of the frame before it visible.
  *
  * At a start:
@@ -549,7 +576,7 @@ uint32_t svid_validator_renew_by(svid_validator *v, svid_bundles *b, svid_told *
  *   1. svid_journal_put writes the frame of a payload into your room. Requests that share a sync share a payload.
  *   2. Write it at byte `end` of the journal `newest`, and sync the file (fdatasync).
  *   3. svid_journal_synced if both succeeded: only now may you acknowledge what the payload says. svid_journal_unwritten if the write failed:
- *      the next frame goes to the same place. svid_journal_failed if the sync failed: this ends the folder until the next start.
+ *      the next frame goes to the same offset. svid_journal_failed if the sync failed: this ends the folder until the next start.
  * Append a mark (an empty payload) behind a burst and before you close the folder; nobody waits for it.
  *
  * To replace the snapshot: svid_journal_begin, and then the calls that are due, as at a start. While SVID_CALL_WRITE_SNAPSHOT is due, write
@@ -570,7 +597,7 @@ typedef struct {
 /* 16 bytes that tell a state folder from each other one. Take random ones when you make the folder, and keep them in it. */
 typedef struct {
     uint8_t bytes[16];
-} svid_place;
+} svid_folder_id;
 
 /* A call of the system that is due: a number of enum svid_call, and for two of them the number of the journal; else 0. */
 typedef struct {
@@ -591,7 +618,7 @@ enum svid_call {
 /* How far a file is read. Begin with SVID_READER_FIRST; only svid_journal_read writes it. */
 typedef struct {
     uint64_t count;     /* how many frames were read */
-    uint64_t at;        /* how many bytes they take: the place of the next one */
+    uint64_t at;        /* how many bytes they take: the offset of the next one */
     uint64_t marked;    /* 1 if the last of them is a mark, and else 0 */
 } svid_reader;
 #define SVID_READER_FIRST { 0, 0, 0 }
@@ -623,14 +650,14 @@ uint32_t svid_journal_answer(svid_folder *f, uint32_t ok);
 /* Writes the frame of a payload into `out`. `told->len` is its length: write so many bytes at byte `f->end` of the journal `f->newest`. An
  * empty payload is a mark. SVID_FOLDER_ENDED, SVID_FOLDER_NOT_GROWING, SVID_FOLDER_FLYING, SVID_FOLDER_TOO_LONG, SVID_FOLDER_FULL; SVID_TOO_SHORT
  * if `out` has too little room, and `told->len` says how much the frame needs: `payload_len` + SVID_FRAME_MORE always do. */
-uint32_t svid_journal_put(svid_folder *f, const svid_place *place, const uint8_t *payload, size_t payload_len,
+uint32_t svid_journal_put(svid_folder *f, const svid_folder_id *folder_id, const uint8_t *payload, size_t payload_len,
                           uint8_t *out, size_t out_len, svid_told *told);
 
 /* Tells that the frame was written and synced: it is acknowledged, and the next one goes behind it. SVID_FOLDER_ENDED;
  * SVID_FOLDER_NOT_FLYING. */
 uint32_t svid_journal_synced(svid_folder *f);
 
-/* Tells that the write of the frame failed. Nothing ends: the next frame goes to the same place. SVID_FOLDER_ENDED;
+/* Tells that the write of the frame failed. Nothing ends: the next frame goes to the same offset. SVID_FOLDER_ENDED;
  * SVID_FOLDER_NOT_FLYING. */
 uint32_t svid_journal_unwritten(svid_folder *f);
 
@@ -640,31 +667,31 @@ uint32_t svid_journal_failed(svid_folder *f);
 /* Writes the frame of the next piece of a snapshot into `out`; `told->len` is its length. Write it behind the pieces before it. An empty payload
  * is the mark that ends the snapshot: behind it answer SVID_CALL_WRITE_SNAPSHOT. SVID_FOLDER_ENDED, SVID_FOLDER_NOT_WRITING,
  * SVID_FOLDER_TOO_LONG, SVID_FOLDER_FULL; SVID_TOO_SHORT as of svid_journal_put. */
-uint32_t svid_journal_piece(svid_folder *f, const svid_place *place, const uint8_t *payload, size_t payload_len,
+uint32_t svid_journal_piece(svid_folder *f, const svid_folder_id *folder_id, const uint8_t *payload, size_t payload_len,
                             uint8_t *out, size_t out_len, svid_told *told);
 
-/* Reads the next frame of a file of the folder `place`: of the journal of this number, or of the snapshot if `journal` is 0. `bytes` are
+/* Reads the next frame of a file of the folder `folder_id`: of the journal of this number, or of the snapshot if `journal` is 0. `bytes` are
  * those of the whole file.
  *
  * SVID_OK: `frame` says where in `bytes` the payload stands, and the reader goes on behind it. Else the reader stays as it was, and the status
  * says why there is no frame at byte `reader->at`: SVID_FILE_END, SVID_FILE_TEAR, SVID_FILE_DAMAGE, SVID_FILE_OTHER, or SVID_FOLDER_UNFIT if
  * the reader's numbers do not fit the bytes. Of SVID_FILE_OTHER `frame->format` is the number of that format; `payload` and `len` are then 0.
  * A snapshot that ends without a mark is damaged. */
-uint32_t svid_journal_read(const svid_place *place, uint64_t journal, const uint8_t *bytes, size_t bytes_len,
+uint32_t svid_journal_read(const svid_folder_id *folder_id, uint64_t journal, const uint8_t *bytes, size_t bytes_len,
                            svid_reader *reader, svid_frame *frame);
 
 /* What a payload bears. */
 typedef struct {
     svid_mark mark;     /* where a validator was in its log as the payload was written; 0 if the payload does not say */
     size_t marked;      /* 1 if the payload begins with that, else 0 */
-    size_t messages;    /* where in the payload its messages begin: SVID_LOG_PLACE or 0 */
+    size_t messages;    /* where in the payload its messages begin: SVID_LOG_POSITION or 0 */
 } svid_bears;
-#define SVID_LOG_PLACE 28
+#define SVID_LOG_POSITION 28
 
-/* Writes where a validator is in its log to `out`, as the front of a payload: SVID_LOG_PLACE bytes. Put the messages of the payload behind
+/* Writes where a validator is in its log to `out`, as the front of a payload: SVID_LOG_POSITION bytes. Put the messages of the payload behind
  * them, or none. `mark` is that of svid_validator_mark. At the next start the last such mark says until when the validator accepts nothing.
- * SVID_TOO_SHORT: `out` stays as it was. `told->len` is SVID_LOG_PLACE. */
-uint32_t svid_journal_place(const svid_mark *mark, uint8_t *out, size_t out_len, svid_told *told);
+ * SVID_TOO_SHORT: `out` stays as it was. `told->len` is SVID_LOG_POSITION. */
+uint32_t svid_journal_position(const svid_mark *mark, uint8_t *out, size_t out_len, svid_told *told);
 
 /* Says what a payload bears: where a validator was in its log, if the payload begins with that, and where its messages begin. Any bytes are a
  * payload. The call does not look at the messages; no messages begin as a mark does. */
@@ -677,6 +704,20 @@ uint32_t svid_version(void);
 
 /* Reads a SPIFFE ID. */
 uint32_t svid_id_parse(const uint8_t *text, size_t text_len, svid_id *out);
+
+/* Says whether a pattern allows a SPIFFE ID. A pattern is one of three:
+ *
+ * - an ID with a path: it allows that ID alone;
+ * - an ID with a slash and a star behind it: it allows all IDs below the path of that ID, by whole segments, and not that ID itself. The path
+ *   may be empty;
+ * - an ID without a path: it allows all IDs of its trust domain, with or without a path.
+ *
+ * SVID_OK if the pattern allows the ID, and SVID_NOT_ALLOWED if it does not; then `out` has the lengths of the ID's parts.
+ *
+ * SVID_PATTERN_TOO_LONG to SVID_PATTERN_PATH_BYTE if `pattern` is none, whatever `id` is: a mistake of whoever wrote the pattern. Else
+ * SVID_ID_TOO_LONG to SVID_ID_PATH_BYTE if `id` is none. `out->offset` counts from the first byte of the text that is at fault.
+ * SVID_NO_MEMORY: `out` has zeros. */
+uint32_t svid_id_allows(const uint8_t *pattern, size_t pattern_len, const uint8_t *id, size_t id_len, svid_id *out);
 
 /* Finds the one bearer token of a request (RFC 9110, section 11.4; RFC 6750, section 2.1). `fields` is how many header fields Authorization
  * the request has, and `value` is the value of the first one. Blanks around the value do no harm. The scheme is Bearer in letters of either
@@ -700,6 +741,15 @@ uint32_t svid_bearer_token(uint64_t fields, const uint8_t *value, size_t value_l
 uint32_t svid_token_says(const uint8_t *token, size_t token_len, svid_said *said, size_t *lens, size_t lens_len,
                          uint8_t *out, size_t out_len, svid_told *told);
 
+/* Writes the signature of a token, as a library of cryptography wants it beside the key of svid_key_spki: of an EC key that is R and S as
+ * RFC 7518 has them (section 3.4). `over` tells over how many bytes of the token it is made, from the first one: the header, a period and the
+ * payload (RFC 7515, section 5.2). The call reads neither of these.
+ *
+ * SVID_TOO_SHORT if the signature is longer than `out`, which it never is if that has SVID_SIGNATURE_ROOM bytes. SVID_TOO_LONG;
+ * SVID_NOT_THREE_PARTS; SVID_SIGNATURE_SPELLING; SVID_NO_MEMORY: then `over` stays as it was. Unless the status is SVID_OK, `out` stays. */
+uint32_t svid_token_signature(const uint8_t *token, size_t token_len, svid_signed *over,
+                              uint8_t *out, size_t out_len, svid_told *told);
+
 /* Writes a public key as SubjectPublicKeyInfo in DER (RFC 5280, section 4.1.2.7), which d2i_PUBKEY of OpenSSL, and its like elsewhere, read
  * in one call. `key` is the key as JSON (RFC 7517) and `alg` the name of the algorithm, both as svid_bundles_ask lists them. An RSA key may
  * have up to `most_bits` bits, and never more than SVID_MOST_RSA_BITS. Each verification by a long key costs more, so pass
@@ -709,6 +759,23 @@ uint32_t svid_token_says(const uint8_t *token, size_t token_len, svid_said *said
  * not look whether a point is on its curve: your library does when it reads the key. If it refuses the key, the key made no signature. */
 uint32_t svid_key_spki(const uint8_t *key, size_t key_len, const uint8_t *alg, size_t alg_len, size_t most_bits,
                        uint8_t *out, size_t out_len, svid_told *told);
+
+/* Reads the entries of messages: those of all batches, in the order in which they stand there. Summaries have none. The entries are as the
+ * messages have them: an entry may stand there twice, or have expired since.
+ *
+ * SVID_OK, and `told->len` is how many entries there are. SVID_TOO_SHORT if there are more than `out_len`: `told->len` says how many entries
+ * `out` needs room for. A message has 65 bytes for each entry, and 64 in version 1, so `messages_len / 64` entries are always enough.
+ * SVID_TOO_MUCH and SVID_MAGIC to SVID_TRUNCATED: the input is no row of messages. Unless the status is SVID_OK, `out` stays as it was. */
+uint32_t svid_entries_read(const uint8_t *messages, size_t messages_len, svid_entry *out, size_t out_len, svid_told *told);
+
+/* Writes entries as messages: one batch for each time `at` at which entries were made, and the times rise. A time with more than 65,536
+ * entries has several batches. The entries may be in any order, and one that is given twice is written once. So the same entries make the
+ * same bytes. No entries make no bytes. A batch has 17 bytes, and 65 for each entry, so 82 bytes for each entry are always enough. An entry
+ * whose `withdrawn` is neither 0 nor 1 counts as withdrawn.
+ *
+ * SVID_USE_EXPIRED if an entry expires at its `at` or before it: no message can tell it. `told->offset` is the number of the first such entry,
+ * counted from 0. SVID_TOO_SHORT and `told->len` as for any text. */
+uint32_t svid_entries_write(const svid_entry *entries, size_t entries_len, uint8_t *out, size_t out_len, svid_told *told);
 
 /* Messages: one after the other, none where there are no bytes. `now` is a moment in whole seconds, to which
  * what they tell is raised: what expires by then goes. 0 raises nothing. */
@@ -821,6 +888,15 @@ static inline const char *svid_strstatus(uint32_t status) {
     case SVID_BEARER_SEVERAL: return "SVID_BEARER_SEVERAL";
     case SVID_BEARER_SCHEME: return "SVID_BEARER_SCHEME";
     case SVID_BEARER_SPELLING: return "SVID_BEARER_SPELLING";
+    case SVID_NOT_ALLOWED: return "SVID_NOT_ALLOWED";
+    case SVID_PATTERN_TOO_LONG: return "SVID_PATTERN_TOO_LONG";
+    case SVID_PATTERN_SCHEME: return "SVID_PATTERN_SCHEME";
+    case SVID_PATTERN_DOMAIN_EMPTY: return "SVID_PATTERN_DOMAIN_EMPTY";
+    case SVID_PATTERN_DOMAIN_BYTE: return "SVID_PATTERN_DOMAIN_BYTE";
+    case SVID_PATTERN_DOMAIN_LONG: return "SVID_PATTERN_DOMAIN_LONG";
+    case SVID_PATTERN_SEGMENT_EMPTY: return "SVID_PATTERN_SEGMENT_EMPTY";
+    case SVID_PATTERN_SEGMENT_DOTS: return "SVID_PATTERN_SEGMENT_DOTS";
+    case SVID_PATTERN_PATH_BYTE: return "SVID_PATTERN_PATH_BYTE";
     case SVID_TOO_LONG: return "SVID_TOO_LONG";
     case SVID_NOT_THREE_PARTS: return "SVID_NOT_THREE_PARTS";
     case SVID_HEADER_SPELLING: return "SVID_HEADER_SPELLING";
@@ -848,6 +924,113 @@ static inline const char *svid_strstatus(uint32_t status) {
     case SVID_REPLAYED: return "SVID_REPLAYED";
     /* lists:end */
     default: return "SVID_?";
+    }
+}
+
+/* What a status says in words, as "The token was withdrawn."; "No status has this number." for a number that is none. The text is for
+ * people, and may change from version to version. */
+static inline const char *svid_strsentence(uint32_t status) {
+    switch (status) {
+    /* lists:begin sentences (written by tools/lists) */
+    case SVID_OK: return "The answer is yes, or the call did what it is for.";
+    case SVID_TOO_SHORT: return "The text is longer than the room.";
+    case SVID_NO_MEMORY: return "There was no memory.";
+    case SVID_TOO_MUCH: return "Bundles, a table or messages have more than 67,108,864 bytes.";
+    case SVID_NOT_SUMMARY: return "The first input is messages, but not one summary.";
+    case SVID_CLOSED: return "The validator is closed, or the bundles are.";
+    case SVID_IS_OPEN: return "The handle is open already.";
+    case SVID_GONE: return "The token has expired, so that there is nothing to withdraw.";
+    case SVID_TOO_FAR: return "A message's moment is more than ahead seconds past now.";
+    case SVID_JUMP: return "now is more than step seconds past the record's moment.";
+    case SVID_HAS_LOG: return "The validator reads a log, which decides about its tokens.";
+    case SVID_NO_LOG: return "The validator reads no log.";
+    case SVID_MAGIC: return "The first four bytes are those of no version.";
+    case SVID_KIND: return "The fifth byte is that of no kind of message of the version.";
+    case SVID_COUNT: return "A batch tells of too many uses.";
+    case SVID_USE_KIND: return "The last byte of a use is neither 0 nor 1.";
+    case SVID_USE_EXPIRED: return "A use expires at its batch's moment or before it.";
+    case SVID_USE_FUTURE: return "A use was made after its batch's moment.";
+    case SVID_USE_ORDER: return "A use is not greater than the one before it.";
+    case SVID_TRUNCATED: return "The bytes end before the message does.";
+    case SVID_ID_TOO_LONG: return "The ID has more than 2,048 bytes.";
+    case SVID_ID_SCHEME: return "The ID does not begin with spiffe://.";
+    case SVID_ID_DOMAIN_EMPTY: return "The trust domain name of the ID is empty.";
+    case SVID_ID_DOMAIN_BYTE: return "The ID has a byte that may not stand in a trust domain name.";
+    case SVID_ID_DOMAIN_LONG: return "The ID has a trust domain name of more than 255 bytes.";
+    case SVID_ID_SEGMENT_EMPTY: return "The ID has an empty segment.";
+    case SVID_ID_SEGMENT_DOTS: return "The ID has a segment that is one or two periods.";
+    case SVID_ID_PATH_BYTE: return "The ID has a byte that may not stand in a path segment.";
+    case SVID_BUNDLES_NOT_OBJECT: return "The bundles are no JSON object.";
+    case SVID_BUNDLES_DOMAIN: return "A name of the bundles is no trust domain name.";
+    case SVID_BUNDLES_KEYS: return "A name of the bundles has no list of keys.";
+    case SVID_TABLE_LINE: return "A line of the table is neither empty nor a question.";
+    case SVID_OWN_NOT_UTF8: return "An audience of the validator's own is not UTF-8.";
+    case SVID_OWN_LENGTHS: return "The lengths of the audiences do not add up to the length of own.";
+    case SVID_FOLDER_UNFIT: return "The numbers are not those of a folder, or of the file that is read.";
+    case SVID_FOLDER_ENDED: return "A sync failed.";
+    case SVID_FOLDER_NOT_GROWING: return "No journal grows yet.";
+    case SVID_FOLDER_BUSY: return "A call is due already.";
+    case SVID_FOLDER_NOTHING_DUE: return "No call is due.";
+    case SVID_FOLDER_FLYING: return "A frame was handed out, and is not synced yet.";
+    case SVID_FOLDER_NOT_FLYING: return "No frame was handed out.";
+    case SVID_FOLDER_NOT_WRITING: return "No snapshot is being written.";
+    case SVID_FOLDER_NO_MARK: return "The snapshot has no mark at its end.";
+    case SVID_FOLDER_TOO_LONG: return "The payload has more than 16,777,215 bytes.";
+    case SVID_FOLDER_FULL: return "A number of the folder has come to its end.";
+    case SVID_FILE_END: return "The end: nothing was written here.";
+    case SVID_FILE_TEAR: return "A write was cut off: nobody was told that it is on the disk.";
+    case SVID_FILE_DAMAGE: return "What was synced here has changed.";
+    case SVID_FILE_OTHER: return "A frame of another format stands here.";
+    case SVID_NO_ALGORITHM: return "The algorithm is none of RS256 to RS512, ES256 to ES512 and PS256 to PS512.";
+    case SVID_KEY_NOT_OBJECT: return "The key is no JSON object.";
+    case SVID_KEY_KTY: return "The key's kty is not the algorithm's: RSA for RS and PS, EC for ES.";
+    case SVID_KEY_ALG: return "The key's alg is there, and is not the algorithm.";
+    case SVID_KEY_N: return "The key's n is no odd number in as few bytes of base64url as hold it.";
+    case SVID_KEY_BITS: return "The key's n has fewer than 2,048 bits, more than most_bits, or more than 16,384.";
+    case SVID_KEY_E: return "The key's e is no odd number from 3 to 2^31-1 in as few bytes of base64url as hold it.";
+    case SVID_KEY_CRV: return "The key's crv is not the algorithm's: P-256 for ES256, P-384 for ES384, P-521 for ES512.";
+    case SVID_KEY_X: return "The key's x is not base64url of 32, 48 or 66 bytes, as the curve has it.";
+    case SVID_KEY_Y: return "The key's y is not base64url of 32, 48 or 66 bytes, as the curve has it.";
+    case SVID_BEARER_ABSENT: return "The request has no header field Authorization.";
+    case SVID_BEARER_SEVERAL: return "The request has more than one header field Authorization.";
+    case SVID_BEARER_SCHEME: return "The header field Authorization has another scheme than Bearer.";
+    case SVID_BEARER_SPELLING: return "In the header field Authorization, Bearer is not followed by one token.";
+    case SVID_NOT_ALLOWED: return "The pattern does not allow the ID.";
+    case SVID_PATTERN_TOO_LONG: return "The ID in the pattern has more than 2,048 bytes.";
+    case SVID_PATTERN_SCHEME: return "The pattern does not begin with spiffe://.";
+    case SVID_PATTERN_DOMAIN_EMPTY: return "The trust domain name of the pattern is empty.";
+    case SVID_PATTERN_DOMAIN_BYTE: return "The pattern has a byte that may not stand in a trust domain name.";
+    case SVID_PATTERN_DOMAIN_LONG: return "The pattern has a trust domain name of more than 255 bytes.";
+    case SVID_PATTERN_SEGMENT_EMPTY: return "The pattern has an empty segment.";
+    case SVID_PATTERN_SEGMENT_DOTS: return "The pattern has a segment that is one or two periods.";
+    case SVID_PATTERN_PATH_BYTE: return "The pattern has a byte that may not stand in a path segment.";
+    case SVID_TOO_LONG: return "The token has more than 65,536 bytes.";
+    case SVID_NOT_THREE_PARTS: return "The token has not exactly two periods.";
+    case SVID_HEADER_SPELLING: return "The header is not base64url.";
+    case SVID_HEADER_NOT_OBJECT: return "The header is no JSON object.";
+    case SVID_CRIT: return "The header has a member crit.";
+    case SVID_ALG: return "alg is none of the nine algorithms RS256 to RS512, ES256 to ES512 and PS256 to PS512.";
+    case SVID_TYP: return "typ is there, and is neither \"JWT\" nor \"JOSE\".";
+    case SVID_KID: return "kid is there, and is no string.";
+    case SVID_PAYLOAD_SPELLING: return "The payload is not base64url.";
+    case SVID_PAYLOAD_NOT_OBJECT: return "The payload is no JSON object.";
+    case SVID_SIGNATURE_SPELLING: return "The signature is empty, or not base64url.";
+    case SVID_SUB: return "sub is no SPIFFE ID.";
+    case SVID_AUD: return "aud is neither a string nor a list of one or more strings.";
+    case SVID_EXP: return "exp is no whole number from 0 to 2^64-1, written with digits alone.";
+    case SVID_NBF: return "nbf is there, and is no whole number from 0 to 2^64-1.";
+    case SVID_JTI: return "jti is there, and is no string.";
+    case SVID_NOT_AUDIENCE: return "No value of aud is one of the validator's audiences.";
+    case SVID_EXPIRED: return "The token has expired: exp is not greater than the record's moment.";
+    case SVID_NOT_YET: return "The token is not valid yet: nbf is greater than the record's moment.";
+    case SVID_TOO_LONG_LIVED: return "The token expires more than longest seconds past the record's moment.";
+    case SVID_UNKNOWN_DOMAIN: return "The bundles have no trust domain of this name.";
+    case SVID_NO_KEY: return "The trust domain has no key that fits alg and kid.";
+    case SVID_BAD_SIGNATURE: return "No key among the first 3 that fit made the signature.";
+    case SVID_WITHDRAWN: return "The token was withdrawn.";
+    case SVID_REPLAYED: return "The token was accepted before, here or by a validator whose messages were taken.";
+    /* lists:end */
+    default: return "No status has this number.";
     }
 }
 
@@ -893,7 +1076,7 @@ static inline void svid_batch_of(const svid_use *used, uint8_t out[SVID_BATCH_OF
     for (i = 0; i < 4; i++) out[13 + i] = i == 3;
     for (i = 0; i < 8; i++) out[17 + i] = (uint8_t)(used->exp >> (56 - 8 * i));
     for (i = 0; i < 32; i++) out[25 + i] = used->key[i];
-    for (i = 0; i < 16; i++) out[57 + i] = used->place[i];
+    for (i = 0; i < 16; i++) out[57 + i] = used->validator_id[i];
     for (i = 0; i < 8; i++) out[73 + i] = (uint8_t)(used->at >> (56 - 8 * i));
     out[81] = 0;
 }

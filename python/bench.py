@@ -2,7 +2,7 @@
 
     /usr/bin/python3 python/bench.py [TOKENS [ROUNDS]]
 
-LIBSVID names libsvid.so (tools/archive --shared makes it). Both sides get the same tokens, in
+LIBSVID names libsvid.so (tools/dist shared FILE makes it). Both sides get the same tokens, in
 turns, and each has a round's least time of the processor. PyJWT is handed the right key at once,
 so it looks for none. Without signatures, `check` is given a verifier that says yes, and PyJWT is
 told not to verify.

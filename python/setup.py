@@ -15,6 +15,8 @@ from setuptools.command.sdist import sdist
 from wheel.bdist_wheel import bdist_wheel
 
 HERE = pathlib.Path(__file__).resolve().parent
+MACHINES = {b"\x3e\0": "x86_64", b"\xb7\0": "aarch64"}
+"""The machines by their numbers in a library (ELF, `e_machine`)."""
 
 
 def library():
@@ -25,7 +27,18 @@ def library():
     for place in places:
         if place.is_file():
             return place
-    raise SystemExit("setup.py: no libsvid.so: let LIBSVID name one (tools/archive makes it)")
+    raise SystemExit(
+        "setup.py: no libsvid.so: let LIBSVID name one (tools/dist shared FILE makes it)"
+    )
+
+
+def platform_of(path):
+    """The platform in the name of a wheel with this library, wherever it is built."""
+    with open(path, "rb") as file:
+        head = file.read(20)
+    if head[:6] != b"\x7fELF\2\1" or head[18:] not in MACHINES:
+        raise SystemExit(f"setup.py: {path} is no library for x86_64 or aarch64: build it anew")
+    return f"linux_{MACHINES[head[18:]]}"
 
 
 class BuildWithLibrary(build_py):
@@ -49,7 +62,8 @@ class WheelForEveryPython(bdist_wheel):
     """A wheel of one platform, and for every Python 3: the library calls nothing of Python."""
 
     def get_tag(self):
-        return "py3", "none", super().get_tag()[2]
+        is_told = self.plat_name_supplied
+        return "py3", "none", super().get_tag()[2] if is_told else platform_of(library())
 
 
 setup(

@@ -9,22 +9,33 @@ file NAME.edit of lines:
     why: TEXT       why that is wrong
     test: ID        a test that must catch it; further ones may follow
 
-It is caught where a test fails. It is not caught where all its tests pass (it survived), where they don't end within two
+It is caught where a test fails. It is not caught where all its tests pass (it survived), where they don't end within ten
 minutes, or where the program does not compile with it, which says nothing of the test. All named tests must pass without a
-wrong body, too. In each run all of them are looked at first, whether they can be applied."""
+wrong body, too. In each run all of them are looked at first, whether they can be applied.
 
+Several are tried at once, by threads of one process, and two rules follow. A file that this process wrote is never executed:
+whatever another thread starts holds each file open that is being written, until it is a program of its own, and Linux refuses
+to execute such a file ("Text file busy"). So a script of a copy is read by its interpreter: its words begin with BASH or
+PYTHON. And a copy takes the files that git knows of, by copy_of(): beside this, tests write into the checkout and remove what
+they wrote."""
+
+import json
 import os
+import shutil
 import signal
 import subprocess
 import sys
 import tempfile
 import time
+import traceback
 from concurrent.futures import ThreadPoolExecutor
 
 TOP = os.path.dirname(os.path.dirname(os.path.realpath(__file__)))
-LONGEST = 120  # seconds for the tests of one wrong body
-LONGEST_ALL = 1800  # and for those of all, without a wrong body
+LONGEST = 600  # seconds for the tests of one wrong body, with all that is compiled for them
+LONGEST_ALL = 3600  # and for those of all, without a wrong body
+PATIENCE = 30  # how many seconds a test waits for what never comes with a wrong body
 DAY = 86_400
+BASH, PYTHON = "/bin/bash", sys.executable  # what reads a script of a copy
 
 
 class Unfit(Exception):
@@ -39,6 +50,25 @@ def text_of(path):
 def write(path, text):
     with open(path, "w", encoding="utf-8") as file:
         file.write(text)
+
+
+def copy_of(folder, to, without=()):
+    """Copies a folder of the checkout: the files that git has or would take, but for these names at the top of it."""
+    words = ["git", "ls-files", "-z", "--cached", "--others", "--exclude-standard"]
+    listed = subprocess.run(words, cwd=folder, stdout=subprocess.PIPE, check=True).stdout.decode()
+    for name in filter(None, listed.split("\0")):
+        if name.partition("/")[0] in without:
+            continue
+        os.makedirs(os.path.dirname(f"{to}/{name}"), exist_ok=True)
+        try:
+            shutil.copy(f"{folder}/{name}", f"{to}/{name}")
+        except FileNotFoundError:
+            pass  # (it was removed since, or git has it and the checkout has not)
+
+
+def environment_of(changed, **more):
+    """The environment of tests: with a wrong body, most of what they wait for never comes."""
+    return {**os.environ, **({"SVID_TEST_PATIENCE": str(PATIENCE)} if changed else {}), **more}
 
 
 def run(words, folder, environment, longest):
@@ -63,6 +93,33 @@ def run(words, folder, environment, longest):
         if said is None:
             ran.communicate()
     return (None if said is None else ran.returncode), said or ""
+
+
+class Scripts:
+    """Reads modules of JavaScript, by one process of node for all."""
+
+    PROGRAM = """
+        const { createInterface } = require("node:readline"), { SourceTextModule } = require("node:vm");
+        createInterface({ input: process.stdin }).on("line", (line) => {
+          let why = "";
+          try { new SourceTextModule(JSON.parse(line)); } catch (error) { why = `${error.name}: ${error.message}`; }
+          console.log(JSON.stringify(why));
+        });
+    """
+
+    def __init__(self):
+        self.node = None
+
+    def fault(self, path, text):
+        """Why a file can't have this text, or nothing: also where it is no script, or node is not there."""
+        if not path.endswith(".js") or not shutil.which("node"):
+            return ""
+        if self.node is None:
+            words = ["node", "--no-warnings", "--experimental-vm-modules", "--eval", self.PROGRAM]
+            self.node = subprocess.Popen(words, stdin=subprocess.PIPE, stdout=subprocess.PIPE, text=True)
+        print(json.dumps(text), file=self.node.stdin, flush=True)
+        said = self.node.stdout.readline()
+        return json.loads(said) if said else "node does not read it"
 
 
 class Language:
@@ -149,10 +206,23 @@ def end_of(said):
     return "\n".join(said.splitlines()[-20:])
 
 
+def outcome(language, changed, tests, longest):
+    """What Language.run answers, or Unfit: that which keeps one wrong body from being tried is a fault of that one alone."""
+    try:
+        with tempfile.TemporaryDirectory(prefix="svid-wrong-", ignore_cleanup_errors=True) as room:
+            return language.run(room, changed, tests, longest)
+    except Unfit:
+        raise
+    except Exception as error:
+        raise Unfit("".join(traceback.format_exception(error))) from error
+
+
 def tried(language, it):
     """Why a wrong body is not caught, or nothing."""
-    with tempfile.TemporaryDirectory(prefix="svid-wrong-") as room:
-        status, said = language.run(room, it.changed, it.tests, LONGEST)
+    try:
+        status, said = outcome(language, it.changed, it.tests, LONGEST)
+    except Unfit as why:
+        return f"NOT CAUGHT: it can't be tried: {why}"
     if status is None:
         return f"NOT CAUGHT: it took too long: its tests don't end within {LONGEST} seconds"
     if status == 0:
@@ -165,9 +235,11 @@ def tried(language, it):
 def passing(language, wrongs):
     """What the tests of these wrong bodies say where they don't pass with the sources as they are."""
     tests = sorted({test for it in wrongs for test in it.tests})
-    with tempfile.TemporaryDirectory(prefix="svid-wrong-") as room:
-        status, said = language.run(room, {}, tests, LONGEST_ALL)
-    return "" if status == 0 else said or "they don't end"
+    try:
+        status, said = outcome(language, {}, tests, LONGEST_ALL)
+    except Unfit as why:
+        return f"they can't be run: {why}"
+    return "" if status == 0 else f"{'' if status is None else f'status {status}: '}{said or 'they do not end'}"
 
 
 def try_all(language, wrongs):

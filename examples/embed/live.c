@@ -78,7 +78,7 @@ int main(int n, char **args) {
     uint8_t audience[] = "ledger", piece[SVID_BATCH_OF_LEN];
     pthread_t threads[8];
     must(!svid_validator_open(&a.kept, &terms, audience, 6, bundles.bytes, bundles.len, &told), "a does not open");
-    terms.place[0] = 2;
+    terms.validator_id[0] = 2;
     must(!svid_validator_open(&b.kept, &terms, audience, 6, bundles.bytes, bundles.len, &told), "b does not open");
     for (int i = 0; i < 8; i++) must(!pthread_create(&threads[i], NULL, thread, &a), "no thread");
     for (int i = 0; i < 8; i++) must(!pthread_join(threads[i], NULL), "no thread");

@@ -9,7 +9,7 @@ SPKI_ROOM, USUAL_RSA_BITS = 2100, 4096  # enough room for any key, and how many 
 
 
 class Id(c.Structure):
-    _fields_ = [("place", c.c_size_t), ("domain_len", c.c_size_t), ("path_len", c.c_size_t)]
+    _fields_ = [("offset", c.c_size_t), ("domain_len", c.c_size_t), ("path_len", c.c_size_t)]
 
 
 class Bearer(c.Structure):
@@ -20,27 +20,35 @@ class Said(c.Structure):
     _fields_ = [("key", c.c_uint8 * 32), ("exp", c.c_uint64), ("texts", c.c_size_t)]
 
 
+class Signed(c.Structure):
+    _fields_ = [("len", c.c_size_t)]
+
+
 class Size(c.Structure):
     _fields_ = [("moment", c.c_uint64), ("uses", c.c_size_t)]
 
 
 class Told(c.Structure):
-    _fields_ = [("len", c.c_size_t), ("input", c.c_size_t), ("message", c.c_size_t), ("place", c.c_size_t), ("more", c.c_size_t)]
+    _fields_ = [("len", c.c_size_t), ("input", c.c_size_t), ("message", c.c_size_t), ("offset", c.c_size_t), ("more", c.c_size_t)]
 
     def __str__(self):
-        return f"input {self.input} message {self.message} place {self.place}"
+        return f"input {self.input} message {self.message} offset {self.offset}"
 
 
 class Setting(c.Structure):
-    _fields_ = [("moment", c.c_uint64), ("longest", c.c_uint64), ("place", c.c_uint8 * 16)]
+    _fields_ = [("moment", c.c_uint64), ("longest", c.c_uint64), ("validator_id", c.c_uint8 * 16)]
 
 
 class Use(c.Structure):
-    _fields_ = [("exp", c.c_uint64), ("at", c.c_uint64), ("key", c.c_uint8 * 32), ("place", c.c_uint8 * 16)]
+    _fields_ = [("exp", c.c_uint64), ("at", c.c_uint64), ("key", c.c_uint8 * 32), ("validator_id", c.c_uint8 * 16)]
+
+
+class Entry(c.Structure):
+    _fields_ = [("withdrawn", c.c_uint64), ("exp", c.c_uint64), ("at", c.c_uint64), ("key", c.c_uint8 * 32), ("validator_id", c.c_uint8 * 16)]
 
 
 class Terms(c.Structure):
-    _fields_ = [("longest", c.c_uint64), ("ahead", c.c_uint64), ("step", c.c_uint64), ("place", c.c_uint8 * 16)]
+    _fields_ = [("longest", c.c_uint64), ("ahead", c.c_uint64), ("step", c.c_uint64), ("validator_id", c.c_uint8 * 16)]
 
 
 class Key(c.Structure):
@@ -48,7 +56,7 @@ class Key(c.Structure):
 
 
 class Part(c.Structure):
-    _fields_ = [("begun", c.c_uint64), ("done", c.c_uint64), ("withdrawn", c.c_uint64), ("exp", c.c_uint64), ("at", c.c_uint64), ("key", c.c_uint8 * 32), ("place", c.c_uint8 * 16)]
+    _fields_ = [("begun", c.c_uint64), ("done", c.c_uint64), ("withdrawn", c.c_uint64), ("exp", c.c_uint64), ("at", c.c_uint64), ("key", c.c_uint8 * 32), ("validator_id", c.c_uint8 * 16)]
 
 
 class Mark(c.Structure):
@@ -67,7 +75,7 @@ class Folder(c.Structure):
     _fields_ = [("step", c.c_uint64), ("oldest", c.c_uint64), ("newest", c.c_uint64), ("ended", c.c_uint64), ("count", c.c_uint64), ("end", c.c_uint64), ("flying", c.c_uint64), ("pieces", c.c_uint64)]
 
 
-class Place(c.Structure):
+class FolderId(c.Structure):
     _fields_ = [("bytes", c.c_uint8 * 16)]
 
 
@@ -99,7 +107,7 @@ def parse(text):
     out = Id()
     status = lib.svid_id_parse(text, c.c_size_t(len(text)), c.byref(out))
     if status != OK:
-        raise Refused(f"{status} at {out.place}")
+        raise Refused(f"{status} at {out.offset}")
     return text[9 : 9 + out.domain_len], text[9 + out.domain_len :]
 
 

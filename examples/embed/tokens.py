@@ -11,6 +11,9 @@ from cryptography.hazmat.primitives import hashes
 from cryptography.hazmat.primitives.asymmetric import ec, padding, rsa, utils
 from jwt.utils import base64url_decode, base64url_encode
 
+# lists:begin algorithms (written by tools/lists from lists/algorithms.toml)
+ALGORITHMS = ["RS256", "RS384", "RS512", "ES256", "ES384", "ES512", "PS256", "PS384", "PS512"]
+# lists:end
 THREADS = 8
 ID = "spiffe://example.org/web"
 
@@ -66,8 +69,9 @@ def main(folder):
     good, bad, no_key = "SVID_OK", "SVID_BAD_SIGNATURE", "SVID_NO_KEY"
     # A token, and the answers by the bundles and by the renewed ones, to a validator that has not seen it.
     cases = [("ES256", es256, good, good)]
-    cases += [(alg, signed(of[alg], alg, alg, alg), good, no_key) for alg in ("ES384", "ES512")]
-    cases += [(alg, signed(of["RSA"], alg, "RSA", alg), good, no_key) for alg in ("RS256", "RS384", "RS512", "PS256", "PS384", "PS512")]
+    for alg in (it for it in ALGORITHMS if it != "ES256"):
+        kid = alg if alg in curves else "RSA"
+        cases.append((alg, signed(of[kid], alg, kid, alg), good, no_key))
     cases += [
         ("no-kid", signed(of["ES256"], "ES256", None, "no-kid"), good, good),
         # (of the keys of a token without a kid the first three are tried)

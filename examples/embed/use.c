@@ -1,6 +1,6 @@
 /* One call of libsvid: use join NOW A B | report NOW A | summary NOW A | answer NOW SUMMARY A |
  * questions 0 BUNDLES TOKEN | check NOW OWN BUNDLES QUESTIONS MESSAGES TOKEN | id TEXT. Files go in, but for OWN, a
- * name; what the call writes goes to standard output, and a fault's number and place to standard error. */
+ * name; what the call writes goes to standard output, and a fault's number and offset to standard error. */
 #include "svid.h"
 #include <stdio.h>
 #include <stdlib.h>
@@ -45,18 +45,18 @@ static uint32_t call(const char *what, uint64_t now, text a, text b, text out, s
     return svid_summary(a.bytes, a.len, now, out.bytes, out.len, told);
 }
 
-/* The ID of an accepted token, and the key of its use; the place of this validator is of sixteen bytes AA. */
+/* The ID of an accepted token, and the key of its use; the ID of this validator is sixteen bytes AA. */
 static int check(char **args) {
     svid_setting setting = { strtoull(args[2], NULL, 10), UINT64_MAX, { 0 } };
     text bundles = read_file(args[4]), questions = read_file(args[5]), messages = read_file(args[6]), token = read_file(args[7]);
     uint8_t id[2048];
     svid_use used;
     svid_told told;
-    memset(setting.place, 0xAA, sizeof setting.place);
+    memset(setting.validator_id, 0xAA, sizeof setting.validator_id);
     uint32_t status = svid_check(&setting, (uint8_t *)args[3], strlen(args[3]), bundles.bytes, bundles.len, questions.bytes, questions.len,
                                  messages.bytes, messages.len, token.bytes, token.len, id, sizeof id, &used, &told);
     free(bundles.bytes); free(questions.bytes); free(messages.bytes); free(token.bytes);
-    if (status) { fprintf(stderr, "refused: %u input %zu message %zu place %zu\n", status, told.input, told.message, told.place); return 1; }
+    if (status) { fprintf(stderr, "refused: %u input %zu message %zu offset %zu\n", status, told.input, told.message, told.offset); return 1; }
     printf("accepted %.*s %llu\n", (int)told.len, (char *)id, (unsigned long long)used.exp);
     for (size_t i = 0; i < sizeof used.key; i++) printf("%02x", used.key[i]);
     printf(" at %llu\n", (unsigned long long)used.at);
@@ -68,7 +68,7 @@ int main(int n, char **args) {
         svid_id id;
         const uint8_t *t = (const uint8_t *)args[2];
         uint32_t status = svid_id_parse(t, strlen(args[2]), &id);
-        if (status) { fprintf(stderr, "refused: %u at %zu\n", status, id.place); return 1; }
+        if (status) { fprintf(stderr, "refused: %u at %zu\n", status, id.offset); return 1; }
         printf("domain %.*s\npath %.*s\n", (int)id.domain_len, args[2] + 9, (int)id.path_len, args[2] + 9 + id.domain_len);
         return end_output();
     }
@@ -81,7 +81,7 @@ int main(int n, char **args) {
         out.bytes = room(out.bytes, out.len = told.len);
         status = call(args[1], strtoull(args[2], NULL, 10), a, b, out, &told);
     }
-    if (status) { fprintf(stderr, "refused: %u input %zu message %zu place %zu\n", status, told.input, told.message, told.place); return 1; }
+    if (status) { fprintf(stderr, "refused: %u input %zu message %zu offset %zu\n", status, told.input, told.message, told.offset); return 1; }
     fwrite(out.bytes, 1, told.len, stdout);
     free(a.bytes); free(b.bytes); free(out.bytes);
     return end_output();

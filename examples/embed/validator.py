@@ -11,10 +11,10 @@ BIG = 2**64 - 1
 class Validator:
     """A validator that this process keeps, for any number of threads: a lock orders their calls. Use it by `with`, which closes it."""
 
-    def __init__(self, own, bundles, longest=BIG, ahead=10, step=86_400, place=None):
+    def __init__(self, own, bundles, longest=BIG, ahead=10, step=86_400, validator_id=None):
         self.handle = (c.c_uint64 * 2)()
         self.lock = threading.Lock()
-        terms = Terms(longest, ahead, step, (c.c_uint8 * 16)(*(place or os.urandom(16))))
+        terms = Terms(longest, ahead, step, (c.c_uint8 * 16)(*(validator_id or os.urandom(16))))
         names = [name.encode() for name in own]
         lens = (c.c_size_t * len(names))(*map(len, names))
         self._call("open_by_lengths", c.byref(terms), *self._lent(b"".join(names)), lens, c.c_size_t(len(names)), *self._lent(bundles))

@@ -16,17 +16,19 @@ typedef struct {
     int padding;   /* of RSA; else 0 */
 } algorithm;
 
+/* lists:begin algorithms (written by tools/lists from lists/algorithms.toml) */
 static const algorithm algorithms[] = {
-    { "ES256", "SHA256", 32, 0 },
-    { "ES384", "SHA384", 48, 0 },
-    { "ES512", "SHA512", 66, 0 },
     { "RS256", "SHA256", 0, RSA_PKCS1_PADDING },
     { "RS384", "SHA384", 0, RSA_PKCS1_PADDING },
     { "RS512", "SHA512", 0, RSA_PKCS1_PADDING },
+    { "ES256", "SHA256", 32, 0 },
+    { "ES384", "SHA384", 48, 0 },
+    { "ES512", "SHA512", 66, 0 },
     { "PS256", "SHA256", 0, RSA_PKCS1_PSS_PADDING },
     { "PS384", "SHA384", 0, RSA_PKCS1_PSS_PADDING },
     { "PS512", "SHA512", 0, RSA_PKCS1_PSS_PADDING },
 };
+/* lists:end */
 
 static const algorithm *find(const uint8_t *name, size_t len) {
     for (size_t i = 0; i < sizeof algorithms / sizeof *algorithms; i++)

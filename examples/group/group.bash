@@ -8,7 +8,7 @@
 #   send BOX FILE      gives the file to whoever looks into the box
 #   receive BOX FILE   gets what is in the box
 # What one of them cannot do ends the script, by fail.
-# A validator is a folder in the room: its place (by which the program tells it from others), the record
+# A validator is a folder in the room: its ID (by which the program tells it from others), the record
 # that it kept, its mark (that of the last message that it heard), and the messages that it put aside.
 # SVID names another program than ../../svid.
 export LC_ALL=C
@@ -64,11 +64,11 @@ trap 'exit 143' TERM
 [ -z "$late" ] || exit "$late"
 cd "$room" || exit 2
 
-# make WHO PLACE: a validator that knows nothing.
+# make WHO ID: a validator that knows nothing.
 make() {
   rm -rf "$1"
   mkdir -p "$1/aside"
-  echo "$2" >"$1/place"
+  echo "$2" >"$1/id"
   echo 0 >"$1/mark"
   : >"$1/record"
 }
@@ -86,7 +86,7 @@ judge() {
 check() {
   local said
   now=$((now + 1))
-  said=$(judge "$2" --now "$now" --place "$(<"$1/place")" --record "$1/record" --out "$1/next")
+  said=$(judge "$2" --now "$now" --validator-id "$(<"$1/id")" --record "$1/record" --out "$1/next")
   [ $? -le 1 ] || fail "$1 cannot check token $2"
   keep "$1"
   [[ $said == "$3"* ]] || fail "$1 answers token $2 with '$said', and not with '$3'"
@@ -201,8 +201,8 @@ show() {
     bytes+=$byte
   done
   printf '%b\n\n' "$bytes" >none
-  judge 1 --now $((now + 1 + ahead + 1)) --place 44112233445566778899aabbccddeeff --out early >said
-  judge 1 --now 18446744073709551615 --place 55112233445566778899aabbccddeeff --out last >said
+  judge 1 --now $((now + 1 + ahead + 1)) --validator-id 44112233445566778899aabbccddeeff --out early >said
+  judge 1 --now 18446744073709551615 --validator-id 55112233445566778899aabbccddeeff --out last >said
   mkdir bad
   for what in none early last; do
     tell "$what"

@@ -142,13 +142,13 @@ def candidates(svid, bundles, text):
     return asked.stdout.decode().splitlines()
 
 
-def good_questions(lines, entries, text):
+def good_questions(lines, domain, entries, text):
     """Of the questions that were asked, those whose answer is yes."""
     header, payload, signature = text.split(".")
     alg = json.loads(unbase64url(header))["alg"]
     signing_input = f"{header}.{payload}".encode()
     signature = unbase64url(signature)
-    entry_of = {question(DOMAIN, entry, alg, signing_input, signature): entry for entry in entries}
+    entry_of = {question(domain, entry, alg, signing_input, signature): entry for entry in entries}
     good = []
     for line in lines:
         asked, kid = line.split(" ", 1)
@@ -164,7 +164,7 @@ def good_questions(lines, entries, text):
 def check(svid, folder, texts, *options):
     """What `svid check` says of tokens, one after the other: its lines."""
     words = [svid, "check", "--bundles", folder / "bundles.json", "--table", folder / "table.txt", "--now", "1767225600"]
-    words += ["--place", "00112233445566778899aabbccddeeff", *options, "ledger"]
+    words += ["--validator-id", "00112233445566778899aabbccddeeff", *options, "ledger"]
     ran = subprocess.run(words, input="".join(text + "\n" for text in texts).encode(), stdout=subprocess.PIPE)
     if ran.returncode not in (0, 1):
         sys.exit(f"svid check failed with status {ran.returncode}")
@@ -209,7 +209,7 @@ def main(svid, folder):
         if isinstance(due, str):
             answer, good, right = ", ".join(lines), [], lines == [due]
         else:
-            good = good_questions(lines, entries, text) if not lines[0].startswith("refused ") else []
+            good = good_questions(lines, DOMAIN, entries, text) if not lines[0].startswith("refused ") else []
             kids = [json.loads(line.split(" ", 1)[1]) for line in lines if not line.startswith("refused ")]
             answer = f"candidates {', '.join(kids) or 'none'}; signature {'good' if good else 'bad'}"
             right = kids == due and len(good) == due_good

@@ -3,8 +3,16 @@ package svid
 /*
 #include "svid.h"
 
-static uint32_t bearer(uint64_t fields, _GoString_ value, svid_bearer *out) {
-    return svid_bearer_token(fields, (const uint8_t *)_GoStringPtr(value), _GoStringLen(value), out);
+typedef struct {
+    uint32_t status;
+    svid_bearer token;
+} found;
+
+// (By value: what C is given the address of takes new memory.)
+static found bearer(uint64_t fields, _GoString_ value) {
+    found f;
+    f.status = svid_bearer_token(fields, (const uint8_t *)_GoStringPtr(value), _GoStringLen(value), &f.token);
+    return f;
 }
 */
 import "C"
@@ -42,13 +50,12 @@ func BearerToken(authorization []string) (string, error) {
 	if len(authorization) > 0 {
 		first = authorization[0]
 	}
-	var found C.svid_bearer
-	switch status := C.bearer(C.uint64_t(len(authorization)), first, &found); status {
+	switch found := C.bearer(C.uint64_t(len(authorization)), first); found.status {
 	case C.SVID_OK:
-		return first[found.at : found.at+found.len], nil
+		return first[found.token.at : found.token.at+found.token.len], nil
 	case C.SVID_TOO_LONG:
 		return "", TooLong
 	default:
-		return "", NoBearer(status)
+		return "", NoBearer(found.status)
 	}
 }

@@ -6,7 +6,7 @@ import (
 	"sort"
 	"strings"
 
-	"svid.example/go/internal/jwks"
+	"svid.example/go/v2/internal/jwks"
 )
 
 // JoinBundles makes trust bundles of JWK sets by trust domain, named example.org or spiffe://example.org. The result is for

@@ -1,5 +1,5 @@
-// Package svid accepts and rejects SPIFFE JWT-SVIDs, and keeps the record of
-// the tokens that were used or revoked.
+// Package svid accepts and refuses SPIFFE JWT-SVIDs, and keeps the record of
+// the tokens that were used or withdrawn.
 //
 // It is a binding of the C library libsvid, whose decisions are proved. A
 // service holds two things:
@@ -20,22 +20,21 @@
 // which all of its validators read. There a token is judged (Validator.Judge), its
 // use goes into the log, and Validator.Read says whether the token is accepted.
 //
-// An error that is a [Refusal] says why the token is rejected, and
+// An error that is a [Refusal] says why the token is refused, and
 // errors.Is(err, svid.Replayed) tests for one reason. Any other error means
 // that the token could not be judged: it was not accepted, and the caller may
 // try again.
 //
-// Words: a use is the fact that a token was accepted once, or revoked. A record
+// Words: a use is the fact that a token was accepted once, or withdrawn. A record
 // is a set of uses that have not expired, and a moment, the latest time that it
 // has seen. A message carries a record or a part of it to other validators. All
 // times are whole seconds since 1970.
 //
-// Building needs cgo (CGO_ENABLED=1 and a C compiler), OpenSSL 3 with its headers
-// (Debian: libssl-dev to build, libssl3 to run), and of this repository the file
-// include/svid.h and the libsvid.a under dist for the machine. OpenSSL's libcrypto
-// verifies the signatures. With `-tags gocrypto` Go's standard library does, and
-// nothing of OpenSSL is needed. That takes a service longer: three times for RSA,
-// and seven times for P-521.
+// Building needs Linux on x86-64 or aarch64, cgo (CGO_ENABLED=1 and a C compiler), and
+// OpenSSL 3 with its headers (Debian: libssl-dev to build, libssl3 to run). The module
+// has the C library for both. OpenSSL's libcrypto verifies the signatures. With
+// `-tags gocrypto` Go's standard library does, and nothing of OpenSSL is needed. That
+// takes a service longer: three times for RSA, and seven times for P-521.
 package svid
 
 // #include "svid.h"

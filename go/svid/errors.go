@@ -15,20 +15,20 @@ var (
 	ErrNoMemory = errors.New("svid: out of memory")
 	// ErrClosed: the Validator or Keyring is closed.
 	ErrClosed = errors.New("svid: the handle is closed")
-	// ErrGone: the token to be revoked has expired.
-	ErrGone = errors.New("svid: the token has expired, so there is nothing to revoke")
+	// ErrGone: the token to be withdrawn has expired.
+	ErrGone = errors.New("svid: the token has expired, so there is nothing to withdraw")
 	// ErrTooFar: a message tells of a time more than Options.Ahead seconds past now.
 	ErrTooFar = errors.New("svid: the message is from further in the future than clocks may differ")
 	// ErrJump: now is more than Options.Step seconds past the record's moment.
 	ErrJump = errors.New("svid: the clock went further than one step may")
-	// ErrRenewed: the trust bundles are other ones than when the token was accepted.
-	ErrRenewed = errors.New("svid: the trust bundles were replaced since the token was judged: judge it again")
+	// ErrRenewed: the trust bundles or the audiences are other ones than when the token was accepted.
+	ErrRenewed = errors.New("svid: the trust bundles or the audiences were replaced since the token was judged: judge it again")
 	// ErrTooMuch: an input of messages has more than MaxMessages bytes.
 	ErrTooMuch = errors.New("svid: more than 67108864 bytes of messages in one call")
+	// ErrNoRoom: no message that tells a use is as short as was asked for.
+	ErrNoRoom = errors.New("svid: messages as short as this have no room for a use: 82 bytes are the least")
 	// ErrNotSummary: the input is not one summary.
 	ErrNotSummary = errors.New("svid: not one summary")
-	// ErrBatch: a message is not a batch of version 2.
-	ErrBatch = errors.New("svid: not a batch of version 2")
 	// ErrAudience: an audience is not UTF-8, is empty, or holds a line break.
 	ErrAudience = errors.New("svid: an audience must be UTF-8 text without line breaks, and not empty")
 	// ErrRSABits: KeyringOptions.RSABits is out of its range.
@@ -56,15 +56,15 @@ func (e *BundleError) Error() string {
 type MessageError struct {
 	Reason  string // as docs/FORMATS.md names it: "Magic" to "Truncated"
 	Message int    // which message is at fault, from 1; 0 for one of Read or OpenLog
-	Place   int    // the byte of that message at which the faulty field begins, from 0
+	Offset  int    // the byte of that message at which the faulty field begins, from 0
 }
 
 // Error names the reason and where it is.
 func (e *MessageError) Error() string {
 	if e.Message == 0 {
-		return fmt.Sprintf("svid: byte %d of a message: %s", e.Place, e.Reason)
+		return fmt.Sprintf("svid: byte %d of a message: %s", e.Offset, e.Reason)
 	}
-	return fmt.Sprintf("svid: message %d, byte %d: %s", e.Message, e.Place, e.Reason)
+	return fmt.Sprintf("svid: message %d, byte %d: %s", e.Message, e.Offset, e.Reason)
 }
 
 // lists:begin messages (written by tools/lists from lists/statuses.toml)
@@ -105,12 +105,12 @@ func failure(status C.uint32_t, told *C.svid_told) error {
 	case status >= C.SVID_TOO_LONG: // (no other status has a number as great)
 		return Refusal(status)
 	case status == C.SVID_BUNDLES_DOMAIN:
-		return &BundleError{Reason: "Domain", Index: int(told.place)}
+		return &BundleError{Reason: "Domain", Index: int(told.offset)}
 	case status == C.SVID_BUNDLES_KEYS:
-		return &BundleError{Reason: "Keys", Index: int(told.place)}
+		return &BundleError{Reason: "Keys", Index: int(told.offset)}
 	}
 	if reason, ok := messageReasons[status]; ok {
-		return &MessageError{Reason: reason, Message: int(told.message), Place: int(told.place)}
+		return &MessageError{Reason: reason, Message: int(told.message), Offset: int(told.offset)}
 	}
 	if err, ok := statusErrors[status]; ok {
 		return err

@@ -5,7 +5,7 @@ import (
 	"fmt"
 	"log"
 
-	"svid.example/go/svid"
+	"svid.example/go/v2/svid"
 )
 
 // A service checks a token: the keyring verifies the signature, and the
@@ -17,13 +17,13 @@ func Example() {
 		log.Fatal(err)
 	}
 	defer keyring.Close()
-	place, err := svid.NewPlace()
+	id, err := svid.NewValidatorID()
 	if err != nil {
 		log.Fatal(err)
 	}
 	validator, err := svid.Open(svid.Options{
 		Audiences: []string{"ledger"}, Bundles: bundles,
-		Longest: 3600, Ahead: 10, Step: 86400, Place: place,
+		Longest: 3600, Ahead: 10, Step: 86400, ValidatorID: id,
 	})
 	if err != nil {
 		log.Fatal(err)
@@ -62,7 +62,7 @@ func ExampleJoinBundles() {
 	// Output: {"example.org":{"keys":[{"crv":"P-256","kid":"a","kty":"EC","use":"jwt-svid","x":"..","y":".."}]}}
 }
 
-// Two validators share their record: what one accepted, the other rejects.
+// Two validators share their record: what one accepted, the other refuses.
 func ExampleValidator_Take() {
 	here, err := svid.Open(options(1))
 	if err != nil {
@@ -89,15 +89,19 @@ func ExampleValidator_Take() {
 	if err != nil {
 		log.Fatal(err)
 	}
-	if err := there.Take(moment, accepted.Use.Batch()); err != nil { // by any broker, file or socket
+	message, err := accepted.Use.Batch() // to be sent by any broker, file or socket
+	if err != nil {
+		log.Fatal(err)
+	}
+	if err := there.Take(moment, message); err != nil {
 		log.Fatal(err)
 	}
 	_, err = there.Check(moment, token, yes)
 	fmt.Println(err)
-	// Output: svid: token rejected: Replayed
+	// Output: svid: token refused: Replayed
 }
 
-// A token is revoked before it expires, by the key that an acceptance gave.
+// A token is withdrawn before it expires, by the key that an acceptance gave.
 func ExampleValidator_Withdraw() {
 	validator, err := svid.Open(options(1))
 	if err != nil {

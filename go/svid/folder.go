@@ -15,7 +15,7 @@ const (
 	// MaxPayload is the greatest number of bytes that one frame of a state folder bears.
 	MaxPayload = C.SVID_PAYLOAD_MOST
 	// MarkLen is how many of them AppendMark takes.
-	MarkLen = C.SVID_LOG_PLACE
+	MarkLen = C.SVID_LOG_POSITION
 )
 
 // Errors of a Folder. After each of them it is as it was.
@@ -68,25 +68,25 @@ const (
 // at once.
 type Folder struct {
 	mu     sync.Mutex
-	place  C.svid_place
+	id     C.svid_folder_id
 	folder C.svid_folder
 	due    C.svid_due
 	told   C.svid_told
 }
 
 // OpenFolder begins a start in a folder whose files were read: no journal has a number below oldest or above newest. Without
-// journals these are 1 and 0. place tells the folder from each other one. Make the calls that are due: then a new journal
+// journals these are 1 and 0. id tells the folder from each other one. Make the calls that are due: then a new journal
 // grows. Errors: ErrFolderFull, ErrFolderOrder.
-func OpenFolder(place Place, oldest, newest uint64) (*Folder, error) {
-	f := &Folder{place: placeOf(place)}
+func OpenFolder(id ValidatorID, oldest, newest uint64) (*Folder, error) {
+	f := &Folder{id: folderID(id)}
 	if err := folderFailure(C.svid_journal_open(&f.folder, C.uint64_t(oldest), C.uint64_t(newest))); err != nil {
 		return nil, err
 	}
 	return f, nil
 }
 
-func placeOf(place Place) (p C.svid_place) {
-	*(*Place)(unsafe.Pointer(&p)) = place
+func folderID(id ValidatorID) (p C.svid_folder_id) {
+	*(*ValidatorID)(unsafe.Pointer(&p)) = id
 	return p
 }
 
@@ -133,7 +133,7 @@ func (f *Folder) Growing() (journal uint64, end int64) {
 // through, and while a frame is not synced.
 func (f *Folder) Put(out, payload []byte) ([]byte, error) {
 	return f.frame(out, payload, func(at *C.uint8_t, room C.size_t) C.uint32_t {
-		return C.svid_journal_put(&f.folder, &f.place, start(payload), C.size_t(len(payload)), at, room, &f.told)
+		return C.svid_journal_put(&f.folder, &f.id, start(payload), C.size_t(len(payload)), at, room, &f.told)
 	})
 }
 
@@ -141,7 +141,7 @@ func (f *Folder) Put(out, payload []byte) ([]byte, error) {
 // snapshot. Errors: ErrFolderEnded, ErrPayload, ErrFolderFull, and ErrFolderOrder where no snapshot is being written.
 func (f *Folder) Piece(out, payload []byte) ([]byte, error) {
 	return f.frame(out, payload, func(at *C.uint8_t, room C.size_t) C.uint32_t {
-		return C.svid_journal_piece(&f.folder, &f.place, start(payload), C.size_t(len(payload)), at, room, &f.told)
+		return C.svid_journal_piece(&f.folder, &f.id, start(payload), C.size_t(len(payload)), at, room, &f.told)
 	})
 }
 
@@ -175,7 +175,7 @@ func (f *Folder) Synced() error {
 	return folderFailure(C.svid_journal_synced(&f.folder))
 }
 
-// Unwritten tells that the write of the frame failed. Nothing ends: the next frame goes to the same place. Errors: as Synced.
+// Unwritten tells that the write of the frame failed. Nothing ends: the next frame goes to the same offset. Errors: as Synced.
 func (f *Folder) Unwritten() error {
 	f.mu.Lock()
 	defer f.mu.Unlock()
@@ -191,23 +191,23 @@ func (f *Folder) Failed() error {
 
 // A FileReader reads the frames of a snapshot or a journal, one after the other.
 type FileReader struct {
-	place   C.svid_place
+	id      C.svid_folder_id
 	journal C.uint64_t
 	reader  C.svid_reader
 	frame   C.svid_frame
 }
 
-// NewFileReader returns a reader of the journal of this number, or with 0 of the snapshot, in the folder of this place.
-func NewFileReader(place Place, journal uint64) *FileReader {
-	return &FileReader{place: placeOf(place), journal: C.uint64_t(journal)}
+// NewFileReader returns a reader of the journal of this number, or with 0 of the snapshot, in the folder of this validator ID.
+func NewFileReader(id ValidatorID, journal uint64) *FileReader {
+	return &FileReader{id: folderID(id), journal: C.uint64_t(journal)}
 }
 
 // Next returns the next payload of the file, whose whole content it is given. The payload is a part of that, and empty for a
 // mark. The bytes in front of At need not stay.
 //
-// Where no frame stands, it returns io.EOF at the end, ErrTorn, ErrDamaged or a *FormatError. At is the place.
+// Where no frame stands, it returns io.EOF at the end, ErrTorn, ErrDamaged or a *FormatError. At is the offset.
 func (r *FileReader) Next(content []byte) (payload []byte, err error) {
-	status := C.svid_journal_read(&r.place, r.journal, start(content), C.size_t(len(content)), &r.reader, &r.frame)
+	status := C.svid_journal_read(&r.id, r.journal, start(content), C.size_t(len(content)), &r.reader, &r.frame)
 	switch status {
 	case C.SVID_OK:
 		return content[r.frame.payload : r.frame.payload+r.frame.len], nil
@@ -223,7 +223,7 @@ func (r *FileReader) Next(content []byte) (payload []byte, err error) {
 	return nil, folderFailure(status)
 }
 
-// At is how many bytes the frames take that were read: the place of the next one.
+// At is how many bytes the frames take that were read: the offset of the next one.
 func (r *FileReader) At() int64 { return int64(r.reader.at) }
 
 // AppendMark appends where a validator is in its log (Validator.LogMark) to out: MarkLen bytes, the front of a payload. Its
@@ -233,7 +233,7 @@ func AppendMark(out []byte, mark Mark) []byte {
 	room := out[len(out) : len(out)+MarkLen]
 	m := markOf(mark)
 	var told C.svid_told
-	C.svid_journal_place(&m, start(room), C.size_t(len(room)), &told)
+	C.svid_journal_position(&m, start(room), C.size_t(len(room)), &told)
 	return out[:len(out)+MarkLen]
 }
 
@@ -247,29 +247,65 @@ func Borne(payload []byte) (mark Mark, isMarked bool, messages []byte) {
 
 // Whole returns how many of the bytes are whole messages, from the first one on. It is nil where they all are, and else a
 // *MessageError, which counts from the first one, or ErrNoMemory.
+//
+// The library reads so much at once, and says how many bytes of the last message are there where it is cut off.
 func Whole(messages []byte) (int, error) {
 	whole, number := 0, 0
-	for _, piece := range Split(messages, MaxMessages) {
-		err := areMessages(piece)
-		var fault *MessageError
-		if errors.As(err, &fault) {
-			for _, one := range Split(piece, 0)[:fault.Message-1] {
-				whole += len(one)
-			}
-			return whole, &MessageError{fault.Reason, number + fault.Message, fault.Place}
+	for {
+		rest := messages[whole:]
+		piece := rest
+		if len(piece) > MaxMessages {
+			piece = piece[:MaxMessages]
 		}
+		err := areMessages(piece)
+		if err == nil && len(piece) < len(rest) {
+			// (how many messages that are, the library says where one is cut off)
+			piece = piece[:len(piece)-1]
+			err = areMessages(piece)
+		}
+		if err == nil {
+			return len(messages), nil
+		}
+		var fault *MessageError
+		if !errors.As(err, &fault) {
+			return whole, err
+		}
+		begin, err := beginOf(piece, fault)
 		if err != nil {
 			return whole, err
 		}
-		whole, number = whole+len(piece), number+len(Split(piece, 0))
+		whole, number = whole+begin, number+fault.Message-1
+		if fault.Reason != truncated || len(piece) == len(rest) || begin == 0 {
+			return whole, &MessageError{fault.Reason, number + 1, fault.Offset}
+		}
 	}
-	return whole, nil
 }
 
-// areMessages asks for the summary of what the messages tell, and gives it no room.
+// truncated is the Reason of bytes that end before a message does.
+var truncated = messageReasons[C.SVID_TRUNCATED]
+
+// beginOf returns where the message at fault begins. Of messages that are cut off within it, the library says how many of its
+// bytes are there. Error: ErrNoMemory.
+func beginOf(messages []byte, fault *MessageError) (int, error) {
+	cut, is := len(messages), fault
+	for least, most := 0, len(messages); is == nil || is.Message < fault.Message || is.Reason != truncated; {
+		if is == nil || is.Message < fault.Message {
+			least = cut + 1
+		} else {
+			most = cut - 1
+		}
+		cut, is = least+(most-least)/2, nil
+		if err := areMessages(messages[:cut]); err != nil && !errors.As(err, &is) {
+			return 0, err
+		}
+	}
+	return cut - is.Offset, nil
+}
+
+// areMessages is nil for messages. It asks for their uses, and gives these no room.
 func areMessages(messages []byte) error {
 	var told C.svid_told
-	status := C.svid_summary(start(messages), C.size_t(len(messages)), 0, nil, 0, &told)
+	status := C.svid_entries_read(start(messages), C.size_t(len(messages)), nil, 0, &told)
 	if status == C.SVID_TOO_SHORT {
 		return nil
 	}

@@ -10,9 +10,9 @@ import (
 )
 
 // growing is a folder whose start is through.
-func growing(t *testing.T, place Place, oldest, newest uint64) *Folder {
+func growing(t *testing.T, id ValidatorID, oldest, newest uint64) *Folder {
 	t.Helper()
-	f, err := OpenFolder(place, oldest, newest)
+	f, err := OpenFolder(id, oldest, newest)
 	if err != nil {
 		t.Fatal(err)
 	}
@@ -31,17 +31,17 @@ func growing(t *testing.T, place Place, oldest, newest uint64) *Folder {
 	return f
 }
 
-// The example of docs/FORMATS.md ("State folder"): the first frame of journal 3 with the payload `hi`, where the place is bytes 07.
+// The example of docs/FORMATS.md ("State folder"): the first frame of journal 3 with the payload `hi`, where the validator ID is bytes 07.
 func TestAFrameIsThatOfTheFormat(t *testing.T) {
-	place := Place{7, 7, 7, 7, 7, 7, 7, 7, 7, 7, 7, 7, 7, 7, 7, 7}
-	f := growing(t, place, 1, 2)
+	id := ValidatorID{7, 7, 7, 7, 7, 7, 7, 7, 7, 7, 7, 7, 7, 7, 7, 7}
+	f := growing(t, id, 1, 2)
 	frame, err := f.Put([]byte("kept"), []byte("hi"))
 	want := "3bf3a3b26b4e39456d64009bebc5ad232594d905" + "0000000000000001" + "02" + "000002" + "6869" + strings.Repeat("ff", 6)
 	if got := hex.EncodeToString(bytes.TrimPrefix(frame, []byte("kept"))); got != want || err != nil {
 		t.Fatalf("%s (%v)", got, err)
 	}
 	frame = frame[4:]
-	r := NewFileReader(place, 3)
+	r := NewFileReader(id, 3)
 	if payload, err := r.Next(frame); string(payload) != "hi" || err != nil || r.At() != 40 {
 		t.Error(payload, err, r.At())
 	}
@@ -65,13 +65,13 @@ func TestAFrameIsThatOfTheFormat(t *testing.T) {
 		file []byte
 		want error
 	}{
-		{"cut off", NewFileReader(place, 3), file[:39], ErrTorn},
-		{"changed", NewFileReader(place, 3), append([]byte{1}, file[1:]...), ErrDamaged},
-		{"never written", NewFileReader(place, 3), make([]byte, 100), io.EOF},
-		{"no bytes", NewFileReader(place, 3), nil, io.EOF},
-		{"of another journal", NewFileReader(place, 4), file, ErrTorn},
-		{"of another folder", NewFileReader(Place{}, 3), file, ErrTorn},
-		{"a snapshot", NewFileReader(place, 0), file, ErrDamaged},
+		{"cut off", NewFileReader(id, 3), file[:39], ErrTorn},
+		{"changed", NewFileReader(id, 3), append([]byte{1}, file[1:]...), ErrDamaged},
+		{"never written", NewFileReader(id, 3), make([]byte, 100), io.EOF},
+		{"no bytes", NewFileReader(id, 3), nil, io.EOF},
+		{"of another journal", NewFileReader(id, 4), file, ErrTorn},
+		{"of another folder", NewFileReader(ValidatorID{}, 3), file, ErrTorn},
+		{"a snapshot", NewFileReader(id, 0), file, ErrDamaged},
 	} {
 		if _, err := row.r.Next(row.file); err != row.want || row.r.At() != 0 {
 			t.Errorf("%s: %v at %d", row.what, err, row.r.At())
@@ -87,11 +87,11 @@ func TestAFrameIsThatOfTheFormat(t *testing.T) {
 			t.Fatal(err)
 		}
 		var format *FormatError
-		if _, err := NewFileReader(place, 3).Next(append(head, frame[32:]...)); !errors.As(err, &format) || format.Format != number || !strings.Contains(err.Error(), row.says) {
+		if _, err := NewFileReader(id, 3).Next(append(head, frame[32:]...)); !errors.As(err, &format) || format.Format != number || !strings.Contains(err.Error(), row.says) {
 			t.Error(err)
 		}
 	}
-	// A reader whose place the bytes do not have.
+	// A reader whose offset the bytes do not have.
 	if _, err := r.Next(nil); !errors.Is(err, ErrFolderOrder) {
 		t.Error(err)
 	}
@@ -99,7 +99,7 @@ func TestAFrameIsThatOfTheFormat(t *testing.T) {
 
 // A switch makes the calls in their order, and a journal that is not there is one more step.
 func TestASwitch(t *testing.T) {
-	f := growing(t, Place{}, 2, 3)
+	f := growing(t, ValidatorID{}, 2, 3)
 	if err := f.Begin(); err != nil {
 		t.Fatal(err)
 	}
@@ -127,7 +127,7 @@ func TestASwitch(t *testing.T) {
 				if err != nil {
 					t.Fatal(err)
 				}
-				r := NewFileReader(Place{}, 0)
+				r := NewFileReader(ValidatorID{}, 0)
 				if got, err := r.Next(frame); number == 0 && (string(got) != "one" || err != nil) {
 					t.Error(got, err)
 				}
@@ -143,11 +143,11 @@ func TestASwitch(t *testing.T) {
 
 // Each fault is an error that says what to do, and nothing happens.
 func TestFaultsOfAFolder(t *testing.T) {
-	start, err := OpenFolder(Place{}, 1, 0)
+	start, err := OpenFolder(ValidatorID{}, 1, 0)
 	if err != nil {
 		t.Fatal(err)
 	}
-	idle, ended, flying, switching := growing(t, Place{}, 1, 0), growing(t, Place{}, 1, 0), growing(t, Place{}, 1, 0), growing(t, Place{}, 1, 0)
+	idle, ended, flying, switching := growing(t, ValidatorID{}, 1, 0), growing(t, ValidatorID{}, 1, 0), growing(t, ValidatorID{}, 1, 0), growing(t, ValidatorID{}, 1, 0)
 	if err := ended.Failed(); err != nil {
 		t.Fatal(err)
 	}
@@ -160,7 +160,7 @@ func TestFaultsOfAFolder(t *testing.T) {
 	put := func(f *Folder, payload []byte) error { _, err := f.Put(nil, payload); return err }
 	piece := func(f *Folder, payload []byte) error { _, err := f.Piece(nil, payload); return err }
 	due := func(f *Folder) error { _, _, err := f.Due(); return err }
-	open := func(oldest, newest uint64) error { _, err := OpenFolder(Place{}, oldest, newest); return err }
+	open := func(oldest, newest uint64) error { _, err := OpenFolder(ValidatorID{}, oldest, newest); return err }
 	long := make([]byte, MaxPayload+1)
 	for i, row := range []struct {
 		got  error
@@ -193,7 +193,7 @@ func TestFaultsOfAFolder(t *testing.T) {
 			t.Errorf("row %d: %v, want %v", i, row.got, row.want)
 		}
 	}
-	// What flies is where it was, and the next frame goes to the same place if it was not written.
+	// What flies is where it was, and the next frame goes to the same offset if it was not written.
 	if err := flying.Unwritten(); err != nil {
 		t.Error(err)
 	}
@@ -222,7 +222,7 @@ func TestFaultsOfAFolder(t *testing.T) {
 }
 
 func TestCallsOfAFolderHoldOneLock(t *testing.T) {
-	f := growing(t, Place{}, 1, 0)
+	f := growing(t, ValidatorID{}, 1, 0)
 	calls := map[string]func(){
 		"Answer":    func() { _ = f.Answer(true) },
 		"Begin":     func() { _ = f.Begin() },
@@ -244,10 +244,10 @@ func TestWholeMessages(t *testing.T) {
 	for i := byte(0); i < 5; i++ {
 		uses = append(uses, Use{Key: TokenKey{i}, Expires: 200, At: 100})
 	}
-	one, many := uses[0].Batch(), Batches(uses)
+	one, many := batchOf(uses[0]), batchesOf(uses)
 	both := append(append([]byte(nil), one...), many...)
 	bad := append([]byte(nil), both...)
-	bad[len(one)+batchHeadLen+useLen-1] = 9
+	bad[2*len(one)-1] = 9 // the kind of its first use
 	for _, row := range []struct {
 		messages []byte
 		whole    int

@@ -17,8 +17,8 @@ import (
 	"time"
 	"unsafe"
 
-	"svid.example/go/internal/issuer"
-	"svid.example/go/svid"
+	"svid.example/go/v2/internal/issuer"
+	"svid.example/go/v2/svid"
 )
 
 // mebibyte is how much svidd reads of a bundle.

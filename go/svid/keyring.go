@@ -3,16 +3,22 @@ package svid
 /*
 #include "svid.h"
 
-static uint32_t ask(svid_bundles *b, _GoString_ token, uint8_t *out, size_t out_len, svid_told *told) {
+static uint32_t ask(svid_validator *v, _GoString_ token, uint8_t *out, size_t out_len, svid_told *told) {
+    return svid_validator_ask(v, (const uint8_t *)_GoStringPtr(token), _GoStringLen(token), SVID_MOST_CANDIDATES, out, out_len, told);
+}
+static uint32_t ask_unhashed(svid_bundles *b, _GoString_ token, uint8_t *out, size_t out_len, svid_told *told) {
     return svid_bundles_ask(b, (const uint8_t *)_GoStringPtr(token), _GoStringLen(token), SVID_MOST_CANDIDATES, out, out_len, told);
+}
+static uint32_t question(svid_bundles *b, _GoString_ token, size_t number, svid_question *asked, svid_told *told) {
+    return svid_bundles_question(b, (const uint8_t *)_GoStringPtr(token), _GoStringLen(token), number, asked, told);
 }
 static uint32_t judge_alone(svid_bundles *b, const svid_setting *setting, const uint8_t *own, size_t own_len, const size_t *lens, size_t lens_len,
                             const svid_question *yes, size_t yes_len, _GoString_ token, uint8_t *out, size_t out_len, svid_use *used, svid_told *told) {
     return svid_bundles_judge(b, setting, own, own_len, lens, lens_len, yes, yes_len,
                               (const uint8_t *)_GoStringPtr(token), _GoStringLen(token), out, out_len, used, told);
 }
-static uint32_t question(svid_bundles *b, _GoString_ token, size_t number, svid_question *asked, svid_told *told) {
-    return svid_bundles_question(b, (const uint8_t *)_GoStringPtr(token), _GoStringLen(token), number, asked, told);
+static uint32_t signature(_GoString_ token, svid_signed *over, uint8_t *out, size_t out_len, svid_told *told) {
+    return svid_token_signature((const uint8_t *)_GoStringPtr(token), _GoStringLen(token), over, out, out_len, told);
 }
 */
 import "C"
@@ -57,13 +63,16 @@ type KeyringOptions struct {
 	RSABits int
 }
 
-// An asker is a handle of trust bundles, which lists candidate keys. There is one
-// for each processor, since a handle serves one call at a time.
+// An asker lists candidate keys. There is one for each processor, since a handle
+// serves one call at a time.
 type asker struct {
-	handle C.svid_bundles
-	told   C.svid_told
-	asked  C.svid_question
-	rows   []byte
+	handle    C.svid_validator // It has the trust bundles, and its record stays empty: it lists keys with their questions in one reading.
+	lent      C.svid_bundles   // It has none, but between two calls of exchange.
+	told      C.svid_told
+	asked     C.svid_question
+	over      C.svid_signed
+	rows      []byte
+	signature []byte
 }
 
 // NewKeyring returns a keyring of trust bundles: a JSON object from trust domain
@@ -98,9 +107,8 @@ func (o KeyringOptions) rsaBits() (int, error) {
 func openAskers(bundles []byte) (chan *asker, error) {
 	askers := make(chan *asker, handles(bundles))
 	for len(askers) < cap(askers) {
-		a := &asker{rows: make([]byte, 4096)}
-		status := C.svid_bundles_open(&a.handle, start(bundles), C.size_t(len(bundles)), &a.told)
-		if err := failure(status, &a.told); err != nil {
+		a := &asker{rows: make([]byte, 4096), signature: make([]byte, 2048)}
+		if err := a.open(bundles); err != nil {
 			closeAskers(askers)
 			return nil, err
 		}
@@ -109,11 +117,33 @@ func openAskers(bundles []byte) (chan *asker, error) {
 	return askers, nil
 }
 
+func (a *asker) open(bundles []byte) error {
+	var terms C.svid_terms
+	status := C.svid_validator_open(&a.handle, &terms, nil, 0, start(bundles), C.size_t(len(bundles)), &a.told)
+	if err := failure(status, &a.told); err != nil {
+		return err
+	}
+	status = C.svid_bundles_open(&a.lent, start(noBundles), C.size_t(len(noBundles)), &a.told)
+	if err := failure(status, &a.told); err != nil {
+		a.close()
+		return err
+	}
+	return nil
+}
+
+// noBundles are trust bundles of no trust domain.
+var noBundles = []byte("{}")
+
+func (a *asker) close() {
+	C.svid_validator_close(&a.handle)
+	C.svid_bundles_close(&a.lent)
+}
+
 // closeAskers closes every asker; none may be in use.
 func closeAskers(askers chan *asker) {
 	for n := len(askers); n > 0; n-- {
 		a := <-askers
-		C.svid_bundles_close(&a.handle)
+		a.close()
 		askers <- a
 	}
 }
@@ -144,7 +174,6 @@ func (k *Keyring) Close() {
 	k.mu.Lock()
 	defer k.mu.Unlock()
 	closeAskers(k.askers)
-	k.keys = newKeyCache(k.rsaBits) // whose plans would answer without the library
 }
 
 // MaxCandidates is how many keys are tried for a token. A token that names no kid,
@@ -157,29 +186,37 @@ const MaxCandidates = C.SVID_MOST_CANDIDATES
 // subject's trust domain, of the algorithm's type, and of the header's kid where
 // it has one. They are in the order of the bundle, and at most MaxCandidates. The
 // error is a Refusal, TooLong to Jti, UnknownDomain or NoKey, if the token is
-// rejected whatever its signature is.
+// refused whatever its signature is.
 func (k *Keyring) Candidates(token string) ([]Candidate, error) {
 	k.mu.RLock()
 	defer k.mu.RUnlock()
 	a := <-k.askers
 	defer func() { k.askers <- a }()
-	candidates, err := a.candidates(token, k.keys)
-	for i := range candidates {
-		if candidates[i].Question, err = a.question(token, i); err != nil {
-			return nil, err
-		}
-	}
-	return candidates, err
+	return a.candidates(nil, token, k.keys, false)
 }
 
-// candidates returns the candidates without their questions, and the cache of the bundles that they are of.
-func (k *Keyring) candidates(token string) ([]Candidate, *keyCache, error) {
+// longToken is how many bytes a token has that is hashed only for the key that made its signature: each question costs a hash of the
+// token. A shorter one is rather hashed for each key that is tried than read once more.
+const longToken = 4096
+
+// ask appends the candidates to room, those of a long token without their questions, and returns the cache of the bundles that they are of, and what their keys are to verify.
+func (k *Keyring) ask(room []Candidate, token string) (candidates []Candidate, keys *keyCache, s signing, err error) {
 	k.mu.RLock()
 	defer k.mu.RUnlock()
 	a := <-k.askers
 	defer func() { k.askers <- a }()
-	candidates, err := a.candidates(token, k.keys)
-	return candidates, k.keys, err
+	if candidates, err = a.candidates(room, token, k.keys, len(token) > longToken); err != nil {
+		return nil, nil, signing{}, err
+	}
+	s, err = a.signing(token)
+	return candidates, k.keys, s, err
+}
+
+// has says whether the bundles are still those of keys.
+func (k *Keyring) has(keys *keyCache) bool {
+	k.mu.RLock()
+	defer k.mu.RUnlock()
+	return k.keys == keys
 }
 
 // question returns the question of the candidate with this number, unless the bundles are no more those of keys.
@@ -195,35 +232,69 @@ func (k *Keyring) question(token string, number int, keys *keyCache) (asked Ques
 	return asked, true, err
 }
 
-// candidates returns the candidates without their questions.
-func (a *asker) candidates(token string, keys *keyCache) ([]Candidate, error) {
-	rows, err := a.ask(token)
+// candidates appends the candidates to room, with their questions or without.
+func (a *asker) candidates(room []Candidate, token string, keys *keyCache, unhashed bool) ([]Candidate, error) {
+	rows, err := a.ask(token, unhashed)
 	if err != nil {
 		return nil, err
 	}
-	var candidates []Candidate
 	for len(rows) > 0 {
+		var c Candidate
 		var name, key []byte
+		if !unhashed {
+			rows = rows[copy(c.Question[:], rows):]
+		}
 		name, rows = field(rows)
 		key, rows = field(rows)
-		candidates = append(candidates, Candidate{Algorithm: algorithmName(name), Key: keys.get(key)})
+		c.Algorithm, c.Key = algorithmName(name), keys.get(key)
+		room = append(room, c)
 	}
-	return candidates, nil
+	return room, nil
+}
+
+// signing returns the token's signature, and what it is made over.
+func (a *asker) signing(token string) (signing, error) {
+	for {
+		status := C.signature(token, &a.over, start(a.signature), C.size_t(len(a.signature)), &a.told)
+		if status == C.SVID_TOO_SHORT {
+			a.signature = make([]byte, a.told.len)
+			continue
+		}
+		if err := failure(status, &a.told); err != nil {
+			return signing{}, err
+		}
+		return signing{text: token[:a.over.len], signature: append([]byte(nil), a.signature[:a.told.len]...)}, nil
+	}
 }
 
 // question returns the question of the candidate with this number.
 func (a *asker) question(token string, number int) (Question, error) {
-	status := C.question(&a.handle, token, C.size_t(number), &a.asked, &a.told)
+	if err := a.exchange(); err != nil {
+		return Question{}, err
+	}
+	defer func() { _ = a.exchange() }()
+	status := C.question(&a.lent, token, C.size_t(number), &a.asked, &a.told)
 	if err := failure(status, &a.told); err != nil {
 		return Question{}, err
 	}
 	return *(*Question)(unsafe.Pointer(&a.asked)), nil
 }
 
-// ask returns the library's rows about the token. They are good until the next ask.
-func (a *asker) ask(token string) ([]byte, error) {
+// ask returns the library's rows about the token, with questions or without. They are good until the next ask.
+func (a *asker) ask(token string, unhashed bool) ([]byte, error) {
+	if unhashed {
+		if err := a.exchange(); err != nil {
+			return nil, err
+		}
+		defer func() { _ = a.exchange() }()
+	}
 	for {
-		status := C.ask(&a.handle, token, start(a.rows), C.size_t(len(a.rows)), &a.told)
+		var status C.uint32_t
+		if unhashed {
+			status = C.ask_unhashed(&a.lent, token, start(a.rows), C.size_t(len(a.rows)), &a.told)
+		} else {
+			status = C.ask(&a.handle, token, start(a.rows), C.size_t(len(a.rows)), &a.told)
+		}
 		if status == C.SVID_TOO_SHORT {
 			a.rows = make([]byte, a.told.len)
 			continue
@@ -243,19 +314,12 @@ func field(rows []byte) (text, rest []byte) {
 
 // Verify verifies the token's signature with each of its Candidates until one made
 // it, and returns that key's question for Validator.Check. It returns no question
-// and no error if none of them made the signature: the validator then rejects the
+// and no error if none of them made the signature: the validator then refuses the
 // token as BadSignature, or for what comes before that. The error is that of
-// Candidates, or ErrNoMemory. A token with a good signature may get its question though Candidates
-// would reject it: the validator rejects it too.
+// Candidates, or ErrNoMemory.
 func (k *Keyring) Verify(token string) ([]Question, error) {
-	s, whole := cutToken(token)
-	if whole {
-		if p := k.planOf(&s); p != nil {
-			return p.verify(&s)
-		}
-	}
 	for {
-		yes, same, err := k.tried(token, &s)
+		yes, same, err := k.tried(token)
 		if same || err != nil {
 			return yes, err
 		}
@@ -263,37 +327,42 @@ func (k *Keyring) Verify(token string) ([]Question, error) {
 }
 
 // tried verifies the signature with each candidate. It is to be called again if the bundles were replaced meanwhile.
-func (k *Keyring) tried(token string, s *parts) (yes []Question, same bool, err error) {
-	candidates, keys, err := k.candidates(token)
+func (k *Keyring) tried(token string) (yes []Question, same bool, err error) {
+	var room [MaxCandidates]Candidate
+	candidates, keys, s, err := k.ask(room[:0], token)
 	if err != nil {
 		return nil, true, err
 	}
-	signature, err := s.signatureBytes()
-	if err != nil {
-		return nil, true, err
-	}
-	i, err := findMaker(candidates, &signing{text: s.signed, signature: signature})
+	i, err := findMaker(candidates, &s)
 	if err != nil || i < 0 {
 		return nil, true, err
 	}
-	if candidates[i].Question, same, err = k.question(token, i, keys); !same || err != nil {
+	if len(token) <= longToken {
+		return []Question{candidates[i].Question}, k.has(keys), nil
+	}
+	asked, same, err := k.question(token, i, keys)
+	if !same || err != nil {
 		return nil, same, err
 	}
-	keys.keep(s, candidates, i, signature)
-	return []Question{candidates[i].Question}, true, nil
+	return []Question{asked}, true, nil
+}
+
+// exchange lends the bundles to lent, or takes them back. It reads nothing, and takes no memory.
+func (a *asker) exchange() error {
+	return failure(C.svid_validator_renew_by(&a.handle, &a.lent, &a.told), &a.told)
 }
 
 // A Judgment is what Keyring.Judge goes by.
 type Judgment struct {
-	Audiences []string // of the service, as in Options
-	Longest   uint64   // how many seconds past now a token may expire; NoLimit for any
-	Place     Place    // of the use that it returns
+	Audiences   []string    // of the service, as in Options
+	Longest     uint64      // how many seconds past now a token may expire; NoLimit for any
+	ValidatorID ValidatorID // of the use that it returns
 }
 
 // Judge answers what a validator with an empty record would judge the token at now: no record is asked, so a
 // token is never Withdrawn or Replayed. yes are the questions of Verify. It takes no lock of a Validator.
 //
-// The error is a Refusal if the token is rejected, and else ErrAudience, ErrNoMemory or ErrClosed.
+// The error is a Refusal if the token is refused, and else ErrAudience, ErrNoMemory or ErrClosed.
 func (k *Keyring) Judge(by Judgment, now uint64, token string, yes []Question) (Accepted, error) {
 	if _, err := audienceLines(by.Audiences); err != nil {
 		return Accepted{}, err
@@ -303,14 +372,18 @@ func (k *Keyring) Judge(by Judgment, now uint64, token string, yes []Question) (
 		lens[i] = C.size_t(len(a))
 	}
 	setting := C.svid_setting{moment: C.uint64_t(now), longest: C.uint64_t(by.Longest)}
-	*(*Place)(unsafe.Pointer(&setting.place)) = by.Place
+	*(*ValidatorID)(unsafe.Pointer(&setting.validator_id)) = by.ValidatorID
 	id := make([]byte, C.SVID_ID_ROOM)
 	var used C.svid_use
 	k.mu.RLock()
 	defer k.mu.RUnlock()
 	a := <-k.askers
 	defer func() { k.askers <- a }()
-	status := C.judge_alone(&a.handle, &setting, start(own), C.size_t(len(own)), first(lens), C.size_t(len(lens)),
+	if err := a.exchange(); err != nil {
+		return Accepted{}, err
+	}
+	defer func() { _ = a.exchange() }() // (both handles are open)
+	status := C.judge_alone(&a.lent, &setting, start(own), C.size_t(len(own)), first(lens), C.size_t(len(lens)),
 		questions(yes), C.size_t(len(yes)), token, start(id), C.size_t(len(id)), &used, &a.told)
 	if err := failure(status, &a.told); err != nil {
 		return Accepted{}, err
@@ -318,9 +391,9 @@ func (k *Keyring) Judge(by Judgment, now uint64, token string, yes []Question) (
 	return Accepted{ID: string(id[:a.told.len]), Use: useOf(&used, false)}, nil
 }
 
-// findMaker is the place of the first candidate that made the signature, or -1. ErrNoMemory: no candidate is known to have
+// findMaker is the index of the first candidate that made the signature, or -1. ErrNoMemory: no candidate is known to have
 // made it, and one may have.
-func findMaker(candidates []Candidate, s *signing) (place int, err error) {
+func findMaker(candidates []Candidate, s *signing) (index int, err error) {
 	for i, c := range candidates {
 		switch verdict := c.Key.verify(c.Algorithm, s); {
 		case verdict == nil:
@@ -333,17 +406,15 @@ func findMaker(candidates []Candidate, s *signing) (place int, err error) {
 }
 
 // A keyCache has each key of the bundles parsed once, by its JSON text: a kid is
-// not unique. It holds no more keys than the bundles do. plans are by header and
-// trust domain.
+// not unique. It holds no more keys than the bundles do.
 type keyCache struct {
 	rsaBits int // at most so many has an RSA key
 	mu      sync.RWMutex
 	keys    map[string]*Key
-	plans   map[planName]*plan
 }
 
 func newKeyCache(rsaBits int) *keyCache {
-	return &keyCache{rsaBits: rsaBits, keys: make(map[string]*Key), plans: make(map[planName]*plan)}
+	return &keyCache{rsaBits: rsaBits, keys: make(map[string]*Key)}
 }
 
 func (c *keyCache) get(text []byte) *Key {

@@ -9,7 +9,8 @@ import (
 	"testing"
 	"time"
 
-	"svid.example/go/internal/issuer"
+	"svid.example/go/v2/internal/issuer"
+	"svid.example/go/v2/internal/patience"
 )
 
 // The race detector does not see what the C library writes. So these tests hold a lock, or all handles, and want each call to
@@ -60,7 +61,7 @@ func wantWait(t *testing.T, what string, free func(), calls map[string]func()) {
 		go inside(call, done, name)
 	}
 	returned := 0
-	for end := time.Now().Add(20 * time.Second); returned+waiting()-before < len(calls); time.Sleep(time.Millisecond) {
+	for end := time.Now().Add(patience.Long); returned+waiting()-before < len(calls); time.Sleep(time.Millisecond) {
 		select {
 		case name := <-done:
 			returned++
@@ -75,7 +76,7 @@ func wantWait(t *testing.T, what string, free func(), calls map[string]func()) {
 	for ; returned < len(calls); returned++ {
 		select {
 		case <-done:
-		case <-time.After(20 * time.Second):
+		case <-time.After(patience.Long):
 			t.Fatalf("a call does not return: %s", what)
 		}
 	}
@@ -122,7 +123,7 @@ func TestEachCallOfAValidatorHoldsItsLock(t *testing.T) {
 		"Accept":       func() { _, _ = v.Accept(k, now, token) },
 		"Answer":       func() { _, _ = v.Answer(now, summary) },
 		"Check":        func() { _, _ = v.Check(now, token, yes) },
-		"CheckClaimed": func() { _, _ = v.CheckClaimed(now, token, yes, judged.Use.Batch()) },
+		"CheckClaimed": func() { _, _ = v.CheckClaimed(now, token, yes, batchOf(judged.Use)) },
 		"Close":        v.Close,
 		"Edition":      func() { _ = v.Edition() },
 		"GoOn":         func() { _ = v.GoOn() },
@@ -134,10 +135,11 @@ func TestEachCallOfAValidatorHoldsItsLock(t *testing.T) {
 		"Read":         func() { _, _ = v.Read(now, 1, nil, 1, nil) },
 		"Save":         func() { _ = v.Save(&bytes.Buffer{}) },
 		"Renew":        func() { _ = v.Renew(k, one.Bundles()) },
+		"SetAudiences": func() { _ = v.SetAudiences([]string{"other"}) },
 		"SetBundles":   func() { _ = v.SetBundles(one.Bundles()) },
 		"Size":         func() { _, _ = v.Size() },
 		"Summary":      func() { _, _ = v.Summary() },
-		"Take":         func() { _ = v.Take(now, judged.Use.Batch()) },
+		"Take":         func() { _ = v.Take(now, batchOf(judged.Use)) },
 		"Tick":         func() { _ = v.Tick(now) },
 		"WalkAnswer":   func() { _, _ = v.WalkAnswer(now, 10, summary, 1000) },
 		"WalkSummary":  func() { _, _ = v.WalkSummary(0) },
@@ -156,7 +158,7 @@ func TestALongCallKeepsTheLock(t *testing.T) {
 	for i := range uses {
 		uses[i] = Use{Key: TokenKey{byte(i), byte(i >> 8), byte(i >> 16)}, Expires: now + 300, At: now - uint64(i%10)}
 	}
-	batches := Batches(uses)
+	batches := batchesOf(uses)
 	done := make(chan error)
 	go func() { done <- v.Take(now, batches) }()
 	held := 0
@@ -183,16 +185,13 @@ func TestEachCallOfAKeyringHoldsItsLock(t *testing.T) {
 	token := func(jti string) string {
 		return one.Token("ES256", map[string]any{"sub": "spiffe://example.org/web", "aud": "ledger", "exp": 2_000_000_000, "jti": jti})
 	}
-	planned := token("a")
-	if _, err := k.Verify(planned); err != nil {
-		t.Fatal(err)
-	}
+	good := token("a")
 	strange := token("b")[:20]
 	reading := map[string]func(){
-		"Candidates":              func() { _, _ = k.Candidates(planned) },
-		"Judge":                   func() { _, _ = k.Judge(Judgment{Audiences: []string{"ledger"}}, 1, planned, nil) },
-		"Verify":                  func() { _, _ = k.Verify(planned) },
-		"a Verify without a plan": func() { _, _ = k.Verify(strange) },
+		"Candidates":         func() { _, _ = k.Candidates(good) },
+		"Judge":              func() { _, _ = k.Judge(Judgment{Audiences: []string{"ledger"}}, 1, good, nil) },
+		"Verify":             func() { _, _ = k.Verify(good) },
+		"Verify of no token": func() { _, _ = k.Verify(strange) },
 	}
 	changing := map[string]func(){
 		"SetBundles": func() { _ = k.SetBundles(one.Bundles()) },
@@ -248,40 +247,24 @@ func TestEachHandleServesOneCall(t *testing.T) {
 	wantWait(t, "a call asks of the bundles", free, map[string]func(){"SetBundles": func() { _ = k.SetBundles(one.Bundles()) }})
 	select {
 	case <-done:
-	case <-time.After(20 * time.Second):
+	case <-time.After(patience.Long):
 		t.Fatal("Candidates does not return")
 	}
 }
 
-// The keys and plans of bundles have a lock of their own.
+// The keys of bundles have a lock of their own.
 func TestTheKeysOfBundlesHaveALock(t *testing.T) {
 	one := issuerOfLocks(t)
 	k := openKeyring(t, string(one.Bundles()))
-	token := one.Token("ES256", map[string]any{"sub": "spiffe://example.org/web", "aud": "ledger", "exp": 2_000_000_000, "jti": "a"})
-	s, _ := cutToken(token)
-	signature, err := s.signatureBytes()
+	candidates, keys, _, err := k.ask(nil, one.Token("ES256", map[string]any{"sub": "spiffe://example.org/web", "aud": "ledger", "exp": 2_000_000_000}))
 	if err != nil {
 		t.Fatal(err)
 	}
-	candidates, keys, err := k.candidates(token)
-	if err != nil || !s.readDomain() {
-		t.Fatal(err)
-	}
-	if candidates[0].Question, _, err = k.question(token, 0, keys); err != nil {
-		t.Fatal(err)
-	}
 	text := []byte(candidates[0].Key.JSON())
-	changing := map[string]func(){
-		"a new key":  func() { keys.get([]byte("{}")) },
-		"a new plan": func() { own := s; keys.keep(&own, candidates, 0, signature) },
-	}
-	all := map[string]func(){"a known key": func() { keys.get(text) }, "a plan": func() { own := s; k.planOf(&own) }}
-	for name, call := range changing {
-		all[name] = call
-	}
+	all := map[string]func(){"a known key": func() { keys.get(text) }, "a new key": func() { keys.get([]byte("{}")) }}
 	keys.mu.Lock()
 	wantWait(t, "another call changes the keys", keys.mu.Unlock, all)
-	changing["a new key"] = func() { keys.get([]byte(`{"kty":"EC"}`)) }
+	changing := map[string]func(){"a new key": func() { keys.get([]byte(`{"kty":"EC"}`)) }}
 	keys.mu.RLock()
 	wantWait(t, "another call reads the keys", keys.mu.RUnlock, changing)
 }
@@ -304,7 +287,7 @@ func TestOldBundlesAreFreed(t *testing.T) {
 			t.Errorf("%d: %d handles of %d", i, len(old), cap(old))
 		}
 		for n := len(old); n > 0; n-- {
-			if _, err := (<-old).ask("a.b.c"); !errors.Is(err, ErrClosed) {
+			if _, err := (<-old).ask("a.b.c", false); !errors.Is(err, ErrClosed) {
 				t.Errorf("%d: a handle is still open: %v", i, err)
 			}
 		}

@@ -33,7 +33,7 @@ const (
 	FateTooFarAhead
 	// FateExpired: the token has expired, or the use says that it expires before it was made.
 	FateExpired
-	// FateWithdrawn: the token was revoked.
+	// FateWithdrawn: the token was withdrawn.
 	FateWithdrawn
 	// FateReplayed: the record has a use of the token, or a claim in front of it in the log has its key.
 	FateReplayed
@@ -138,18 +138,26 @@ const (
 func (v *Validator) OpenLog(log Log) error {
 	v.mu.Lock()
 	defer v.mu.Unlock()
+	return v.openLog(log)
+}
+
+func (v *Validator) openLog(log Log) error {
 	mark := markOf(log.Mark)
 	status := C.svid_validator_log(&v.handle, &mark, C.uint64_t(log.Ready), C.uint64_t(log.Lasts),
 		start(log.Beside), C.size_t(len(log.Beside)), &v.told)
-	return failure(status, &v.told)
+	if err := failure(status, &v.told); err != nil {
+		return err
+	}
+	v.log = Log{Ready: log.Ready, Lasts: log.Lasts}
+	return nil
 }
 
 // Read reads the value at this position of the log, and writes its uses with their fates into room, as many as there are and
 // have room. It goes on where the last call stopped in the value. A FateAccepted says that the validator accepts the token of
 // that use: answer one request so that has put this use.
 //
-// edition is that of the bundles by which the tokens were judged whose uses the value may have. Where SetBundles was called
-// since, ErrRenewed says so, and nothing happened: judge them again.
+// edition is that of the bundles by which the tokens were judged whose uses the value may have. Where SetBundles or SetAudiences
+// was called since, ErrRenewed says so, and nothing happened: judge them again.
 //
 // Give the values of a log in their order, each one whole. A value that is no messages has no uses, for every validator
 // alike: Reading.Fault says what is wrong with it, and that is no error. ErrJump: nothing happened; behind no gap, now 0 reads
@@ -200,6 +208,10 @@ func isFault(err error) bool {
 func (v *Validator) LogMark() (mark Mark, accepts bool, err error) {
 	v.mu.Lock()
 	defer v.mu.Unlock()
+	return v.logMark()
+}
+
+func (v *Validator) logMark() (mark Mark, accepts bool, err error) {
 	var m C.svid_mark
 	status := C.svid_validator_mark(&v.handle, &m, &v.told)
 	if err := failure(status, &v.told); err != nil {
@@ -218,10 +230,14 @@ func goMark(m *C.svid_mark) Mark {
 }
 
 // LogBeside writes the claims that were read and that the record did not take, for OpenLog: those of tokens that were claimed
-// or revoked before, or from too far ahead. Errors: ErrNoLog, ErrNoMemory, ErrClosed.
+// or withdrawn before, or from too far ahead. Errors: ErrNoLog, ErrNoMemory, ErrClosed.
 func (v *Validator) LogBeside() ([]byte, error) {
 	v.mu.Lock()
 	defer v.mu.Unlock()
+	return v.logBeside()
+}
+
+func (v *Validator) logBeside() ([]byte, error) {
 	out := make([]byte, 4096)
 	for {
 		status := C.svid_validator_beside(&v.handle, start(out), C.size_t(len(out)), &v.told)
@@ -245,7 +261,8 @@ func (v *Validator) GoOn() error {
 	return failure(status, &v.told)
 }
 
-// Edition is how often the validator had other trust bundles: 1 at first, and one more with each SetBundles.
+// Edition is how often the validator had other trust bundles or audiences: 1 at first, and one more with each SetBundles, Renew
+// and SetAudiences.
 func (v *Validator) Edition() uint64 {
 	v.mu.Lock()
 	defer v.mu.Unlock()
@@ -258,10 +275,10 @@ func (a Accepted) Edition() uint64 { return a.bundles }
 // useOf is a use as the library writes it.
 func useOf(used *C.svid_use, withdrawn bool) Use {
 	return Use{
-		Key:       *(*TokenKey)(unsafe.Pointer(&used.key)),
-		Expires:   uint64(used.exp),
-		At:        uint64(used.at),
-		Place:     *(*Place)(unsafe.Pointer(&used.place)),
-		Withdrawn: withdrawn,
+		Key:         *(*TokenKey)(unsafe.Pointer(&used.key)),
+		Expires:     uint64(used.exp),
+		At:          uint64(used.at),
+		ValidatorID: *(*ValidatorID)(unsafe.Pointer(&used.validator_id)),
+		Withdrawn:   withdrawn,
 	}
 }

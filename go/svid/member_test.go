@@ -5,7 +5,7 @@ import (
 	"fmt"
 	"testing"
 
-	"svid.example/go/svid"
+	"svid.example/go/v2/svid"
 )
 
 const lasts = longest + 2*10
@@ -19,9 +19,9 @@ func logOf(t *testing.T, v *svid.Validator) *svid.Validator {
 	return v
 }
 
-// claim is a use of a key by a place, made at a time, of a token that expires 300 seconds past the moment.
-func claim(key, place byte, at uint64) svid.Use {
-	return svid.Use{Key: svid.TokenKey{key}, Expires: moment + 300, At: at, Place: svid.Place{place}}
+// claim is a use of a key by a validator, made at a time, of a token that expires 300 seconds past the moment.
+func claim(key, id byte, at uint64) svid.Use {
+	return svid.Use{Key: svid.TokenKey{key}, Expires: moment + 300, At: at, ValidatorID: svid.ValidatorID{id}}
 }
 
 // readAll reads a value whole, and returns the fates of its uses and what the last call said.
@@ -63,7 +63,7 @@ func TestReadAnswersTheFateOfEachUse(t *testing.T) {
 			{moment, nil, "[]"},
 			{moment + 300, []svid.Use{claim(6, 1, moment)}, "[Expired]"},
 		} {
-			fates, last := readAll(t, v, row.now, uint64(i+1), svid.Batches(row.uses), room)
+			fates, last := readAll(t, v, row.now, uint64(i+1), batchesOf(row.uses), room)
 			if fmt.Sprint(fates) != row.fates || last.Order != svid.OrderNext || last.Fault != nil {
 				t.Errorf("value %d by %d: %v %+v, want %s", i+1, room, fates, last, row.fates)
 			}
@@ -85,7 +85,7 @@ func TestReadWritesTheUses(t *testing.T) {
 	gone.Withdrawn = true
 	uses := []svid.Use{claim(1, 1, moment), gone}
 	out := make([]svid.LogUse, 5)
-	reading, err := v.Read(moment, 1, svid.Batches(uses), 1, out)
+	reading, err := v.Read(moment, 1, batchesOf(uses), 1, out)
 	if err != nil || reading.Count != 2 || fmt.Sprint(out[0].Use, out[1].Use) != fmt.Sprint(uses[0], uses[1]) || out[2] != (svid.LogUse{}) {
 		t.Errorf("%+v %+v %v", reading, out, err)
 	}
@@ -94,8 +94,8 @@ func TestReadWritesTheUses(t *testing.T) {
 // Bytes that are no messages have no uses, and are read.
 func TestReadOfAValueThatIsNoMessages(t *testing.T) {
 	v := logOf(t, open(t, 1))
-	good := claim(1, 1, moment).Batch()
-	turned := append(svid.Batches([]svid.Use{claim(2, 1, moment)}), good[17:]...)
+	good := batchOf(claim(1, 1, moment))
+	turned := append(batchesOf([]svid.Use{claim(2, 1, moment)}), good[17:]...)
 	turned[16] = 2
 	late := append([]byte(nil), good...)
 	late[11]-- // its moment: 256 seconds before the use was made
@@ -120,10 +120,10 @@ func TestReadOfAValueThatIsNoMessages(t *testing.T) {
 func TestReadBehindAGap(t *testing.T) {
 	for _, goOn := range []bool{false, true} {
 		v := logOf(t, open(t, 1))
-		if _, err := v.Read(moment, 1, claim(1, 1, moment).Batch(), 1, make([]svid.LogUse, 1)); err != nil {
+		if _, err := v.Read(moment, 1, batchOf(claim(1, 1, moment)), 1, make([]svid.LogUse, 1)); err != nil {
 			t.Fatal(err)
 		}
-		fates, last := readAll(t, v, moment, 4, claim(2, 1, moment).Batch(), 9)
+		fates, last := readAll(t, v, moment, 4, batchOf(claim(2, 1, moment)), 9)
 		if fmt.Sprint(fates) != "[First]" || last.Order != svid.OrderGap {
 			t.Errorf("%v %+v", fates, last)
 		}
@@ -131,7 +131,7 @@ func TestReadBehindAGap(t *testing.T) {
 		if err != nil || mark != (svid.Mark{Passed: 4, Deaf: moment + lasts}) || accepts {
 			t.Errorf("%+v %v %v", mark, accepts, err)
 		}
-		if fates, last := readAll(t, v, moment, 4, claim(3, 1, moment).Batch(), 9); len(fates) != 0 || last.Order != svid.OrderAgain {
+		if fates, last := readAll(t, v, moment, 4, batchOf(claim(3, 1, moment)), 9); len(fates) != 0 || last.Order != svid.OrderAgain {
 			t.Errorf("a value that was read: %v %+v", fates, last)
 		}
 		now := uint64(moment)
@@ -142,7 +142,7 @@ func TestReadBehindAGap(t *testing.T) {
 		}
 		later := claim(4, 1, now)
 		later.Expires = now + 300
-		if fates, _ := readAll(t, v, now, 5, later.Batch(), 9); fmt.Sprint(fates) != "[Accepted]" || err != nil {
+		if fates, _ := readAll(t, v, now, 5, batchOf(later), 9); fmt.Sprint(fates) != "[Accepted]" || err != nil {
 			t.Errorf("it goes on %v: %v %v", goOn, fates, err)
 		}
 	}
@@ -158,7 +158,7 @@ func TestReadOfWhatAnEarlierLifeMayHaveRead(t *testing.T) {
 		if _, accepts, err := v.LogMark(); err != nil || accepts != (i > 0) {
 			t.Errorf("it accepts: %v (%v)", accepts, err)
 		}
-		if fates, last := readAll(t, v, moment, uint64(7+i), claim(byte(i), 1, moment).Batch(), 9); fmt.Sprint(fates) != want || last.Order != svid.OrderNext {
+		if fates, last := readAll(t, v, moment, uint64(7+i), batchOf(claim(byte(i), 1, moment)), 9); fmt.Sprint(fates) != want || last.Order != svid.OrderNext {
 			t.Errorf("%v %+v, want %s", fates, last, want)
 		}
 	}
@@ -168,7 +168,7 @@ func TestReadOfWhatAnEarlierLifeMayHaveRead(t *testing.T) {
 func TestALogIsReadOnFromASave(t *testing.T) {
 	one, two := logOf(t, open(t, 1)), open(t, 1)
 	uses := []svid.Use{claim(1, 2, moment), claim(1, 3, moment), claim(2, 2, moment+100)}
-	if fates, _ := readAll(t, one, moment, 1, svid.Batches(uses), 9); fmt.Sprint(fates) != "[First Replayed TooFarAhead]" {
+	if fates, _ := readAll(t, one, moment, 1, batchesOf(uses), 9); fmt.Sprint(fates) != "[First Replayed TooFarAhead]" {
 		t.Fatal(fates)
 	}
 	beside, err := one.LogBeside()
@@ -185,7 +185,7 @@ func TestALogIsReadOnFromASave(t *testing.T) {
 	if err := two.Take(moment, save(t, one)); err != nil {
 		t.Fatal(err)
 	}
-	value := svid.Batches([]svid.Use{claim(1, 1, moment+1), claim(2, 1, moment+1), claim(3, 1, moment+1)})
+	value := batchesOf([]svid.Use{claim(1, 1, moment+1), claim(2, 1, moment+1), claim(3, 1, moment+1)})
 	if fates, last := readAll(t, two, moment+1, 2, value, 9); fmt.Sprint(fates) != "[Replayed Replayed Accepted]" || last.Order != svid.OrderNext {
 		t.Errorf("%v %+v", fates, last)
 	}
@@ -205,13 +205,13 @@ func TestManyClaimsBesideARecord(t *testing.T) {
 	for i := 0; i < many; i++ {
 		use := claim(byte(i), 2, moment+100)
 		use.Key[1] = byte(i >> 8)
-		readAll(t, v, moment, uint64(i+1), use.Batch(), 1)
+		readAll(t, v, moment, uint64(i+1), batchOf(use), 1)
 	}
 	beside, err := v.LogBeside()
 	if err != nil {
 		t.Fatal(err)
 	}
-	if _, uses, err := svid.Uses(beside); err != nil || len(uses) != many {
+	if uses, err := svid.Uses(beside); err != nil || len(uses) != many {
 		t.Errorf("%d uses, %v", len(uses), err)
 	}
 }
@@ -229,7 +229,7 @@ func TestATokenIsAcceptedByItsClaim(t *testing.T) {
 	if err != nil || judged.Edition() != 1 {
 		t.Fatal(judged, err)
 	}
-	if fates, _ := readAll(t, v, moment, 1, judged.Use.Batch(), 9); fmt.Sprint(fates) != "[Accepted]" {
+	if fates, _ := readAll(t, v, moment, 1, batchOf(judged.Use), 9); fmt.Sprint(fates) != "[Accepted]" {
 		t.Error(fates)
 	}
 	if _, err := v.Judge(moment, token, yes); err != svid.Replayed {
@@ -240,8 +240,8 @@ func TestATokenIsAcceptedByItsClaim(t *testing.T) {
 		t.Fatal(err)
 	}
 	far := claimed.Use
-	far.At, far.Place = moment+100, svid.Place{2}
-	readAll(t, v, moment, 2, far.Batch(), 9)
+	far.At, far.ValidatorID = moment+100, svid.ValidatorID{2}
+	readAll(t, v, moment, 2, batchOf(far), 9)
 	if _, err := v.Judge(moment, other, more); err != svid.Replayed {
 		t.Errorf("a claim beside the record: %v", err)
 	}
@@ -261,10 +261,10 @@ func TestReadWithOtherBundles(t *testing.T) {
 		t.Fatal(err)
 	}
 	out := make([]svid.LogUse, 1)
-	if _, err := v.Read(moment, 1, claim(1, 1, moment).Batch(), edition, out); err != svid.ErrRenewed {
+	if _, err := v.Read(moment, 1, batchOf(claim(1, 1, moment)), edition, out); err != svid.ErrRenewed {
 		t.Error(err)
 	}
-	if reading, err := v.Read(moment, 1, claim(1, 1, moment).Batch(), v.Edition(), out); err != nil || out[0].Fate != svid.FateAccepted {
+	if reading, err := v.Read(moment, 1, batchOf(claim(1, 1, moment)), v.Edition(), out); err != nil || out[0].Fate != svid.FateAccepted {
 		t.Errorf("%+v %v", reading, err)
 	}
 }
@@ -289,7 +289,7 @@ func TestErrorsOfALog(t *testing.T) {
 	if err := v.Tick(moment); err != nil {
 		t.Fatal(err)
 	}
-	value := claim(1, 1, moment).Batch()
+	value := batchOf(claim(1, 1, moment))
 	if _, err := v.Read(moment+100_000, 1, value, 1, out); err != svid.ErrJump {
 		t.Errorf("a clock that jumps: %v", err)
 	}

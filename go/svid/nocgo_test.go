@@ -18,7 +18,7 @@ func TestABuildWithoutCgo(t *testing.T) {
 		for _, line := range strings.Split(strings.TrimSpace(string(said)), "\n") {
 			lines[line] = true // (for ./... there are two that are the same)
 		}
-		if err == nil || len(lines) != 1 || !strings.Contains(string(said), "build it with CGO_ENABLED=1 and a C compiler") {
+		if err == nil || len(lines) != 1 || !strings.Contains(string(said), "build_it_with_CGO_ENABLED_1_and_a_C_compiler") {
 			t.Errorf("%s: %v\n%s", what, err, said)
 		}
 	}

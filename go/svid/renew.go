@@ -19,7 +19,7 @@ import "C"
 import "runtime"
 
 // SetBundles replaces the trust bundles. The record stays, so a token that was
-// used before is still rejected. On an error the old bundles stay. The bundles are
+// used before is still refused. On an error the old bundles stay. The bundles are
 // read before the lock is taken, which is held for microseconds.
 //
 // A service that has a Keyring too calls Renew.
@@ -32,7 +32,7 @@ func (v *Validator) SetBundles(bundles []byte) error {
 	defer freed(&b, len(bundles))
 	v.mu.Lock()
 	defer v.mu.Unlock()
-	return v.renew(&b, len(bundles))
+	return v.renew(&b, bundles)
 }
 
 // Renew replaces the trust bundles of the validator and of its keyring as one: no
@@ -55,7 +55,7 @@ func (v *Validator) Renew(k *Keyring, bundles []byte) error {
 	defer k.mu.Unlock()
 	v.mu.Lock()
 	defer v.mu.Unlock()
-	if err := v.renew(&b, len(bundles)); err != nil {
+	if err := v.renew(&b, bundles); err != nil {
 		return err
 	}
 	askers = k.replace(askers)
@@ -75,14 +75,14 @@ func freed(b *C.svid_bundles, size int) {
 // trimmedBundles is how many bytes bundles have that take megabytes to read.
 const trimmedBundles = 1 << 16
 
-// renew exchanges the bundles for those of an open handle, which were so many bytes of JSON. The caller holds the lock.
-func (v *Validator) renew(b *C.svid_bundles, size int) error {
+// renew exchanges the bundles for those of an open handle, which were read from this text. The caller holds the lock.
+func (v *Validator) renew(b *C.svid_bundles, text []byte) error {
 	status := C.svid_validator_renew_by(&v.handle, b, &v.told)
 	if err := failure(status, &v.told); err != nil {
 		return err
 	}
 	v.bundles++
-	v.large = size > largeBundles
+	v.keep(text)
 	return nil
 }
 

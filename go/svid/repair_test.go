@@ -6,7 +6,7 @@ import (
 	"math/rand"
 	"testing"
 
-	"svid.example/go/svid"
+	"svid.example/go/v2/svid"
 )
 
 // fill gives a validator n uses that expire from 1 second on.
@@ -14,9 +14,9 @@ func fill(t testing.TB, v *svid.Validator, seed int64, n int) {
 	t.Helper()
 	random := rand.New(rand.NewSource(seed))
 	for i := 0; i < n; i++ {
-		u := svid.Use{Expires: moment + 1 + uint64(random.Intn(1000)), At: moment - uint64(random.Intn(2)), Place: svid.Place{9}}
+		u := svid.Use{Expires: moment + 1 + uint64(random.Intn(1000)), At: moment - uint64(random.Intn(2)), ValidatorID: svid.ValidatorID{9}}
 		random.Read(u.Key[:])
-		if err := v.Take(moment, u.Batch()); err != nil {
+		if err := v.Take(moment, batchOf(u)); err != nil {
 			t.Fatal(err)
 		}
 	}
@@ -105,7 +105,7 @@ func TestWalkAnswerBringsWhatIsMissing(t *testing.T) {
 	}
 }
 
-func TestWalkAnswerRejectsWhatIsNoSummary(t *testing.T) {
+func TestWalkAnswerRefusesWhatIsNoSummary(t *testing.T) {
 	v := open(t, 1)
 	summary, err := v.WalkSummary(0)
 	if err != nil {
@@ -122,7 +122,7 @@ func TestWalkAnswerRejectsWhatIsNoSummary(t *testing.T) {
 		want    error
 	}{
 		{"nothing", nil, svid.ErrNotSummary},
-		{"a batch", svid.Use{Expires: 2, At: 1}.Batch(), svid.ErrNotSummary},
+		{"a batch", batchOf(svid.Use{Expires: 2, At: 1}), svid.ErrNotSummary},
 		{"a byte more", append(at(moment), 0), svid.ErrNotSummary},
 		{"too far", at(moment + 11), svid.ErrTooFar},
 		{"the greatest moment", at(^uint64(0)), svid.ErrTooFar},
@@ -149,8 +149,8 @@ func TestWhatAWalkAnswers(t *testing.T) {
 	const many = 100
 	for i := byte(0); i < many; i++ {
 		for _, u := range []svid.Use{{Key: svid.TokenKey{i, 1}, Expires: moment + 5}, {Key: svid.TokenKey{i, 2}, Expires: moment + 100}} {
-			u.At, u.Place = moment, svid.Place{9}
-			if err := v.Take(moment, u.Batch()); err != nil {
+			u.At, u.ValidatorID = moment, svid.ValidatorID{9}
+			if err := v.Take(moment, batchOf(u)); err != nil {
 				t.Fatal(err)
 			}
 		}
@@ -169,7 +169,7 @@ func TestWhatAWalkAnswers(t *testing.T) {
 		if err != nil {
 			t.Fatal(err)
 		}
-		_, uses, err := svid.Uses(answer)
+		uses, err := svid.Uses(answer)
 		if err != nil || len(uses) != 1 || uses[0].Expires != moment+100 {
 			t.Fatalf("%v, %v", uses, err)
 		}
@@ -180,7 +180,7 @@ func TestWhatAWalkAnswers(t *testing.T) {
 	}
 	// The core's own answer has as much room as it needs.
 	answer, err := v.Answer(moment, summary)
-	if _, uses, bad := svid.Uses(answer); err != nil || bad != nil || len(uses) != many {
+	if uses, bad := svid.Uses(answer); err != nil || bad != nil || len(uses) != many {
 		t.Errorf("%d uses, %v, %v", len(uses), err, bad)
 	}
 }

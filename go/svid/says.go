@@ -9,7 +9,10 @@ static uint32_t says(_GoString_ token, svid_said *said, size_t *lens, size_t len
 */
 import "C"
 
-import "unsafe"
+import (
+	"sync"
+	"unsafe"
+)
 
 // Said is what a token says of itself. Nobody has vouched for it.
 type Said struct {
@@ -22,23 +25,42 @@ type Said struct {
 	Audiences   []string // at least one
 }
 
+// A sayer is room for what a token says. Those that nobody uses wait for the next token.
+type sayer struct {
+	said C.svid_said
+	told C.svid_told
+	lens []C.size_t
+	out  []byte
+}
+
+var sayers = sync.Pool{New: func() any { return &sayer{lens: make([]C.size_t, 8), out: make([]byte, 1024)} }}
+
 // Read returns what a token says, and judges nothing: it looks at no signature, no
 // time and no audience. The error is a Refusal, TooLong to Jti, if the token is
-// rejected for what it is, or ErrNoMemory.
+// refused for what it is, or ErrNoMemory.
 func Read(token string) (Said, error) {
-	var said C.svid_said
-	var told C.svid_told
-	lens, out := make([]C.size_t, 8), make([]byte, len(token))
+	s := sayers.Get().(*sayer)
+	defer sayers.Put(s)
 	for {
-		status := C.says(token, &said, first(lens), C.size_t(len(lens)), start(out), C.size_t(len(out)), &told)
+		status := C.says(token, &s.said, first(s.lens), C.size_t(len(s.lens)), start(s.out), C.size_t(len(s.out)), &s.told)
 		if status == C.SVID_TOO_SHORT {
-			lens, out = make([]C.size_t, said.texts), make([]byte, told.len)
+			s.grow()
 			continue
 		}
-		if err := failure(status, &told); err != nil {
+		if err := failure(status, &s.told); err != nil {
 			return Said{}, err
 		}
-		return saidBy(&said, lens[:said.texts], string(out[:told.len])), nil
+		return saidBy(&s.said, s.lens[:s.said.texts], string(s.out[:s.told.len])), nil
+	}
+}
+
+// grow makes room for what the last call told.
+func (s *sayer) grow() {
+	if n := int(s.said.texts); n > len(s.lens) {
+		s.lens = make([]C.size_t, n)
+	}
+	if n := int(s.told.len); n > len(s.out) {
+		s.out = make([]byte, n)
 	}
 }
 

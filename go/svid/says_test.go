@@ -6,7 +6,7 @@ import (
 	"strings"
 	"testing"
 
-	"svid.example/go/svid"
+	"svid.example/go/v2/svid"
 )
 
 func TestBearerToken(t *testing.T) {
@@ -113,7 +113,7 @@ func TestSize(t *testing.T) {
 // A keyring judges as a validator with an empty record does, however often.
 func TestAKeyringJudges(t *testing.T) {
 	k := keyring(t, example.Bundles())
-	by := svid.Judgment{Audiences: []string{"x", "ledger"}, Longest: longest, Place: svid.Place{7}}
+	by := svid.Judgment{Audiences: []string{"x", "ledger"}, Longest: longest, ValidatorID: svid.ValidatorID{7}}
 	with := func(name string, value any) string {
 		c := claims("a")
 		c[name] = value
@@ -123,7 +123,7 @@ func TestAKeyringJudges(t *testing.T) {
 	for i := 0; i < 2; i++ {
 		judged, err := k.Judge(by, moment, good, verified(t, k, good))
 		said, _ := svid.Read(good)
-		if err != nil || judged.ID != said.Subject || judged.Use.Key != said.Key || judged.Use.Expires != said.Expires || judged.Use.At != moment || judged.Use.Place != by.Place {
+		if err != nil || judged.ID != said.Subject || judged.Use.Key != said.Key || judged.Use.Expires != said.Expires || judged.Use.At != moment || judged.Use.ValidatorID != by.ValidatorID {
 			t.Errorf("%+v, %v", judged, err)
 		}
 	}

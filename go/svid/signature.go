@@ -36,7 +36,7 @@ var ErrKey = errors.New("svid: unusable key")
 
 // An algorithm says how a signature is made (RFC 7518, section 3.1).
 type algorithm struct {
-	place  int // in algorithms
+	index  int // in algorithms
 	name   string
 	hash   crypto.Hash
 	scheme scheme
@@ -52,6 +52,8 @@ const (
 	pss
 )
 
+// lists:begin algorithms (written by tools/lists from lists/algorithms.toml)
+
 var algorithms = [...]algorithm{
 	{0, "RS256", crypto.SHA256, pkcs1},
 	{1, "RS384", crypto.SHA384, pkcs1},
@@ -63,6 +65,8 @@ var algorithms = [...]algorithm{
 	{7, "PS384", crypto.SHA384, pss},
 	{8, "PS512", crypto.SHA512, pss},
 }
+
+// lists:end
 
 func findAlgorithm[T string | []byte](name T) *algorithm {
 	for i := range algorithms {
@@ -161,13 +165,23 @@ func parseKey(jwk []byte, rsaBits int) *Key {
 	return k
 }
 
+// lists:begin words (written by tools/lists from lists/algorithms.toml)
+
+// noKty and noCurve say that a key has none of an algorithm.
+const (
+	noKty   = "neither RSA nor EC"
+	noCurve = "none of P-256, P-384 and P-521"
+)
+
+// lists:end
+
 var keyFaults = map[C.uint32_t]string{
 	C.SVID_KEY_NOT_OBJECT: "it is no JSON object",
-	C.SVID_KEY_KTY:        "its type is neither RSA nor EC",
-	C.SVID_KEY_ALG:        "it is for another algorithm than one of RS256 to PS512 that fits it",
+	C.SVID_KEY_KTY:        "its type is " + noKty,
+	C.SVID_KEY_ALG:        "it is for another algorithm than those that fit it",
 	C.SVID_KEY_N:          "its modulus is no odd number in base64url",
 	C.SVID_KEY_E:          "its exponent is no odd number from 3 to 2^31-1 in base64url",
-	C.SVID_KEY_CRV:        "its curve is none of P-256, P-384 and P-521",
+	C.SVID_KEY_CRV:        "its curve is " + noCurve,
 	C.SVID_KEY_X:          "its first coordinate is not base64url of the curve's length",
 	C.SVID_KEY_Y:          "its second coordinate is not base64url of the curve's length",
 }
@@ -188,10 +202,10 @@ func (k *Key) JSON() string { return k.text }
 func (k *Key) Public() (crypto.PublicKey, error) { return k.public, k.fault }
 
 // Verify returns nil if this key made the signature over the signed text by the
-// algorithm, one of RS256, RS384, RS512, ES256, ES384, ES512, PS256, PS384 and
-// PS512. ErrSignature: it didn't, as a key of another type or curve than the
-// algorithm's can't. ErrKey: the key can't be used at all, or its JWK names another
-// algorithm. ErrNoMemory: memory was refused, so nothing is known.
+// algorithm of this name (docs/FORMATS.md, "Candidates"). ErrSignature: it didn't,
+// as a key of another type or curve than the algorithm's can't. ErrKey: the key
+// can't be used at all, or its JWK names another algorithm. ErrNoMemory: memory was
+// refused, so nothing is known.
 func (k *Key) Verify(name, signed string, signature []byte) error {
 	return k.verify(name, &signing{text: signed, signature: signature})
 }
@@ -204,7 +218,7 @@ func (k *Key) verify(name string, s *signing) error {
 	if a == nil {
 		return fmt.Errorf("%w: no algorithm is named %q", ErrKey, name)
 	}
-	switch k.said[a.place] {
+	switch k.said[a.index] {
 	case C.SVID_OK:
 	case C.SVID_KEY_ALG:
 		return fmt.Errorf("%w: it is for another algorithm, and the token says %s", ErrKey, name)

@@ -14,8 +14,8 @@ import (
 	"strings"
 	"testing"
 
-	"svid.example/go/internal/issuer"
-	"svid.example/go/svid"
+	"svid.example/go/v2/internal/issuer"
+	"svid.example/go/v2/svid"
 )
 
 // exampleKey is example's key for the algorithm.

@@ -7,7 +7,7 @@ import (
 	"strings"
 	"testing"
 
-	"svid.example/go/svid"
+	"svid.example/go/v2/svid"
 )
 
 // An RSA key has at least 2,048 bits (RFC 7518, section 3.3): not one less.

@@ -16,8 +16,8 @@ import (
 	"sync/atomic"
 	"testing"
 
-	"svid.example/go/internal/issuer"
-	"svid.example/go/svid"
+	"svid.example/go/v2/internal/issuer"
+	"svid.example/go/v2/svid"
 )
 
 const (
@@ -39,16 +39,16 @@ func claims(jti string) map[string]any {
 	return map[string]any{"sub": "spiffe://example.org/web", "aud": "ledger", "exp": moment + 300, "jti": jti}
 }
 
-func options(place byte) svid.Options {
+func options(id byte) svid.Options {
 	return svid.Options{
 		Audiences: []string{"ledger", "audit"}, Bundles: example.Bundles(),
-		Longest: longest, Ahead: 10, Step: 86400, Place: svid.Place{place},
+		Longest: longest, Ahead: 10, Step: 86400, ValidatorID: svid.ValidatorID{id},
 	}
 }
 
-func open(t testing.TB, place byte) *svid.Validator {
+func open(t testing.TB, id byte) *svid.Validator {
 	t.Helper()
-	v, err := svid.Open(options(place))
+	v, err := svid.Open(options(id))
 	if err != nil {
 		t.Fatal(err)
 	}
@@ -101,7 +101,7 @@ func TestSignatureOfRFC7515(t *testing.T) {
 }
 
 // A key is used with the algorithm that fits its curve, and with the one that its JWK names.
-func TestAKeyOfAnotherCurveOrAlgorithmIsRejected(t *testing.T) {
+func TestAKeyOfAnotherCurveOrAlgorithmIsRefused(t *testing.T) {
 	var set struct{ Keys []map[string]string }
 	if err := json.Unmarshal(example.JWKSet(), &set); err != nil {
 		t.Fatal(err)
@@ -158,10 +158,10 @@ func TestOfManyCandidatesTheFirstAreTried(t *testing.T) {
 		return set.Keys[1] // of ES256
 	}
 	token := example.Sign("ES256", `{"alg":"ES256"}`, string(mustJSON(claims("a"))))
-	for place, want := range map[int]int{0: 1, svid.MaxCandidates - 1: 1, svid.MaxCandidates: 0} {
+	for order, want := range map[int]int{0: 1, svid.MaxCandidates - 1: 1, svid.MaxCandidates: 0} {
 		var keys []json.RawMessage
 		for len(keys) < svid.MaxCandidates+1 {
-			if len(keys) == place {
+			if len(keys) == order {
 				keys = append(keys, key(example))
 			} else {
 				keys = append(keys, key(other))
@@ -172,7 +172,7 @@ func TestOfManyCandidatesTheFirstAreTried(t *testing.T) {
 			t.Fatalf("%d candidates, %v", len(first), err)
 		}
 		if yes, err := k.Verify(token); err != nil || len(yes) != want {
-			t.Errorf("the key at place %d: %d questions, %v", place, len(yes), err)
+			t.Errorf("the key at order %d: %d questions, %v", order, len(yes), err)
 		}
 	}
 }
@@ -288,7 +288,7 @@ func TestRefusalsAreErrors(t *testing.T) {
 			t.Errorf("errors.As: %v", found)
 		}
 	}
-	if got := svid.Replayed.Error(); got != "svid: token rejected: Replayed" {
+	if got := svid.Replayed.Error(); got != "svid: token refused: Replayed" {
 		t.Error(got)
 	}
 	if got := svid.Refusal(7).String(); got != "Refusal(7)" {
@@ -329,8 +329,8 @@ func TestJudgeAgainAnswersWhatJudgeDoes(t *testing.T) {
 			}
 		},
 		"another's use": func(t *testing.T, v *svid.Validator, yes []svid.Question, use svid.Use) {
-			use.Place[3]++
-			if err := v.Take(moment, use.Batch()); err != nil {
+			use.ValidatorID[3]++
+			if err := v.Take(moment, batchOf(use)); err != nil {
 				t.Fatal(err)
 			}
 		},
@@ -421,7 +421,7 @@ func TestCheckClaimedAddsTheClaimedUse(t *testing.T) {
 	if err != nil {
 		t.Fatal(err)
 	}
-	batch := judged.Use.Batch()
+	batch := batchOf(judged.Use)
 	if accepted, err := v.CheckClaimed(moment+5, token, yes, batch); err != nil || accepted.ID != judged.ID {
 		t.Fatalf("%+v, %v", accepted, err)
 	}
@@ -466,7 +466,7 @@ func TestMessagesCarryTheRecord(t *testing.T) {
 		t.Fatalf("%+v, %v", gone, err)
 	}
 	// One use by its batch, the other by summary and answer.
-	if err := b.Take(moment, gone.Batch()); err != nil {
+	if err := b.Take(moment, batchOf(gone)); err != nil {
 		t.Fatal(err)
 	}
 	if err := refuse(b, k, withdrawn); err != svid.Withdrawn {
@@ -495,16 +495,16 @@ func TestSaveWritesALargeRecordInPieces(t *testing.T) {
 	const uses = 10_000
 	v := open(t, 1)
 	for i := 0; i < uses; i++ {
-		u := svid.Use{Key: svid.TokenKey{byte(i >> 8), byte(i)}, Expires: moment + 100, At: moment, Place: svid.Place{2}}
-		if err := v.Take(moment, u.Batch()); err != nil {
+		u := svid.Use{Key: svid.TokenKey{byte(i >> 8), byte(i)}, Expires: moment + 100, At: moment, ValidatorID: svid.ValidatorID{2}}
+		if err := v.Take(moment, batchOf(u)); err != nil {
 			t.Fatal(err)
 		}
 	}
 	saved := save(t, v)
 	other := open(t, 3)
-	pieces := svid.Split(saved, 300_000)
-	if len(pieces) != 3 {
-		t.Errorf("%d pieces", len(pieces))
+	var pieces pieces
+	if err := v.Save(&pieces); err != nil || len(pieces) != 3 {
+		t.Errorf("%d pieces: %v", len(pieces), err)
 	}
 	for _, piece := range pieces {
 		if err := other.Take(moment, piece); err != nil {
@@ -522,6 +522,14 @@ func TestSaveWritesALargeRecordInPieces(t *testing.T) {
 	}
 }
 
+// The pieces that were written, each by itself.
+type pieces [][]byte
+
+func (p *pieces) Write(b []byte) (int, error) {
+	*p = append(*p, append([]byte(nil), b...))
+	return len(b), nil
+}
+
 var errFull = errors.New("it is full")
 
 // A full writer has room for so many bytes.
@@ -534,10 +542,11 @@ func (f *full) Write(b []byte) (int, error) {
 	return len(b), nil
 }
 
-func TestAreBatches(t *testing.T) {
-	one := svid.Use{Expires: 2, At: 1}.Batch()
-	none, two := append([]byte(nil), one[:17]...), append(append([]byte(nil), one...), one[17:]...)
-	none[16], two[16] = 0, 2
+// A message that is cut off is read by no one, whatever stands behind it.
+func TestUsesOfWholeMessages(t *testing.T) {
+	one := batchOf(svid.Use{Expires: 2, At: 1})
+	none, two := append([]byte(nil), one[:17]...), batchesOf([]svid.Use{{Expires: 2, At: 1}, {Expires: 3, At: 1}})
+	none[16] = 0
 	many := append([]byte(nil), one...)
 	many[13] = 255
 	for what, row := range map[string]struct {
@@ -550,31 +559,31 @@ func TestAreBatches(t *testing.T) {
 		"another kind": {append([]byte("JSR\x02\x02"), one[5:]...), false}, "version 1": {append([]byte("JSR\x01\x01"), one[5:]...), false},
 		"a count of billions": {many, false}, "a head alone": {one[:17], false}, "half a head": {one[:16], false},
 	} {
-		if got := svid.AreBatches(row.message); got != row.want {
-			t.Errorf("%s: %v", what, got)
+		if _, err := svid.Uses(row.message); (err == nil) != row.want {
+			t.Errorf("%s: %v", what, err)
 		}
 	}
 }
 
 // Batches of uses are what a validator takes and saves, whatever their order.
 func TestBatches(t *testing.T) {
-	if got := svid.Batches(nil); len(got) != 0 {
+	if got := batchesOf(nil); len(got) != 0 {
 		t.Errorf("no uses: % X", got)
 	}
 	var uses []svid.Use
 	for i := 0; i < 300; i++ {
 		uses = append(uses, svid.Use{Key: svid.TokenKey{byte(i * 7)}, Expires: moment + 50 + uint64(i%3), At: moment - uint64(i%2),
-			Place: svid.Place{byte(i % 5)}, Withdrawn: i%4 == 0})
+			ValidatorID: svid.ValidatorID{byte(i % 5)}, Withdrawn: i%4 == 0})
 	}
 	uses = append(uses, uses[:20]...)
 	before := append([]svid.Use(nil), uses...)
 	together, alone := open(t, 1), open(t, 1)
-	got := svid.Batches(uses)
+	got := batchesOf(uses)
 	if err := together.Take(moment, got); err != nil {
 		t.Fatal(err)
 	}
 	for _, u := range uses {
-		if err := alone.Take(moment, u.Batch()); err != nil {
+		if err := alone.Take(moment, batchOf(u)); err != nil {
 			t.Fatal(err)
 		}
 	}
@@ -582,44 +591,68 @@ func TestBatches(t *testing.T) {
 	if !bytes.Equal(saved, save(t, alone)) {
 		t.Error("the records differ")
 	}
-	if !svid.AreBatches(got) || len(got) != 2*17+(len(saved)-17) {
+	if _, err := svid.Uses(got); err != nil || len(got) != 2*17+(len(saved)-17) {
 		t.Errorf("%d bytes of batches, and a record of %d", len(got), len(saved))
 	}
 	if fmt.Sprint(uses) != fmt.Sprint(before) {
 		t.Error("the uses were changed")
 	}
-	if one := uses[0]; !bytes.Equal(svid.Batches(uses[:1]), one.Batch()) {
+	if one := uses[0]; !bytes.Equal(batchesOf(uses[:1]), batchOf(one)) {
 		t.Error("one use")
 	}
 }
 
-func TestSplitLeavesWhatIsNoMessageToTake(t *testing.T) {
-	batch := svid.Use{Expires: 2, At: 1}.Batch()
-	two := append(append([]byte(nil), batch...), batch...)
-	old := append([]byte(nil), batch[:81]...) // a use of version 1 has one byte less
-	old[3] = 1
-	for _, row := range []struct {
-		what     string
-		messages []byte
-		most     int
-		want     []int
-	}{
-		{"nothing", nil, 100, nil},
-		{"two, one at a time", two, 82, []int{82, 82}},
-		{"two at once", two, 164, []int{164}},
-		{"longer than the most", two, 1, []int{82, 82}},
-		{"three, two of which fit", append(two[:164:164], batch...), 200, []int{164, 82}},
-		{"one of version 1 in front", append(old[:81:81], batch...), 82, []int{81, 82}},
-		{"torn", two[:100], 82, []int{82, 18}},
-		{"garbage", []byte("garbage that is no message"), 5, []int{26}},
-	} {
-		var got []int
-		for _, piece := range svid.Split(row.messages, row.most) {
-			got = append(got, len(piece))
+// Pieces tell together what the messages tell, and none is longer than was asked for.
+func TestPieces(t *testing.T) {
+	var uses []svid.Use
+	for i := 0; i < 1000; i++ {
+		uses = append(uses, svid.Use{Key: svid.TokenKey{byte(i), byte(i >> 8)}, Expires: moment + 100, At: moment - uint64(i%7), ValidatorID: svid.ValidatorID{byte(i % 3)},
+			Withdrawn: i%10 == 0})
+	}
+	// The moment of the messages is greater than that of any use.
+	from := open(t, 1)
+	if err := from.Take(moment, batchesOf(uses)); err != nil {
+		t.Fatal(err)
+	}
+	if err := from.Tick(moment + 50); err != nil {
+		t.Fatal(err)
+	}
+	saved := save(t, from)
+	for most, count := range map[int]int{82: 1000, 146: 1000, 147: 500, 200: 500, 10_000: 7, 1 << 20: 1} {
+		pieces, err := svid.Pieces(append(saved[:len(saved):len(saved)], batchOf(uses[3])...), most)
+		if err != nil || len(pieces) != count {
+			t.Errorf("at most %d bytes: %d pieces, want %d (%v)", most, len(pieces), count, err)
 		}
-		if fmt.Sprint(got) != fmt.Sprint(row.want) {
-			t.Errorf("%s: %v", row.what, got)
+		to := open(t, 2)
+		for _, piece := range pieces {
+			if err := to.Take(moment+50, piece); err != nil || len(piece) > most {
+				t.Fatalf("at most %d bytes: %d (%v)", most, len(piece), err)
+			}
 		}
+		if !bytes.Equal(save(t, to), saved) {
+			t.Errorf("at most %d bytes: the records differ", most)
+		}
+	}
+	// The moment of a record without uses is told too.
+	empty := open(t, 3)
+	if err := empty.Tick(moment); err != nil {
+		t.Fatal(err)
+	}
+	if pieces, err := svid.Pieces(save(t, empty), 82); err != nil || len(pieces) != 1 || !bytes.Equal(pieces[0], save(t, empty)) {
+		t.Errorf("% X: %v", pieces, err)
+	}
+	if pieces, err := svid.Pieces(nil, 0); err != nil || pieces != nil {
+		t.Errorf("of nothing: %q, %v", pieces, err)
+	}
+	if _, err := svid.Pieces(saved, 81); !errors.Is(err, svid.ErrNoRoom) {
+		t.Errorf("81 bytes: %v", err)
+	}
+	var fault *svid.MessageError
+	if _, err := svid.Pieces(saved[:100], 1000); !errors.As(err, &fault) || fault.Reason != "Truncated" {
+		t.Errorf("cut off: %v", err)
+	}
+	if _, err := svid.Pieces(make([]byte, svid.MaxMessages+1), 1000); err == nil {
+		t.Error("more than a call takes")
 	}
 }
 
@@ -656,13 +689,13 @@ func TestErrorsThatAreAboutNoToken(t *testing.T) {
 		t.Errorf("garbage: %v", err)
 	}
 	far := svid.Use{Expires: moment + 100, At: moment + 11}
-	if err := v.Take(moment, far.Batch()); err != svid.ErrTooFar {
+	if err := v.Take(moment, batchOf(far)); err != svid.ErrTooFar {
 		t.Errorf("far: %v", err)
 	}
 	if err := v.Take(moment, make([]byte, svid.MaxMessages+1)); err == nil {
 		t.Error("64 MiB and a byte were taken")
 	}
-	if _, err := v.Answer(moment, far.Batch()); err != svid.ErrNotSummary {
+	if _, err := v.Answer(moment, batchOf(far)); err != svid.ErrNotSummary {
 		t.Errorf("summary: %v", err)
 	}
 	v.Close()
@@ -721,7 +754,7 @@ func TestATokenIsAcceptedOnceAmongMany(t *testing.T) {
 		}
 		group.Wait()
 		if accepted != 1 || replayed != 31 {
-			t.Fatalf("accepted %d times, rejected as used %d times", accepted, replayed)
+			t.Fatalf("accepted %d times, refused as used %d times", accepted, replayed)
 		}
 	}
 }
@@ -762,31 +795,61 @@ func BenchmarkCheckReplayed(b *testing.B) {
 // Uses reads what Save writes, and says where bytes are no batches.
 func TestUsesReadsARecord(t *testing.T) {
 	v := open(t, 1)
-	used := svid.Use{Key: svid.TokenKey{1}, Expires: moment + 5, At: moment - 1, Place: svid.Place{7}}
-	gone := svid.Use{Key: svid.TokenKey{2}, Expires: moment + 6, At: moment, Place: svid.Place{8}, Withdrawn: true}
+	used := svid.Use{Key: svid.TokenKey{1}, Expires: moment + 5, At: moment - 1, ValidatorID: svid.ValidatorID{7}}
+	gone := svid.Use{Key: svid.TokenKey{2}, Expires: moment + 6, At: moment, ValidatorID: svid.ValidatorID{8}, Withdrawn: true}
 	for _, u := range []svid.Use{gone, used} {
-		if err := v.Take(moment, u.Batch()); err != nil {
+		if err := v.Take(moment, batchOf(u)); err != nil {
 			t.Fatal(err)
 		}
 	}
 	saved := save(t, v)
-	at, uses, err := svid.Uses(append(used.Batch(), saved...))
-	if err != nil || at != moment || len(uses) != 3 || uses[0] != used || uses[1] != used || uses[2] != gone {
-		t.Errorf("%d %v %v", at, uses, err)
+	uses, err := svid.Uses(append(batchOf(used), saved...))
+	if err != nil || len(uses) != 3 || uses[0] != used || uses[1] != used || uses[2] != gone {
+		t.Errorf("%v %v", uses, err)
 	}
 	var message *svid.MessageError
-	if _, _, err := svid.Uses(saved[:100]); !errors.As(err, &message) || message.Reason != "Truncated" || message.Place != 100 {
+	if _, err := svid.Uses(saved[:100]); !errors.As(err, &message) || message.Reason != "Truncated" || message.Offset != 100 {
 		t.Errorf("torn: %v", err)
 	}
-	if _, _, err := svid.Uses([]byte("JSR")); !errors.Is(err, svid.ErrBatch) {
+	if _, err := svid.Uses([]byte("JSR")); !errors.As(err, &message) || message.Reason != "Truncated" || message.Offset != 3 {
 		t.Errorf("three bytes: %v", err)
 	}
 	summary, err := v.Summary()
 	if err != nil {
 		t.Fatal(err)
 	}
-	if _, _, err := svid.Uses(summary); !errors.Is(err, svid.ErrBatch) {
-		t.Errorf("a summary: %v", err)
+	if uses, err := svid.Uses(summary); err != nil || len(uses) != 0 {
+		t.Errorf("a summary: %v %v", uses, err)
+	}
+}
+
+// A use that had expired when it was made is told by no message.
+func TestAUseThatNoMessageTells(t *testing.T) {
+	good := svid.Use{Expires: 2, At: 1}
+	for _, bad := range []svid.Use{{Expires: 1, At: 1}, {Expires: 0, At: 1}, {}} {
+		var fault *svid.MessageError
+		if out, err := svid.Batches([]svid.Use{good, bad, bad}); !errors.As(err, &fault) || fault.Reason != "UseExpired" || fault.Offset != 1 || out != nil {
+			t.Errorf("%+v: %v %v", bad, out, err)
+		}
+		if out, err := bad.Batch(); err == nil || out != nil {
+			t.Errorf("%+v: %v %v", bad, out, err)
+		}
+	}
+}
+
+// More uses of one time than a batch has are several batches.
+func TestUsesOfOneTime(t *testing.T) {
+	uses := make([]svid.Use, 65_537)
+	for i := range uses {
+		uses[len(uses)-1-i] = svid.Use{Key: svid.TokenKey{byte(i >> 16), byte(i >> 8), byte(i)}, Expires: moment + 9, At: moment}
+	}
+	out, err := svid.Batches(uses)
+	if err != nil || len(out) != 2*17+65*len(uses) {
+		t.Fatalf("%d bytes, %v", len(out), err)
+	}
+	got, err := svid.Uses(out)
+	if err != nil || len(got) != len(uses) || got[0] != uses[len(uses)-1] || got[65_536] != uses[0] {
+		t.Errorf("%d uses, %v", len(got), err)
 	}
 }
 
@@ -844,13 +907,13 @@ func joined(t *testing.T, domain string, set []byte) []byte {
 	return bundles
 }
 
-// Accept answers with the first refusal that holds, though the keyring rejects the token for a later one.
+// Accept answers with the first refusal that holds, though the keyring refuses the token for a later one.
 func TestAcceptAnswersAsTheValidator(t *testing.T) {
 	keyring, err := svid.NewKeyring(example.Bundles())
 	if err != nil {
 		t.Fatal(err)
 	}
-	v, err := svid.Open(svid.Options{Audiences: []string{"ledger"}, Bundles: example.Bundles(), Longest: 3600, Place: svid.Place{1}})
+	v, err := svid.Open(svid.Options{Audiences: []string{"ledger"}, Bundles: example.Bundles(), Longest: 3600, ValidatorID: svid.ValidatorID{1}})
 	if err != nil {
 		t.Fatal(err)
 	}

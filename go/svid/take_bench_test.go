@@ -5,7 +5,7 @@ import (
 	"math/rand"
 	"testing"
 
-	"svid.example/go/svid"
+	"svid.example/go/v2/svid"
 )
 
 // BenchmarkTake takes uses as they come from a bucket: one a message, and several messages in a call.
@@ -17,9 +17,9 @@ func BenchmarkTake(b *testing.B) {
 			var messages []byte
 			b.ResetTimer()
 			for i := 0; i < b.N; i++ {
-				u := svid.Use{Expires: moment + 1 + uint64(random.Intn(1000)), At: moment, Place: svid.Place{9}}
+				u := svid.Use{Expires: moment + 1 + uint64(random.Intn(1000)), At: moment, ValidatorID: svid.ValidatorID{9}}
 				random.Read(u.Key[:])
-				if messages = append(messages, u.Batch()...); len(messages) >= inOne*82 {
+				if messages = append(messages, batchOf(u)...); len(messages) >= inOne*82 {
 					if err := v.Take(moment, messages); err != nil {
 						b.Fatal(err)
 					}
@@ -43,10 +43,10 @@ func BenchmarkRead(b *testing.B) {
 			for n := 0; n < b.N; n += inOne {
 				uses := make([]svid.Use, inOne)
 				for i := range uses {
-					uses[i] = svid.Use{Expires: moment + 1 + uint64(random.Intn(1000)), At: moment, Place: svid.Place{9}}
+					uses[i] = svid.Use{Expires: moment + 1 + uint64(random.Intn(1000)), At: moment, ValidatorID: svid.ValidatorID{9}}
 					random.Read(uses[i].Key[:])
 				}
-				values = append(values, svid.Batches(uses))
+				values = append(values, batchesOf(uses))
 			}
 			out := make([]svid.LogUse, 64)
 			b.ResetTimer()

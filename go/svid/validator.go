@@ -1,9 +1,6 @@
 package svid
 
 /*
-#cgo CFLAGS: -I${SRCDIR}/../../include
-#cgo linux,amd64 LDFLAGS: ${SRCDIR}/../../dist/x86_64/libsvid.a
-#cgo linux,arm64 LDFLAGS: ${SRCDIR}/../../dist/aarch64/libsvid.a
 #include "svid.h"
 
 // The token goes to C as the Go string that it is, without a copy.
@@ -32,8 +29,8 @@ import (
 // NoLimit, as Options.Longest, Options.Ahead or Options.Step, sets no limit.
 const NoLimit = ^uint64(0)
 
-// Options say what a validator is for. Audiences, Bundles, Longest and Place must
-// be given: a Longest of 0 rejects every token, and so does no audience.
+// Options say what a validator is for. Audiences, Bundles, Longest and ValidatorID must
+// be given: a Longest of 0 refuses every token, and so does no audience.
 type Options struct {
 	// Audiences are the names by which tokens may call this service.
 	Audiences []string
@@ -51,9 +48,9 @@ type Options struct {
 	// record. The first call on a new record is never a jump. 0 sets no limit, as
 	// NoLimit does.
 	Step uint64
-	// Place names this validator among all that share its record. Two
-	// validators of one place accept a token twice.
-	Place Place
+	// ValidatorID names this validator among all that share its record. Two
+	// validators of one ID accept a token twice.
+	ValidatorID ValidatorID
 }
 
 // An Accepted token.
@@ -66,7 +63,7 @@ type Accepted struct {
 }
 
 // A Validator judges tokens, and keeps the record of those that were used or
-// revoked. All its methods may be called by many goroutines at once: each call
+// withdrawn. All its methods may be called by many goroutines at once: each call
 // holds one lock for its whole length, which is microseconds, except where the
 // method says otherwise.
 type Validator struct {
@@ -82,9 +79,12 @@ type Validator struct {
 	fates   []C.svid_fate
 	reading C.svid_reading
 
-	bundles uint64 // how often there were other bundles, the first included; guarded by mu
-	large   bool   // they may have more keys than may be tried under the lock; guarded by mu
-	rows    []byte // room for their candidates; guarded by mu
+	terms   C.svid_terms // of its whole life
+	bundles uint64       // how often there were other bundles or audiences, the first included; guarded by mu
+	text    []byte       // of the bundles; guarded by mu
+	large   bool         // they may have more keys than may be tried under the lock; guarded by mu
+	rows    []byte       // room for their candidates; guarded by mu
+	log     Log          // its Ready and Lasts, of the log that the validator reads; guarded by mu
 }
 
 // Open returns a validator with an empty record. To go on with a saved record,
@@ -98,16 +98,22 @@ func Open(o Options) (*Validator, error) {
 		o.Step = NoLimit // (to the library, each second would be a jump)
 	}
 	terms := C.svid_terms{longest: C.uint64_t(o.Longest), ahead: C.uint64_t(o.Ahead), step: C.uint64_t(o.Step)}
-	for i, b := range o.Place {
-		terms.place[i] = C.uint8_t(b)
+	for i, b := range o.ValidatorID {
+		terms.validator_id[i] = C.uint8_t(b)
 	}
-	v := &Validator{bundles: 1, large: len(o.Bundles) > largeBundles}
-	status := C.svid_validator_open(&v.handle, &terms, start(own), C.size_t(len(own)),
-		start(o.Bundles), C.size_t(len(o.Bundles)), &v.told)
-	if err := failure(status, &v.told); err != nil {
+	v := &Validator{bundles: 1, terms: terms}
+	if err := v.open(own, o.Bundles); err != nil {
 		return nil, err
 	}
+	v.keep(o.Bundles)
 	return v, nil
+}
+
+// open opens the handle, with an empty record.
+func (v *Validator) open(own, bundles []byte) error {
+	status := C.svid_validator_open(&v.handle, &v.terms, start(own), C.size_t(len(own)),
+		start(bundles), C.size_t(len(bundles)), &v.told)
+	return failure(status, &v.told)
 }
 
 // audienceLines writes audiences one a line, as the library wants them.
@@ -137,11 +143,11 @@ func (v *Validator) Close() {
 }
 
 // Check judges the token, and if it accepts it, adds the use to the record, so
-// that the token is rejected from then on as Replayed. yes are the questions of
+// that the token is refused from then on as Replayed. yes are the questions of
 // Keyring.Verify. The record advances to now first, and the token is judged at
 // the record's moment, which may be later.
 //
-// The error is a Refusal if the token is rejected, and else ErrJump,
+// The error is a Refusal if the token is refused, and else ErrJump,
 // ErrNoMemory or ErrClosed.
 func (v *Validator) Check(now uint64, token string, yes []Question) (Accepted, error) {
 	v.mu.Lock()
@@ -154,7 +160,7 @@ func (v *Validator) Check(now uint64, token string, yes []Question) (Accepted, e
 
 // Accept verifies the token's signature by the keyring, which has the same bundles,
 // and checks the token: all that a service does for a request. A token that the
-// keyring rejects is checked all the same, so the Refusal is the first that holds,
+// keyring refuses is checked all the same, so the Refusal is the first that holds,
 // in the order of Refusals. Other errors are those of Keyring.Verify and Check.
 func (v *Validator) Accept(k *Keyring, now uint64, token string) (Accepted, error) {
 	yes, err := k.Verify(token)
@@ -185,8 +191,8 @@ func (v *Validator) judge(now uint64, token string, yes []Question) (Accepted, e
 // or Replayed. It goes by the use alone, so it takes a fraction of the time. The
 // record advances to now first, and nothing is added to it.
 //
-// ErrRenewed: the trust bundles were replaced since, or another validator accepted
-// the token. Judge the token. ErrJump, ErrClosed.
+// ErrRenewed: the trust bundles or the audiences were replaced since, or another
+// validator accepted the token. Judge the token. ErrJump, ErrClosed.
 func (v *Validator) JudgeAgain(now uint64, accepted Accepted) error {
 	v.mu.Lock()
 	defer v.mu.Unlock()
@@ -234,8 +240,8 @@ func questions(yes []Question) *C.svid_question {
 	return (*C.svid_question)(unsafe.Pointer(&yes[0]))
 }
 
-// Withdraw revokes the token of this key, which expires at exp, and returns the
-// use that the record gained. The token is rejected as Withdrawn from now on,
+// Withdraw withdraws the token of this key, which expires at exp, and returns the
+// use that the record gained. The token is refused as Withdrawn from now on,
 // also by validators that take the use. Errors: ErrGone, ErrJump, ErrNoMemory.
 func (v *Validator) Withdraw(now uint64, key TokenKey, exp uint64) (Use, error) {
 	v.mu.Lock()
@@ -259,8 +265,7 @@ func (v *Validator) Tick(now uint64) error {
 
 // Take adds what messages tell: those of other validators, or a saved record.
 // Taking a message twice, or in another order, makes no difference. The lock is
-// held for about two microseconds for each use; Split cuts many messages into
-// pieces.
+// held for about two microseconds for each use.
 //
 // ErrTooFar: the messages tell of a time more than Options.Ahead seconds past
 // now, and nothing was added. ErrTooMuch or a *MessageError: these are no
@@ -294,9 +299,9 @@ func (v *Validator) Size() (Size, error) {
 	return Size{Moment: uint64(v.size.moment), Uses: uint64(v.size.uses)}, nil
 }
 
-// savePiece is how many bytes of messages Save has written at a time: the lock
-// is held for as long as that takes.
-const savePiece = batchHeadLen + 4096*useLen
+// savePiece is for how many bytes of messages Save has room at a time: the lock
+// is held for as long as writing them takes.
+const savePiece = 256 << 10
 
 // Save writes the whole record as messages, piece by piece. Other calls may be
 // made in between: the pieces together hold each use that the record had when

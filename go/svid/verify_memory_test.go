@@ -8,8 +8,8 @@ import (
 	"fmt"
 	"testing"
 
-	"svid.example/go/internal/issuer"
-	"svid.example/go/internal/refusing"
+	"svid.example/go/v2/internal/issuer"
+	"svid.example/go/v2/internal/refusing"
 )
 
 // Where OpenSSL is refused memory, no key is taken for one that can't be used, no good signature for a bad one, and no bad
@@ -27,11 +27,8 @@ func TestEachAllocationOfOpenSSLRefused(t *testing.T) {
 		t.Fatal(err)
 	}
 	for _, algorithm := range issuer.Algorithms {
-		s, _ := cutToken(one.Token(algorithm, map[string]any{"sub": "spiffe://example.org/web", "aud": "ledger", "exp": 2_000_000_000}))
-		good, err := s.signatureBytes()
-		if err != nil {
-			t.Fatal(err)
-		}
+		s := signingOf(t, one.Token(algorithm, map[string]any{"sub": "spiffe://example.org/web", "aud": "ledger", "exp": 2_000_000_000}))
+		good := s.signature
 		bad := append([]byte(nil), good...)
 		bad[len(bad)-1] ^= 1
 		var jwk []byte
@@ -57,8 +54,8 @@ func TestEachAllocationOfOpenSSLRefused(t *testing.T) {
 					t.Fatal(key.fault)
 				}
 				var isGood, isBad error
-				refused := refusing.During(n, all, func() { isBad = key.Verify(algorithm, s.signed, bad) })
-				if refused += refusing.During(n, all, func() { isGood = key.Verify(algorithm, s.signed, good) }); refused == 0 {
+				refused := refusing.During(n, all, func() { isBad = key.Verify(algorithm, s.text, bad) })
+				if refused += refusing.During(n, all, func() { isGood = key.Verify(algorithm, s.text, good) }); refused == 0 {
 					break
 				}
 				if verified++; isGood != nil && isGood != ErrNoMemory || isBad != ErrSignature && isBad != ErrNoMemory {
@@ -93,7 +90,7 @@ func TestAKeyringIsRefusedMemory(t *testing.T) {
 				t.Errorf("%s, %s: %d questions, and %v", algorithm, what, len(yes), err)
 			}
 		}
-		// (known: the keyring has a plan for the token)
+		// (known: the keyring has parsed the key)
 		for _, known := range []bool{false, true} {
 			for n, refused := 0, 1; refused > 0; n++ {
 				keyring.keys = newKeyCache(UsualRSABits)

@@ -248,8 +248,8 @@ func (k *Key) made(a *algorithm, s *signing) error {
 
 // verify is made with a slot that the caller has.
 func (h *handle) verify(slot int, a *algorithm, s *signing) C.int {
-	if seats := h.seats[slot]; seats != nil && seats[a.place].key != nil {
-		return s.verifyBy(&seats[a.place], a)
+	if seats := h.seats[slot]; seats != nil && seats[a.index].key != nil {
+		return s.verifyBy(&seats[a.index], a)
 	}
 	var seat C.seat
 	if !h.open(&seat, a) {
@@ -263,7 +263,7 @@ func (h *handle) verify(slot int, a *algorithm, s *signing) C.int {
 	if h.seats[slot] == nil {
 		h.seats[slot] = make([]C.seat, len(algorithms))
 	}
-	h.seats[slot][a.place] = seat
+	h.seats[slot][a.index] = seat
 	return is
 }
 

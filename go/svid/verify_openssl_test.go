@@ -12,7 +12,8 @@ import (
 	"testing"
 	"time"
 
-	"svid.example/go/internal/issuer"
+	"svid.example/go/v2/internal/issuer"
+	"svid.example/go/v2/internal/patience"
 )
 
 // keptSeats is how many seats a key keeps.
@@ -49,7 +50,7 @@ func TestKeysOfOpenSSLAreFreed(t *testing.T) {
 	}
 	keyring.Close()
 	keyring = nil
-	for end := time.Now().Add(30 * time.Second); openHandles.Load() > before; { // (keys of earlier tests may go meanwhile)
+	for end := time.Now().Add(patience.Long); openHandles.Load() > before; { // (keys of earlier tests may go meanwhile)
 		if time.Now().After(end) {
 			t.Fatalf("OpenSSL holds %d keys of a keyring that is gone", openHandles.Load()-before)
 		}
@@ -73,15 +74,12 @@ func TestAStrangersTokenKeepsNoSeat(t *testing.T) {
 	if err != nil || len(candidates) == 0 {
 		t.Fatal(candidates, err)
 	}
-	s, _ := cutToken(token)
-	good, err := s.signatureBytes()
-	if err != nil {
-		t.Fatal(err)
-	}
+	s := signingOf(t, token)
+	good := s.signature
 	key, bad := candidates[0].Key, append([]byte(nil), good...)
 	bad[0] ^= 1
 	for i := 0; i < 2*cap(slots); i++ {
-		if err := key.Verify("ES256", s.signed, bad); err != ErrSignature {
+		if err := key.Verify("ES256", s.text, bad); err != ErrSignature {
 			t.Fatal(err)
 		}
 	}
@@ -89,7 +87,7 @@ func TestAStrangersTokenKeepsNoSeat(t *testing.T) {
 		t.Errorf("a stranger's token left %d seats", n)
 	}
 	for i := 0; i < 2*cap(slots); i++ {
-		if err := key.Verify("ES256", s.signed, good); err != nil {
+		if err := key.Verify("ES256", s.text, good); err != nil {
 			t.Fatal(err)
 		}
 	}

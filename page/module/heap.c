@@ -65,7 +65,7 @@ static void give_back(void *p) {
 }
 
 static tried answer(void *p) {
-    static uint64_t nothing[2]; /* a place, where there is no memory: it is not null */
+    static uint64_t nothing[2]; /* what is answered where there is no memory: it is not null */
     return p ? (tried){1, p} : (tried){0, nothing};
 }
 

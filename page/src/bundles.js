@@ -3,7 +3,21 @@
 import { firstFraction, member, parse, stringAt } from "./json.js";
 
 const KEY_MOST = 65536;
-const KTY_OF = { RS: "RSA", PS: "RSA", ES: "EC" };
+// lists:begin ktys (written by tools/lists from lists/algorithms.toml)
+const KTY_OF = new Map([
+  ["RS256", "RSA"],
+  ["RS384", "RSA"],
+  ["RS512", "RSA"],
+  ["ES256", "EC"],
+  ["ES384", "EC"],
+  ["ES512", "EC"],
+  ["PS256", "RSA"],
+  ["PS384", "RSA"],
+  ["PS512", "RSA"],
+]);
+const NO_KTY = "neither RSA nor EC";
+// lists:end
+const KTYS = new Set(KTY_OF.values());
 const encoder = new TextEncoder();
 
 function nodeOf(text) {
@@ -18,6 +32,11 @@ function nodeOf(text) {
 export function isOneBundle(text) {
   const node = nodeOf(text);
   return member(node, "keys")?.value.kind === "array";
+}
+
+/** How many entries the bundle of one trust domain has. */
+export function countOf(text) {
+  return member(nodeOf(text), "keys").value.items.length;
 }
 
 /** Bundles as the library takes them: an object of trust domains. The text of a bundle is not changed. */
@@ -48,11 +67,11 @@ export function passedOver(entry, text, { alg, kid }) {
   if (stringAt(entry, "use") !== "jwt-svid") return `its use is ${shown(use, text)}, and not jwt-svid`;
   if (name === undefined) return member(entry, "kid") ? "its kid is no text" : "it has no kid";
   if (kty === undefined) return member(entry, "kty") ? "its kty is no text" : "it has no kty";
-  if (kty !== "RSA" && kty !== "EC") return `its kty is ${shown(member(entry, "kty"), text)}, and neither RSA nor EC`;
+  if (!KTYS.has(kty)) return `its kty is ${shown(member(entry, "kty"), text)}, and ${NO_KTY}`;
   const fraction = firstFraction(entry);
   if (fraction) return `it has the number ${fraction.text}, which is no whole number of 64 bits`;
   if (encoder.encode(compact(entry)).length > KEY_MOST) return "it has more than 65,536 bytes";
-  if (alg && kty !== KTY_OF[alg.slice(0, 2)]) return `its kty is ${kty}, and ${alg} needs ${KTY_OF[alg.slice(0, 2)]}`;
+  if (KTY_OF.has(alg) && kty !== KTY_OF.get(alg)) return `its kty is ${kty}, and ${alg} needs ${KTY_OF.get(alg)}`;
   if (kid !== undefined && name !== kid) return `its kid is not that of the token, ${JSON.stringify(kid)}`;
   return undefined;
 }

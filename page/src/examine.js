@@ -1,9 +1,9 @@
 // What the library says of a token. Everything here is a function of its input: the page draws what comes out.
 
-import { bundlesOf, compact, entriesOf, passedOver } from "./bundles.js";
+import { bundlesOf, compact, domainsOf, entriesOf, isOneBundle, passedOver } from "./bundles.js";
 import { parse } from "./json.js";
 import { MOST_CANDIDATES } from "./library.js";
-import { namesOf, refusalOf, REFUSALS } from "./refusals.js";
+import { refusalOf, REFUSALS } from "./refusals.js";
 import { recordOf } from "./record.js";
 import { partsOf } from "./token.js";
 import { answer } from "./verify.js";
@@ -11,35 +11,55 @@ import { answer } from "./verify.js";
 const decoder = new TextDecoder();
 const OK = 0;
 const OF_RECORD = new Set(["Withdrawn", "Replayed"]);
+const UNNAMED = "bundle";
 
 /**
  * Judges a token, and gathers why.
  *
  * @param {Library} library
- * @param input `token`, `bundles` and `domain` (of a bundle that stands alone), `own` (audiences), `now`, `longest` (or undefined), `place`
- *   of this validator, and `record`, of `readRecord`
- * @returns `{ parts, names, bundles, fault, keys, yes, judgedAt, verdict }`: `fault` is that of the bundles, and then nothing is judged;
- *   `verdict` is `{ status, refusal, passed, why, marks, id, exp, key }`, where `passed` counts the refusals that do not hold, and `exp` and
- *   `key` are there for a token that is accepted or that only the record refuses
+ * @param input `token`, `bundles` and `domain` (of a bundle that stands alone), `own` (audiences), `now`, `longest` (or undefined),
+ *   `validatorId` (of this one), and `record`, of `readRecord`
+ * @returns `{ parts, names, bundles, isUnnamed, fault, domain, keys, yes, judgedAt, verdict }`: `isUnnamed` says that nobody knows yet which
+ *   trust domain the bundle is of; `fault` is that of the bundles, and then nothing is judged; `domain` is the one that has the `keys`;
+ *   `verdict` is `{ status, refusal, passed, isUnasked, why, marks, id, exp, key }`, where `passed` counts the refusals that do not hold,
+ *   `isUnasked` says that no audience is given, so that none was looked at, and `exp` and `key` are there for a token that is accepted or
+ *   that only the record refuses
  */
 export async function examine(library, input) {
-  const parts = partsOf(input.token);
-  const names = namesOf(parts, library);
-  const bundles = bundlesOf(input.bundles.trim() ? input.bundles : "{}", input.domain || names.domain || "");
-  const asked = withValidator(library, input, bundles, (validator) => validator.ask(input.token));
-  if (asked.status !== OK) return { parts, names, bundles, fault: asked };
-  const rows = await answered(asked.value.rows, parts);
+  const parts = partsOf(input.token, library);
+  const names = library.says(input.token);
+  const given = input.bundles.trim() ? input.bundles : "{}", named = input.domain || names.domain;
+  const isUnnamed = named === undefined && isOneBundle(given), shown = bundlesOf(given, named ?? UNNAMED);
+  // (a bundle without a name judges no token: the library only says whether it can be read)
+  const bundles = isUnnamed ? "{}" : shown;
+  const read = isUnnamed ? withValidator(library, input, shown, () => undefined) : { status: OK };
+  const asked = read.status === OK ? withValidator(library, input, bundles, (validator) => validator.ask(input.token)) : read;
+  if (asked.status !== OK) return { parts, names, bundles: shown, isUnnamed, fault: asked };
+  const rows = await answered(asked.value.rows, input.token, library);
   const yes = rows.filter((it) => it.answer.is === "good").map((it) => it.question);
   const judgedAt = later(input.now, input.record.moment);
-  const { value: judged } = withRecord(library, input, bundles, (validator) => validator.judge(input.now, yes, input.token));
-  const verdict = explained(judged, { ...input, parts, library, now: judgedAt });
+  const { judged, isUnasked, by } = judge(library, input, names, bundles, yes);
+  const verdict = { ...explained(judged, { ...input, parts, names, library, now: judgedAt }), isUnasked };
   if (OF_RECORD.has(verdict.refusal)) {
     // (its use is the one that a validator without a record would add)
-    const { key, exp } = withValidator(library, input, bundles, (it) => it.judge(judgedAt, yes, input.token)).value;
+    const { key, exp } = withValidator(library, by, bundles, (it) => it.judge(judgedAt, yes, input.token)).value;
     Object.assign(verdict, { key, exp });
   }
-  return { parts, names, bundles, keys: keysOf(rows, bundles, names, asked.value), yes, judgedAt, verdict };
+  const domain = names.domain ?? onlyOf(domainsOf(shown));
+  const keys = keysOf(rows, shown, { ...names, domain }, asked.value);
+  return { parts, names, bundles, isUnnamed, domain: isUnnamed ? undefined : domain, keys, yes, judgedAt, verdict };
 }
+
+// What the library says of a token. Where no audience is given, it looks at the other checks by the audiences that the token says itself.
+function judge(library, input, names, bundles, yes) {
+  const judgedBy = (by) => withRecord(library, by, bundles, (validator) => validator.judge(by.now, yes, by.token)).value;
+  const judged = judgedBy(input), isUnasked = !input.own.length && refusalOf(judged.status)?.name === "NotAudience";
+  if (!isUnasked) return { judged, isUnasked, by: input };
+  const by = { ...input, own: names.audiences };
+  return { judged: judgedBy(by), isUnasked, by };
+}
+
+const onlyOf = (list) => (list.length === 1 ? list[0] : undefined);
 
 /** Checks a token that `examine` accepted: the record with its use, as messages. */
 export function use(library, input, { bundles, yes }) {
@@ -56,8 +76,8 @@ export function readRecord(library, messages) {
   return { messages, ...recordOf(decoder.decode(library.report(messages).bytes)) };
 }
 
-function withValidator(library, { own, longest, place }, bundles, body) {
-  return library.withValidator({ longest, place }, own.join("\n"), bundles, body);
+function withValidator(library, { own, longest, validatorId }, bundles, body) {
+  return library.withValidator({ longest, validatorId }, own.join("\n"), bundles, body);
 }
 
 function withRecord(library, input, bundles, body) {
@@ -84,9 +104,9 @@ function later(a, b) {
   return a > b ? a : b;
 }
 
-async function answered(rows, parts) {
-  const signed = `${parts[0].text}.${parts[1]?.text}`;
-  return Promise.all(rows.map(async (row) => ({ ...row, answer: await answer(row, signed, parts[2].bytes) })));
+async function answered(rows, token, library) {
+  const { over, bytes } = library.signature(token), signed = token.slice(0, over);
+  return Promise.all(rows.map(async (row) => ({ ...row, answer: await answer(row, signed, bytes) })));
 }
 
 function explained(judged, known) {

@@ -25,18 +25,22 @@ const MEANINGS = [
   },
 ];
 
-/** Colours the parts of the token behind its field, and marks the places where the refusal holds. */
+/**
+ * Colours the parts of the token behind its field, and marks what the refusal is about. What stands around the token has a quiet colour.
+ * @param token the whole text of the field, in which the parts and the marks stand
+ */
 export function drawToken({ token, parts, marks }) {
-  const pieces = [];
+  const pieces = cut(token, 0, parts[0].from, marks, "beyond");
   parts.forEach((part, n) => {
     if (n) pieces.push(...cut(token, part.from - 1, part.from, marks, "period"));
     pieces.push(...cut(token, part.from, part.to, marks, PARTS[n] ?? "beyond"));
   });
+  pieces.push(...cut(token, parts.at(-1).to, token.length, marks, "beyond"));
   // (a character behind the end, so that a last empty line has its height)
   fill(byId("token-shown"), pieces, "\u200b");
 }
 
-// The characters from one place up to another, in pieces that are marked or not.
+// The characters from one index up to another, in pieces that are marked or not.
 function cut(token, from, to, marks, kind) {
   const edges = [...new Set([from, to, ...marks.flat().filter((it) => it > from && it < to)])].sort((a, b) => a - b);
   return edges.slice(1).map((end, n) => {
@@ -56,7 +60,7 @@ export function drawParts({ parts, marks, now }) {
 
 function membersOf(part, meanings, marks, now) {
   const { node, fault } = part.json;
-  if (part.badAt !== undefined) return make("p", { class: "none" }, "This part is no base64url, so nothing can be read.");
+  if (!part.bytes) return make("p", { class: "none" }, part.badAt === undefined ? "This part is too long to be read." : "This part is no base64url, so nothing can be read.");
   if (fault) return [make("p", { class: "none" }, `No JSON: at character ${fault.at + 1}, ${fault.message}.`), raw(part.decoded, fault.at)];
   if (node.kind !== "object") return [make("p", { class: "none" }, "JSON, but no object:"), raw(part.decoded)];
   if (!node.members.length) return make("p", { class: "none" }, "An empty object.");
@@ -80,34 +84,38 @@ function memberRow(it, object, part, meanings, marks, now) {
     make("dd", {}, make("code", {}, text), isTime && make("span", { class: "time" }, `${dateOf(time)}, ${agoOf(time, now)}`), make("span", { class: "meaning" }, meaning)));
 }
 
+const STATES = { passed: "passed", holds: "refused", later: "not reached", unasked: "not looked at" };
+
 /** Makes the table of the 25 refusals, before anything is judged. */
 export function makeChecks() {
   for (const { name } of REFUSALS) {
     if (GROUPS[name]) byId("checks").append(make("tbody", {}, make("tr", { class: "group" }, make("th", { colspan: 3, scope: "rowgroup" }, GROUPS[name]))));
-    byId("checks").lastChild.append(make("tr", { id: `check-${name}` }, make("td", { class: "state" }), make("th", { scope: "row" }, name), make("td")));
+    byId("checks").lastChild.append(make("tr", { id: `check-${name}` }, make("td", { class: "state" }), make("th", { scope: "row" }), make("td", { class: "name" })));
   }
 }
 
 /**
- * Says of each refusal that the token passed it, that it holds and why, or that it was not reached. `passed` is how many it passed, and
- * undefined where nothing is judged.
+ * Says of each check, in words, that the token passed it, that it did not and why, that it was not reached, or that it was not looked at.
+ * `passed` is how many it passed, and undefined where nothing is judged.
  */
-export function drawChecks(passed, why) {
+export function drawChecks({ passed, why, isUnasked = false }) {
   REFUSALS.forEach(({ name, asks }, n) => {
-    const state = passed === undefined || n > passed ? "later" : n < passed ? "passed" : "holds";
+    const isHere = isUnasked && name === "NotAudience" && n <= passed;
+    const state = isHere ? "unasked" : passed === undefined || n > passed ? "later" : n < passed ? "passed" : "holds";
     const row = byId(`check-${name}`);
     row.dataset.state = state;
-    fill(row.cells[2], state === "holds" ? why : asks);
-    fill(row.cells[0], make("span", { class: "unseen" }, { passed: "passed", holds: "refused", later: "not reached" }[state]));
+    fill(row.cells[0], make("span", { class: passed === undefined && "unseen" }, STATES[state]));
+    fill(row.cells[1], state === "holds" ? name : asks);
+    fill(row.cells[2], state === "holds" ? why : `else ${name}`);
   });
 }
 
-/** Shows each entry of the bundle of the token's trust domain. */
-export function drawKeys({ token, keys, names }) {
-  const domain = names.domain;
-  const rows = keys.map(keyRow);
-  const none = !token ? "No token yet." : domain === undefined ? "No trust domain can be read in the token." : "The bundles have no key of this trust domain.";
-  fill(byId("keys-of"), domain === undefined ? "" : `of ${domain}`);
+/** Shows each entry of the bundle of the token's trust domain, or of the only bundle. */
+export function drawKeys({ token, keys, names, domain, isUnnamed }) {
+  const rows = keys.map((it) => keyRow(it, token));
+  const unknown = token ? "No trust domain can be read in the token." : "No token yet: the keys of its trust domain stand here.";
+  const none = names.domain === undefined && domain === undefined && !isUnnamed ? unknown : isUnnamed ? "The bundle has no key." : "The bundles have no key of this trust domain.";
+  fill(byId("keys-of"), isUnnamed ? "of a bundle whose trust domain is not known yet" : domain === undefined ? "" : `of ${domain}`);
   fill(byId("keys-none"), keys.length ? "" : none);
   byId("keys-table").hidden = !keys.length;
   // (an entry that is open stays so, while its row says the same)
@@ -121,15 +129,16 @@ function isOpenAs(old, row) {
 
 const ANSWERS = { good: "verifies the signature", bad: "does not verify the signature", unusable: "can't be used" };
 
-function keyRow({ entry, text, reason, row }) {
+function keyRow({ entry, text, reason, row }, token) {
   const kid = stringAt(entry, "kid"), kind = [stringAt(entry, "kty"), stringAt(entry, "crv")].filter(Boolean).join(" ");
   return make("tr", { "data-state": row ? row.answer.is : "over" },
     make("th", { scope: "row" }, make("code", {}, kid === undefined ? "no kid" : JSON.stringify(kid))),
     make("td", {}, kind || "–"),
-    make("td", {}, make("details", {}, make("summary", {}, answerText(reason, row)), make("pre", {}, text))));
+    make("td", {}, make("details", {}, make("summary", {}, answerText(reason, row, token)), make("pre", {}, text))));
 }
 
-function answerText(reason, row) {
+function answerText(reason, row, token) {
   if (row) return row.answer.why ? `${ANSWERS[row.answer.is]}: ${row.answer.why}` : ANSWERS[row.answer.is];
-  return reason === undefined ? "may have signed it; not asked, since the token is refused before" : `passed over: ${reason}`;
+  if (reason !== undefined) return `passed over: ${reason}`;
+  return token ? "not asked, since the token is refused before" : "may sign tokens";
 }

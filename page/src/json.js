@@ -1,4 +1,4 @@
-// JSON with the place of each value, so that the page can mark what the library judged. (JSON.parse tells no places, and rounds numbers.)
+// JSON, and where each value stands, so that the page can mark what the library judged. (JSON.parse does not tell that, and rounds numbers.)
 // The bounds are those of docs/FORMATS.md: 127 levels, and no half of a surrogate pair. What the library says counts; this explains it.
 
 const DEEPEST = 127;
@@ -88,11 +88,11 @@ class Reader {
   value(depth) {
     this.blanks();
     const from = this.at;
-    const node = this.unplaced(this.text[from], depth);
+    const node = this.node(this.text[from], depth);
     return { ...node, from, to: this.at };
   }
 
-  unplaced(first, depth) {
+  node(first, depth) {
     if (first === undefined) this.fail("the text ends where a value should stand");
     if (first === "{" || first === "[") {
       if (depth === DEEPEST) this.fail(`it is more than ${DEEPEST} levels deep`);

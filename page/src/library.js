@@ -1,8 +1,8 @@
-// The library svid as a WebAssembly module: the calls of include/svid.h that the page makes. A length, a time and a place in memory are
+// The library svid as a WebAssembly module: the calls of include/svid.h that the page makes. A length, a time and an address in memory are
 // BigInts here, as they have 64 bits; a status is a number.
 
-const TOLD = 40, ID = 24, TERMS = 40, USE = 64, VALIDATOR = 16, DIGEST = 32;
-const ID_ROOM = 2048;
+const TOLD = 40, ID = 24, TERMS = 40, USE = 64, VALIDATOR = 16, DIGEST = 32, BEARER = 16, SAID = 48;
+const ID_ROOM = 2048, SIGNATURE_ROOM = 49150;
 const ANY = 2n ** 64n - 1n;
 const OK = 0, TOO_SHORT = 1;
 
@@ -39,13 +39,65 @@ export class Library {
     return [Math.floor(number / 10000), Math.floor(number / 100) % 100, number % 100].join(".");
   }
 
-  /** Reads a SPIFFE ID: `{ status, place, domainLength, pathLength }`, in bytes. */
+  /** Reads a SPIFFE ID: `{ status, offset, domainLength, pathLength }`, in bytes. */
   parseId(text) {
     return this.within((memory) => {
       const out = memory.room(ID);
       const status = this.calls.svid_id_parse(...memory.lend(text), out);
-      const [place, domainLength, pathLength] = memory.words(out, 3).map(Number);
-      return { status, place, domainLength, pathLength };
+      const [offset, domainLength, pathLength] = memory.words(out, 3).map(Number);
+      return { status, offset, domainLength, pathLength };
+    });
+  }
+
+  /** Finds the bearer token in the value of a header field Authorization: `{ status, at, length }`, in bytes. */
+  bearerToken(value) {
+    return this.within((memory) => {
+      const out = memory.zeroed(BEARER);
+      const status = this.calls.svid_bearer_token(1n, ...memory.lend(value), out);
+      const [at, length] = memory.words(out, 2).map(Number);
+      return { status, at, length };
+    });
+  }
+
+  /**
+   * What a token says: `{ status }`, and where that is 0 `{ status, exp, alg, id, domain, kid, audiences }`; `kid` is undefined where it has none.
+   * Nobody has vouched for it.
+   */
+  says(token) {
+    for (let texts = 0, size = 0; ; ) {
+      const it = this.within((memory) => {
+        const said = memory.zeroed(SAID), lens = memory.room(8 * texts), out = memory.room(size), told = memory.zeroed(TOLD);
+        const status = this.calls.svid_token_says(...memory.lend(token), said, lens, BigInt(texts), out, BigInt(size), told);
+        if (status !== OK) return { status, texts: Number(memory.words(said, 6)[5]), size: Number(memory.words(told, 1)[0]) };
+        const [alg, id, domain, kid, ...audiences] = textsOf(memory.seen(out, size), memory.words(lens, texts).map(Number));
+        return { status, exp: memory.words(said, 5)[4], alg, id, domain, kid: kid || undefined, audiences };
+      });
+      if (it.status !== TOO_SHORT) return it;
+      ({ texts, size } = it);
+    }
+  }
+
+  /** The signature of a token: `{ status, over, bytes }`, and how many bytes of the token it is made over. */
+  signature(token) {
+    return this.within((memory) => {
+      const over = memory.zeroed(8), out = memory.room(SIGNATURE_ROOM), told = memory.zeroed(TOLD);
+      const status = this.calls.svid_token_signature(...memory.lend(token), over, out, BigInt(SIGNATURE_ROOM), told);
+      if (status !== OK) return { status };
+      return { status, over: Number(memory.words(over, 1)[0]), bytes: memory.seen(out, memory.words(told, 1)[0]) };
+    });
+  }
+
+  /** The bytes of one part of a token: `{ status, bytes }`. All are spelled alike, and the library reads of a token the last one. */
+  part(text) {
+    return text ? this.signature(`..${text}`) : { status: OK, bytes: new Uint8Array() };
+  }
+
+  /** How many entries messages have: `{ status, count }`, or why they are none, as `join`. */
+  entries(messages) {
+    return this.within((memory) => {
+      const told = memory.zeroed(TOLD), status = this.calls.svid_entries_read(...memory.lend(messages), 0n, 0n, told);
+      const [count, , message, offset] = memory.words(told, 4).map(Number);
+      return { status: status === TOO_SHORT ? OK : status, count, message, offset };
     });
   }
 
@@ -54,7 +106,7 @@ export class Library {
     return this.text((memory, ...out) => this.calls.svid_key_spki(...memory.lend(key), ...memory.lend(alg), MOST_RSA_BITS, ...out));
   }
 
-  /** What both inputs tell, as messages: `{ status, input, message, place, bytes }`. */
+  /** What both inputs tell, as messages: `{ status, input, message, offset, bytes }`. */
   join(a, b, now = 0n) {
     return this.text((memory, ...out) => this.calls.svid_join(...memory.lend(a), ...memory.lend(b), now, ...out));
   }
@@ -66,17 +118,17 @@ export class Library {
 
   /**
    * Opens a validator, passes it to `body`, and closes it.
-   * @returns `{ status, place }` where the bundles or audiences are refused, and else `{ status: 0, value }` with what `body` returned
+   * @returns `{ status, offset }` where the bundles or audiences are refused, and else `{ status: 0, value }` with what `body` returned
    */
-  withValidator({ longest = ANY, place }, own, bundles, body) {
+  withValidator({ longest = ANY, validatorId }, own, bundles, body) {
     return this.within((memory) => {
       const handle = memory.zeroed(VALIDATOR);
       const terms = memory.room(TERMS);
       memory.setWords(terms, [longest, ANY, ANY]);
-      memory.set(terms + 24n, place);
+      memory.set(terms + 24n, validatorId);
       const told = memory.zeroed(TOLD);
       const status = this.calls.svid_validator_open(handle, terms, ...memory.lend(own), ...memory.lend(bundles), told);
-      if (status !== OK) return { status, place: Number(memory.words(told, 4)[3]) };
+      if (status !== OK) return { status, offset: Number(memory.words(told, 4)[3]) };
       try {
         return { status, value: body(new Validator(this, handle)) };
       } finally {
@@ -91,8 +143,8 @@ export class Library {
       const said = this.within((memory) => {
         const out = memory.room(size), told = memory.zeroed(TOLD);
         const status = call(memory, out, BigInt(size), told);
-        const [length, input, message, place, more] = memory.words(told, 5).map(Number);
-        return { status, length, input, message, place, more, bytes: status === OK ? memory.seen(out, length) : null };
+        const [length, input, message, offset, more] = memory.words(told, 5).map(Number);
+        return { status, length, input, message, offset, more, bytes: status === OK ? memory.seen(out, length) : null };
       });
       if (said.status !== TOO_SHORT) return said;
       size = said.length;
@@ -164,13 +216,13 @@ class Validator {
     });
   }
 
-  /** Takes messages: `{ status, input, message, place }`. */
+  /** Takes messages: `{ status, input, message, offset }`. */
   take(now, messages) {
     return this.library.within((memory) => {
       const told = memory.zeroed(TOLD);
       const status = this.calls.svid_validator_take(this.handle, now, ...memory.lend(messages), told);
-      const [, input, message, place] = memory.words(told, 4).map(Number);
-      return { status, input, message, place };
+      const [, input, message, offset] = memory.words(told, 4).map(Number);
+      return { status, input, message, offset };
     });
   }
 
@@ -231,6 +283,12 @@ class Lent {
   freeAll() {
     for (const it of this.rooms) this.calls.free_room(it);
   }
+}
+
+// Texts that stand one directly after the other.
+function textsOf(bytes, lengths) {
+  let to = 0;
+  return lengths.map((length) => decoder.decode(bytes.subarray(to, (to += length))));
 }
 
 // The rows of svid_validator_ask.

@@ -1,14 +1,14 @@
 // The page: what is in its fields, what the library says of it, and what a person does.
 
-import { domainsOf, isOneBundle } from "./bundles.js";
+import { countOf, domainsOf, isOneBundle } from "./bundles.js";
 import { byId, fill, make } from "./dom.js";
 import { examine, readRecord, use, withdraw } from "./examine.js";
 import { drawChecks, drawKeys, drawParts, drawToken, makeChecks } from "./explain.js";
 import { parse } from "./json.js";
 import { hexOf, Library } from "./library.js";
-import { areMessages, changesOf, contentsOf, MESSAGE_FAULTS } from "./record.js";
+import { changesOf, faultOfMessages } from "./record.js";
 import { timeOf } from "./refusals.js";
-import { partsOf } from "./token.js";
+import { BEARER_FAULTS, partsOf, tokenIn } from "./token.js";
 import { agoOf, clock, dateOf, readTime, spanOf } from "./time.js";
 import { Timeline } from "./timeline.js";
 
@@ -19,7 +19,7 @@ const value = (id) => byId(id).value;
 
 const bytes = Uint8Array.from(atob(byId("module").textContent.trim()), (it) => it.charCodeAt(0));
 let library = await Library.load(bytes);
-const place = crypto.getRandomValues(new Uint8Array(16));
+const validatorId = crypto.getRandomValues(new Uint8Array(16));
 const timeline = new Timeline();
 let record = readRecord(library, NOTHING);
 let shown; // what was examined last: `{ input, result }`
@@ -33,7 +33,7 @@ const isLive = () => byId("live").getAttribute("aria-pressed") === "true";
 
 function says(id, text, isBad = false) {
   const hint = byId(`${id}-said`);
-  hint.textContent = text;
+  if (hint.textContent !== text) hint.textContent = text;
   hint.classList.toggle("bad", isBad);
   byId(id).setAttribute("aria-invalid", String(isBad));
 }
@@ -60,15 +60,24 @@ function faultOfInput({ now, longest }) {
   return Number.isNaN(longest) ? "The longest life can't be read." : undefined;
 }
 
+// The token, which may stand in a header field; none where that has none.
+function readToken() {
+  const text = value("token"), { from, to, isField, fault } = tokenIn(text, library);
+  const why = fault && `This reads as a header field Authorization, and has no bearer token: ${BEARER_FAULTS[fault]}.`;
+  const taken = isField ? `The library took the token out of a header field: the ${to - from} characters behind "${text.slice(0, from).trim()}".` : "";
+  says("token", why ?? taken, Boolean(fault));
+  return { token: fault ? "" : text.slice(from, to), from: fault ? 0 : from, tokenFault: why };
+}
+
 function readInput() {
   return {
-    token: value("token").trim(),
+    ...readToken(),
     bundles: value("bundles"),
     domain: value("domain").trim(),
     own: value("own").split("\n").map((it) => it.trim()).filter(Boolean),
     now: readNow(),
     longest: readLongest(),
-    place,
+    validatorId,
     record,
   };
 }
@@ -84,6 +93,7 @@ async function refresh() {
     const result = why ? undefined : await examine(library, input);
     if (mine !== asked) return;
     shown = { input, result };
+    if (why) drawField(input, []);
     if (why) drawNothing(why);
     else draw(shown);
   } catch (error) {
@@ -97,6 +107,7 @@ async function refresh() {
 async function restart(error) {
   library = await Library.load(bytes);
   shown = undefined;
+  drawField({ token: "", from: 0 }, []);
   drawNothing(`The library stopped: ${error.message}. What is in the fields may be too large; change it to try again.`);
 }
 
@@ -104,32 +115,44 @@ function drawNothing(why) {
   drawRecord("");
   for (const id of ["use", "withdraw"]) byId(id).setAttribute("aria-disabled", "true");
   drawVerdict("none", "Not judged", why);
-  drawChecks(undefined);
+  drawChecks({});
+}
+
+// The text of the token's field, which can't be seen in the field itself.
+function drawField({ token, from }, marks) {
+  const parts = partsOf(token, library).map((it) => ({ from: it.from + from, to: it.to + from }));
+  drawToken({ token: value("token"), parts, marks: marks.map(([a, b]) => [a + from, Math.min(b, token.length) + from]) });
 }
 
 function draw({ input, result }) {
-  const { parts, names, keys = [], fault, verdict, judgedAt = input.now } = result;
+  const { parts, names, domain, isUnnamed, keys = [], fault, verdict, judgedAt = input.now } = result;
   const marks = input.token && verdict ? verdict.marks : [];
-  const own = value("token"), from = own.length - own.trimStart().length;
-  drawToken({ token: own, parts: parts.map((it) => ({ from: it.from + from, to: it.to + from })), marks: marks.map(([a, b]) => [a + from, b + from]) });
+  drawField(input, marks);
   drawParts({ parts, marks, now: judgedAt });
   drawBundles(input, result);
   drawSlider(parts, input.now);
-  drawKeys({ token: input.token, keys: input.token ? keys : [], names });
-  drawChecks(input.token && !fault ? verdict.passed : undefined, verdict?.why);
+  drawKeys({ token: input.token, keys, names, domain, isUnnamed });
+  drawChecks(input.token && !fault ? verdict : {});
   drawResult(input, result);
   drawRecord(input.token ? hexOf(verdict?.key ?? NOTHING) : "");
 }
 
-function drawResult({ token, now }, { fault, verdict, judgedAt }) {
-  const isAccepted = verdict?.status === 0;
+function drawResult({ token, now, tokenFault }, { names, fault, verdict, judgedAt }) {
+  const isAccepted = verdict?.status === 0 && !verdict.isUnasked;
   byId("use").setAttribute("aria-disabled", String(!isAccepted));
   byId("withdraw").setAttribute("aria-disabled", String(!isAccepted && verdict?.refusal !== "Replayed"));
+  if (tokenFault) return drawVerdict("none", "Not judged", "No token can be taken out of the header field.");
   if (!token) return drawVerdict("none", "Paste a token", "Its parts, the verdict and the reason appear here.");
   if (fault) return drawVerdict("none", "Not judged", "The trust bundles can't be read.");
   const late = judgedAt > now ? ` Judged at ${dateOf(judgedAt)}, the time that the record has seen.` : "";
-  if (!isAccepted) return drawVerdict("refused", `Refused: ${verdict.refusal}`, verdict.why + late);
-  return drawVerdict("accepted", "Accepted", `${verdict.id} until ${dateOf(verdict.exp)}, ${agoOf(verdict.exp, judgedAt)}.${late}`);
+  const holder = `${verdict.id} until ${dateOf(verdict.exp ?? 0n)}, ${agoOf(verdict.exp ?? 0n, judgedAt)}.${late}`;
+  if (isAccepted) return drawVerdict("accepted", "Accepted", holder);
+  if (!verdict.isUnasked) return drawVerdict("refused", `Refused: ${verdict.refusal}`, verdict.why + late);
+  if (verdict.refusal && verdict.refusal !== "NotAudience") {
+    return drawVerdict("refused", `Refused: ${verdict.refusal}`, `${verdict.why}${late} The audience was not looked at, since none is given.`);
+  }
+  const wanted = `The token is for ${names.audiences.map((it) => JSON.stringify(it)).join(", ")}. Write the audiences of your service: without one, a service accepts no token.`;
+  return drawVerdict("none", "The audience was not looked at", verdict.refusal ? wanted : `${wanted} It passed every other check: ${holder}`);
 }
 
 function drawVerdict(kind, said, why) {
@@ -144,11 +167,21 @@ function drawBundles({ bundles }, result) {
   byId("domain").placeholder = result.names.domain ?? "example.org";
   if (result.fault) return says("bundles", faultOf(result), true);
   const domains = domainsOf(result.bundles);
+  if (isOne) return says("bundles", `A bundle as SPIRE prints it, with ${counted(countOf(bundles), "entry", "entries")}. ${ofDomain(result, domains[0])}`);
   return says("bundles", bundles.trim() ? `${domains.length} trust ${domains.length === 1 ? "domain" : "domains"}: ${domains.slice(0, 3).join(", ")}${domains.length > 3 ? ", …" : ""}` : "As SPIRE prints a bundle, or an object of many.");
 }
 
+function ofDomain({ isUnnamed }, domain) {
+  if (isUnnamed) return "Which trust domain is it of? Write the name below. If you leave it empty, the trust domain of the token is taken.";
+  return `It is taken as that of ${domain}, ${value("domain").trim() ? "which stands below" : "the trust domain of the token"}.`;
+}
+
+function counted(n, one, many) {
+  return `${n.toLocaleString("en")} ${n === 1 ? one : many}`;
+}
+
 function faultOf({ fault, bundles }) {
-  const name = JSON.stringify(domainsOf(bundles)[fault.place] ?? "");
+  const name = JSON.stringify(domainsOf(bundles)[fault.offset] ?? "");
   if (fault.status === 32) return `${name} is no name of a trust domain.`;
   if (fault.status === 33) return `${name} has no list of keys.`;
   try {
@@ -186,7 +219,7 @@ function drawSlider(parts, now) {
 }
 
 function slides() {
-  const life = spanOfLife(partsOf(value("token").trim()));
+  const life = spanOfLife(partsOf(readToken().token, library));
   setLive(false);
   byId("time").value = String(life.low + ((life.high - life.low) * BigInt(value("slider"))) / STEPS);
   refresh();
@@ -205,8 +238,7 @@ function drawRecord(key) {
   keyShown = key;
   const { uses, rows, moment } = record;
   const withdrawals = uses.filter((it) => it.isWithdrawal).length, twice = rows.filter((it) => it.isTwice).length;
-  const count = (n, one, many) => `${n.toLocaleString("en")} ${n === 1 ? one : many}`;
-  const counts = [count(uses.length - withdrawals, "use", "uses"), count(withdrawals, "withdrawal", "withdrawals"), count(twice, "key used twice", "keys used twice")];
+  const counts = [counted(uses.length - withdrawals, "use", "uses"), counted(withdrawals, "withdrawal", "withdrawals"), counted(twice, "key used twice", "keys used twice")];
   byId("record-said").textContent = moment ? `It has seen ${dateOf(moment)}. ${counts.join(", ")}.` : "It has seen no time yet.";
   for (const id of ["save", "forget"]) byId(id).setAttribute("aria-disabled", String(!moment && !uses.length));
   timeline.show(record, gained, key);
@@ -233,27 +265,21 @@ function tellChange(text, isBad = false) {
   byId("record-change").append(make("p", { class: isBad ? "bad" : undefined }, text));
 }
 
-function takeMessages(name, content) {
-  const joined = library.join(record.messages, content);
-  if (joined.status !== 0) {
-    const where = joined.status === 3 ? "" : ` In message ${joined.message}, at byte ${joined.place}.`;
-    return tellChange(`${name} was not taken: ${MESSAGE_FAULTS[joined.status] ?? `status ${joined.status}`}.${where}`, true);
-  }
-  const found = contentsOf(content);
-  const kinds = [[found[2], "batch", "batches", " of version 2"], [found[1], "batch", "batches", " of version 1"], [found.summaries, "summary", "summaries", ", which tell of no use"]];
-  const words = kinds.filter(([n]) => n).map(([n, one, many, what]) => `${n} ${n === 1 ? one : many}${what}`).join(", ");
-  return setRecord(joined.bytes, `${name} (${words || "no message"})`);
+function takeMessages(name, content, joined) {
+  if (joined.status !== 0) return tellChange(`${name} was not taken: ${faultOfMessages(library, content, joined)}`, true);
+  return setRecord(joined.bytes, `${name} (${counted(library.entries(content).count, "entry", "entries")})`);
 }
 
 // ---- What a person does ----
 
 async function takeFile(file) {
   const content = new Uint8Array(await file.arrayBuffer());
-  if (areMessages(content)) return takeMessages(file.name, content);
+  const joined = library.join(record.messages, content);
+  if (joined.status === 0) return takeMessages(file.name, content, joined);
   const text = new TextDecoder().decode(content).trim();
   if (text.startsWith("{")) return put("bundles", text);
-  if (/^[\w.-]*$/.test(text)) return put("token", text);
-  return takeMessages(file.name, content);
+  if (/^[\w.-]*$/.test(text) || tokenIn(text, library).isField) return put("token", text);
+  return takeMessages(file.name, content, joined);
 }
 
 async function takeFiles(files) {

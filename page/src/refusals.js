@@ -6,10 +6,11 @@ import { agoOf, dateOf, spanOf } from "./time.js";
 
 const WHOLE = [0, Infinity];
 
-/** @typedef {object} Case what a token was judged by: `token`, `parts`, `own` (audiences), `now`, `longest`, `library` */
+/** @typedef {object} Case what a token was judged by: `token`, `parts`, `names` (what it says, as `Library.says`), `own` (audiences), `now`, `longest`, `library` */
 
 // The number of each in the library, its name, and what a token must be to pass it.
 // lists:begin refusals (written by tools/lists from lists/refusals.toml)
+const ALGORITHMS = "RS256 to RS512, ES256 to ES512 and PS256 to PS512";
 const LIST = [
   { number: 101, name: "TooLong", asks: "It has at most 65,536 bytes" },
   { number: 102, name: "NotThreeParts", asks: "It has three parts" },
@@ -39,14 +40,14 @@ const LIST = [
 ];
 // lists:end
 
-// `holds(case)` of each tells why it holds, and the places that do not fit.
+// `holds(case)` of each tells why it holds, and the characters of the token that do not fit.
 const HOLDS = {
   TooLong: tooLong,
   NotThreeParts: notThreeParts,
   HeaderSpelling: (it) => misspelt(it, 0, "header"),
   HeaderNotObject: (it) => notObject(it, 0, "header"),
   Crit: (it) => wrong(it, 0, "crit", "names extensions that must be understood, and svid has none"),
-  Alg: (it) => wrong(it, 0, "alg", "is none of RS, PS or ES with 256, 384 or 512"),
+  Alg: (it) => wrong(it, 0, "alg", `is none of ${ALGORITHMS}`),
   Typ: (it) => wrong(it, 0, "typ", "is neither JWT nor JOSE"),
   Kid: (it) => wrong(it, 0, "kid", "is no text"),
   PayloadSpelling: (it) => misspelt(it, 1, "payload"),
@@ -87,15 +88,6 @@ export function objectOf(parts, part) {
   return node?.kind === "object" ? node : undefined;
 }
 
-/** The trust domain of a token, its algorithm and the name of its key, as far as they can be told. */
-export function namesOf(parts, library) {
-  const header = objectOf(parts, 0), payload = objectOf(parts, 1);
-  const id = stringAt(payload, "sub");
-  const parsed = id === undefined ? undefined : library.parseId(id);
-  const domain = parsed?.status === 0 ? id.slice(9, 9 + parsed.domainLength) : undefined;
-  return { id, domain, alg: stringAt(header, "alg"), kid: stringAt(header, "kid") };
-}
-
 const said = (why, ...marks) => ({ why, marks });
 
 function tooLong({ token }) {
@@ -113,7 +105,8 @@ function misspelt({ parts }, which, name) {
   const part = parts[which], at = part.badAt ?? 0, bad = [...part.text.slice(at, at + 2)][0] ?? "";
   const isLast = at === part.text.length - 1 && /[\w-]/.test(bad);
   const why = isLast ? "Its last character has bits that are left over, or one too few." : `${JSON.stringify(bad)} is no character of base64url.`;
-  return said(`The ${name} is misspelt at character ${at + 1}. ${why}`, [part.from + at, part.from + at + bad.length]);
+  const inToken = which ? `, which is character ${part.from + at + 1} of the token` : "";
+  return said(`The ${name} is misspelt at character ${at + 1}${inToken}. ${why}`, [part.from + at, part.from + at + bad.length]);
 }
 
 function signatureMisspelt(it) {
@@ -130,15 +123,15 @@ function notObject({ parts }, which, name) {
   return said(`The ${name} is no JSON: at character ${fault.at + 1}, ${fault.message}.`, [from, part.to]);
 }
 
-// The places of a member in the token; of the whole part where it is not there.
-function placeOf({ parts }, which, name) {
+// The characters of a member in the token; of the whole part where it is not there.
+function charactersOf({ parts }, which, name) {
   const part = parts[which], found = member(objectOf(parts, which), name);
   return found ? part.charactersOf(found.from, found.to) : [part.from, part.to];
 }
 
 function wrong(it, which, name, fault) {
   const isThere = member(objectOf(it.parts, which), name);
-  return said(isThere ? `${name} ${fault}.` : `There is no ${name}.`, placeOf(it, which, name));
+  return said(isThere ? `${name} ${fault}.` : `There is no ${name}.`, charactersOf(it, which, name));
 }
 
 const ID_FAULTS = {
@@ -155,17 +148,10 @@ const ID_FAULTS = {
 function noId(it) {
   const id = stringAt(objectOf(it.parts, 1), "sub");
   if (id === undefined) return wrong(it, 1, "sub", "is no text");
-  const { status, place } = it.library.parseId(id);
-  const bad = new TextDecoder().decode(new TextEncoder().encode(id).subarray(place)).match(/^\.*|^./u)[0] || [...id].at(-1);
-  const rest = new TextDecoder().decode(new TextEncoder().encode(id).subarray(place));
-  return said(`sub is no SPIFFE ID: ${ID_FAULTS[status](JSON.stringify(status === 27 ? bad : [...rest][0] ?? ""))}.`, placeOf(it, 1, "sub"));
-}
-
-/** The audiences of a token. */
-export function audiencesOf(parts) {
-  const node = member(objectOf(parts, 1), "aud")?.value;
-  if (node?.kind === "string") return [node.value];
-  return node?.kind === "array" ? node.items.filter((it) => it.kind === "string").map((it) => it.value) : [];
+  const { status, offset } = it.library.parseId(id);
+  const bad = new TextDecoder().decode(new TextEncoder().encode(id).subarray(offset)).match(/^\.*|^./u)[0] || [...id].at(-1);
+  const rest = new TextDecoder().decode(new TextEncoder().encode(id).subarray(offset));
+  return said(`sub is no SPIFFE ID: ${ID_FAULTS[status](JSON.stringify(status === 27 ? bad : [...rest][0] ?? ""))}.`, charactersOf(it, 1, "sub"));
 }
 
 /** A claim that is a time, if it is one. */
@@ -178,33 +164,33 @@ const list = (names) => names.map((it) => JSON.stringify(it)).join(", ");
 
 function notAudience(it) {
   const mine = it.own.length ? `and this service is ${list(it.own)}` : "and this service has no name here";
-  return said(`The token is for ${list(audiencesOf(it.parts))}, ${mine}.`, placeOf(it, 1, "aud"));
+  return said(`The token is for ${list(it.names.audiences)}, ${mine}.`, charactersOf(it, 1, "aud"));
 }
 
 function expired(it) {
-  const exp = timeOf(it.parts, "exp");
-  return said(`It expired at ${dateOf(exp)}, ${exp === it.now ? "this very second" : agoOf(exp, it.now)}.`, placeOf(it, 1, "exp"));
+  const { exp } = it.names;
+  return said(`It expired at ${dateOf(exp)}, ${exp === it.now ? "this very second" : agoOf(exp, it.now)}.`, charactersOf(it, 1, "exp"));
 }
 
 function notYet(it) {
   const nbf = timeOf(it.parts, "nbf");
-  return said(`It is valid from ${dateOf(nbf)} on, ${agoOf(nbf, it.now)}.`, placeOf(it, 1, "nbf"));
+  return said(`It is valid from ${dateOf(nbf)} on, ${agoOf(nbf, it.now)}.`, charactersOf(it, 1, "nbf"));
 }
 
 function tooLongLived(it) {
-  const left = timeOf(it.parts, "exp") - it.now;
-  return said(`It expires ${agoOf(timeOf(it.parts, "exp"), it.now)}, and ${spanOf(it.longest)} are allowed (${left} s, and ${it.longest} s).`, placeOf(it, 1, "exp"));
+  const { exp } = it.names, left = exp - it.now;
+  return said(`It expires ${agoOf(exp, it.now)}, and ${spanOf(it.longest)} are allowed (${left} s, and ${it.longest} s).`, charactersOf(it, 1, "exp"));
 }
 
 function unknownDomain(it) {
-  return said(`The bundles have no trust domain ${JSON.stringify(namesOf(it.parts, it.library).domain)}.`, placeOf(it, 1, "sub"));
+  return said(`The bundles have no trust domain ${JSON.stringify(it.names.domain)}.`, charactersOf(it, 1, "sub"));
 }
 
 function noKey(it) {
-  const { kid } = namesOf(it.parts, it.library);
+  const { kid } = it.names;
   const named = kid === undefined ? "" : ` with the kid ${JSON.stringify(kid)}`;
   const name = kid === undefined ? "alg" : "kid";
-  return said(`The bundle has no key for this algorithm${named}. The keys below say why each was passed over.`, placeOf(it, 0, name));
+  return said(`The bundle has no key for this algorithm${named}. The keys below say why each was passed over.`, charactersOf(it, 0, name));
 }
 
 function badSignature({ parts }) {
@@ -212,15 +198,15 @@ function badSignature({ parts }) {
 }
 
 // (by its key, which is made of the trust domain and the jti, or of what is signed where there is none)
-function keyPlace(it) {
+function charactersOfKey(it) {
   const jti = stringAt(objectOf(it.parts, 1), "jti");
-  return jti ? placeOf(it, 1, "jti") : [0, it.parts[1].to];
+  return jti ? charactersOf(it, 1, "jti") : [0, it.parts[1].to];
 }
 
 function withdrawn(it) {
-  return said("The record below has a withdrawal of this token.", keyPlace(it));
+  return said("The record below has a withdrawal of this token.", charactersOfKey(it));
 }
 
 function replayed(it) {
-  return said("The record below has a use of this token already.", keyPlace(it));
+  return said("The record below has a use of this token already.", charactersOfKey(it));
 }

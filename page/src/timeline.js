@@ -28,7 +28,7 @@ export class Timeline {
   show(record, gained, key) {
     this.record = record;
     this.gained = gained;
-    this.places = placesOf(record.uses);
+    this.validators = validatorsOf(record.uses);
     this.scale = scaleOf(record);
     this.own = record.rows.findIndex((it) => it.key === key);
     this.chosen = Math.max(this.own, 0);
@@ -36,7 +36,7 @@ export class Timeline {
     byId("timeline").hidden = !record.rows.length;
     byId("timeline-none").hidden = record.rows.length > 0;
     this.drawAxis();
-    this.drawPlaces();
+    this.drawValidators();
     this.draw();
     this.reveal();
     this.drawChosen();
@@ -54,11 +54,11 @@ export class Timeline {
     fill(byId("axis"), ticks.map((it) => make("span", {}, span < 172800n ? dateOf(it).slice(5, 16) : dateOf(it).slice(0, 10))));
   }
 
-  drawPlaces() {
-    const shown = [...this.places].slice(0, COLOURS), more = this.places.size - shown.length;
-    fill(byId("places"), shown.map(([place, { colour, count }]) =>
-      make("li", {}, make("i", { class: `dot place-${colour}`, "aria-hidden": "true" }), make("code", {}, place.slice(0, 8)), ` ${count.toLocaleString("en")}`)),
-      more > 0 && make("li", {}, `and ${more} more places`));
+  drawValidators() {
+    const shown = [...this.validators].slice(0, COLOURS), more = this.validators.size - shown.length;
+    fill(byId("validators"), shown.map(([id, { colour, count }]) =>
+      make("li", {}, make("i", { class: `dot validator-${colour}`, "aria-hidden": "true" }), make("code", {}, id.slice(0, 8)), ` ${count.toLocaleString("en")}`)),
+      more > 0 && make("li", {}, `and ${more} more validators`));
   }
 
   // The rows in sight, and some beyond, at their height in the whole list.
@@ -94,7 +94,7 @@ export class Timeline {
 
   dot(use) {
     const it = this.placed(use.isWithdrawal ? "cross" : "dot", use.at);
-    it.classList.add(`place-${this.places.get(use.place).colour}`);
+    it.classList.add(`validator-${this.validators.get(use.validatorId).colour}`);
     if (this.gained.has(useName(use))) it.classList.add("gained");
     return it;
   }
@@ -111,11 +111,11 @@ export class Timeline {
     const width = this.picture.clientWidth * devicePixelRatio, height = PICTURE * devicePixelRatio;
     Object.assign(this.picture, { width, height });
     const context = this.picture.getContext("2d"), style = getComputedStyle(this.picture);
-    const colours = Array.from({ length: COLOURS }, (_, n) => style.getPropertyValue(`--place-${n}`)), bad = style.getPropertyValue("--bad");
+    const colours = Array.from({ length: COLOURS }, (_, n) => style.getPropertyValue(`--validator-${n}`)), bad = style.getPropertyValue("--bad");
     const thick = Math.max(height / rows.length, devicePixelRatio);
     context.globalAlpha = 0.8;
     rows.forEach((row, n) => {
-      context.fillStyle = row.isTwice || isWithdrawn(row) ? bad : colours[this.places.get(row.uses[0].place).colour];
+      context.fillStyle = row.isTwice || isWithdrawn(row) ? bad : colours[this.validators.get(row.uses[0].validatorId).colour];
       const from = (this.percent(row.from) / 100) * width, to = (this.percent(row.exp) / 100) * width;
       context.fillRect(from, (n * height) / rows.length, Math.max(to - from, devicePixelRatio), thick);
     });
@@ -126,8 +126,8 @@ export class Timeline {
     if (!row) return fill(byId("chosen"));
     const inTime = [...row.uses].sort((a, b) => Number(a.at - b.at));
     const uses = inTime.map((use) => make("li", {},
-      make("i", { class: `${use.isWithdrawal ? "cross" : "dot"} place-${this.places.get(use.place).colour}`, "aria-hidden": "true" }),
-      `${use.isWithdrawal ? "withdrawn" : "used"} at ${dateOf(use.at)} by `, make("code", {}, use.place), this.gained.has(useName(use)) && make("b", {}, "new")));
+      make("i", { class: `${use.isWithdrawal ? "cross" : "dot"} validator-${this.validators.get(use.validatorId).colour}`, "aria-hidden": "true" }),
+      `${use.isWithdrawal ? "withdrawn" : "used"} at ${dateOf(use.at)} by `, make("code", {}, use.validatorId), this.gained.has(useName(use)) && make("b", {}, "new")));
     fill(byId("chosen"), make("p", {}, make("code", {}, row.key)), make("p", {}, `${row.isTwice ? "Used twice. " : ""}Expires at ${dateOf(row.exp)}, ${agoOf(row.exp, this.record.moment)} by the record's clock.`), make("ul", {}, uses));
   }
 
@@ -171,15 +171,15 @@ function rowText(row, isOwn) {
   return `Key ${row.key.slice(0, 12)}${what && `, ${what}`}, ${row.uses.length} ${row.uses.length === 1 ? "entry" : "entries"}, expires at ${dateOf(row.exp)}`;
 }
 
-// The places in the order in which the record names them, each with its colour and how many entries it made.
-function placesOf(uses) {
-  const places = new Map();
-  for (const { place } of uses) {
-    const known = places.get(place) ?? { colour: places.size % COLOURS, count: 0 };
+// The validators in the order in which the record names them, each with its colour and how many entries it made.
+function validatorsOf(uses) {
+  const validators = new Map();
+  for (const { validatorId } of uses) {
+    const known = validators.get(validatorId) ?? { colour: validators.size % COLOURS, count: 0 };
     known.count++;
-    places.set(place, known);
+    validators.set(validatorId, known);
   }
-  return places;
+  return validators;
 }
 
 // From the first use to the last expiry; but where few rows expire long after all others, not up to these.

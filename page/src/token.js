@@ -4,21 +4,59 @@ import { JsonFault, parse } from "./json.js";
 
 const decoder = new TextDecoder("utf-8", { ignoreBOM: true });
 const encoder = new TextEncoder();
-const ALPHABET = "ABCDEFGHIJKLMNOPQRSTUVWXYZabcdefghijklmnopqrstuvwxyz0123456789-_";
+
+const OK = 0, SCHEME = 83, TOO_LONG = 101;
+
+// lists:begin bearer (written by tools/lists from lists/statuses.toml)
+/** Why a header field Authorization has no bearer token, by status (include/svid.h). */
+export const BEARER_FAULTS = {
+  81: "no header field Authorization",
+  82: "more than one",
+  83: "its scheme is not Bearer",
+  84: "the scheme is not followed by one token",
+};
+// lists:end
+
+/**
+ * Where the token stands in what a person put in: blanks around it count for nothing. Of a header field Authorization, with its name or
+ * without, the library tells it.
+ * @returns `{ from, to, isField, fault }`: `isField` says that the library took the token out of a field, and `fault` is the status that says why
+ * a field has no token
+ */
+export function tokenIn(text, library) {
+  const trimmed = text.trim(), start = text.length - text.trimStart().length, name = /^authorization:/i.exec(trimmed)?.[0] ?? "";
+  const whole = { from: start, to: start + trimmed.length, isField: false };
+  if (!trimmed) return whole;
+  const { status, at, length } = library.bearerToken(trimmed.slice(name.length));
+  // (no character before the token and in it has two bytes)
+  const from = start + name.length + at;
+  if (status === OK) return { from, to: from + length, isField: true };
+  return status === TOO_LONG || (status === SCHEME && !name) ? whole : { ...whole, fault: status };
+}
 
 /** A part of a token between its periods. */
 export class Part {
-  /** @param {string} text the part; @param {number} from where it begins in the token */
-  constructor(text, from) {
+  #read;
+
+  /** @param {string} text the part; @param {number} from where it begins in the token; @param {Library} library by which it is read */
+  constructor(text, from, library) {
     this.text = text;
     this.from = from;
     this.to = from + text.length;
-    this.badAt = firstBad(text);
+    this.library = library;
   }
 
-  /** The bytes that it decodes to; none where it is not base64url. */
+  /** The bytes that it decodes to; none where the library does not read it. */
   get bytes() {
-    return this.badAt === undefined ? decoded(this.text) : undefined;
+    this.#read ??= this.library.part(this.text);
+    return this.#read.bytes;
+  }
+
+  /** Where it is misspelt: its first character that no part has, or else its last one. Undefined where it is not. */
+  get badAt() {
+    if (this.bytes || this.#read.status === TOO_LONG) return undefined;
+    const bad = [...this.text].findIndex((it) => !isSpelled(it, this.library));
+    return bad === -1 ? this.text.length - 1 : bad;
   }
 
   /** The decoded bytes as text. */
@@ -39,7 +77,7 @@ export class Part {
     }
   }
 
-  /** Which characters of the token hold a piece of the decoded text, as a pair of places. */
+  /** Which characters of the token hold a piece of the decoded text, as a pair of indices: four of them hold three bytes. */
   charactersOf(from, to) {
     const text = this.decoded;
     const before = encoder.encode(text.slice(0, from)).length, length = encoder.encode(text.slice(from, to)).length;
@@ -48,25 +86,21 @@ export class Part {
 }
 
 /** The parts of a token: as many as its periods make, so three of one that is well formed. */
-export function partsOf(token) {
+export function partsOf(token, library) {
   let from = 0;
   return token.split(".").map((text) => {
-    const part = new Part(text, from);
+    const part = new Part(text, from, library);
     from = part.to + 1;
     return part;
   });
 }
 
-/**
- * Where a text is not base64url (RFC 4648, section 5, without padding): the first character of another alphabet, or the last one where
- * the length or the bits that are left over can't be. Undefined where it is.
- */
-export function firstBad(text) {
-  const bad = [...text].findIndex((it) => !ALPHABET.includes(it));
-  if (bad !== -1) return bad;
-  const left = text.length % 4;
-  const mask = { 0: 0, 1: 63, 2: 15, 3: 3 }[left];
-  return left === 1 || ALPHABET.indexOf(text.at(-1)) & mask ? text.length - 1 : undefined;
+const spelled = new Map();
+
+// Whether a part may have a character. (Of eight, no bit is left over.)
+function isSpelled(it, library) {
+  if (!spelled.has(it)) spelled.set(it, library.part(it.repeat(8)).status === OK);
+  return spelled.get(it);
 }
 
 // Where bytes are not UTF-8: the first character of the decoded text that stands for other bytes than its own.
@@ -75,9 +109,4 @@ function firstNotText(bytes, text) {
   if (at === -1 && again.length === bytes.length) return undefined;
   // (a character that the bad bytes begin does not count)
   return new TextDecoder("utf-8", { ignoreBOM: true }).decode(bytes.subarray(0, at === -1 ? again.length : at), { stream: true }).length;
-}
-
-/** The bytes of base64url. */
-export function decoded(text) {
-  return Uint8Array.from(atob(text.replaceAll("-", "+").replaceAll("_", "/")), (it) => it.charCodeAt(0));
 }

@@ -2,7 +2,9 @@
 //
 // The library says which key can be used with an algorithm, and gives it as SubjectPublicKeyInfo.
 
+// lists:begin curves (written by tools/lists from lists/algorithms.toml)
 const CURVES = { ES256: "P-256", ES384: "P-384", ES512: "P-521" };
+// lists:end
 const OK = 0;
 const encoder = new TextEncoder();
 
@@ -35,6 +37,9 @@ async function ask({ alg, spki }, signed, signature) {
   const [importing, verifying] = parametersOf(alg);
   try {
     const imported = await crypto.subtle.importKey("spki", spki.bytes, importing, false, ["verify"]);
+    // (OpenSSL, in Node, takes a shorter signature for RSA-PSS, which RFC 8017, section 8.1.2, does not)
+    const bits = imported.algorithm.modulusLength;
+    if (bits && signature.length !== Math.ceil(bits / 8)) return { is: "bad" };
     const isGood = await crypto.subtle.verify(verifying, imported, signature, encoder.encode(signed));
     return { is: isGood ? "good" : "bad" };
   } catch (error) {

@@ -1,6 +1,7 @@
 // Chromium without a window, driven over a pipe by the DevTools protocol: no port is opened, and nothing is installed beside it.
 
 import { spawn } from "node:child_process";
+import { readFileSync, readdirSync } from "node:fs";
 import { mkdtemp, rm } from "node:fs/promises";
 import { tmpdir } from "node:os";
 import { join } from "node:path";
@@ -46,6 +47,22 @@ export class Browser {
       this.waiting.set(id, { resolve, reject });
       this.process.stdio[3].write(`${JSON.stringify({ id, method, params, sessionId })}\0`);
     });
+  }
+
+  /** How many milliseconds it has taken of the processors, with the processes that it started. */
+  processorTime() {
+    const parents = new Map(), took = new Map();
+    for (const pid of readdirSync("/proc").filter((it) => /^\d+$/.test(it))) {
+      try {
+        const stat = readFileSync(`/proc/${pid}/stat`, "utf8"), fields = stat.slice(stat.lastIndexOf(")") + 2).split(" ");
+        parents.set(Number(pid), Number(fields[1]));
+        took.set(Number(pid), 10 * (Number(fields[11]) + Number(fields[12])));
+      } catch {
+        // (it has ended meanwhile)
+      }
+    }
+    const isOurs = (pid) => pid === this.process.pid || (parents.has(pid) && isOurs(parents.get(pid)));
+    return [...took].filter(([pid]) => isOurs(pid)).reduce((sum, [, it]) => sum + it, 0);
   }
 
   /** Opens a page in a tab of its own. */

@@ -22,13 +22,13 @@ const count = (kind, status) => reached.set(`${kind} ${status}`, (reached.get(`$
 const mutated = (bytes, most = 4) => mutatedBy(bytes, r, most);
 const word = (...numbers) => Buffer.from(new BigUint64Array(numbers.map(BigInt)).buffer);
 
-// A record of a few keys and places, so that records meet.
+// A record of a few keys and validators, so that records meet.
 function stream() {
   if (r.below(4) === 0) return mutated(r.pick(messages));
   const parts = Array.from({ length: r.below(4) }, () => {
     const moment = 1 + r.below(1000), count = r.pick([0, 1, 3, 20]);
     const uses = Array.from({ length: count }, () => ({
-      exp: moment + 1 + r.below(500), key: Buffer.alloc(32, r.below(4)), place: Buffer.alloc(16, r.below(3)), at: r.below(moment + 1), withdrawn: r.below(5) ? 0 : 1,
+      exp: moment + 1 + r.below(500), key: Buffer.alloc(32, r.below(4)), validatorId: Buffer.alloc(16, r.below(3)), at: r.below(moment + 1), withdrawn: r.below(5) ? 0 : 1,
     }));
     return batch(moment, [...new Map(uses.map((it) => [it.exp, it])).values()], r.pick([1, 2, 2]));
   });
@@ -61,8 +61,8 @@ function makeCall(library) {
 
 // The questions that are answered yes, some that the library asks and some of others; and the key and the expiry of a token that is
 // withdrawn, this one where it is accepted, or another.
-function chosenOf(library, [, place, own, bundle, , it]) {
-  const { value: found } = library.withValidator({ place }, own, bundle, (validator) => {
+function chosenOf(library, [, validatorId, own, bundle, , it]) {
+  const { value: found } = library.withValidator({ validatorId }, own, bundle, (validator) => {
     const { rows } = validator.ask(it);
     return { rows, judged: validator.judge(NOW, rows.map((row) => row.question), it) };
   });
@@ -73,7 +73,7 @@ function chosenOf(library, [, place, own, bundle, , it]) {
   return { yes, withdrawn: Buffer.concat(withdrawn) };
 }
 
-const toldText = ({ status, length, input, message, place, bytes }) => Buffer.concat([word(status, length, input, message, place), bytes ?? Buffer.alloc(0)]);
+const toldText = ({ status, length, input, message, offset, bytes }) => Buffer.concat([word(status, length, input, message, offset), bytes ?? Buffer.alloc(0)]);
 
 function verdict({ status, id, exp, at, key }) {
   count("check", status);
@@ -90,20 +90,20 @@ function answerOf(library, call) {
 function unnamedAnswerOf(library, { kind, now, inputs }) {
   if (kind === 1) {
     const it = library.parseId(inputs[0]);
-    return word(it.status, it.place, it.domainLength, it.pathLength);
+    return word(it.status, it.offset, it.domainLength, it.pathLength);
   }
   if (kind === 2) return toldText(library.join(...inputs, now));
   if (kind === 3) return toldText(library.report(...inputs, now));
   return sessionOf(library, now, inputs);
 }
 
-function sessionOf(library, now, [longest, place, own, bundle, taken, it, yes, keyExp]) {
+function sessionOf(library, now, [longest, validatorId, own, bundle, taken, it, yes, keyExp]) {
   const questions = hexOf(yes).match(/.{64}/g) ?? [];
-  const opened = library.withValidator({ longest: longest.readBigUInt64LE(), place }, own, bundle, (validator) => {
+  const opened = library.withValidator({ longest: longest.readBigUInt64LE(), validatorId }, own, bundle, (validator) => {
     const took = validator.take(0n, taken);
     const asked = library.text((memory, ...out) => library.calls.svid_validator_ask(validator.handle, ...memory.lend(it), MOST_CANDIDATES, ...out));
     return Buffer.concat([
-      word(took.status, took.input, took.message, took.place),
+      word(took.status, took.input, took.message, took.offset),
       toldText(asked),
       verdict(validator.judge(now, questions, it)),
       verdict(validator.check(now, questions, it)),
@@ -112,7 +112,7 @@ function sessionOf(library, now, [longest, place, own, bundle, taken, it, yes, k
       toldText(validator.tell()),
     ]);
   });
-  return opened.status === 0 ? opened.value : word(opened.status, opened.place);
+  return opened.status === 0 ? opened.value : word(opened.status, opened.offset);
 }
 
 function frameOf({ kind, now, inputs }) {

@@ -16,7 +16,7 @@ before(async () => {
 });
 after(() => browser?.close());
 
-const use = (key, place, at, exp, withdrawn = 0) => ({ key: Buffer.alloc(32, key), place: Buffer.alloc(16, place), at: NOW + at, exp: NOW + exp, withdrawn });
+const use = (key, validator, at, exp, withdrawn = 0) => ({ key: Buffer.alloc(32, key), validatorId: Buffer.alloc(16, validator), at: NOW + at, exp: NOW + exp, withdrawn });
 
 /** Drops a file on the page, whose record is empty then. */
 async function dropFile(name, content) {
@@ -33,13 +33,13 @@ async function dropFile(name, content) {
 
 const drop = (...uses) => dropFile("some", batch(NOW, uses));
 
-// What stands in the timeline: of each row its label and its marks, and of each thing in a lane its kind and its place.
+// What stands in the timeline: of each row its label and its marks, and of each thing in a lane its kind and where it stands.
 const drawn = () => page.run(() => [...document.querySelectorAll("#rows .row")].map((row) => ({
   label: row.getAttribute("aria-label"),
   marks: [...row.querySelectorAll("b")].map((it) => it.textContent),
   isChosen: row.getAttribute("aria-selected") === "true",
   lane: [...row.querySelectorAll(".lane i")].map((it) => [it.classList[0], it.style.left, it.style.width]),
-  colours: [...row.querySelectorAll(".lane .dot, .lane .cross")].map((it) => [...it.classList].find((name) => name.startsWith("place-"))),
+  colours: [...row.querySelectorAll(".lane .dot, .lane .cross")].map((it) => [...it.classList].find((name) => name.startsWith("validator-"))),
 })));
 const chosen = () => page.run(() => [...document.querySelectorAll("#chosen li")].map((it) => it.textContent));
 
@@ -85,11 +85,11 @@ test("each thing stands at its time", async () => {
   assert.deepEqual((await chosen()).map((it) => it.slice(0, 27)), [-100, -20].map((it) => `used at ${dateOf(BigInt(NOW + it))}`));
 });
 
-test("each place has its colour, and how many entries it made", async () => {
+test("each validator has its colour, and how many entries it made", async () => {
   await drop(use(1, 1, -10, 100), use(2, 2, -10, 200), use(3, 1, -10, 300));
-  assert.deepEqual((await drawn()).map((it) => it.colours), [["place-0"], ["place-1"], ["place-0"]]);
-  const places = await page.run(() => [...document.querySelectorAll("#places li")].map((it) => [it.textContent, it.querySelector("i").classList[1]]));
-  assert.deepEqual(places, [["01010101 2", "place-0"], ["02020202 1", "place-1"]]);
+  assert.deepEqual((await drawn()).map((it) => it.colours), [["validator-0"], ["validator-1"], ["validator-0"]]);
+  const validators = await page.run(() => [...document.querySelectorAll("#validators li")].map((it) => [it.textContent, it.querySelector("i").classList[1]]));
+  assert.deepEqual(validators, [["01010101 2", "validator-0"], ["02020202 1", "validator-1"]]);
   await page.click("forget");
 });
 
@@ -116,7 +116,7 @@ test("of doubled members the last one counts", async () => {
 test("text that looks like markup stays text", async () => {
   const text = "<img src=x onerror=alert(1)>";
   await dropFile(text, batch(NOW, [use(1, 1, -10, 100)]));
-  assert.match(await page.text("record-change"), /^<img src=x onerror=alert\(1\)> \(1 batch of version 2\): 1 new/);
+  assert.match(await page.text("record-change"), /^<img src=x onerror=alert\(1\)> \(1 entry\): 1 new/);
   await dropFile(text, Buffer.from([1, 2]));
   assert.match(await page.text("record-change"), /^<img src=x onerror=alert\(1\)> was not taken/);
   assert.deepEqual((await members(`{"${text}":"${text}"}`)).map(([name]) => name), [text]);

@@ -11,7 +11,7 @@ import { base64url, makeKey, mutated, random, sign } from "./tokens.mjs";
 
 const CASES = 4000, NOW = 1767225600n;
 const r = random(7);
-const placeOf = (name) => REFUSALS.findIndex((it) => it.name === name);
+const indexOf = (name) => REFUSALS.findIndex((it) => it.name === name);
 
 // Whether what the page reads in a token has passed a check, as far as JavaScript can say.
 const PASSES = {
@@ -46,7 +46,7 @@ function bundlesOf(entry) {
 
 test("what the page explains is what the library says", async (t) => {
   const library = await Library.load(readFileSync(process.env.SVID_MODULE)), key = await makeKey("ES256", "k1");
-  const record = readRecord(library, new Uint8Array()), entry = JSON.stringify(key.entry), place = new Uint8Array(16);
+  const record = readRecord(library, new Uint8Array()), entry = JSON.stringify(key.entry), validatorId = new Uint8Array(16);
   const seen = new Map();
   let passedOver = 0, asked = 0;
   for (let n = 0; n < CASES; n++) {
@@ -54,8 +54,8 @@ test("what the page explains is what the library says", async (t) => {
     const payload = changed(r.pick(['{"sub":"spiffe://example.org/a","aud":["ledger","b"],"exp":1767229200,"nbf":1767225600,"jti":"1"}', '{"sub":"spiffe://other.example","aud":"ledger","exp":1767225600}']));
     const signed = await sign(key, header, payload);
     const token = r.below(4) ? signed : mutated(Buffer.from(signed), r, 3).toString();
-    const input = { token, bundles: r.below(6) ? bundlesOf(entry) : mutated(Buffer.from(bundlesOf(entry)), r, 2).toString(), domain: "", own: r.pick([["ledger"], ["other"], []]), now: NOW + BigInt(r.pick([0, -1, 3600])), longest: r.pick([undefined, 60n]), place, record };
-    const what = JSON.stringify({ ...input, now: String(input.now), longest: String(input.longest), place: "", record: "" });
+    const input = { token, bundles: r.below(6) ? bundlesOf(entry) : mutated(Buffer.from(bundlesOf(entry)), r, 2).toString(), domain: "", own: r.pick([["ledger"], ["other"], []]), now: NOW + BigInt(r.pick([0, -1, 3600])), longest: r.pick([undefined, 60n]), validatorId, record };
+    const what = JSON.stringify({ ...input, now: String(input.now), longest: String(input.longest), validatorId: "", record: "" });
     const { parts, fault, keys, verdict } = await examine(library, input);
     if (fault) {
       assert.ok(fault.status >= 31 && fault.status <= 33, what);
@@ -64,7 +64,7 @@ test("what the page explains is what the library says", async (t) => {
     seen.set(verdict.refusal, (seen.get(verdict.refusal) ?? 0) + 1);
     // A check that the token passed is passed for JavaScript too, and one that holds is not.
     for (const [name, passes] of Object.entries(PASSES)) {
-      if (verdict.passed > placeOf(name)) assert.ok(passes(parts), `${name} is passed: ${what}`);
+      if (verdict.passed > indexOf(name)) assert.ok(passes(parts), `${name} is passed: ${what}`);
       if (verdict.refusal === name) assert.ok(!passes(parts), `${name} holds: ${what}`);
     }
     assert.equal(Boolean(verdict.why), verdict.refusal !== undefined, what);
@@ -89,8 +89,8 @@ test("of many keys that fit, the first ones are tried", async () => {
   const library = await Library.load(readFileSync(process.env.SVID_MODULE));
   const keys = await Promise.all(Array.from({ length: 6 }, (_, n) => makeKey("ES256", `k${n}`)));
   const bundles = JSON.stringify({ "example.org": { keys: keys.map((it) => it.entry) } });
-  const record = readRecord(library, new Uint8Array()), place = new Uint8Array(16);
-  const judge = (token) => examine(library, { token, bundles, domain: "", own: ["ledger"], now: NOW, longest: undefined, place, record });
+  const record = readRecord(library, new Uint8Array()), validatorId = new Uint8Array(16);
+  const judge = (token) => examine(library, { token, bundles, domain: "", own: ["ledger"], now: NOW, longest: undefined, validatorId, record });
   const payload = Buffer.from('{"sub":"spiffe://example.org/a","aud":"ledger","exp":1767229200}');
   for (const [n, key] of keys.entries()) {
     const unnamed = await judge(await sign(key, Buffer.from('{"alg":"ES256"}'), payload));

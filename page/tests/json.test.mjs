@@ -23,7 +23,7 @@ test("the depth of a text has its bound", () => {
   assert.throws(() => parse(deep(128)), (fault) => fault instanceof JsonFault && fault.at === 127 && /127 levels/.test(fault.message));
 });
 
-test("what is no JSON is told by its place", () => {
+test("what is no JSON is told, and where", () => {
   const rows = [
     ["", 0, /ends where a value/], ['{"a" 1}', 5, /a colon/], ['{"a":1,}', 7, /a name in quotation marks/], ["[1 2]", 3, /a comma or \]/], ['{"a":1 2}', 7, /a comma or \}/],
     ['"a\nb"', 2, /a control character/], ['"a\tb"', 2, /a control character/], ['"a\u001fb"', 2, /a control character/], ['"a', 0, /a quotation mark is missing/],

@@ -14,15 +14,15 @@ ANY = 2**64 - 1
 
 
 class Told(c.Structure):
-    _fields_ = [(name, c.c_size_t) for name in ("len", "input", "message", "place", "more")]
+    _fields_ = [(name, c.c_size_t) for name in ("len", "input", "message", "offset", "more")]
 
 
 class Use(c.Structure):
-    _fields_ = [("exp", c.c_uint64), ("at", c.c_uint64), ("key", c.c_uint8 * 32), ("place", c.c_uint8 * 16)]
+    _fields_ = [("exp", c.c_uint64), ("at", c.c_uint64), ("key", c.c_uint8 * 32), ("validator_id", c.c_uint8 * 16)]
 
 
 class Terms(c.Structure):
-    _fields_ = [("longest", c.c_uint64), ("ahead", c.c_uint64), ("step", c.c_uint64), ("place", c.c_uint8 * 16)]
+    _fields_ = [("longest", c.c_uint64), ("ahead", c.c_uint64), ("step", c.c_uint64), ("validator_id", c.c_uint8 * 16)]
 
 
 lib = c.CDLL(sys.argv[1])
@@ -39,7 +39,7 @@ def words(*numbers):
 
 def told_text(status, told):
     """A status, what is told, and the text, as the glue tells them."""
-    return words(status, told.len, told.input, told.message, told.place) + (out.raw[: told.len] if status == 0 else b"")
+    return words(status, told.len, told.input, told.message, told.offset) + (out.raw[: told.len] if status == 0 else b"")
 
 
 def id_parse(_, text):
@@ -63,15 +63,15 @@ def verdict(call, handle, now, yes, token):
     return words(status) + (words(used.exp, used.at) + bytes(used.key) + out.raw[: told.len] if status == 0 else b"")
 
 
-def session(now, longest, place, own, bundles, messages, token, yes, key_exp):
+def session(now, longest, validator_id, own, bundles, messages, token, yes, key_exp):
     """A validator from its opening to its end: each call that the page makes, in turn."""
     handle, told = (c.c_uint64 * 2)(), Told()
-    terms = Terms(int.from_bytes(longest, "little"), ANY, ANY, (c.c_uint8 * 16)(*place))
+    terms = Terms(int.from_bytes(longest, "little"), ANY, ANY, (c.c_uint8 * 16)(*validator_id))
     status = lib.svid_validator_open(handle, c.byref(terms), *lent(own, bundles), c.byref(told))
     if status:
-        return words(status, told.place)
+        return words(status, told.offset)
     status = lib.svid_validator_take(handle, c.c_uint64(0), *lent(messages), c.byref(told))
-    said = words(status, told.input, told.message, told.place)
+    said = words(status, told.input, told.message, told.offset)
     told = Told()
     said += told_text(lib.svid_validator_ask(handle, *lent(token), c.c_size_t(MOST_CANDIDATES), out, c.c_size_t(ROOM), c.byref(told)), told)
     said += verdict(lib.svid_validator_judge, handle, now, yes, token)

@@ -46,13 +46,13 @@ export function random(seed) {
   return { below: (n) => next() % n, pick: (list) => list[next() % list.length] };
 }
 
-/** A batch of uses, each `{ exp, key, place, at, withdrawn }` with numbers and buffers, in a version of the format. */
+/** A batch of uses, each `{ exp, key, validatorId, at, withdrawn }` with numbers and buffers, in a version of the format. */
 export function batch(moment, uses, version = 2) {
-  const texts = uses.map(({ exp, key, place, at, withdrawn = 0 }) => {
+  const texts = uses.map(({ exp, key, validatorId, at, withdrawn = 0 }) => {
     const it = Buffer.alloc(65);
     it.writeBigUInt64BE(BigInt(exp), 0);
     key.copy(it, 8);
-    place.copy(it, 40);
+    validatorId.copy(it, 40);
     it.writeBigUInt64BE(BigInt(at), 56);
     it[64] = withdrawn;
     return version === 2 ? it : it.subarray(0, 64);

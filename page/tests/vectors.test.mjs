@@ -7,7 +7,6 @@ import { before, test } from "node:test";
 import { Library } from "../src/library.js";
 import { MESSAGE_FAULTS } from "../src/record.js";
 import { refusalOf } from "../src/refusals.js";
-import { partsOf } from "../src/token.js";
 import { answer } from "../src/verify.js";
 import { bytesOf, vectorsOf } from "./vectors.mjs";
 
@@ -25,8 +24,8 @@ before(async () => {
 // The questions of a token whose answer is yes, by the cryptography of this program.
 async function yes(terms, own, bundles, token) {
   const { value } = library.withValidator(terms, own, bundles, (validator) => validator.ask(token));
-  const parts = partsOf(token);
-  const answers = await Promise.all(value.rows.map(async (row) => ({ row, is: (await answer(row, `${parts[0].text}.${parts[1].text}`, parts[2].bytes)).is })));
+  const { over, bytes } = library.signature(token);
+  const answers = await Promise.all(value.rows.map(async (row) => ({ row, is: (await answer(row, token.slice(0, over), bytes)).is })));
   return answers.filter((it) => it.is === "good").map((it) => it.row.question);
 }
 
@@ -40,14 +39,14 @@ function called(validator, call, questions) {
   if (call.call === "tell") return hex(validator.tell().bytes);
   assert.equal(call.call, "take");
   const said = validator.take(now, bytesOf(call.messages));
-  return said.status === 0 ? "taken" : `${MESSAGES[said.status - 11]} ${said.message} ${said.place}`;
+  return said.status === 0 ? "taken" : `${MESSAGES[said.status - 11]} ${said.message} ${said.offset}`;
 }
 
 test("calls of a validator", async () => {
   const file = vectorsOf("tokens");
   for (const vector of file.vectors) {
     const given = { ...file.setting, ...vector.setting };
-    const terms = { longest: numberOf(given.longest), place: bytesOf(given.place) }, own = given.audiences.join("\n"), bundles = file.bundles[given.bundles];
+    const terms = { longest: numberOf(given.longest), validatorId: bytesOf(given.validator_id) }, own = given.audiences.join("\n"), bundles = file.bundles[given.bundles];
     const questions = await Promise.all(vector.calls.map((it) => ("token" in it ? yes(terms, own, bundles, it.token) : [])));
     const said = library.withValidator(terms, own, bundles, (validator) => vector.calls.map((call, n) => called(validator, call, questions[n])));
     assert.deepEqual(said.value, vector.calls.map((it) => it.answer), vector.name);
@@ -55,9 +54,9 @@ test("calls of a validator", async () => {
 });
 
 test("SPIFFE IDs", () => {
-  for (const { name, text, domain, path, fault, place } of vectorsOf("ids").vectors) {
+  for (const { name, text, domain, path, fault, offset } of vectorsOf("ids").vectors) {
     const said = library.parseId(text);
-    if (fault) assert.deepEqual([IDS[said.status - 21], said.place], [fault, place ?? 0], name);
+    if (fault) assert.deepEqual([IDS[said.status - 21], said.offset], [fault, offset ?? 0], name);
     else assert.deepEqual([said.status, said.domainLength, said.pathLength], [0, domain.length, path.length], name);
   }
 });
@@ -66,7 +65,7 @@ test("messages", () => {
   for (const { name, messages, now, record, report, fault } of vectorsOf("messages").vectors) {
     const said = library.join(bytesOf(messages), new Uint8Array(), BigInt(now));
     if (fault) {
-      assert.deepEqual([MESSAGES[said.status - 11], said.input, said.message, said.place], [fault.reason, 1, fault.message, fault.place], name);
+      assert.deepEqual([MESSAGES[said.status - 11], said.input, said.message, said.offset], [fault.reason, 1, fault.message, fault.offset], name);
       assert.ok(MESSAGE_FAULTS[said.status]);
     } else {
       assert.equal(hex(said.bytes), record, name);

@@ -51,7 +51,7 @@ const REFUSED = {
   HeaderSpelling: { token: async () => "e3*0.e30.c2ln", marked: "*", why: /character 3/ },
   HeaderNotObject: { token: async () => unsigned('{"alg" "ES256"}', GOOD), marked: base64url('{"alg" "ES256"}').slice(9), why: /at character 8, a colon/ },
   Crit: { token: async () => signed({}, { ...header, crit: [] }), member: "crit", why: /extensions/ },
-  Alg: { token: async () => signed({}, { alg: "HS256" }), member: "alg", why: /none of RS, PS or ES/ },
+  Alg: { token: async () => signed({}, { alg: "HS256" }), member: "alg", why: /none of RS256 to RS512, ES256/ },
   Typ: { token: async () => signed({}, { ...header, typ: "at+jwt" }), member: "typ", why: /neither JWT nor JOSE/ },
   Kid: { token: async () => signed({}, { ...header, kid: 7 }), member: "kid", why: /kid is no text/ },
   PayloadSpelling: { token: async () => `${base64url(JSON.stringify(header))}.e31.c2ln`, marked: "1", why: /payload is misspelt at character 3.*left over/ },
@@ -92,10 +92,10 @@ export function testVerdicts(start) {
         assert.equal((await shown()).said, "Accepted");
         await page.click(press);
       }
-      const it = await shown(), place = ORDER.indexOf(name);
+      const it = await shown(), index = ORDER.indexOf(name);
       assert.equal(it.said, `Refused: ${name}`);
       assert.match(it.why, why);
-      assert.deepEqual(it.states, ORDER.map((_, n) => (n < place ? "passed" : n === place ? "holds" : "later")));
+      assert.deepEqual(it.states, ORDER.map((_, n) => (n < index ? "passed" : n === index ? "holds" : "later")));
       if (marked) assert.equal(it.marked, marked);
       if (member) {
         assert.deepEqual(it.members, [member]);
@@ -133,6 +133,100 @@ export function testVerdicts(start) {
   test("the vectors of bundles", async () => {
     const isFault = (it) => /^(NotObject|Domain|Keys)/.test(it.answer);
     await wantVerdicts(vectorsOf("bundles").vectors, (it) => verdictOf(it.text, it.token, it.domain), (it) => (isFault(it) ? "Not judged" : saidOf(it.answer)));
+  });
+
+  // What each `why` of headers.json is in the words of the page.
+  const NO_TOKEN = { Scheme: "its scheme is not Bearer", Spelling: "the scheme is not followed by one token" };
+
+  test("the vectors of headers", async () => {
+    const { setting, vectors } = vectorsOf("headers");
+    const wrong = [];
+    for (const { name, values: [value], why, answer } of vectors) {
+      await page.write({ ...fresh(), bundles: setting.bundles, own: setting.audience, time: String(setting.now), token: `Authorization: ${value}` });
+      const { said } = await shown(), told = await page.text("token-said");
+      const isRight = why
+        ? said === "Not judged" && told === `This reads as a header field Authorization, and has no bearer token: ${NO_TOKEN[why]}.`
+        : (answer === "refused" ? said.startsWith("Refused: ") : said === saidOf(answer)) && told.startsWith("The library took the token out of a header field: ");
+      if (!isRight) wrong.push(`${name}: ${said}, ${told}`);
+    }
+    assert.deepEqual(wrong, []);
+  });
+
+  test("a token is taken out of a header field, and marked where it stands", async () => {
+    const token = await signed();
+    for (const [before, behind, quoted] of [["Bearer ", "", "Bearer"], [" \nAuthorization: Bearer ", "\r\n ", "Authorization: Bearer"], ["authorization:bearer   ", " ", "authorization:bearer"]]) {
+      await page.write({ ...fresh(), token: before + token + behind });
+      const it = await shown();
+      assert.equal(it.said, "Accepted", before);
+      assert.equal(await page.text("token-said"), `The library took the token out of a header field: the ${token.length} characters behind "${quoted}".`);
+      // (the field has what was put in, and behind it stand the same characters in colours; a line end of a field is one character)
+      assert.equal(await page.text("token-shown"), `${before}${token}${behind}\u200b`.replaceAll("\r", ""));
+      assert.equal(await page.run(() => document.querySelector("#token-shown .header").textContent), token.split(".")[0]);
+      await page.write({ time: String(NOW + 300) });
+      const late = await shown();
+      assert.deepEqual([late.said, late.members], ["Refused: Expired", ["exp"]]);
+      assert.match(decodedAt(token, late.marked), /"exp":/);
+    }
+    await page.write({ ...fresh(), token });
+    assert.deepEqual([(await shown()).said, await page.text("token-said")], ["Accepted", ""]);
+  });
+
+  test("a header field without a bearer token is told, and no token is judged", async () => {
+    for (const [text, why] of [["Authorization: Basic YTpi", /its scheme is not Bearer\.$/], [`Bearer ${await signed()} ${await signed()}`, /is not followed by one token\.$/], [`Authorization: ${await signed()}`, /its scheme/]]) {
+      await page.write({ ...fresh(), token: text });
+      const it = await shown();
+      assert.deepEqual([it.said, it.why], ["Not judged", "No token can be taken out of the header field."]);
+      assert.match(await page.text("token-said"), why);
+      assert.ok(it.states.every((state) => state === "later"));
+      assert.equal(await page.run(() => document.getElementById("token").getAttribute("aria-invalid")), "true");
+      assert.equal(await page.text("token-shown"), `${text}\u200b`);
+    }
+    await page.write({ token: "Basic YTpi" });
+    assert.equal((await shown()).said, "Refused: NotThreeParts");
+  });
+
+  test("what is in the field of the token is seen while nothing can be judged", async () => {
+    await page.write({ ...fresh(), token: "one", time: "never" });
+    await page.write({ token: "another" });
+    assert.deepEqual([(await shown()).said, await page.text("token-shown")], ["Not judged", "another\u200b"]);
+  });
+
+  test("without an audience no token is accepted, and the other checks are told", async () => {
+    const checkOf = (name) => page.run((it) => [...document.getElementById(`check-${it}`).cells].map((cell) => cell.textContent), name);
+    const states = (last) => ORDER.map((name, n) => (name === "NotAudience" ? "unasked" : n < last ? "passed" : n === last ? "holds" : "later"));
+    await page.write({ ...fresh(), own: " \n", token: await signed({ aud: ["ledger", "b"], jti: "five" }) });
+    const it = await shown();
+    assert.equal(it.said, "The audience was not looked at");
+    assert.match(it.why, /^The token is for "ledger", "b"\. Write the audiences of your service: without one, a service accepts no token\. It passed every other check: spiffe:\/\/example\.org\/billing\/api until/);
+    assert.deepEqual(it.states, states(ORDER.length));
+    assert.deepEqual(await checkOf("NotAudience"), ["not looked at", "aud names this service", "else NotAudience"]);
+    assert.doesNotMatch(await page.text("verdict"), /[Aa]ccepted/);
+    assert.equal(await page.run(() => document.getElementById("verdict").dataset.verdict), "none");
+    for (const id of ["use", "withdraw"]) assert.equal(await page.run((of) => document.getElementById(of).getAttribute("aria-disabled"), id), "true");
+    // A check behind that of the audience may refuse the token all the same.
+    await page.write({ time: String(NOW + 300) });
+    const late = await shown();
+    assert.equal(late.said, "Refused: Expired");
+    assert.match(late.why, /^It expired at .*, this very second\. The audience was not looked at, since none is given\.$/);
+    assert.deepEqual(late.states, states(ORDER.indexOf("Expired")));
+    // So does one before it, and then nothing is said of audiences.
+    await page.write({ token: await signed({ aud: [] }), time: String(NOW) });
+    const before = await shown();
+    assert.equal(before.said, "Refused: Aud");
+    assert.doesNotMatch(before.why, /not looked at/);
+    // An audience that no line can name.
+    await page.write({ token: await signed({ aud: "led\nger" }) });
+    const lines = await shown();
+    assert.deepEqual([lines.said, lines.why], ["The audience was not looked at", 'The token is for "led\\nger". Write the audiences of your service: without one, a service accepts no token.']);
+    assert.deepEqual(lines.states, ORDER.map((_, n) => (n < 16 ? "passed" : n === 16 ? "unasked" : "later")));
+    // A token that was used is known, and can be withdrawn.
+    await page.write({ ...fresh(), token: await signed({ jti: "six" }) });
+    await page.click("use");
+    await page.write({ own: "" });
+    assert.equal((await shown()).said, "Refused: Replayed");
+    await page.click("withdraw");
+    assert.equal((await shown()).said, "Refused: Withdrawn");
+    await page.click("forget");
   });
 
   test("each reason to pass a key over is told, and each answer of a key", async () => {
@@ -235,7 +329,55 @@ export function testVerdicts(start) {
     assert.equal(await page.run(() => document.getElementById("domain-row").hidden), true);
   });
 
-  test("bundles that can't be read are told by their place", async () => {
+  const spires = () => JSON.stringify({ keys: [{ ...key.entry, use: "x509-svid", kid: undefined, x5c: ["MII"] }, key.entry], spiffe_sequence: 7, spiffe_refresh_hint: 300 }, null, 4);
+  const keysSaid = () => page.run(() => [...document.querySelectorAll("#keys summary")].map((it) => it.textContent));
+
+  test("a bundle as SPIRE prints it is known before any token: its trust domain is asked for, and its keys are shown", async () => {
+    const said = async () => [(await shown()).said, await page.text("keys-of"), await page.text("bundles-said"), await page.run(() => document.getElementById("bundles").getAttribute("aria-invalid"))];
+    const taken = "A bundle as SPIRE prints it, with 2 entries. ", rows = [/^passed over: its use is "x509-svid", and not jwt-svid$/, /^may sign tokens$/];
+    await page.write({ ...fresh(), bundles: spires(), token: "" });
+    assert.deepEqual(await said(), ["Paste a token", "of a bundle whose trust domain is not known yet", `${taken}Which trust domain is it of? Write the name below. If you leave it empty, the trust domain of the token is taken.`, "false"]);
+    assert.equal(await page.run(() => document.getElementById("domain-row").hidden), false);
+    (await keysSaid()).forEach((it, n) => assert.match(it, rows[n]));
+    assert.equal((await keysSaid()).length, 2);
+    await page.write({ domain: "example.org" });
+    assert.deepEqual(await said(), ["Paste a token", "of example.org", `${taken}It is taken as that of example.org, which stands below.`, "false"]);
+    assert.equal((await keysSaid()).length, 2);
+    await page.write({ domain: "", token: await signed() });
+    assert.deepEqual(await said(), ["Accepted", "of example.org", `${taken}It is taken as that of example.org, the trust domain of the token.`, "false"]);
+    await page.write({ token: "", domain: "Not A Name" });
+    assert.deepEqual([await page.text("bundles-said"), await page.run(() => document.getElementById("bundles").getAttribute("aria-invalid"))], ['"Not A Name" is no name of a trust domain.', "true"]);
+    await page.write({ domain: "", bundles: bundlesOf(key.entry) });
+    assert.deepEqual([await keysSaid(), await page.text("keys-of")], [["may sign tokens"], "of example.org"]);
+    await page.write({ bundles: '{"keys":[]}' });
+    assert.match(await page.text("bundles-said"), /with 0 entries/);
+    assert.equal(await page.text("keys-none"), "The bundle has no key.");
+    await page.write({ bundles: `{"keys":${"[".repeat(126)}${"]".repeat(126)}}` });
+    assert.match(await page.text("bundles-said"), /^No JSON: in line 1/);
+  });
+
+  test("a malformed token with a bundle alone: which part is malformed, and where", async () => {
+    const [head, payload, signature] = (await signed()).split(".");
+    const cases = [
+      [`${head.slice(0, 4)}*${head.slice(4)}.${payload}.${signature}`, "HeaderSpelling", 'The header is misspelt at character 5. "*" is no character of base64url.', "*"],
+      [`${head}.${payload.slice(0, 9)} ${payload.slice(9)}.${signature}`, "PayloadSpelling", `The payload is misspelt at character 10, which is character ${head.length + 11} of the token. " " is no character of base64url.`, " "],
+      [`${head}.${base64url('{"sub" 1}')}.${signature}`, "PayloadNotObject", "The payload is no JSON: at character 8, a colon should stand here.", base64url('{"sub" 1}').slice(9)],
+      [`${head}.${payload}`, "NotThreeParts", "It has one period, so it is no token in compact form.", undefined],
+      [`${head}.${base64url('{"sub":"example.org"}')}.${signature}`, "Sub", "sub is no SPIFFE ID: it does not begin with spiffe://.", undefined],
+      [`${head}.${payload}.${signature}=`, "SignatureSpelling", `The signature is misspelt at character ${signature.length + 1}, which is character ${head.length + payload.length + signature.length + 3} of the token. "=" is no character of base64url.`, "="],
+    ];
+    for (const [token, name, why, marked] of cases) {
+      await page.write({ ...fresh(), bundles: spires(), token });
+      const it = await shown();
+      assert.deepEqual([it.said, it.why], [`Refused: ${name}`, why]);
+      if (marked) assert.equal(it.marked, marked);
+      assert.equal(it.states[ORDER.indexOf(name)], "holds");
+      assert.equal((await keysSaid()).length, 2, name);
+      assert.equal(await page.run(() => document.getElementById("bundles").getAttribute("aria-invalid")), "false");
+    }
+  });
+
+  test("bundles that can't be read are told, and where", async () => {
     const wanted = [["{", /line 1, at character 2/], ["[]", /no object/], ['{"a":{"keys":[]},"B":{"keys":[]}}', /"B" is no name of a trust domain/], ['{"a":{"keys":1}}', /"a" has no list of keys/]];
     for (const [bundles, why] of wanted) {
       await page.write({ ...fresh(), bundles, token: await signed() });

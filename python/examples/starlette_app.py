@@ -39,7 +39,14 @@ async def hello(request: Request) -> PlainTextResponse:
     return PlainTextResponse(f"hello {request.scope['spiffe_id']}")
 
 
+async def health(_: Request) -> PlainTextResponse:
+    """Whether this worker accepts tokens. (Who asks that has none.)"""
+    if isinstance(validator, svid.Member) and not validator.is_ready:
+        return PlainTextResponse("not ready", 503)
+    return PlainTextResponse("ready")
+
+
 app = Starlette(
-    routes=[Route("/", hello)],
-    middleware=[Middleware(SvidMiddleware, validator=validator)],
+    routes=[Route("/", hello), Route("/healthz", health)],
+    middleware=[Middleware(SvidMiddleware, validator=validator, open_paths=["/healthz"])],
 )

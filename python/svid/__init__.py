@@ -18,6 +18,7 @@ for web services.
 
 from __future__ import annotations
 
+from ._allow import allows
 from ._bundles import Bundle, Bundles, from_workload_api
 from ._journal import Journal
 from ._log import Log, OtherLog, UnfitLog
@@ -98,6 +99,7 @@ __all__ = [
     "Use",
     "Validator",
     "Verifies",
+    "allows",
     "from_workload_api",
 ]
 # lists:begin exports (written by tools/lists)

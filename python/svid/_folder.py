@@ -14,13 +14,13 @@ from ._bundles import Path
 from .errors import Held
 
 LOCK = "lock"
-PLACE = "place"
+ID_FILE = "place"
 SNAPSHOT = "snapshot"
 FRAMES = "frames"
 """It is there while a folder of an older svidd has no snapshot of frames yet."""
 UNFINISHED = ".new"
 _JOURNAL = re.compile(r"journal\.([1-9][0-9]{0,19})")
-_PLACE_TEXT = re.compile(rb"([0-9A-Fa-f]{32})\n?")
+_ID_TEXT = re.compile(rb"([0-9A-Fa-f]{32})\n?")
 _MADE = os.O_WRONLY | os.O_CREAT | os.O_EXCL
 
 
@@ -82,32 +82,32 @@ class Folder:
         """Forces the names of the folder to the disk."""
         os.fsync(self._own[0])
 
-    def place(self) -> bytes | None:
-        """The place of the folder, 16 bytes; None where it has none. Raises ValueError."""
+    def folder_id(self) -> bytes | None:
+        """The ID of the folder, 16 bytes; None where it has none. Raises ValueError."""
         try:
-            text = self.read(PLACE)
+            text = self.read(ID_FILE)
         except FileNotFoundError:
             return None
-        found = _PLACE_TEXT.fullmatch(text)
+        found = _ID_TEXT.fullmatch(text)
         if not found:
             raise ValueError(
-                f"{self.path / PLACE} is not 32 hexadecimal digits: put back a copy: no file of "
+                f"{self.path / ID_FILE} is not 32 hexadecimal digits: put back a copy: no file of "
                 "the folder can be read without it"
             )
         return bytes.fromhex(found[1].decode())
 
-    def make_place(self) -> bytes:
-        """Makes a place at random, and keeps it: whole or not at all."""
-        place = os.urandom(16)
-        file = self.create(PLACE + UNFINISHED)
+    def make_folder_id(self) -> bytes:
+        """Makes an ID at random, and keeps it: whole or not at all."""
+        folder_id = os.urandom(16)
+        file = self.create(ID_FILE + UNFINISHED)
         try:
-            write(file, place.hex().encode() + b"\n", 0)
+            write(file, folder_id.hex().encode() + b"\n", 0)
             os.fdatasync(file)
         finally:
             os.close(file)
-        self.rename(PLACE + UNFINISHED, PLACE)
+        self.rename(ID_FILE + UNFINISHED, ID_FILE)
         self.sync()
-        return place
+        return folder_id
 
     def _held(self) -> int:
         """The lock file, locked, with the name of this process."""
@@ -129,7 +129,7 @@ class Folder:
 
 
 def write(file: int, data: bytes, at: int) -> None:
-    """Writes all of it at a place of a file."""
+    """Writes all of it at an offset of a file."""
     rest = memoryview(data)
     while rest:
         written = os.pwrite(file, rest, at)

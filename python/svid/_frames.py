@@ -7,14 +7,11 @@ from collections.abc import Callable
 from typing import NamedTuple
 
 from . import _library as lib
-from ._folder import PLACE, Folder
+from ._folder import ID_FILE, Folder
 from .errors import Damaged, OtherFormat, Unavailable
 
-_OLD = b"JSR"
-"""How the files of older versions begin, which are messages without frames."""
 
-
-class LogPlace(NamedTuple):
+class LogPosition(NamedTuple):
     """Where a member is in the log of its group."""
 
     passed: int
@@ -26,27 +23,27 @@ class LogPlace(NamedTuple):
 
     def text(self) -> bytes:
         """What a payload of the state folder begins with."""
-        mark, room, told = lib.Mark(*self), bytearray(lib.LOG_PLACE), lib.Told()
+        mark, room, told = lib.Mark(*self), bytearray(lib.LOG_POSITION), lib.Told()
         lent = (lib.address(mark), lib.address(room), len(room), lib.address(told))
-        _judge(lib.library.svid_journal_place(*lent))
+        _judge(lib.library.svid_journal_position(*lent))
         return bytes(room)
 
 
-def borne(payload: bytes) -> tuple[LogPlace | None, bytes]:
+def borne(payload: bytes) -> tuple[LogPosition | None, bytes]:
     """What a payload bears: where a member was in its log, if it says so, and its messages."""
     bears = lib.Bears()
     lib.library.svid_journal_bears(payload, len(payload), lib.address(bears))
     mark = bears.mark
-    place = LogPlace(mark.passed, mark.begun, mark.deaf) if bears.marked else None
-    return place, payload[bears.messages :]
+    position = LogPosition(mark.passed, mark.begun, mark.deaf) if bears.marked else None
+    return position, payload[bears.messages :]
 
 
 class Numbers:
     """`svid_folder` of the C library, given to one call at a time."""
 
-    def __init__(self, place: bytes, oldest: int, newest: int) -> None:
+    def __init__(self, folder_id: bytes, oldest: int, newest: int) -> None:
         self._lock = threading.Lock()
-        self._place = place
+        self._folder_id = folder_id
         self._folder = lib.Folder()
         self._told = lib.Told()
         self._at = lib.address(self._folder)
@@ -98,7 +95,7 @@ class Numbers:
 
     def _frame(self, call: Callable[..., int], payload: bytes) -> bytes:
         room = bytearray(len(payload) + lib.FRAME_MORE)
-        lent = (self._place, payload, len(payload), lib.address(room), len(room))
+        lent = (self._folder_id, payload, len(payload), lib.address(room), len(room))
         with self._lock:
             _judge(call(self._at, *lent, lib.address(self._told)))
             return bytes(room[: self._told.len])
@@ -118,34 +115,35 @@ def _judge(status: int) -> None:
 class File:
     """What a file of the folder holds."""
 
-    def __init__(self, folder: Folder, name: str, number: int, place: bytes | None) -> None:
+    def __init__(self, folder: Folder, name: str, number: int, folder_id: bytes | None) -> None:
         """Reads it: a snapshot has the number 0. Raises Damaged, OtherFormat and OSError."""
         self.name = str(folder.path / name)
         self.number = number
         self.messages: list[bytes] = []
-        self.log_place: LogPlace | None = None  # as the last payload says that has one
+        self.log_position: LogPosition | None = None  # as the last payload says that has one
         content = folder.read(name)
-        status = self._read(content, bytes(16) if place is None else place)
-        if status not in (lib.FILE_END, lib.FILE_OTHER) and not self.at and content[:3] == _OLD:
+        status = self._read(content, bytes(16) if folder_id is None else folder_id)
+        ends = (lib.FILE_END, lib.FILE_OTHER)
+        if status not in ends and not self.at and _begins_as_messages(content):
             raise ValueError(
                 f"{self.name} is of an older svidd: start a newer one in the folder once"
             )
-        if place is None and content.strip(b"\0"):
+        if folder_id is None and content.strip(b"\0"):
             raise ValueError(
-                f"the file {PLACE} is missing in {folder.path}, and {self.name} can't be read "
+                f"the file {ID_FILE} is missing in {folder.path}, and {self.name} can't be read "
                 "without it: put back a copy"
             )
         if status == lib.FILE_DAMAGE:
             raise Damaged(self.name, self.at)
         self.is_torn = status == lib.FILE_TEAR
 
-    def _read(self, content: bytes, place: bytes) -> int:
+    def _read(self, content: bytes, folder_id: bytes) -> int:
         """Reads the frames, and gives the status that ends them."""
         reader, frame = lib.Reader(), lib.Frame()
         lent = (lib.address(reader), lib.address(frame))
         read = lib.library.svid_journal_read
         while True:
-            status: int = read(place, self.number, content, len(content), *lent)
+            status: int = read(folder_id, self.number, content, len(content), *lent)
             self.at = reader.at
             if status != lib.OK:
                 break
@@ -158,8 +156,21 @@ class File:
         raise RuntimeError(f"libsvid answered {status}, which include/svid.h does not explain")
 
     def _take(self, payload: bytes) -> None:
-        place, messages = borne(payload)
-        if place is not None:
-            self.log_place = place
+        position, messages = borne(payload)
+        if position is not None:
+            self.log_position = position
         if messages:
             self.messages.append(messages)
+
+
+def _begins_as_messages(content: bytes) -> bool:
+    """Whether it may be a file of an older version, which is messages without frames.
+
+    The library then finds no fault at its beginning. (What is cut off there goes on with zeros.)
+    """
+    told, text = lib.Told(), content[:64] + bytes(64)
+    lent = (text, len(text), None, 0, lib.address(told))
+    status = lib.library.svid_entries_read(*lent)
+    if status == lib.NO_MEMORY:
+        raise MemoryError
+    return lib.MESSAGE_FAULTS.get(status) != "Magic" or told.message > 1

@@ -11,7 +11,7 @@ from collections.abc import Callable, Iterator
 from typing import Any, NamedTuple
 
 from . import _library as lib
-from ._frames import LogPlace
+from ._frames import LogPosition
 from ._signatures import Verifies
 from ._trust import Trust, first
 from .errors import (
@@ -94,7 +94,14 @@ class Handle:
     """
 
     def __init__(
-        self, *, longest: int, ahead: int, step: int, place: bytes, own: bytes, bundles: bytes
+        self,
+        *,
+        longest: int,
+        ahead: int,
+        step: int,
+        validator_id: bytes,
+        own: bytes,
+        bundles: bytes,
     ) -> None:
         """Opens it. Raises BadBundles."""
         self._lock: threading.Lock | _LeftBehind = threading.Lock()
@@ -108,7 +115,7 @@ class Handle:
         self._told_at = lib.address(self._told)
         self._room_at = lib.address(self._room)
         self._used_at = lib.address(self._used)
-        terms = lib.Terms(longest, ahead, step, (ctypes.c_uint8 * 16)(*place))
+        terms = lib.Terms(longest, ahead, step, (ctypes.c_uint8 * 16)(*validator_id))
         self._trust = _opened(bundles)
         self._run(
             lib.library.svid_validator_open,
@@ -175,9 +182,9 @@ class Handle:
                 if status != lib.OK:
                     raise self._fault(status)
                 subject = self._room[: self._told.len].decode()
-                expires, moment, key, place = _USE.unpack(self._used)
+                expires, moment, key, validator_id = _USE.unpack(self._used)
                 edition = self._edition
-            return Accepted(subject, Use(expires, key, place, moment)), edition
+            return Accepted(subject, Use(expires, key, validator_id, moment)), edition
 
     def _short(self, token: bytes, size: Any, verifies: Verifies) -> tuple[Trust, bytes]:
         """The question that a token's signature answers, or nothing, and the bundles it is of.
@@ -214,8 +221,8 @@ class Handle:
             status = lib.library.svid_validator_withdraw(self._at, *lent)
             if status != lib.OK:
                 raise self._fault(status)
-            expires, at, key, place = _USE.unpack(self._used)
-        return Use(expires, key, place, at, withdrawn=True)
+            expires, at, key, validator_id = _USE.unpack(self._used)
+        return Use(expires, key, validator_id, at, withdrawn=True)
 
     def log(self, passed: int, ready: int, lasts: int, deaf: int, beside: bytes) -> None:
         """Lets it read a log from now on: the values behind the position `passed`."""
@@ -260,7 +267,7 @@ class Handle:
                 raise self._fault(status)
             return State(mark.passed, mark.deaf, self._told.more == 1)
 
-    def log_place(self) -> LogPlace | None:
+    def log_position(self) -> LogPosition | None:
         """Where it is in its log, as a state folder keeps it. None where it reads none."""
         mark = lib.Mark()
         with self._lock:
@@ -269,7 +276,7 @@ class Handle:
                 return None
             if status != lib.OK:
                 raise self._fault(status)
-            return LogPlace(mark.passed, mark.begun, mark.deaf)
+            return LogPosition(mark.passed, mark.begun, mark.deaf)
 
     def go_on(self) -> None:
         """Lets it accept claims though it has missed values that may live."""
@@ -283,9 +290,9 @@ class Handle:
         """Joins the record with what the messages tell."""
         self._run(lib.library.svid_validator_take, now, messages, len(messages))
 
-    def parts(self, uses: int) -> Iterator[bytes]:
-        """The record, a batch of at most so many uses at a time, with the lock free in between."""
-        part, room = lib.Part(), bytearray(lib.BATCH_HEAD_LEN + lib.USE_LEN * uses)
+    def parts(self, size: int) -> Iterator[bytes]:
+        """The record, a batch of at most so many bytes at a time, with the lock free in between."""
+        part, room = lib.Part(), bytearray(size)
         lent = (lib.address(part), lib.address(room), len(room))
         while not part.done:
             written = self._run(lib.library.svid_validator_parts, *lent)
@@ -330,8 +337,8 @@ class Handle:
         return fault(status, self._told)
 
 
-def _fated(expires: int, at: int, key: bytes, place: bytes, fate: int) -> tuple[Use, int]:
-    return Use(expires, key, place, at, fate == lib.FATE_WITHDRAWAL), fate
+def _fated(expires: int, at: int, key: bytes, validator_id: bytes, fate: int) -> tuple[Use, int]:
+    return Use(expires, key, validator_id, at, fate == lib.FATE_WITHDRAWAL), fate
 
 
 def fault(status: int, told: lib.Told) -> Exception:
@@ -341,9 +348,9 @@ def fault(status: int, told: lib.Told) -> Exception:
     if status in _FAULTS:
         return _FAULTS[status]()
     if status in lib.MESSAGE_FAULTS:
-        return BadMessages(lib.MESSAGE_FAULTS[status], told.message, told.place)
+        return BadMessages(lib.MESSAGE_FAULTS[status], told.message, told.offset)
     if status in lib.BUNDLE_FAULTS:
-        return BadBundles(lib.BUNDLE_FAULTS[status].format(told.place))
+        return BadBundles(lib.BUNDLE_FAULTS[status].format(told.offset))
     return RuntimeError(f"libsvid answered {status}, which include/svid.h does not explain")
 
 

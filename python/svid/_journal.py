@@ -18,8 +18,8 @@ from collections.abc import Callable, Iterable
 
 from . import _library as lib
 from ._bundles import Path
-from ._folder import FRAMES, PLACE, SNAPSHOT, UNFINISHED, Folder, journal_name, write
-from ._frames import File, LogPlace, Numbers
+from ._folder import FRAMES, ID_FILE, SNAPSHOT, UNFINISHED, Folder, journal_name, write
+from ._frames import File, LogPosition, Numbers
 from .errors import Closed, Error, Forked, Unavailable
 
 _LOG = logging.getLogger("svid")
@@ -27,6 +27,8 @@ _GROWTH = bytes(262_144)
 """What a journal grows by: to force a new length to the disk takes longer than the bytes."""
 _QUIET = 1.0
 """How many seconds nobody appends until a mark is worth its write."""
+_AGE = 1.0
+"""How many seconds old a position in the log is when the next write says it anew."""
 _MANY_JOURNALS = 8
 """So many journals of starts are worth a snapshot."""
 _SMALL = 8 * 2**20
@@ -36,11 +38,11 @@ _PAUSE = 60.0
 _PIECE = 2**20
 """How many bytes of messages are taken at once, where payloads are shorter."""
 
-_MOST = lib.PAYLOAD_MOST - lib.LOG_PLACE
+_MOST = lib.PAYLOAD_MOST - lib.LOG_POSITION
 """The most bytes of messages that one write takes."""
 
 _Parts = Callable[[], Iterable[bytes]]
-_Bears = Callable[[], "LogPlace | None"]
+_Bears = Callable[[], "LogPosition | None"]
 
 
 class Journal:
@@ -49,7 +51,7 @@ class Journal:
     ::
 
         journal = svid.Journal("/var/lib/ledger")
-        validator = svid.Validator(.., place=journal.place)
+        validator = svid.Validator(.., validator_id=journal.validator_id)
         journal.load(validator.take)
         if journal.wants_snapshot:
             journal.snapshot(validator.parts)
@@ -65,7 +67,7 @@ class Journal:
     def __init__(self, folder: Path) -> None:
         """Opens the folder, and begins a new journal in it. Makes it where its parent is there.
 
-        Raises Held, Damaged, OtherFormat, OSError, and ValueError for a folder without its place,
+        Raises Held, Damaged, OtherFormat, OSError, and ValueError for a folder without its ID,
         or of an older svidd: start a newer one in it once.
         """
         self._keeper = _Keeper(Folder(folder))
@@ -73,9 +75,9 @@ class Journal:
         self._dropped.atexit = False  # the disk may not answer any more
 
     @property
-    def place(self) -> bytes:
-        """16 bytes that were made with the folder, for the validator to have as its `place`."""
-        return self._keeper.place
+    def validator_id(self) -> bytes:
+        """16 bytes that were made with the folder, for the validator to have as its ID."""
+        return self._keeper.folder_id
 
     @property
     def torn(self) -> tuple[str, ...]:
@@ -83,16 +85,19 @@ class Journal:
         return self._keeper.torn
 
     @property
-    def log_place(self) -> LogPlace | None:
+    def log_position(self) -> LogPosition | None:
         """Where the validator was in its log when the folder was written last, if it says so."""
-        return self._keeper.log_place
+        return self._keeper.log_position
 
-    def bear(self, place: _Bears) -> None:
-        """Lets each write from now on say where the validator is in its log, as `place` does.
+    def bear(self, position: _Bears) -> None:
+        """Lets the folder say from now on where the validator is in its log, as `position` does.
 
-        `place` gives None where there is no log. Threads of the journal call it.
+        The first write of each journal and each snapshot says it, each write by which `deaf` is
+        another one, and else one a second, with what is appended then; and the last position once
+        nobody appends for a second, and at the end. `position` gives None where there is no log.
+        Threads of the journal call it.
         """
-        self._keeper.bears = place
+        self._keeper.bears = position
 
     @property
     def wants_snapshot(self) -> bool:
@@ -109,8 +114,8 @@ class Journal:
         Raises Unavailable if that fails, or takes more than `wait` seconds: then the disk may have
         them now, or later, or never. After a write that failed (the disk is full) a later one may
         succeed. After a sync that failed nothing is kept, until the folder is opened anew.
-        At most 16,777,187 bytes. No messages are fine where `bear` was called: what is written
-        then is where the validator is in its log.
+        At most 16,777,187 bytes. No messages are fine where `bear` was called: then the disk has
+        where the validator is in its log, whenever it was said last.
         """
         self._keeper.append(bytes(messages), wait)
 
@@ -142,6 +147,7 @@ class _Commit:
         self.parts: list[bytes] = []
         self.len = 0
         self.is_soon = False  # somebody waits for none of it
+        self.asks = False  # somebody wants the position in the log to be said
         self.done = threading.Event()
         self.why: Exception | None = None
 
@@ -149,9 +155,9 @@ class _Commit:
 class _Keeper:
     """An open state folder. Its threads know it, and not the journal, so that can be dropped."""
 
-    place: bytes
+    folder_id: bytes
     torn: tuple[str, ...]
-    log_place: LogPlace | None
+    log_position: LogPosition | None
     bears: _Bears | None = None
 
     def __init__(self, folder: Folder) -> None:
@@ -163,11 +169,13 @@ class _Keeper:
         self._kept = 0  # how many bytes the snapshot has
         self._pause = 0.0  # until when none is due
         self._next = -1  # the journal that is to grow
-        self._writing = threading.Lock()  # held over a write; guards the five below
+        self._writing = threading.Lock()  # held over a write; guards the seven below
         self._file = -1  # the journal that grows
         self._room = 0  # its length
         self._older = 0  # how many bytes of frames older journals have
         self._marked = True  # its last frame is a mark, or it has none
+        self._said: LogPosition | None = None  # the last position in the log that it says
+        self._said_at = 0.0
         self._broken: Exception | None = None  # why nothing is kept any more
         self._gate = threading.Condition()  # guards what follows
         self._commit: _Commit | None = None  # what the next write takes
@@ -256,25 +264,25 @@ class _Keeper:
     def _read(self) -> Numbers:
         """Reads the folder, as a start does."""
         folder = self._folder
-        for name in SNAPSHOT, PLACE, FRAMES:
+        for name in SNAPSHOT, ID_FILE, FRAMES:
             folder.remove(name + UNFINISHED)
         if (folder.path / FRAMES).exists():
             raise ValueError(f"{folder.path} is of an older svidd: start a newer one in it once")
-        place, journals = folder.place(), folder.journals()
-        files = [File(folder, journal_name(it), it, place) for it in journals]
+        folder_id, journals = folder.folder_id(), folder.journals()
+        files = [File(folder, journal_name(it), it, folder_id) for it in journals]
         self._older = sum(it.at for it in files)
         self._wants = len(journals) >= _MANY_JOURNALS
         try:
-            files.insert(0, File(folder, SNAPSHOT, 0, place))
+            files.insert(0, File(folder, SNAPSHOT, 0, folder_id))
             self._kept = files[0].at
         except FileNotFoundError:
             self._wants = True
         self.torn = tuple(it.name for it in files if it.is_torn)
         self._found = [messages for it in files for messages in it.messages]
-        places = [it.log_place for it in files if it.log_place is not None]
-        self.log_place = places[-1] if places else None
-        self.place = folder.make_place() if place is None else place
-        return Numbers(self.place, min(journals, default=1), max(journals, default=0))
+        positions = [it.log_position for it in files if it.log_position is not None]
+        self.log_position = positions[-1] if positions else None
+        self.folder_id = folder.make_folder_id() if folder_id is None else folder_id
+        return Numbers(self.folder_id, min(journals, default=1), max(journals, default=0))
 
     def _make_calls(self, parts: _Parts | None) -> None:
         """Makes the calls of the system that are due, until one raises."""
@@ -324,12 +332,13 @@ class _Keeper:
                     self._older = 0
                 done, self._file, self._next = self._file, self._next, -1
                 _close(done)  # (all of it is on the disk)
-                self._room, self._marked = 0, True
+                self._room, self._marked, self._said = 0, True, None
 
     def _write_pieces(self, file: int, parts: _Parts) -> None:
         """Writes a snapshot: where the validator is in its log, each part, and a mark."""
         at = 0
-        for part in itertools.chain([self._front()], parts()):
+        position = self._log_position()
+        for part in itertools.chain([b"" if position is None else position.text()], parts()):
             if part:
                 at += self._write_piece(file, part, at)
         self._kept = at + self._write_piece(file, b"", at)
@@ -348,10 +357,16 @@ class _Keeper:
             with self._gate:
                 self._snapshots -= 1
 
-    def _front(self) -> bytes:
-        """What a payload begins with."""
-        place = None if self.bears is None else self.bears()
-        return b"" if place is None else place.text()
+    def _log_position(self) -> LogPosition | None:
+        return None if self.bears is None else self.bears()
+
+    def _due(self, commit: _Commit) -> LogPosition | None:
+        """Where the validator is in its log, if the write of a commit is to say that."""
+        position, said = self._log_position(), self._said
+        if position is None or said is None:
+            return position
+        late = commit.asks or position.deaf != said.deaf or time.monotonic() - self._said_at >= _AGE
+        return position if late and position != said else None
 
     def _join(self, messages: bytes, is_soon: bool = False) -> _Commit:
         """Adds messages to what the next write takes."""
@@ -369,6 +384,7 @@ class _Keeper:
             commit.parts.append(messages)
             commit.len += len(messages)
             commit.is_soon = commit.is_soon or is_soon
+            commit.asks = commit.asks or not messages
             return commit
 
     def _work(self) -> None:
@@ -398,16 +414,26 @@ class _Keeper:
             self._folder.close()
 
     def _mark(self) -> None:
-        """Ends the journal by a mark, by which damage in front of it is seen."""
-        if not self._marked and self._broken is None:
-            self._put(b"")  # (nobody waits for it: where that fails, there is none)
+        """Ends the journal by a mark, by which damage in front of it is seen.
+
+        In front of it comes where the validator is in its log, if the journal does not say that.
+        """
+        if self._broken is None:  # (nobody waits for it: where that fails, there is none)
+            last = _Commit()
+            last.asks = True
+            if self._put_commit(last) is None and not self._marked:
+                self._put(b"")
 
     def _put_commit(self, commit: _Commit) -> Exception | None:
         try:
-            payload = b"".join([self._front(), *commit.parts])
+            position = self._due(commit)
+            payload = b"".join([b"" if position is None else position.text(), *commit.parts])
         except (Error, MemoryError) as why:
             return why
-        return self._put(payload) if payload else None
+        why_not = self._put(payload) if payload else None
+        if position is not None and why_not is None:
+            self._said, self._said_at = position, time.monotonic()
+        return why_not
 
     def _put(self, payload: bytes) -> Exception | None:
         """Takes a payload to the disk, and gives why that failed."""

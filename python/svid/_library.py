@@ -41,6 +41,7 @@ MESSAGE_FAULTS = {
 """Why bytes are no messages, by status."""
 
 BEARER_SPELLING = 84
+NOT_ALLOWED = 91
 TOO_LONG = 101
 
 HAS_LOG = 10
@@ -97,16 +98,15 @@ SPKI_ROOM = 2100
 USUAL_RSA_BITS = 4096
 RSA_BITS = range(2048, 16_384 + 1)
 """How many bits an RSA key may be let have."""
-BATCH_HEAD_LEN = 17
-USE_LEN = 65
-USES_IN_A_BATCH = 65_536
+BATCH_OF_LEN = 82
+"""The most bytes that a use takes in messages."""
 INPUT_MOST = 67_108_864
 NO_LIMIT = 2**64 - 1
 PAYLOAD_MOST = 16_777_215
 """The most bytes that one frame of a state folder bears."""
 FRAME_MORE = 39
 """How many bytes a frame has at most beside its payload."""
-LOG_PLACE = 28
+LOG_POSITION = 28
 """How many bytes say where a validator is in its log, in front of a payload."""
 
 
@@ -117,13 +117,13 @@ class Told(ctypes.Structure):
         ("len", c_size_t),
         ("input", c_size_t),
         ("message", c_size_t),
-        ("place", c_size_t),
+        ("offset", c_size_t),
         ("more", c_size_t),
     ]
     len: int
     input: int
     message: int
-    place: int
+    offset: int
     more: int
 
 
@@ -143,6 +143,32 @@ class Said(ctypes.Structure):
     exp: int
 
 
+class Id(ctypes.Structure):
+    """`svid_id`: the lengths of an ID's parts, or the offset of its fault."""
+
+    _fields_ = [("offset", c_size_t), ("domain_len", c_size_t), ("path_len", c_size_t)]
+    offset: int
+
+
+class Signed(ctypes.Structure):
+    """`svid_signed`: what a token's signature is made over."""
+
+    _fields_ = [("len", c_size_t)]
+    len: int
+
+
+class Entry(ctypes.Structure):
+    """`svid_entry`: an entry of a record, a use or a withdrawal."""
+
+    _fields_ = [
+        ("withdrawn", c_uint64),
+        ("exp", c_uint64),
+        ("at", c_uint64),
+        ("key", c_uint8 * 32),
+        ("validator_id", c_uint8 * 16),
+    ]
+
+
 class Terms(ctypes.Structure):
     """`svid_terms`: what a validator is given for its whole life."""
 
@@ -150,7 +176,7 @@ class Terms(ctypes.Structure):
         ("longest", c_uint64),
         ("ahead", c_uint64),
         ("step", c_uint64),
-        ("place", c_uint8 * 16),
+        ("validator_id", c_uint8 * 16),
     ]
 
 
@@ -164,7 +190,7 @@ class Part(ctypes.Structure):
         ("exp", c_uint64),
         ("at", c_uint64),
         ("key", c_uint8 * 32),
-        ("place", c_uint8 * 16),
+        ("validator_id", c_uint8 * 16),
     ]
     done: int
 
@@ -243,23 +269,27 @@ _TOLD = [c_void_p]
 _VALIDATOR = [c_void_p]
 _NOW = [c_uint64]
 _FOLDER = [c_void_p]
-_PLACE = [c_char_p]
+_FOLDER_ID = [c_char_p]
 _CALLS = {
     "svid_bearer_token": [c_uint64, *_LENT, c_void_p],
     "svid_bundles_open": [*_VALIDATOR, *_LENT, *_TOLD],
+    "svid_entries_read": [*_LENT, *_OUT, *_TOLD],
+    "svid_entries_write": [*_OUT, *_OUT, *_TOLD],
+    "svid_id_allows": [*_LENT, *_LENT, c_void_p],
     "svid_journal_answer": [*_FOLDER, c_uint32],
     "svid_journal_begin": _FOLDER,
     "svid_journal_due": [*_FOLDER, c_void_p],
     "svid_journal_failed": _FOLDER,
     "svid_journal_open": [*_FOLDER, c_uint64, c_uint64],
-    "svid_journal_piece": [*_FOLDER, *_PLACE, *_LENT, *_OUT, *_TOLD],
-    "svid_journal_place": [c_void_p, *_OUT, *_TOLD],
-    "svid_journal_put": [*_FOLDER, *_PLACE, *_LENT, *_OUT, *_TOLD],
-    "svid_journal_read": [*_PLACE, c_uint64, *_LENT, c_void_p, c_void_p],
+    "svid_journal_piece": [*_FOLDER, *_FOLDER_ID, *_LENT, *_OUT, *_TOLD],
+    "svid_journal_position": [c_void_p, *_OUT, *_TOLD],
+    "svid_journal_put": [*_FOLDER, *_FOLDER_ID, *_LENT, *_OUT, *_TOLD],
+    "svid_journal_read": [*_FOLDER_ID, c_uint64, *_LENT, c_void_p, c_void_p],
     "svid_journal_synced": _FOLDER,
     "svid_journal_unwritten": _FOLDER,
     "svid_key_spki": [*_LENT, *_LENT, c_size_t, *_OUT, *_TOLD],
     "svid_token_says": [*_LENT, c_void_p, *_OUT, *_OUT, *_TOLD],
+    "svid_token_signature": [*_LENT, c_void_p, *_OUT, *_TOLD],
     "svid_report": [*_LENT, *_NOW, *_OUT, *_TOLD],
     "svid_validator_answer": [*_VALIDATOR, *_NOW, *_LENT, *_OUT, *_TOLD],
     "svid_validator_beside": [*_VALIDATOR, *_OUT, *_TOLD],

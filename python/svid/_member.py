@@ -7,7 +7,8 @@ log to the library in their order, and waits. Its duties are:
 - the values of one log in their order, each whole;
 - an answer of yes to at most one caller, for a use that the library answered as accepted and that
   this member had put into the log, for the token of that use;
-- a place of its own, and `ready` at least the last position that an earlier life may have read.
+- a validator ID of its own, and `ready` at least the last position that an earlier life may have
+  read.
 """
 
 from __future__ import annotations
@@ -23,7 +24,7 @@ from collections.abc import Callable, Iterable
 
 from . import _library as lib
 from ._bundles import Bundles, Path
-from ._frames import LogPlace
+from ._frames import LogPosition
 from ._handle import JUDGE, Read
 from ._log import Log, OtherLog
 from ._signatures import USUAL_RSA_BITS, Verifies
@@ -44,7 +45,7 @@ _PAUSE = 0.1
 _SAYS = 60.0
 """How many seconds a warning is not said again."""
 _MISSED = "values of the log are missing, and a claim of the token may be among them"
-
+_UNREAD = "the log was not read yet, or values of it are missing"
 _LATE = "the log did not answer in time"
 _OTHER = "another request with the token has no answer yet"
 
@@ -68,7 +69,9 @@ class Member(Validator):
     checks raise Unavailable.
     """
 
-    _recalled: LogPlace | None = None  # where an earlier life was in the log, until that has begun
+    _recalled: LogPosition | None = (
+        None  # where an earlier life was in the log, until that has begun
+    )
 
     def __init__(
         self,
@@ -79,7 +82,7 @@ class Member(Validator):
         bundles: Bundles,
         ahead: int = 10,
         step: int | None = None,
-        place: bytes | None = None,
+        validator_id: bytes | None = None,
         refresh: float | None = 10.0,
         verifies: Verifies | None = None,
         rsa_bits: int = USUAL_RSA_BITS,
@@ -111,7 +114,7 @@ class Member(Validator):
             longest=longest,
             ahead=ahead,
             step=step,
-            place=place,
+            validator_id=validator_id,
             refresh=refresh,
             verifies=verifies,
             rsa_bits=rsa_bits,
@@ -205,6 +208,19 @@ class Member(Validator):
                 return self._outcome(mine)
             if not claim.is_ended:
                 raise Unavailable(_OTHER)
+
+    def judge(self, token: Token, now: float | None = None) -> Accepted:
+        """Answers what `check` would, but puts no claim into the log: `check` may still accept it.
+
+        It does not wait: it answers by what this member has read of the log. Raises Unavailable
+        until it has read what the log had at first, and while values are missing, since the token
+        may have been used or withdrawn there.
+        """
+        knows = self.is_ready  # (what it reads from here on may be missing in the answer)
+        accepted = super().judge(token, now)
+        if not knows:
+            raise Unavailable(_UNREAD)
+        return accepted
 
     async def check_soon(self, token: Token, now: float | None = None) -> Accepted:
         """Does what `check` does, and lets the event loop go on while it waits for the log.
@@ -360,13 +376,13 @@ class Member(Validator):
 
     def _start(self) -> None:
         if self._journal is not None:
-            self._recalled = self._journal.log_place
-            self._journal.bear(self._log_place)
+            self._recalled = self._journal.log_position
+            self._journal.bear(self._log_position)
         super()._start()
 
-    def _log_place(self) -> LogPlace | None:
+    def _log_position(self) -> LogPosition | None:
         """Where it is in the log; before it reads one, where an earlier life was."""
-        return self._handle.log_place() or self._recalled
+        return self._handle.log_position() or self._recalled
 
     def _keep_soon(self, messages: bytes) -> None:
         """Lets the state folder have uses, and where this member is in the log."""

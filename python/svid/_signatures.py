@@ -1,4 +1,4 @@
-"""Signatures of the nine algorithms of a JWT-SVID (RFC 7518, section 3), by `cryptography`."""
+"""Signatures of the algorithms of a JWT-SVID (RFC 7518, section 3), by `cryptography`."""
 
 from __future__ import annotations
 

@@ -2,7 +2,6 @@
 
 from __future__ import annotations
 
-import binascii
 import ctypes
 import struct
 import threading
@@ -13,7 +12,8 @@ from . import _library as lib
 from ._signatures import Verifies
 
 _ROW = struct.Struct(">4x5sI")  # the algorithm, and the length of the key
-_URL_SAFE = bytes.maketrans(b"-_", b"+/")
+_SIGNATURE = 1024
+"""Room for a signature: longer ones are of no key that is usual."""
 _ROOM = 65_536
 _ROOM_SIZE = lib.size(_ROOM)
 _MOST = lib.size(lib.MOST_CANDIDATES)
@@ -90,8 +90,7 @@ def first(
 
     A row has this form, of which the algorithm and the length of the key are the last, and the key.
     """
-    signed, _, signature = token.rpartition(b".")
-    signature = decoded(signature)
+    signed, signature = signing(token)
     begins = number = 0
     while begins < len(rows):
         *_, alg, size = form.unpack_from(rows, begins)
@@ -102,6 +101,14 @@ def first(
     return None
 
 
-def decoded(part: bytes) -> bytes:
-    """The bytes of a part of a token whose spelling the library has judged."""
-    return binascii.a2b_base64(part.translate(_URL_SAFE) + b"==")
+def signing(token: bytes) -> tuple[bytes, bytes]:
+    """What the signature of a token is made over, and the signature, as the library reads them."""
+    over, told, room = lib.Signed(), lib.Told(), bytearray(_SIGNATURE)
+    status = lib.TOO_SHORT
+    while status == lib.TOO_SHORT:
+        room = bytearray(max(told.len, len(room)))
+        lent = (lib.address(over), lib.address(room), len(room), lib.address(told))
+        status = lib.quick.svid_token_signature(token, len(token), *lent)
+    if status == lib.NO_MEMORY:
+        raise MemoryError
+    return token[: over.len], bytes(room[: told.len])

@@ -17,11 +17,13 @@ from ._bundles import Bundles, Path, Source
 from ._handle import CHECK, JUDGE, Calls, Handle, fault
 from ._journal import Journal
 from ._signatures import USUAL_RSA_BITS, Verifier, Verifies
-from .errors import Error
+from .errors import BadMessages, Error
 from .records import Accepted, Report, Use
 
 _LOG = logging.getLogger("svid")
 _YEAR_5138 = 100_000_000_000
+_PIECE = 2**22
+"""How many bytes of messages are written, or read of a file, at a time."""
 
 Token = Union[str, bytes]
 Self = TypeVar("Self", bound="Validator")
@@ -57,7 +59,7 @@ class Validator:
         longest: int | None = None,
         ahead: int = 10,
         step: int | None = None,
-        place: bytes | None = None,
+        validator_id: bytes | None = None,
         refresh: float | None = 10.0,
         verifies: Verifies | None = None,
         rsa_bits: int = USUAL_RSA_BITS,
@@ -75,8 +77,8 @@ class Validator:
         step: a `now` more than so many seconds past the record's moment raises Jump, so that a
             wrong clock does not expire the record. None is no limit. After a longer pause you need
             a new validator, so set it to more than the longest time without a call.
-        place: 16 bytes that name this validator among all that share its record; by default random
-            ones. Two validators of one place accept a token twice.
+        validator_id: 16 bytes that name this validator among all that share its record; by default
+            random ones. Two validators of one ID accept a token twice.
         refresh: how many seconds may pass before files of bundles are looked at again, by the next
             check. None is never. Where they can't be read, the bundles stay as they are, and the
             logger "svid" has a warning.
@@ -84,7 +86,7 @@ class Validator:
         rsa_bits: how many bits an RSA key may have, 2,048 to 16,384. A longer one verifies nothing,
             so that a token of a stranger costs little. It is not for `verifies`.
         state: a folder that keeps the record, so that no token that `check` returned is accepted
-            again behind a crash, a restart or a loss of power. The validator has the place that is
+            again behind a crash, a restart or a loss of power. The validator has the ID that is
             in it. `check` and `withdraw` return once the disk has the use. What `take` got is kept
             from the next snapshot on. See `svid.Journal`.
         wait: for how many seconds `check` and `withdraw` wait for that, until they raise
@@ -94,8 +96,8 @@ class Validator:
         that can't be. With `state` it raises what `svid.Journal` does, and TooFar where the clock
         is behind the record that was kept.
         """
-        if place is not None and (len(place) != 16 or state is not None):
-            raise ValueError("place has 16 bytes, and a folder of state has its own")
+        if validator_id is not None and (len(validator_id) != 16 or state is not None):
+            raise ValueError("validator_id has 16 bytes, and a folder of state has its own")
         if refresh is not None and not refresh >= 0:
             raise ValueError("refresh is a number of seconds, or None")
         if not wait >= 0:
@@ -115,11 +117,11 @@ class Validator:
         own, text = _lines(audiences), self._source.read()
         self._journal = None if state is None else Journal(state)
         if self._journal is not None:
-            place = self._journal.place
-        elif place is None:
-            place = os.urandom(16)
+            validator_id = self._journal.validator_id
+        elif validator_id is None:
+            validator_id = os.urandom(16)
         try:
-            self._handle = Handle(**terms, place=place, own=own, bundles=text)
+            self._handle = Handle(**terms, validator_id=validator_id, own=own, bundles=text)
             self._start()
         except BaseException:
             if self._journal is not None:
@@ -189,15 +191,15 @@ class Validator:
         """
         self._handle.take(_seconds(now), _lent(messages))
 
-    def parts(self, uses: int = 65_536) -> Iterator[bytes]:
-        """The record as messages, each of at most so many uses (1 to 65,536), of 65 bytes a use.
+    def parts(self, size: int = _PIECE) -> Iterator[bytes]:
+        """The record as messages, each of at most so many bytes, which are 82 or more.
 
         You may make other calls in between. Together they have each use that the record had at the
         first of them, and that is still live at the last.
         """
-        if not 1 <= uses <= lib.USES_IN_A_BATCH:
-            raise ValueError("uses is from 1 to 65,536")
-        return self._handle.parts(uses)
+        if size < lib.BATCH_OF_LEN:
+            raise ValueError(f"size is {lib.BATCH_OF_LEN} bytes or more")
+        return self._handle.parts(size)
 
     def summary(self) -> bytes:
         """A message of 8,205 bytes, for a validator that is to `answer` what is missing here."""
@@ -238,10 +240,27 @@ class Validator:
 
     def load(self, path: Path, now: float | None = None) -> None:
         """Takes the record of a file that `save` wrote. Raises OSError, TooFar and BadMessages."""
+        messages = b""
         with open(path, "rb") as file:
-            while head := file.read(lib.BATCH_HEAD_LEN):
-                uses = min(int.from_bytes(head[13:], "big"), lib.USES_IN_A_BATCH + 1)
-                self.take(head + file.read(lib.USE_LEN * uses), now)
+            while more := file.read(_PIECE):
+                messages += more
+                messages = messages[self._take_whole(messages, now) :]
+        if messages:
+            self.take(messages, now)
+
+    def _take_whole(self, messages: bytes, now: float | None) -> int:
+        """Takes those that are whole, and gives how many bytes they are."""
+        try:
+            self.take(messages, now)
+            return len(messages)
+        except BadMessages as fault:
+            # Of one that is cut off, the offset says how many of its bytes are there.
+            if fault.reason != "Truncated":
+                raise
+            whole = len(messages) - fault.offset
+        if whole:
+            self.take(messages[:whole], now)
+        return whole
 
     def renew(self, bundles: Bundles | None = None) -> None:
         """Replaces the bundles, by default by what their files have now. The record stays.

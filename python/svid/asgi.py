@@ -1,12 +1,12 @@
-"""ASGI middleware: lets in requests with a good token, and puts its SPIFFE ID into the scope."""
+"""ASGI middleware: lets in requests with a good token, and says in the scope whose it was."""
 
 from __future__ import annotations
 
-from collections.abc import Awaitable, Callable, MutableMapping
+from collections.abc import Awaitable, Callable, Iterable, MutableMapping
 from http import HTTPStatus
 from typing import Any
 
-from ._bearer import admit_soon
+from ._bearer import Terms
 from ._validator import Validator
 
 Scope = MutableMapping[str, Any]
@@ -15,34 +15,67 @@ Receive = Callable[[], Awaitable[Message]]
 Send = Callable[[Message], Awaitable[None]]
 App = Callable[[Scope, Receive, Send], Awaitable[None]]
 
+_OURS = ("spiffe_id", "svid.accepted")
+
 
 class SvidMiddleware:
     """Checks the bearer token of each request and each websocket, and calls `app` if it is good.
 
-    There `scope["spiffe_id"]` is the SPIFFE ID of the token's subject, a str. Any other request is
-    answered with status 401, and any other websocket is closed before it is accepted. Where a check
-    is Unavailable, the status is 503. A check runs on the event loop: it takes little more than to
-    verify one signature. The loop goes on while a `Member` waits for its log. A check that waits
-    for a disk runs in a thread.
+    There `scope["spiffe_id"]` is the SPIFFE ID of the token's subject, a str, and
+    `scope["svid.accepted"]` the `svid.Accepted`, with the token's expiry and key. Any other request
+    is answered with status 401, and any other websocket is closed before it is accepted. Where a
+    check is Unavailable, the status is 503. A check runs on the event loop: it takes little more
+    than to verify one signature. The loop goes on while a `Member` waits for its log. A check that
+    waits for a disk runs in a thread.
+
+    `allow` are patterns of the SPIFFE IDs that may call (`svid.allows`). Another one with a good
+    token is answered with status 403, and the token is not used up. Left out, all may call; an
+    empty list is a ValueError.
+
+    `reuse` are paths where a token is checked, and stays good: it may come again, there and once
+    elsewhere. It is refused there, too, once it was used elsewhere. It may also be a function of
+    the scope that returns True or False, as `lambda scope: scope.get("method") == "GET"`.
+
+    `open_paths` are paths that need no token, as those of health checks. There the scope has no
+    SPIFFE ID and no acceptance, whatever stood in it, and a token is not looked at.
+
+    "/healthz" is that path alone, and "/static/*" is each path below "/static". What the server and
+    the framework may read in two ways is on no list: escapes, empty segments, "." and "..". Behind
+    a `root_path` a path is listed both with it and without it, since frameworks differ in that.
+
+    Raises ValueError for what is no pattern, and for what is no path.
 
     A `Validator` belongs to one process: a server with several workers accepts a token once in
     each. With a `Member` of one log in each worker, all workers together accept a token once. So do
     all services behind the sidecar svidd (docs/SIDECAR.md).
     """
 
-    def __init__(self, app: App, validator: Validator) -> None:
+    def __init__(
+        self,
+        app: App,
+        validator: Validator,
+        allow: Iterable[str] | None = None,
+        *,
+        reuse: Iterable[str] | Callable[[Scope], bool] = (),
+        open_paths: Iterable[str] = (),
+    ) -> None:
         self.app = app
-        self.validator = validator
+        self.terms = Terms(validator, allow, reuse, open_paths)
 
     async def __call__(self, scope: Scope, receive: Receive, send: Send) -> None:
         if scope["type"] == "lifespan":
             return await self.app(scope, receive, send)
+        theirs = {name: it for name, it in scope.items() if name not in _OURS}
+        readings = _readings(scope)
+        if self.terms.is_open(readings):
+            return await self.app(theirs, receive, send)
         given = [value for name, value in scope["headers"] if name.lower() == b"authorization"]
-        admission = await admit_soon(self.validator, given)
-        if admission.spiffe_id is not None:
-            await self.app({**scope, "spiffe_id": admission.spiffe_id}, receive, send)
+        admission = await self.terms.admit_soon(given, self.terms.reuses(theirs, readings))
+        if admission.accepted is not None:
+            ours = (admission.accepted.spiffe_id, admission.accepted)
+            await self.app({**theirs, **dict(zip(_OURS, ours))}, receive, send)
         elif scope["type"] == "websocket":
-            code = 1008 if admission.status == HTTPStatus.UNAUTHORIZED else 1013
+            code = 1013 if admission.status == HTTPStatus.SERVICE_UNAVAILABLE else 1008
             await send({"type": "websocket.close", "code": code})
         else:
             headers = [(b"content-length", b"0")]
@@ -51,3 +84,13 @@ class SvidMiddleware:
             start = {"type": "http.response.start", "status": int(admission.status)}
             await send({**start, "headers": headers})
             await send({"type": "http.response.body"})
+
+
+def _readings(scope: Scope) -> tuple[str, ...]:
+    """The path, in each way that a framework may read it; none where one may read it undecoded."""
+    if b"%" in (scope.get("raw_path") or b"").partition(b"?")[0]:
+        return ()
+    path, root = scope.get("path", ""), scope.get("root_path", "").rstrip("/")
+    if root and path.startswith(root):
+        return path, path[len(root) :]
+    return (path,)

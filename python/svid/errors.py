@@ -78,20 +78,20 @@ class BadMessages(Error, ValueError):
     """The bytes are no messages of a validator. None of them was taken.
 
     `reason` is a name of docs/FORMATS.md, as "Truncated"; or "TooMuch" for more than 67,108,864
-    bytes, or "NotSummary". `message` is which of the messages is bad, counted from 1, and `place`
+    bytes, or "NotSummary". `message` is which of the messages is bad, counted from 1, and `offset`
     the number of the bad byte in it, counted from 0; both are 0 for "TooMuch" and "NotSummary".
     """
 
-    def __init__(self, reason: str, message: int, place: int) -> None:
-        super().__init__(reason, message, place)
+    def __init__(self, reason: str, message: int, offset: int) -> None:
+        super().__init__(reason, message, offset)
         self.reason = reason
         self.message = message
-        self.place = place
+        self.offset = offset
 
     def __str__(self) -> str:
         if self.message == 0:
             return self.reason
-        return f"{self.reason} in message {self.message} at byte {self.place}"
+        return f"{self.reason} in message {self.message} at byte {self.offset}"
 
 
 class Unavailable(Error):
@@ -117,21 +117,21 @@ class Held(Error):
 
 
 class Damaged(Error):
-    """A file of the state folder is damaged at this byte (`place`). No crash leaves such a file.
+    """A file of the state folder is damaged at this byte (`offset`). No crash leaves such a file.
 
     Look for a failing disk, and put back a copy of the file of the same day. Without one,
-    docs/SIDECAR.md says what to do ("A damaged state folder").
+    docs/SIDECAR-OPERATION.md says what to do ("A damaged state folder").
     """
 
-    def __init__(self, file: str, place: int) -> None:
-        super().__init__(file, place)
+    def __init__(self, file: str, offset: int) -> None:
+        super().__init__(file, offset)
         self.file = file
-        self.place = place
+        self.offset = offset
 
     def __str__(self) -> str:
         return (
-            f"{self.file} is damaged at byte {self.place}: look for a failing disk, and put back a "
-            "copy of the file of the same day"
+            f"{self.file} is damaged at byte {self.offset}: look for a failing disk, and put back "
+            "a copy of the file of the same day"
         )
 
 

@@ -6,10 +6,10 @@ import struct
 from collections.abc import Iterable
 from dataclasses import dataclass
 
-_BATCH_OF_ONE = struct.Struct(">4sBQIQ32s16sQB")
-_BATCH_HEAD = struct.Struct(">4sBQI")
-_MAGIC = b"JSR\x02"
-_BATCH = 1
+from . import _library as lib
+
+_ENTRY = struct.Struct("@QQQ32s16s")
+"""`svid_entry`, as the C library has it in memory."""
 
 
 @dataclass(slots=True, unsafe_hash=True)
@@ -20,7 +20,7 @@ class Use:
     """When the token expires, in seconds since 1970. The entry is dropped then."""
     key: bytes
     """32 bytes by which all uses of the token are known."""
-    place: bytes
+    validator_id: bytes
     """16 bytes that name the validator that made the entry."""
     at: int
     """The record's moment when the entry was made, in seconds since 1970."""
@@ -29,19 +29,30 @@ class Use:
 
     @property
     def message(self) -> bytes:
-        """The entry as a message of 82 bytes, for `Validator.take` of other validators."""
-        kind = int(self.withdrawn)
-        use = (self.expires, self.key, self.place, self.at, kind)
-        return _BATCH_OF_ONE.pack(_MAGIC, _BATCH, self.at, 1, *use)
+        """The entry as a message of 82 bytes, for `Validator.take` of other validators.
+
+        Raises ValueError if it expires when it was made, or before: no message can tell it.
+        """
+        return batches([self])
 
 
 def batches(uses: Iterable[Use]) -> bytes:
-    """Uses as messages: those that were made at one moment share a batch."""
-    made: dict[int, list[bytes]] = {}
-    for use in uses:
-        made.setdefault(use.at, []).append(use.message[_BATCH_HEAD.size :])
-    heads = {at: _BATCH_HEAD.pack(_MAGIC, _BATCH, at, len(texts)) for at, texts in made.items()}
-    return b"".join(heads[at] + b"".join(sorted(texts)) for at, texts in made.items())
+    """Uses as messages: those that were made at one moment share a batch.
+
+    Raises ValueError if one of them expires when it was made, or before.
+    """
+    packed = [_ENTRY.pack(it.withdrawn, it.expires, it.at, it.key, it.validator_id) for it in uses]
+    entries, told = b"".join(packed), lib.Told(len=lib.BATCH_OF_LEN * len(packed))
+    status = lib.TOO_SHORT
+    while status == lib.TOO_SHORT:
+        room = bytearray(told.len)
+        lent = (lib.address(room) if room else None, len(room), lib.address(told))
+        status = lib.quick.svid_entries_write(entries, len(packed), *lent)
+    if status == lib.NO_MEMORY:
+        raise MemoryError
+    if status != lib.OK:
+        raise ValueError(f"use {told.offset} expires when it was made, or before")
+    return bytes(room[: told.len])
 
 
 @dataclass(slots=True, unsafe_hash=True)
@@ -51,7 +62,7 @@ class Accepted:
     spiffe_id: str
     """The SPIFFE ID of the token's subject, as "spiffe://example.org/billing/api"."""
     use: Use
-    """What the record has gained."""
+    """What the record has gained; of `judge`, what it would have."""
 
     @property
     def expires(self) -> int:
@@ -93,7 +104,11 @@ class Report:
 
 
 def _entry(line: str) -> Use:
-    expires, key, place, at, *withdrawn = line.split(" ")
+    expires, key, validator_id, at, *withdrawn = line.split(" ")
     return Use(
-        int(expires), bytes.fromhex(key), bytes.fromhex(place), int(at), withdrawn == ["withdrawn"]
+        int(expires),
+        bytes.fromhex(key),
+        bytes.fromhex(validator_id),
+        int(at),
+        withdrawn == ["withdrawn"],
     )

@@ -21,11 +21,31 @@ import svid
 
 NOW = 1_767_225_600
 PROGRAM = os.environ["SVID"]
-PLACE = "00112233445566778899aabbccddeeff"
+# How many seconds a test waits for what must come. python/wrong/run sets it.
+PATIENCE = float(os.environ.get("SVID_TEST_PATIENCE") or 180)
+# What a copy of the checkout leaves out: what tests beside this one write into it and remove.
+# (python/wrong/run makes a folder tmp)
+LEFT = ["__pycache__", "build", "dist", "*.egg-info", ".*_cache", ".hypothesis", "tmp"]
+VALIDATOR_ID = "00112233445566778899aabbccddeeff"
 SUBJECT = "spiffe://example.org/billing/api"
 CURVES = {"ES256": ec.SECP256R1(), "ES384": ec.SECP384R1(), "ES512": ec.SECP521R1()}
 CRV = {"secp256r1": "P-256", "secp384r1": "P-384", "secp521r1": "P-521"}
-ALGORITHMS = [kind + bits for kind in ("RS", "ES", "PS") for bits in ("256", "384", "512")]
+# lists:begin algorithms (written by tools/lists from lists/algorithms.toml)
+ALGORITHMS = ["RS256", "RS384", "RS512", "ES256", "ES384", "ES512", "PS256", "PS384", "PS512"]
+# lists:end
+# lists:begin ktys (written by tools/lists from lists/algorithms.toml)
+KTY = {
+    "RS256": "RSA",
+    "RS384": "RSA",
+    "RS512": "RSA",
+    "ES256": "EC",
+    "ES384": "EC",
+    "ES512": "EC",
+    "PS256": "RSA",
+    "PS384": "RSA",
+    "PS512": "RSA",
+}
+# lists:end
 SIGNERS = jwt.algorithms.get_default_algorithms()
 
 
@@ -102,8 +122,8 @@ def token(alg="ES256", key=None, header=None, **members):
 
 
 def fresh(**members):
-    """A token of now."""
-    return token(**{"exp": int(time.time()) + 300, "jti": None, **members})
+    """A token of now, which outlives a test on a slow machine."""
+    return token(**{"exp": int(time.time()) + 3000, "jti": None, **members})
 
 
 def signed(alg, key, header, payload):
@@ -146,7 +166,7 @@ def program(bundles, table, tokens, *options):
             with open(os.path.join(room, name), "w", encoding="utf-8") as file:
                 file.write(text)
         words = ["--bundles", f"{room}/bundles", "--table", f"{room}/table", "--now", str(NOW)]
-        words = [PROGRAM, "check", *words, "--place", PLACE, *options, "ledger"]
+        words = [PROGRAM, "check", *words, "--validator-id", VALIDATOR_ID, *options, "ledger"]
         lines = b"".join(it.encode() + b"\n" for it in tokens)
         ran = subprocess.run(words, input=lines, capture_output=True, check=False)
     assert ran.returncode in (0, 1) and not ran.stderr, ran.stderr

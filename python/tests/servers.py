@@ -1,5 +1,6 @@
-"""Real servers of Redis and PostgreSQL for tests: each in a folder of its own, at a free port."""
+"""Real servers of Redis and PostgreSQL for tests: each in a folder and at a port of its own."""
 
+import contextlib
 import os
 import pwd
 import shutil
@@ -11,9 +12,10 @@ import time
 
 import psycopg2
 import redis
+from making import PATIENCE
 
 
-def until(true, seconds=60):
+def until(true, seconds=PATIENCE):
     """Waits until something is true."""
     end = time.monotonic() + seconds
     while not true():
@@ -21,10 +23,13 @@ def until(true, seconds=60):
         time.sleep(0.005)
 
 
-def free_port():
-    with socket.socket() as it:
-        it.bind(("127.0.0.1", 0))
-        return it.getsockname()[1]
+def held_port():
+    """A socket that holds a port and does not listen. So the system gives the port to nobody who
+    asks for any, and a server may listen on it, again and again: both have SO_REUSEADDR."""
+    it = socket.socket()
+    it.setsockopt(socket.SOL_SOCKET, socket.SO_REUSEADDR, 1)
+    it.bind(("127.0.0.1", 0))
+    return it
 
 
 class Server:
@@ -33,7 +38,8 @@ class Server:
     def __init__(self):
         # (not below the folder of the tests: PostgreSQL runs as another user)
         self.folder = tempfile.mkdtemp(prefix="svid-test-", dir="/tmp")
-        self.port, self.ran, self.limit = free_port(), None, None
+        self.held, self.ran, self.limit = held_port(), None, None
+        self.port = self.held.getsockname()[1]
 
     def __enter__(self):
         self.start()
@@ -41,6 +47,7 @@ class Server:
 
     def __exit__(self, *_):
         self.kill()
+        self.held.close()
         shutil.rmtree(self.folder, ignore_errors=True)
 
     def start(self, *more):
@@ -50,19 +57,25 @@ class Server:
     def stop(self):
         """As an operator restarts it."""
         self.ran.send_signal(self.stops_by)
-        self.ran.wait(60)
+        self.ran.wait(PATIENCE)
 
     def kill(self):
         self.ran.kill()
-        self.ran.wait(60)
+        self.ran.wait(PATIENCE)
 
     def pause(self):
-        for it in self.processes():
-            os.kill(it, signal.SIGSTOP)
+        self.send(signal.SIGSTOP)
 
     def go(self):
-        for it in self.processes():
-            os.kill(it, signal.SIGCONT)
+        self.send(signal.SIGCONT)
+
+    def send(self, number):
+        """To the server, and to each child that has not ended meanwhile."""
+        server, *children = self.processes()
+        os.kill(server, number)
+        for it in children:
+            with contextlib.suppress(ProcessLookupError):
+                os.kill(it, number)
 
     def processes(self):
         """The server and what it has started."""

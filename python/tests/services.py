@@ -11,7 +11,7 @@ import sys
 import threading
 
 import svid
-from making import bundle, entry, fresh, private_key
+from making import PATIENCE, bundle, entry, fresh, private_key
 from servers import PostgresServer, RedisServer, until
 
 EXAMPLES = pathlib.Path(__file__).parent.parent / "examples"
@@ -57,7 +57,7 @@ class Service:
     """A service with four workers, behind a port."""
 
     def __init__(self, folder, kind, url, wait=60):
-        text, words = SERVICES.get(kind) or (kind, SERVICES["wsgi"][1])
+        text, words = SERVICES[kind] if isinstance(kind, str) else kind
         (folder / "service.py").write_text(text)
         bundles = folder / "bundles.json"
         bundles.write_text(json.dumps(bundle(entry(private_key("ES256"), "k1"))))
@@ -85,7 +85,7 @@ class Service:
     def __exit__(self, *_):
         self.ran.terminate()
         try:
-            self.ran.wait(60)
+            self.ran.wait(PATIENCE)
         except subprocess.TimeoutExpired:
             self.ran.kill()
             self.ran.wait()
@@ -100,7 +100,7 @@ class Service:
 
     def get(self, token):
         """The status and the worker of an answer, or a status of None where none came."""
-        connection = http.client.HTTPConnection("127.0.0.1", self.port, timeout=60)
+        connection = http.client.HTTPConnection("127.0.0.1", self.port, timeout=PATIENCE)
         try:
             connection.request("GET", "/", headers={"Authorization": "Bearer " + token})
             answer = connection.getresponse()

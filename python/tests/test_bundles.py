@@ -13,7 +13,7 @@ import types
 
 import pytest
 import svid
-from making import NOW, bundle, entry, private_key, token, validator, verdict
+from making import NOW, PATIENCE, bundle, entry, private_key, token, validator, verdict
 from svid._bundles import Source
 
 KEY = private_key("ES256")
@@ -204,7 +204,7 @@ print(open("/proc/self/status").read().partition("VmHWM:")[2].split()[0])
 """
     environment = {**os.environ, "PYTHONPATH": os.pathsep.join(sys.path)}
     words = [sys.executable, "-c", text]
-    ran = subprocess.run(words, env=environment, capture_output=True, timeout=60, check=True)
+    ran = subprocess.run(words, env=environment, capture_output=True, timeout=PATIENCE, check=True)
     assert int(ran.stdout) < 100_000  # kilobytes, the most that this process had
 
 
@@ -227,15 +227,16 @@ def test_bundles_are_read_without_the_lock():
         with checks._handle._lock:
             thread = threading.Thread(target=renew)
             thread.start()
-            thread.join(20)
+            thread.join(PATIENCE)
             assert done == [True]
 
 
 def test_a_renewal_holds_up_no_check():
     many = many_keys()
     with validator() as checks:
-        parts = []
-        for _ in range(10):
+        part = 1.0
+        # (other work on the machine may hold a check up: so one of several tries is to show it)
+        for _ in range(30):
             thread = threading.Thread(target=checks.renew, args=(many,))
             longest, started = 0.0, time.perf_counter()
             thread.start()
@@ -243,9 +244,11 @@ def test_a_renewal_holds_up_no_check():
                 began = time.perf_counter()
                 with checks._handle._lock:
                     longest = max(longest, time.perf_counter() - began)
-            parts.append(longest / (time.perf_counter() - started))
+            part = min(part, longest / (time.perf_counter() - started))
+            if part < 0.2:
+                break
         # (One that waited for the bundles to be read would wait for a third of that, each time.)
-        assert min(parts) < 0.2
+        assert part < 0.2
 
 
 def test_the_memory_of_a_renewal():

@@ -13,8 +13,8 @@ import time
 
 import pytest
 import svid
-from making import bundle, entry, fresh, private_key
-from servers import PostgresServer, RedisServer, free_port, until
+from making import PATIENCE, bundle, entry, fresh, private_key
+from servers import PostgresServer, RedisServer, held_port, until
 from svid.logs import open_log, postgresql
 
 KINDS = {"redis": RedisServer, "postgresql": PostgresServer}
@@ -77,7 +77,7 @@ def all_of(log, after=0):
 
 def tried(call, *given):
     """Makes a call until it works: its server is being restarted."""
-    end = time.monotonic() + 60
+    end = time.monotonic() + PATIENCE
     while True:
         try:
             return call(*given)
@@ -151,7 +151,7 @@ def test_a_reader_is_woken(shared):
             reading = threading.Thread(target=lambda: said.extend(two.read(it, 60)), daemon=True)
             reading.start()
             one.append(b"%d" % it)
-            reading.join(30)
+            reading.join(PATIENCE)
             assert said == [(it + 1, b"%d" % it)]
 
 
@@ -265,7 +265,7 @@ def test_an_entry_at_no_position(shared_redis):
 
 def test_the_scripts_are_those_of_the_sidecar():
     """Of the Go library, whose members may be in the same group."""
-    go = pathlib.Path(os.environ["SVID"]).parent / "go" / "internal" / "carrier"
+    go = pathlib.Path(os.environ["SVID"]).parent / "go" / "carriers"
     theirs = [*go.glob("redis/*.lua"), *go.glob("postgres/*.sql")]
     assert len(theirs) == 5
     for it in theirs:
@@ -318,7 +318,7 @@ def test_a_server_that_hangs(server):
                 said = []
                 calling = threading.Thread(target=lambda: said.append(said_of(call)), daemon=True)
                 calling.start()
-                calling.join(30)
+                calling.join(PATIENCE)
                 assert said and said != ["[]"], "it waits, or has an answer"
         finally:
             server.go()
@@ -591,7 +591,7 @@ def test_a_server_that_is_away(kind):
     with pytest.raises(OSError, match="(?i)" + kind.__name__[:5]):
         log.bounds()
     server.start()
-    assert log.bounds() == (0, 0)
+    assert tried(log.bounds) == (0, 0)
     log.close()
     server.__exit__()
 
@@ -659,9 +659,11 @@ def test_redis_with_a_password_and_certificates(certificates, tmp_path, monkeypa
         "--tls-key-file",
         certificates / "key.pem",
     ]
-    tls = free_port()
     words = [*files, "--tls-ca-cert-file", certificates / "ca.pem", "--tls-auth-clients", "no"]
-    with RedisServer("--requirepass", "se:c/ret", "--tls-port", str(tls), *words) as server:
+    with contextlib.ExitStack() as stack:
+        tls = stack.enter_context(held_port()).getsockname()[1]
+        more = ["--requirepass", "se:c/ret", "--tls-port", str(tls)]
+        server = stack.enter_context(RedisServer(*more, *words))
         ca = f"ssl_ca_certs={certificates / 'ca.pem'}"
         good = f"rediss://:se%3Ac%2Fret@localhost:{tls}/0?{ca}"
         with opened(server, url=good) as log:
@@ -685,7 +687,7 @@ def test_redis_with_a_password_and_certificates(certificates, tmp_path, monkeypa
 
 
 def test_redis_with_the_least_rights(shared_redis):
-    """What docs/SIDECAR.md lists is enough."""
+    """What docs/SIDECAR-OPERATION.md lists is enough."""
     shared = shared_redis
     rights = (
         "~svid:{rights}:* resetchannels -@all +eval +xadd +xread +xrange +xinfo|stream +xtrim +hget"
@@ -809,7 +811,7 @@ def test_a_value_waits_for_its_replica():
     """So none is missing where that takes over."""
     with RedisServer() as primary, replica_of(primary) as replica:
         with moved(primary, replica) as (url, go):
-            with opened(primary, url=url + "?replicas=2", timeout=1) as log:
+            with opened(primary, url=url + "?replicas=2", timeout=3) as log:
                 log.append(b"1")
                 assert execute(replica, "XLEN", f"svid:{{{log.group}}}:log") == 1
                 assert all_of(log) == [(1, b"1")]
@@ -850,7 +852,7 @@ def test_a_standby_takes_over_that_may_lack_values():
 
 def tried_until_refused(log):
     """Reads until the server is there, which is a standby."""
-    end = time.monotonic() + 60
+    end = time.monotonic() + PATIENCE
     while True:
         try:
             return log.bounds()

@@ -16,8 +16,9 @@ import types
 import pytest
 import svid
 from logs import FileLog, MemoryLog
-from making import bundle, entry, fresh, private_key
-from svid._frames import LogPlace
+from making import PATIENCE, SUBJECT, bundle, entry, fresh, private_key
+from svid import _journal
+from svid._frames import LogPosition
 from svid.asgi import SvidMiddleware
 from svid.records import batches
 
@@ -26,7 +27,7 @@ KNOWN = bundle(entry(private_key("ES256"), "k1"))
 
 
 def member(log, **terms):
-    given = {"audiences": "ledger", "bundles": KNOWN, "longest": LONGEST, "wait": 30}
+    given = {"audiences": "ledger", "bundles": KNOWN, "longest": LONGEST, "wait": PATIENCE}
     return svid.Member(log=log, **{**given, **terms})
 
 
@@ -39,7 +40,7 @@ def verdict(checks, token):
 
 def until(true):
     """Waits until something is true."""
-    end = time.monotonic() + 30
+    end = time.monotonic() + PATIENCE
     while not true():
         assert time.monotonic() < end
         time.sleep(0.001)
@@ -52,7 +53,7 @@ def in_thread(work, *given):
     thread.start()
 
     def end():
-        thread.join(30)
+        thread.join(PATIENCE)
         assert said, "it waits"
         return said[0]
 
@@ -61,7 +62,7 @@ def in_thread(work, *given):
 
 def other_use(use, **changed):
     """The use of another member, which claims the same token."""
-    given = {"expires": use.expires, "key": use.key, "place": b"o" * 16, "at": use.at}
+    given = {"expires": use.expires, "key": use.key, "validator_id": b"o" * 16, "at": use.at}
     return svid.Use(**{**given, **changed})
 
 
@@ -111,8 +112,11 @@ def test_threads_of_one_member_share_a_claim(log):
     with member(log) as checks:
         made = fresh()
         log.hold()
-        answers = [in_thread(verdict, checks, made) for _ in range(8)]
+        answers = [in_thread(verdict, checks, made)]
         until(lambda: len(log.values) == 1)
+        [claim] = checks._open.values()
+        answers += [in_thread(verdict, checks, made) for _ in range(7)]
+        until(lambda: len(claim.tells) == 8 or len(log.values) > 1)
         log.go()
         said = [it() for it in answers]
         assert said.count("Replayed") == 7 and len(log.values) == 1
@@ -121,7 +125,7 @@ def test_threads_of_one_member_share_a_claim(log):
 def test_claims_that_come_together_share_a_value(log):
     class Slow(MemoryLog):
         def append(self, value):
-            assert go.wait(60)
+            assert go.wait(PATIENCE)
             super().append(value)
 
     log, go = Slow(), threading.Event()
@@ -140,7 +144,7 @@ def test_a_value_has_so_many_uses(log, monkeypatch):
 
     class Slow(MemoryLog):
         def append(self, value):
-            assert go.wait(60)
+            assert go.wait(PATIENCE)
             super().append(value)
 
     log, go = Slow(), threading.Event()
@@ -161,13 +165,13 @@ def test_a_value_waits_for_tokens_that_are_being_judged(log, monkeypatch):
     def verifies(_key, _alg, text, _signature):
         if text.startswith(slow.encode()):
             begun.set()
-            assert go.wait(60)
+            assert go.wait(PATIENCE)
         return True
 
     slow = fresh(jti="slow").rpartition(".")[0]
     with member(log, verifies=verifies) as checks:
         answers = [in_thread(verdict, checks, slow + ".AA")]
-        assert begun.wait(60)
+        assert begun.wait(PATIENCE)
         for count in range(1, 9):
             answers.append(in_thread(verdict, checks, fresh(jti=f"quick {count}")))
             until(lambda: len(checks._open) == count)
@@ -185,13 +189,13 @@ def test_a_value_does_not_wait_for_long(log):
     def verifies(_key, _alg, text, _signature):
         if text.startswith(slow.encode()):
             begun.set()
-            assert go.wait(60)
+            assert go.wait(PATIENCE)
         return True
 
     slow = fresh(jti="slow").rpartition(".")[0]
     with member(log, verifies=verifies) as checks:
         first = in_thread(verdict, checks, slow + ".AA")
-        assert begun.wait(60)
+        assert begun.wait(PATIENCE)
         assert isinstance(in_thread(verdict, checks, fresh(jti="quick"))(), svid.Use)
         go.set()
         assert isinstance(first(), svid.Use)
@@ -265,7 +269,7 @@ def test_a_log_that_can_not_be_read_for_a_while(log, caplog):
     with caplog.at_level(logging.WARNING, "svid"), member(log, wait=0.2) as checks:
         made = fresh()
         assert verdict(checks, made) == "Unavailable"
-        log.is_away = False
+        log.is_away, checks._wait = False, PATIENCE
         until(lambda: checks.report().uses)
         assert verdict(checks, made) == "Replayed"  # it is used up
         assert isinstance(verdict(checks, fresh(jti="2")), svid.Use)
@@ -298,16 +302,18 @@ def test_a_second_request_waits_no_longer_than_it_may(log):
 def test_a_claim_that_was_given_up_is_not_sent(log):
     class Slow(MemoryLog):
         def append(self, value):
-            assert go.wait(60)
+            assert go.wait(PATIENCE)
             super().append(value)
 
     log, go = Slow(), threading.Event()
-    with member(log, wait=0.2) as checks:
+    with member(log) as checks:
+        checks._wait = 3
         answers = [in_thread(verdict, checks, fresh(jti="1"))]
         until(lambda: checks._open and not waiting(checks))
-        second = fresh(jti="2")
+        second, checks._wait = fresh(jti="2"), 0.2
         answers.append(in_thread(verdict, checks, second))
         assert [it() for it in answers] == ["Unavailable"] * 2
+        checks._wait = PATIENCE
         go.set()
         assert isinstance(verdict(checks, second), svid.Use)
 
@@ -421,24 +427,24 @@ def test_a_member_that_comes_late_reads_all(log):
 
 
 def test_a_claim_of_an_earlier_life_is_not_accepted(log):
-    """Of the same place: a process that ended behind its claim answered nobody."""
-    with member(log, place=b"p" * 16) as checks:
+    """Of the same ID: a process that ended behind its claim answered nobody."""
+    with member(log, validator_id=b"p" * 16) as checks:
         made = fresh()
         use = checks.judge(made).use
     log.append(use.message)
-    with member(log, place=b"p" * 16) as again:
+    with member(log, validator_id=b"p" * 16) as again:
         until(lambda: again.is_ready)
         assert verdict(again, made) == "Replayed"
 
 
 def test_a_claim_that_an_earlier_life_may_have_accepted(log):
-    """It has the place, the time and the token of a new one, and lets nobody in."""
+    """It has the ID, the time and the token of a new one, and lets nobody in."""
     now = int(time.time())
-    with member(log, place=b"p" * 16) as checks:
+    with member(log, validator_id=b"p" * 16) as checks:
         made = fresh()
         use = checks.check(made, now).use
     log.held = 0
-    with member(log, place=b"p" * 16) as again:
+    with member(log, validator_id=b"p" * 16) as again:
         answer = in_thread(said_by, again, made, now)
         until(lambda: log.values[1:] == [use.message])
         log.go()
@@ -451,7 +457,7 @@ def test_a_claim_that_has_not_gone_out_is_not_accepted(log):
 
     class Slow(MemoryLog):
         def append(self, value):
-            assert go.wait(60)
+            assert go.wait(PATIENCE)
             super().append(value)
 
     log, go = Slow(), threading.Event()
@@ -478,6 +484,61 @@ def test_a_claim_behind_missing_values_is_not_accepted(log):
         checks._deaf = 0
         assert verdict(checks, fresh()) == "Unavailable"
         assert len(log.values) == 2
+
+
+def test_a_member_judges_by_a_log_that_it_has_read(log):
+    """A token may be withdrawn there, or used, and nobody waits for the answer."""
+    withdrawn, bad = fresh(jti="1"), fresh(jti="2", aud="other")
+    with member(log) as other:
+        other.withdraw(withdrawn)
+    log.held = 0
+    with member(log) as checks:
+        for it in withdrawn, fresh(jti="3"):
+            with pytest.raises(svid.Unavailable, match="was not read yet"):
+                checks.judge(it)
+        with pytest.raises(svid.NotAudience):
+            checks.judge(bad)
+        log.go()
+        until(lambda: checks.is_ready)
+        with pytest.raises(svid.Withdrawn):
+            checks.judge(withdrawn)
+        made = fresh(jti="4")
+        assert (
+            checks.judge(made).use.key == checks.judge(made).use.key == checks.check(made).use.key
+        )
+        with pytest.raises(svid.Replayed):
+            checks.judge(made)
+        log.hold()
+        log.append(b"")
+        log.append(b"")
+        log.remove(len(log.values) - 1)
+        log.go()
+        until(lambda: checks.deaf_until)
+        with pytest.raises(svid.Unavailable, match="values of it are missing"):
+            checks.judge(fresh(jti="5"))
+        checks.go_on()
+        assert checks.judge(fresh(jti="5")).spiffe_id == SUBJECT
+
+
+def test_a_log_that_is_read_while_a_token_is_judged(log, monkeypatch):
+    """What is read there is not in the answer."""
+    made, real = fresh(), svid.Validator.judge
+
+    def judge(checks, *given):
+        accepted = real(checks, *given)
+        log.go()
+        until(lambda: checks.is_ready)
+        return accepted
+
+    with member(log) as other:
+        other.withdraw(made)
+    log.held = 0
+    with member(log) as checks:
+        monkeypatch.setattr(svid.Validator, "judge", judge)
+        with pytest.raises(svid.Unavailable, match="was not read yet"):
+            checks.judge(made)
+        with pytest.raises(svid.Withdrawn):
+            checks.judge(made)
 
 
 def test_values_that_are_removed_before_they_are_read(log, caplog):
@@ -616,7 +677,7 @@ def test_a_clock_that_jumps_ahead(log, clock):
 
 
 def test_a_gap_waits_for_the_clock(log, clock, caplog):
-    with member(log, step=600, wait=0.3) as checks, caplog.at_level(logging.WARNING, "svid"):
+    with member(log, step=600) as checks, caplog.at_level(logging.WARNING, "svid"):
         assert isinstance(verdict(checks, fresh(jti="1")), svid.Use)
         log.hold()
         log.append(b"")
@@ -773,7 +834,7 @@ def test_a_check_that_is_cancelled_holds_nothing_up(log):
 
     class Slow(MemoryLog):
         def append(self, value):
-            assert go.wait(60)
+            assert go.wait(PATIENCE)
             super().append(value)
 
     for sent in True, False:
@@ -791,7 +852,7 @@ def test_a_check_that_is_cancelled_holds_nothing_up(log):
                 answer = in_thread(verdict, checks, fresh(jti="other"))
                 until(lambda: checks._open and not waiting(checks))
                 second = in_thread(lambda: asyncio.run(main(checks)))
-                assert begun.wait(30)
+                assert begun.wait(PATIENCE)
                 go.set()
                 assert isinstance(answer(), svid.Use) and isinstance(second(), svid.Use)
 
@@ -801,7 +862,7 @@ def test_a_loop_that_has_ended_stops_no_reader(log):
 
     class Slow(MemoryLog):
         def append(self, value):
-            assert go.wait(60)
+            assert go.wait(PATIENCE)
             super().append(value)
 
     log, go = Slow(), threading.Event()
@@ -847,11 +908,11 @@ def test_a_fork_does_not_go_on_with_a_member(log):
     def hold():
         with checks._gate:
             held.set()
-            free.wait(60)
+            free.wait(PATIENCE)
 
     holding = threading.Thread(target=hold)
     holding.start()
-    held.wait(60)
+    held.wait(PATIENCE)
     child = os.fork()
     if child == 0:
         signal.alarm(20)
@@ -1009,9 +1070,9 @@ def test_a_file_log(tmp_path):
     assert list(one.read(2, 0)) == [(3, b"bc")] and list(one.read(0, 0))[0] == (1, b"a")
 
 
-def log_place(folder):
+def log_position(folder):
     with contextlib.closing(svid.Journal(folder)) as journal:
-        return journal.log_place
+        return journal.log_position
 
 
 def kept(one):
@@ -1027,15 +1088,15 @@ def log_of(values):
     return made
 
 
-def test_a_member_goes_on_with_its_record_and_its_place(log, tmp_path):
+def test_a_member_goes_on_with_its_record_and_its_position(log, tmp_path):
     used = fresh()
     with member(log, state=tmp_path) as one:
         use = one.check(used).use
         until(lambda: kept(one) == 1)
-    assert log_place(tmp_path) == (1, 0, 0)
+    assert log_position(tmp_path) == (1, 0, 0)
     with member(log, state=tmp_path) as one:
         assert verdict(one, used) == "Replayed"
-        assert verdict(one, fresh(jti="2")).place == use.place
+        assert verdict(one, fresh(jti="2")).validator_id == use.validator_id
         assert one.deaf_until == 0
 
 
@@ -1055,7 +1116,7 @@ def test_a_gap_outlives_a_restart(log, tmp_path):
         until(lambda: one.deaf_until)
         deaf = one.deaf_until
         until(lambda: kept(one) == 1)
-    assert log_place(tmp_path)[2] == deaf
+    assert log_position(tmp_path)[2] == deaf
     log = log_of([*values, *values])
     for _ in range(2):
         with member(log, state=tmp_path) as one:
@@ -1065,16 +1126,16 @@ def test_a_gap_outlives_a_restart(log, tmp_path):
     with member(log, state=tmp_path) as one:
         until(lambda: one._position == 6)
         one.go_on()
-    assert log_place(tmp_path) == (6, 0, 0)
+    assert log_position(tmp_path) == (6, 0, 0)
     with member(log, state=tmp_path) as one:
         assert one.deaf_until == 0
         assert isinstance(verdict(one, fresh(jti="further")), svid.Use)
 
 
-def test_a_snapshot_at_the_start_keeps_the_place(log, tmp_path, monkeypatch):
+def test_a_snapshot_at_the_start_keeps_the_position(log, tmp_path, monkeypatch):
     """It drops the journals that had it, before the member has begun to read the log."""
     with contextlib.closing(svid.Journal(tmp_path)) as journal:
-        journal.bear(lambda: LogPlace(0, 0, 2**40))
+        journal.bear(lambda: LogPosition(0, 0, 2**40))
         journal.append(b"")
         assert journal.wants_snapshot
 
@@ -1084,17 +1145,18 @@ def test_a_snapshot_at_the_start_keeps_the_place(log, tmp_path, monkeypatch):
     monkeypatch.setattr(log, "bounds", fails)
     with pytest.raises(ValueError):
         member(log, state=tmp_path)
-    assert (tmp_path / "snapshot").exists() and log_place(tmp_path) == (0, 0, 2**40)
+    assert (tmp_path / "snapshot").exists() and log_position(tmp_path) == (0, 0, 2**40)
     monkeypatch.undo()
     with member(log, state=tmp_path) as one:
         assert one.deaf_until == 2**40
 
 
-def test_a_log_that_was_put_back_is_seen(log, tmp_path, caplog):
+def test_a_log_that_was_put_back_is_seen(log, tmp_path, caplog, monkeypatch):
+    monkeypatch.setattr(_journal, "_AGE", 1e9)  # (on a slow machine a write says it by its age)
     with member(log, state=tmp_path) as one:
         for it in range(2):
             one.check(fresh(jti=str(it)))
-        until(lambda: kept(one) == 2)
+            until(lambda: kept(one) > it)
     log = log_of(log.values[:1])
     now = int(time.time())
     with member(log, state=tmp_path) as one:
@@ -1104,4 +1166,4 @@ def test_a_log_that_was_put_back_is_seen(log, tmp_path, caplog):
         assert "the log ends at 1, and this member has read it up to 2" in caplog.text
         deaf = one.deaf_until
         until(lambda: kept(one))
-    assert log_place(tmp_path)[2] == deaf
+    assert log_position(tmp_path)[2] == deaf

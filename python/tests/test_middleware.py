@@ -12,7 +12,7 @@ import sys
 import threading
 
 import pytest
-from making import bundle, entry, fresh, private_key, token, validator
+from making import PATIENCE, bundle, entry, fresh, private_key, token, validator
 from starlette.applications import Starlette
 from starlette.responses import PlainTextResponse
 from starlette.routing import Route, WebSocketRoute
@@ -69,6 +69,7 @@ def test_starlette(bundles, keeps, tmp_path, monkeypatch):
     if keeps:
         monkeypatch.setenv("SVID_STATE", str(tmp_path / "state"))
     with TestClient(load("starlette_app").app) as client:
+        assert client.get("/healthz").text == "ready"
         made = "bearer " + fresh(jti="1")
         answer = client.get("/", headers={"Authorization": made})
         assert (answer.status_code, answer.text) == (200, HELLO)
@@ -93,7 +94,7 @@ def server(bundles):
 
 def test_wsgiref(server):
     def get(headers):
-        connection = http.client.HTTPConnection("127.0.0.1", server, timeout=60)
+        connection = http.client.HTTPConnection("127.0.0.1", server, timeout=PATIENCE)
         connection.request("GET", "/", headers=headers)
         answer = connection.getresponse()
         return answer.status, answer.read().decode(), answer.getheader("WWW-Authenticate")
@@ -292,7 +293,7 @@ def test_a_check_that_waits_does_not_hold_up_the_event_loop(tmp_path, monkeypatc
     seen, go, real = [], threading.Event(), os.fdatasync
 
     def fdatasync(file):
-        go.wait(20)
+        go.wait(PATIENCE)
         real(file)
 
     async def app(scope, receive, send):

@@ -11,6 +11,7 @@ from hypothesis import HealthCheck, Phase, given, settings
 from hypothesis import strategies as st
 from making import (
     ALGORITHMS,
+    KTY,
     NOW,
     SIGNERS,
     b64,
@@ -90,12 +91,12 @@ def objects(draw, members):
     """An object with the members, of which one may be left out, another value, or given twice."""
     members = list(members)
     change = draw(st.sampled_from(["", "", "", "less", "odd", "twice", "deep", "text"]))
-    place = draw(st.integers(0, len(members) - 1))
-    name, value = members[place]
+    index = draw(st.integers(0, len(members) - 1))
+    name, value = members[index]
     if change == "less":
-        del members[place]
+        del members[index]
     elif change == "odd":
-        members[place] = (name, draw(odd))
+        members[index] = (name, draw(odd))
     elif change == "twice":
         members.insert(draw(st.integers(0, len(members))), (name, draw(odd)))
     elif change == "deep":
@@ -132,13 +133,13 @@ def as_it_is(_draw, text):
 
 
 def with_a_byte_changed(draw, text):
-    place = draw(st.integers(0, len(text) - 1))
-    return text[:place] + draw(st.sampled_from("A-_=.+/ ~é")) + text[place + 1 :]
+    index = draw(st.integers(0, len(text) - 1))
+    return text[:index] + draw(st.sampled_from("A-_=.+/ ~é")) + text[index + 1 :]
 
 
 def with_a_byte_less(draw, text):
-    place = draw(st.integers(0, len(text) - 1))
-    return text[:place] + text[place + 1 :]
+    index = draw(st.integers(0, len(text) - 1))
+    return text[:index] + text[index + 1 :]
 
 
 def with_another_signature(draw, text):
@@ -158,8 +159,8 @@ CHANGES += [with_a_byte_changed, with_a_byte_less, with_another_signature, with_
 def rows(draw):
     """Tokens, of which some come again."""
     made = draw(st.lists(tokens(), min_size=ROW, max_size=ROW))
-    for place in draw(st.lists(st.integers(1, ROW - 1), max_size=9)):
-        made[place] = made[draw(st.integers(0, place - 1))]
+    for index in draw(st.lists(st.integers(1, ROW - 1), max_size=9)):
+        made[index] = made[draw(st.integers(0, index - 1))]
     return made
 
 
@@ -170,7 +171,7 @@ def questions(text):
         signature = unb64(text.rpartition(".")[2])
         header = json.loads(unb64(head))
         alg, kid = header["alg"], header.get("kid")
-        kind = {"RS": "RSA", "PS": "RSA", "ES": "EC"}[alg[:2]]
+        kind = KTY[alg]
         verifier = SIGNERS[alg]
     except (ValueError, KeyError, TypeError):
         return

@@ -1,18 +1,23 @@
 """Every block of README.md, in order: what it prints is what the page says."""
 
 import contextlib
+import fcntl
+import http.client
 import io
 import os
 import pathlib
 import platform
 import re
 import shutil
+import signal
 import subprocess
+import sys
 
 import pytest
 import svid.asgi
 import svid.wsgi
-from servers import RedisServer
+from making import LEFT, PATIENCE
+from servers import RedisServer, until
 
 PYTHON = pathlib.Path(__file__).parent.parent
 BLOCK = re.compile(r"^```(\w*)\n(.*?)^```$", re.MULTILINE | re.DOTALL)
@@ -23,7 +28,7 @@ BLOCKS = BLOCK.findall((PYTHON / "README.md").read_text())
 def checkout(tmp_path, monkeypatch):
     """A folder with what the page uses of a checkout."""
     for name in "python", "examples":
-        shutil.copytree(PYTHON.parent / name, tmp_path / name)
+        shutil.copytree(PYTHON.parent / name, tmp_path / name, ignore=shutil.ignore_patterns(*LEFT))
     (tmp_path / "dist" / platform.machine()).mkdir(parents=True)
     shutil.copy(os.environ["LIBSVID"], tmp_path / "dist" / platform.machine() / "libsvid.so")
     monkeypatch.chdir(tmp_path)
@@ -76,6 +81,56 @@ def test_it_says_what_several_workers_accept(text):
 def test_the_service_of_several_workers_has_fifteen_lines():
     [service] = [text for kind, text in BLOCKS if kind == "python" and "(hello, member)" in text]
     assert len(service.splitlines()) <= 15
+
+
+def test_the_service_accepts_a_token_once(checkout):
+    """As the page shows it, in at most fifteen lines of its own, by the command of the page."""
+    [service] = [text for kind, text in BLOCKS if kind == "python" and "(hello, validator)" in text]
+    assert len([line for line in service.splitlines() if line.strip()]) <= 15
+    (checkout / "service.py").write_text(service)
+    command = "gunicorn --threads 8 service:app"
+    assert f"run `{command}`" in (PYTHON / "README.md").read_text()
+    token = pathlib.Path("examples/token.txt").read_text().strip()
+    replayed = (401, "", 'Bearer error="invalid_token", error_description="Replayed"')
+    with served(command) as port:
+        accepted = (200, "hello spiffe://example.org/billing/api", None)
+        assert [answer(port, it) for it in (token, token)] == [accepted, replayed]
+    until(is_left)
+    with served(command) as port:
+        assert answer(port, token) == replayed
+
+
+@contextlib.contextmanager
+def served(command):
+    """The port of a service, whose processes are killed at the end."""
+    words = [sys.executable, "-m", *command.split(), "-b", "127.0.0.1:0"]
+    begins, log = "Listening at: http://127.0.0.1:", pathlib.Path("said")
+    with open(log, "wb") as said:
+        ran = subprocess.Popen(words, stderr=said, start_new_session=True)
+    try:
+        until(lambda: begins in log.read_text() or ran.poll() is not None)
+        yield int(log.read_text().partition(begins)[2].split()[0])
+    finally:
+        os.killpg(ran.pid, signal.SIGKILL)
+        ran.wait()
+
+
+def is_left():
+    """Whether nobody holds the state folder any more: a process that is killed ends a bit later."""
+    with open("state/lock", "rb") as file:
+        try:
+            fcntl.flock(file, fcntl.LOCK_EX | fcntl.LOCK_NB)
+        except BlockingIOError:
+            return False
+        return True
+
+
+def answer(port, token):
+    connection = http.client.HTTPConnection("127.0.0.1", port, timeout=PATIENCE)
+    with contextlib.closing(connection):
+        connection.request("GET", "/", headers={"Authorization": f"Bearer {token}"})
+        said = connection.getresponse()
+        return said.status, said.read().decode(), said.getheader("WWW-Authenticate")
 
 
 def test_console(checkout):

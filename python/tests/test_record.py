@@ -12,12 +12,12 @@ ACCEPTED = f"accepted spiffe://example.org/billing/api {NOW + 300}"
 
 
 def test_an_acceptance():
-    with validator(place=b"p" * 16) as checks:
+    with validator(validator_id=b"p" * 16) as checks:
         accepted = checks.check(token(jti="1"), NOW)
     assert accepted.spiffe_id == "spiffe://example.org/billing/api"
     assert (accepted.trust_domain, accepted.path) == ("example.org", "/billing/api")
     assert accepted.expires == accepted.use.expires == NOW + 300
-    assert (accepted.use.at, accepted.use.place) == (NOW, b"p" * 16)
+    assert (accepted.use.at, accepted.use.validator_id) == (NOW, b"p" * 16)
     assert len(accepted.use.key) == 32 and not accepted.use.withdrawn
     assert dataclasses.is_dataclass(accepted) and dataclasses.is_dataclass(accepted.use)
 
@@ -158,9 +158,9 @@ def test_messages_may_lie_ten_seconds_ahead():
         checks.take(message, NOW)
 
 
-def test_validators_have_places_of_their_own():
+def test_validators_have_ids_of_their_own():
     with validator() as a, validator() as b:
-        assert a.check(token(), NOW).use.place != b.check(token(), NOW).use.place
+        assert a.check(token(), NOW).use.validator_id != b.check(token(), NOW).use.validator_id
 
 
 def test_a_token_that_is_none_tells_the_time_too():
@@ -272,22 +272,22 @@ def test_an_answer_that_is_longer_than_the_room():
         assert len(b.report().uses) == 1200
 
 
-@pytest.mark.parametrize("uses", [1, 7, 65_536])
-def test_parts(uses):
+@pytest.mark.parametrize("size, count", [(82, 20), (146, 20), (147, 10), (500, 3), (10_000, 1)])
+def test_parts(size, count):
     with validator() as a, validator() as b:
         for jti in range(20):
             a.check(token(jti=str(jti)), NOW)
-        parts = list(a.parts(uses))
-        assert max(map(len, parts)) <= 17 + 65 * uses
+        parts = list(a.parts(size))
+        assert max(map(len, parts)) <= size and len(parts) == count
         for part in reversed(parts):
             b.take(part, NOW)
         assert a.report() == b.report()
 
 
-@pytest.mark.parametrize("uses", [0, -1, 65_537])
-def test_parts_of_no_size(uses):
+@pytest.mark.parametrize("size", [0, -1, 81])
+def test_parts_of_no_size(size):
     with validator() as checks, pytest.raises(ValueError):
-        checks.parts(uses)
+        checks.parts(size)
 
 
 def test_uses_that_come_between_parts():
@@ -295,7 +295,7 @@ def test_uses_that_come_between_parts():
         for jti in range(4):
             checks.check(token(jti=str(jti)), NOW)
         before = checks.report().uses
-        parts = checks.parts(1)
+        parts = checks.parts(82)
         told = [next(parts)]
         checks.check(token(jti="new"), NOW)
         told += parts
@@ -335,7 +335,7 @@ def test_bytes_that_are_no_messages(messages, fault):
     with validator() as checks:
         with pytest.raises(svid.BadMessages) as raised:
             checks.take(messages, NOW)
-        assert (raised.value.reason, raised.value.message, raised.value.place) == fault
+        assert (raised.value.reason, raised.value.message, raised.value.offset) == fault
         assert checks.report().moment == 0
 
 
@@ -395,7 +395,7 @@ def test_a_save_of_several_batches(tmp_path):
     with validator() as a, validator() as b:
         for jti in range(5):
             a.check(token(jti=str(jti)), NOW)
-        kept.write_bytes(b"".join(a.parts(2)))
+        kept.write_bytes(b"".join(a.parts(150)))
         b.load(kept, NOW)
         assert a.report() == b.report()
 
@@ -413,6 +413,23 @@ def test_a_save_of_a_full_batch(tmp_path):
         a.save(kept)
         b.load(kept, NOW)
         assert b.report().uses == tuple(uses)
+
+
+@pytest.mark.parametrize("cut", [0, 1, 81, 4_259_857, 4_259_938])
+def test_a_save_that_is_cut_off_behind_a_full_batch(tmp_path, cut):
+    """What is whole is taken, and the error says that the rest is not."""
+    uses = [svid.Use(NOW + 300, it.to_bytes(32, "big"), bytes(16), NOW) for it in range(65_537)]
+    kept = tmp_path / "kept"
+    messages = svid.records.batches(uses)
+    kept.write_bytes(messages[:cut])
+    with validator() as checks:
+        if cut in (0, 4_259_857):
+            checks.load(kept, NOW)
+        else:
+            with pytest.raises(svid.BadMessages) as raised:
+                checks.load(kept, NOW)
+            assert raised.value.reason == "Truncated"
+        assert len(checks.report().uses) == (65_536 if cut >= 4_259_857 else 0)
 
 
 def test_a_save_is_synced_before_it_has_its_name(tmp_path, monkeypatch):
@@ -441,7 +458,7 @@ def test_a_save_is_synced_before_it_has_its_name(tmp_path, monkeypatch):
         ({"audiences": ["\udc80"]}, ValueError),
         ({"audiences": [1]}, TypeError),
         ({"audiences": None}, TypeError),
-        ({"place": b"short"}, ValueError),
+        ({"validator_id": b"short"}, ValueError),
         ({"longest": -1}, ValueError),
         ({"ahead": 2**64}, ValueError),
         ({"step": -1}, ValueError),

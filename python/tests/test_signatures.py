@@ -1,4 +1,4 @@
-"""Signatures: tokens of four other libraries, and of nine algorithms.
+"""Signatures: tokens of four other libraries, and of every algorithm.
 
 (test_vectors.py has keys of every kind, and signatures of every form.)
 """

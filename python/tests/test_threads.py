@@ -10,7 +10,18 @@ import time
 
 import pytest
 import svid
-from making import NOW, SUBJECT, bundle, entry, private_key, token, unb64, validator, verdict
+from making import (
+    PATIENCE,
+    NOW,
+    SUBJECT,
+    bundle,
+    entry,
+    private_key,
+    token,
+    unb64,
+    validator,
+    verdict,
+)
 
 THREADS = 8
 
@@ -123,7 +134,7 @@ def test_all_calls_at_once(tmp_path):
                 except svid.BadSignature:
                     pass
                 checks.renew(second if which % 2 else first)
-                checks.take(b"".join(other.parts(7)), NOW)
+                checks.take(b"".join(other.parts(500)), NOW)
                 checks.take(other.answer(checks.summary(), NOW), NOW)
                 checks.withdraw(one, NOW)
                 checks.save(tmp_path / f"{number}")
@@ -205,11 +216,11 @@ def test_a_fork_while_a_thread_is_in_a_call():
         def hold():
             with checks._handle._lock:
                 held.set()
-                free.wait(60)
+                free.wait(PATIENCE)
 
         thread = threading.Thread(target=hold)
         thread.start()
-        held.wait(60)
+        held.wait(PATIENCE)
         try:
             assert forked(checks.report) == "Forked"
         finally:
@@ -233,7 +244,9 @@ for _ in range(50):
     kept.summary()
 print("end")
 """
-    ran = subprocess.run([sys.executable, "-c", text], capture_output=True, timeout=60, check=False)
+    ran = subprocess.run(
+        [sys.executable, "-c", text], capture_output=True, timeout=PATIENCE, check=False
+    )
     assert (ran.returncode, ran.stdout, ran.stderr) == (0, b"end\n", b"")
 
 
@@ -246,7 +259,9 @@ svid.Validator(audiences="a", bundles=b"{}")
 kept = svid.Validator(audiences="a", bundles=b"{}")
 print("end")
 """
-    ran = subprocess.run([sys.executable, "-c", text], capture_output=True, timeout=60, check=True)
+    ran = subprocess.run(
+        [sys.executable, "-c", text], capture_output=True, timeout=PATIENCE, check=True
+    )
     assert ran.stdout == b"freed\nend\n"
 
 
@@ -260,5 +275,7 @@ for _ in range(300):
     svid.Validator(audiences="a", bundles=bundles)
 print(open("/proc/self/status").read().partition("VmHWM:")[2].split()[0])
 """
-    ran = subprocess.run([sys.executable, "-c", text], capture_output=True, timeout=60, check=True)
+    ran = subprocess.run(
+        [sys.executable, "-c", text], capture_output=True, timeout=PATIENCE, check=True
+    )
     assert int(ran.stdout) < 100_000  # kilobytes, the most that this process had

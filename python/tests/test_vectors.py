@@ -120,7 +120,7 @@ def test_messages(vector):
             with pytest.raises(svid.BadMessages) as raised:
                 checks.take(messages, 0)
             why = raised.value
-            said = {"reason": why.reason, "message": why.message, "place": why.place}
+            said = {"reason": why.reason, "message": why.message, "offset": why.offset}
             assert said == vector["fault"]
             return
         checks.take(messages, 0)
@@ -152,7 +152,7 @@ def test_logs(vector):
         longest=ANY,
         ahead=given["ahead"],
         step=ANY,
-        place=bytes.fromhex(given["place"]),
+        validator_id=bytes.fromhex(given["validator_id"]),
         own=b"ledger",
         bundles=b"{}",
     )
@@ -183,7 +183,7 @@ def read_on(handle, call):
             order = "Gap" if read.is_behind_gap else call["order"]
             said = {"order": order, "fates": [FATES[fate] for _, fate in read.fates]}
             return said | (
-                {"fault": f"{read.fault.reason} {read.fault.place}"} if read.fault else {}
+                {"fault": f"{read.fault.reason} {read.fault.offset}"} if read.fault else {}
             )
         case "mark":
             return dict(zip(("passed", "deaf", "accepts"), handle.state()))
@@ -196,12 +196,12 @@ def read_on(handle, call):
 
 @each(FILES)
 def test_files_of_a_state_folder(vector):
-    content, place = bytes.fromhex(vector["content"]), bytes.fromhex(vector["place"])
+    content, folder_id = bytes.fromhex(vector["content"]), bytes.fromhex(vector["folder_id"])
     reader, frame = lib.Reader(), lib.Frame()
     lent = (content, len(content), lib.address(reader), lib.address(frame))
     payloads = []
     while True:
-        status = lib.library.svid_journal_read(place, vector["journal"], *lent)
+        status = lib.library.svid_journal_read(folder_id, vector["journal"], *lent)
         if status != lib.OK:
             break
         payloads.append(content[frame.payload : frame.payload + frame.len].hex())
@@ -225,6 +225,6 @@ def test_state_folders(vector, tmp_path):
     name = vector.get("damaged") or vector["of_format"]
     assert raised.value.file == str(tmp_path / name)
     if "damaged" in vector:
-        assert raised.value.place == vector["at"]
+        assert raised.value.offset == vector["at"]
     else:
         assert raised.value.format == vector["format"]

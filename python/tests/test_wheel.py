@@ -8,7 +8,7 @@ import sys
 import zipfile
 
 import pytest
-from making import NOW, bundle, entry, private_key, token
+from making import LEFT, NOW, bundle, entry, private_key, token
 
 import svid
 
@@ -40,7 +40,7 @@ def run(*words, **more):
 def wheel(tmp_path_factory):
     """The wheel, built without a network from a copy of this folder."""
     room = tmp_path_factory.mktemp("wheel")
-    shutil.copytree(PYTHON, room / "python")
+    shutil.copytree(PYTHON, room / "python", ignore=shutil.ignore_patterns(*LEFT))
     words = ["wheel", "--no-build-isolation", "--no-deps", "--no-index", "--wheel-dir", room]
     run(sys.executable, "-m", "pip", *words, room / "python")
     [made] = room.glob("*.whl")
@@ -48,7 +48,7 @@ def wheel(tmp_path_factory):
 
 
 def test_what_is_in_it(wheel):
-    assert wheel.name == "svid-0.3.0-py3-none-linux_x86_64.whl"
+    assert wheel.name == "svid-2.0.0-py3-none-linux_x86_64.whl"
     with zipfile.ZipFile(wheel) as file:
         names = {name for name in file.namelist() if ".dist-info/" not in name}
         library = file.read("svid/libsvid.so")
@@ -59,6 +59,29 @@ def test_what_is_in_it(wheel):
     assert {"svid/logs/append.lua", "svid/logs/schema.sql"} < names
     assert "svid/py.typed" in names
     assert library == pathlib.Path(os.environ["LIBSVID"]).read_bytes()
+
+
+@pytest.mark.parametrize(
+    "number, name", [(0x3E, "none-linux_x86_64.whl"), (0xB7, "none-linux_aarch64.whl"), (3, "")]
+)
+def test_a_wheel_is_for_the_machine_of_its_library(number, name, tmp_path):
+    """And not for the one that builds it."""
+    library = bytearray(pathlib.Path(os.environ["LIBSVID"]).read_bytes())
+    library[18] = number
+    (tmp_path / "libsvid.so").write_bytes(library)
+    shutil.copytree(PYTHON, tmp_path / "python", ignore=shutil.ignore_patterns(*LEFT))
+    words = ["wheel", "--no-build-isolation", "--no-deps", "--no-index", "--wheel-dir", tmp_path]
+    environment = {**os.environ, "LIBSVID": str(tmp_path / "libsvid.so")}
+    words = [sys.executable, "-m", "pip", *words, tmp_path / "python"]
+    ran = subprocess.run(words, env=environment, capture_output=True, check=False)
+    assert [it.name.endswith(name) for it in tmp_path.glob("*.whl")] == [True] * bool(name)
+    assert name or b"is no library for x86_64 or aarch64: build it anew" in ran.stdout + ran.stderr
+
+
+def test_any_glibc_will_do():
+    """The library says no version of a symbol, so that each is the one that every glibc has."""
+    library = pathlib.Path(os.environ["LIBSVID"]).read_bytes()
+    assert b"malloc\0" in library and b"GLIBC_" not in library
 
 
 def test_a_fresh_environment(wheel, tmp_path):
@@ -79,10 +102,10 @@ def test_a_fresh_environment(wheel, tmp_path):
 
 
 def test_a_source_distribution_has_the_library_too(tmp_path):
-    shutil.copytree(PYTHON, tmp_path / "python")
+    shutil.copytree(PYTHON, tmp_path / "python", ignore=shutil.ignore_patterns(*LEFT))
     run(sys.executable, "setup.py", "-q", "sdist", "--dist-dir", tmp_path, cwd=tmp_path / "python")
-    shutil.unpack_archive(tmp_path / "svid-0.3.0.tar.gz", tmp_path)
-    source = tmp_path / "svid-0.3.0"
+    shutil.unpack_archive(tmp_path / "svid-2.0.0.tar.gz", tmp_path)
+    source = tmp_path / "svid-2.0.0"
     library = (source / "svid" / "libsvid.so").read_bytes()
     assert library == pathlib.Path(os.environ["LIBSVID"]).read_bytes()
     environment = {it: value for it, value in os.environ.items() if it != "LIBSVID"}

@@ -36,7 +36,7 @@ def test_the_service_of_the_page(server, tmp_path):
     text = OF_THE_PAGE.partition("```")[0].replace("redis://localhost", server.url)
     text = BEGIN + text.replace("examples/bundles.json", "bundles.json")
     tokens = [fresh(jti=str(it)) for it in range(100)]
-    with Service(tmp_path, text, server.url) as service:
+    with Service(tmp_path, (text, SERVICES["wsgi"][1]), server.url) as service:
         until(lambda: service.get(fresh(jti="first"))[0])
         clients = Clients(service, tokens, 4)
         clients.end()

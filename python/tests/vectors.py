@@ -37,7 +37,7 @@ def opened(vector):
         audiences=given["audiences"],
         bundles=TOKENS["bundles"][given["bundles"]].encode(),
         ahead=int(given["ahead"] or NO_LIMIT),
-        place=bytes.fromhex(given["place"]),
+        validator_id=bytes.fromhex(given["validator_id"]),
         **limits,
     )
 
@@ -64,7 +64,7 @@ def called(checks, call):
     except svid.Refused as why:
         return f"refused {why.name}"
     except svid.BadMessages as why:
-        return f"{why.reason} {why.message} {why.place}"
+        return f"{why.reason} {why.message} {why.offset}"
     except (svid.Jump, svid.Gone, svid.TooFar) as why:
         return type(why).__name__
     raise AssertionError(call["call"])

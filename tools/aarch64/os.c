@@ -1,4 +1,4 @@
-/* What the program needs on aarch64 beside glibc and heap.c: its first instructions, its arguments, and errno. The Rattle
+/* What the program needs on aarch64 beside glibc and heap.c: its first instructions, its arguments, its environment, and errno. The Rattle
  * kit has compiled its own for x86-64 alone, so this is written from the contracts of its library os, and from how Linux
  * enters a program. No proof covers it: it is part of what is trusted. */
 
@@ -40,6 +40,7 @@ int rattle_errno(void);
 void rattle_set_errno(int error);
 size rattle_arg_count(void);
 difference rattle_arg(size at, unsigned char *bytes, size room);
+difference rattle_env(const unsigned char *name, unsigned char *bytes, size room);
 
 /* Reads the errno of this thread, and sets it. */
 int rattle_errno(void)
@@ -58,20 +59,40 @@ size rattle_arg_count(void)
     return count;
 }
 
-/* Puts argument `at` at the start of `bytes`, and returns its length; -1 where there is no such argument; or -2 where it
- * is longer than `room`, and then `bytes` is full. */
-difference rattle_arg(size at, unsigned char *bytes, size room)
+/* Puts a text that ends with a 0 at the start of `bytes`, and returns its length; or -2 where it is longer than `room`, and
+ * then `bytes` is full. */
+static difference put(const unsigned char *from, unsigned char *bytes, size room)
 {
     size length = 0;
 
-    if (at >= count) {
-        return -1;
-    }
-    for (const unsigned char *from = arguments[at]; from[length]; length++) {
+    for (; from[length]; length++) {
         if (length == room) {
             return -2;
         }
         bytes[length] = from[length];
     }
     return (difference)length;
+}
+
+/* Puts argument `at` at the start of `bytes`, as `put` does; -1 where there is no such argument. */
+difference rattle_arg(size at, unsigned char *bytes, size room)
+{
+    return at < count ? put(arguments[at], bytes, room) : -1;
+}
+
+/* Puts the value of the environment's variable of this name, which ends with a 0, at the start of `bytes`, as `put` does; -1
+ * where there is no such variable. The environment stands behind the 0 behind the arguments. */
+difference rattle_env(const unsigned char *name, unsigned char *bytes, size room)
+{
+    for (unsigned char **entry = arguments + count + 1; *entry; entry++) {
+        size at = 0;
+
+        while (name[at] && (*entry)[at] == name[at]) {
+            at++;
+        }
+        if (!name[at] && (*entry)[at] == '=') {
+            return put(*entry + at + 1, bytes, room);
+        }
+    }
+    return -1;
 }

@@ -6,7 +6,19 @@ from cryptography.hazmat.primitives.asymmetric import ec
 
 from . import crypto, formats
 
-KTY = {"R": "RSA", "P": "RSA", "E": "EC"}
+# lists:begin ktys (written by tools/lists from lists/algorithms.toml)
+KTY = {
+    "RS256": "RSA",
+    "RS384": "RSA",
+    "RS512": "RSA",
+    "ES256": "EC",
+    "ES384": "EC",
+    "ES512": "EC",
+    "PS256": "RSA",
+    "PS384": "RSA",
+    "PS512": "RSA",
+}
+# lists:end
 
 
 def yes(bundles, token):
@@ -33,7 +45,7 @@ def is_candidate(key, header, alg):
         isinstance(key, dict)
         and key.get("use") == "jwt-svid"
         and isinstance(key.get("kid"), str)
-        and key.get("kty") == KTY[alg[0]]
+        and key.get("kty") == KTY[alg]
         and header.get("kid", key["kid"]) == key["kid"]
     )
 

@@ -28,7 +28,7 @@ def document(name, text, answer, domain=DOMAIN, source=DOCUMENT):
     return {
         "name": f"document: {name}",
         "from": source,
-        "readers": ["go", "page", "python"],
+        "readers": ["go", "page", "python", "rust"],
         "form": "document",
         "domain": domain,
         "text": text,
@@ -122,18 +122,18 @@ def vectors():
         "two names, one of which is none",
         json_text({"b": {"keys": []}, "A": {"keys": []}}),
         "Domain 0",
-        f"{BUNDLES}: places count in rising byte order",
+        f"{BUNDLES}: names count in rising byte order",
     )
     yield domains(
         "three names, the last of which is none",
         json_text({"a_": {"keys": []}, "b": {"keys": []}, "a": {"keys": []}, "c:": {"keys": []}}),
         "Domain 3",
-        f"{BUNDLES}: places count in rising byte order",
+        f"{BUNDLES}: names count in rising byte order",
     )
     for text in ("[]", "7", "null", "{}", '"keys"', '{"keys":{}}', '{"keys":"a"}', '{"keys":7}', '{"kyes":[]}', '{"Keys":[]}'):
         yield domains(f"a bundle that is {text}", f'{{"{DOMAIN}":{text}}}', "Keys 0")
     yield domains(
-        "the second of two bundles has no keys", '{"b":{},"a":{"keys":[]}}', "Keys 1", f"{BUNDLES}: places count in rising byte order"
+        "the second of two bundles has no keys", '{"b":{},"a":{"keys":[]}}', "Keys 1", f"{BUNDLES}: names count in rising byte order"
     )
     yield domains(
         "a name that is none, and a bundle without keys behind it",

@@ -10,11 +10,11 @@ DOMAIN = "example.org"
 SUBJECT = "spiffe://example.org/billing/api"
 AUDIENCE = "ledger"
 EXP = NOW + 300
-PLACE = bytes(range(0, 256, 17))
+VALIDATOR_ID = bytes(range(0, 256, 17))
 MOST = 2**64 - 1
 MOST_CANDIDATES = 3  # how many keys are tried for a token: docs/FORMATS.md, "Candidates"
 
-READERS = ["c", "go", "page", "python", "svid"]
+READERS = ["c", "go", "page", "python", "rust", "svid"]
 
 
 def entry(key, kid="k1", **members):
@@ -47,10 +47,10 @@ def accepted(sub=SUBJECT, exp=EXP):
     return f"accepted {sub} {exp}"
 
 
-def with_part(text, place, part):
+def with_part(text, index, part):
     """A token with another part."""
     parts = text.split(".")
-    parts[place] = part
+    parts[index] = part
     return ".".join(parts)
 
 

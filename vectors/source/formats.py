@@ -15,11 +15,11 @@ def word(value, size=8):
 # Uses and messages ("Uses", "Messages", "Records")
 
 
-def use(exp, key, place, at, withdrawn=False):
-    """The 65 bytes of a use. A key or a place of one number has that byte all over."""
+def use(exp, key, validator_id, at, withdrawn=False):
+    """The 65 bytes of a use. A key or a validator ID of one number has that byte all over."""
     key = bytes([key]) * 32 if isinstance(key, int) else key
-    place = bytes([place]) * 16 if isinstance(place, int) else place
-    return word(exp) + key + place + word(at) + bytes([withdrawn])
+    validator_id = bytes([validator_id]) * 16 if isinstance(validator_id, int) else validator_id
+    return word(exp) + key + validator_id + word(at) + bytes([withdrawn])
 
 
 def batch(moment, *uses, count=None, magic=MAGIC):
@@ -99,14 +99,14 @@ FORMAT = 2
 JOURNAL, SNAPSHOT = b"svidjnl", b"svidsnp"
 
 
-def frame(place, journal, number_, payload, format_=FORMAT):
+def frame(folder_id, journal, number_, payload, format_=FORMAT):
     """A frame of the journal of a number, or of the snapshot if that is 0."""
     cell = word(number_) + bytes([format_]) + word(len(payload), 3)
     kind = SNAPSHOT if journal == 0 else JOURNAL
-    sealed = bytes([format_]) + kind + word(journal) + place + cell + payload
+    sealed = bytes([format_]) + kind + word(journal) + folder_id + cell + payload
     text = hashlib.sha256(sealed).digest()[:20] + cell + payload
     return text + b"\xff" * (-len(text) % CELL)
 
 
-def file(place, journal, *payloads):
-    return b"".join(frame(place, journal, n, it) for n, it in enumerate(payloads, start=1))
+def file(folder_id, journal, *payloads):
+    return b"".join(frame(folder_id, journal, n, it) for n, it in enumerate(payloads, start=1))

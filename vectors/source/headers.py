@@ -7,8 +7,9 @@ SCHEME = "RFC 9110, section 11.1: names of schemes have no case"
 
 
 def row(name, values, answer, why=None, source=BEARER):
-    """`why` says why the request has no bearer token; without it, `answer` is that of a check of its token."""
-    return {"name": name, "from": source, "values": values, "why": why, "answer": answer}
+    """`why` says why the request has no bearer token; without it, `answer` is that of a check of its token. The page has a field for one header."""
+    readers = {} if len(values) == 1 else {"readers": ["go", "python", "rust"]}
+    return {"name": name, "from": source, **readers, "values": values, "why": why, "answer": answer}
 
 
 def vectors():

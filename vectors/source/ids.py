@@ -10,8 +10,8 @@ def good(domain, path=""):
     return {"name": name, "from": SYNTAX, "text": text, "domain": domain, "path": path}
 
 
-def bad(text, fault, place=None, name=None):
-    return {"name": name or f"{text!r} is {fault}", "from": FAULTS, "text": text, "fault": fault, "place": place}
+def bad(text, fault, offset=None, name=None):
+    return {"name": name or f"{text!r} is {fault}", "from": FAULTS, "text": text, "fault": fault, "offset": offset}
 
 
 def vectors():
@@ -39,7 +39,7 @@ def vectors():
         yield bad(text, "Scheme")
     for text in ("spiffe://", "spiffe:///", "spiffe:///a"):
         yield bad(text, "DomainEmpty")
-    for text, place in (
+    for text, offset in (
         ("spiffe://A", 9),
         ("spiffe://a.B/c", 11),
         ("spiffe://a b/c", 10),
@@ -52,21 +52,21 @@ def vectors():
         ("spiffe://a\\b", 10),
         ("spiffe://[::1]/a", 9),
     ):
-        yield bad(text, "DomainByte", place)
+        yield bad(text, "DomainByte", offset)
     yield bad(f"spiffe://{'A' * 256}", "DomainByte", 9, "a name of 256 bytes, the first of which is bad")
     yield bad(f"spiffe://{'a' * 256}", "DomainLong", name="a name of 256 bytes")
     yield bad(f"spiffe://{'a' * 256}//", "DomainLong", name="a name of 256 bytes, and an empty segment")
-    for text, place in (("spiffe://a/", 11), ("spiffe://a//b", 11), ("spiffe://a/b/", 13), ("spiffe://a/b//c", 13), ("spiffe://a//", 11)):
-        yield bad(text, "SegmentEmpty", place)
-    for text, place in (
+    for text, offset in (("spiffe://a/", 11), ("spiffe://a//b", 11), ("spiffe://a/b/", 13), ("spiffe://a/b//c", 13), ("spiffe://a//", 11)):
+        yield bad(text, "SegmentEmpty", offset)
+    for text, offset in (
         ("spiffe://a/.", 11),
         ("spiffe://a/..", 11),
         ("spiffe://a/b/../c", 13),
         ("spiffe://a/./b", 11),
         ("spiffe://a/../%", 11),
     ):
-        yield bad(text, "SegmentDots", place)
-    for text, place in (
+        yield bad(text, "SegmentDots", offset)
+    for text, offset in (
         ("spiffe://a/%41", 11),
         ("spiffe://a/b c", 12),
         ("spiffe://a/b?c", 12),
@@ -77,4 +77,4 @@ def vectors():
         ("spiffe://a/b+", 12),
         ("spiffe://a/.%", 12),
     ):
-        yield bad(text, "PathByte", place)
+        yield bad(text, "PathByte", offset)

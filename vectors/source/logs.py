@@ -1,12 +1,12 @@
 """logs.json: values of a group's log, and what becomes of each use."""
 
-from .checks import NOW, PLACE
+from .checks import NOW, VALIDATOR_ID
 from .formats import batch, claim, use
 
 RULES = 'include/svid.h, "A validator that reads a group\'s log"'
 AHEAD, LASTS, ROOM = 10, 3620, 9
 END = NOW + 300
-OWN, OTHER = PLACE, bytes([0x22]) * 16
+OWN, OTHER = VALIDATOR_ID, bytes([0x22]) * 16
 START = {"passed": 0, "begun": 0, "deaf": 0, "ready": 0, "lasts": LASTS, "beside": ""}
 
 
@@ -109,7 +109,7 @@ def vectors():
     )
     yield row("a time of 0 advances nothing", read(1, value(own(1)), "Accepted"), read(2, value(own(2)), "Accepted", now=0), mark(2))
     yield row("an empty value", read(1, b""), read(2, batch(NOW)), mark(2))
-    # (the place of OTHER is greater than that of OWN, so its claim of 2 stands behind)
+    # (the validator ID of OTHER is greater than that of OWN, so its claim of 2 stands behind)
     yield row(
         "a batch of many uses",
         read(1, batch(NOW, own(1), own(2), other(2), gone(3)), "Accepted", "Accepted", "Replayed", "Withdrawal"),

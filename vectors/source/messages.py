@@ -27,13 +27,13 @@ def told(name, source, messages, moment, *uses, now=0):
     }
 
 
-def bad(name, messages, reason, message, place, source=FAULT):
+def bad(name, messages, reason, message, offset, source=FAULT):
     return {
         "name": name,
         "from": source,
         "messages": messages.hex(),
         "now": 0,
-        "fault": {"reason": reason, "message": message, "place": place},
+        "fault": {"reason": reason, "message": message, "offset": offset},
     }
 
 

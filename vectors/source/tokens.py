@@ -7,8 +7,8 @@ from .checks import (
     EXP,
     MOST,
     NOW,
-    PLACE,
     READERS,
+    VALIDATOR_ID,
     accepted,
     bundle_text,
     bundles_text,
@@ -31,7 +31,7 @@ BUNDLES = {
     "a key without a name": bundle_text(entry(KEY, "")),
     "every kind": bundle_text(*(entry(crypto.key(alg), f"k{n}") for n, alg in enumerate(("RS256", "ES256", "ES384", "ES512")))),
 }
-SETTING = {"audiences": [AUDIENCE], "bundles": "usual", "longest": None, "ahead": None, "step": None, "place": PLACE.hex()}
+SETTING = {"audiences": [AUDIENCE], "bundles": "usual", "longest": None, "ahead": None, "step": None, "validator_id": VALIDATOR_ID.hex()}
 TABLE = 'docs/FORMATS.md, "Refusals of a token": '
 GOOD_HEADER = '{"alg":"ES256","kid":"k1"}'
 MANY = [it for it in READERS if it != "svid"]
@@ -408,8 +408,8 @@ def both(*faults):
             parts[where] = change
     made = f"{signing_input(head, said)}"
     made = f"{made}.{b64(KEY.sign('ES256', made))}"
-    for place, part in parts.items():
-        made = with_part(made, place, part)
+    for index, part in parts.items():
+        made = with_part(made, index, part)
     return made
 
 
@@ -433,7 +433,7 @@ def records():
     """What the record knows of a token."""
     named, plain = token(jti="j1"), token()
     key, plain_key = formats.key_of(DOMAIN, "j1", named), formats.key_of(DOMAIN, "", plain)
-    used = formats.use(EXP, key, PLACE, NOW)
+    used = formats.use(EXP, key, VALIDATOR_ID, NOW)
     identity = 'docs/FORMATS.md, "Key of a token"'
     replayed, withdrawn = TABLE + "Replayed", TABLE + "Withdrawn"
     yield row("a token is accepted once", replayed, check(named, accepted()), check(named, "refused Replayed"))
@@ -443,7 +443,7 @@ def records():
         "the use of a token without jti",
         identity,
         check(plain, accepted()),
-        tell(NOW, formats.use(EXP, plain_key, PLACE, NOW)),
+        tell(NOW, formats.use(EXP, plain_key, VALIDATOR_ID, NOW)),
         readers=MANY,
     )
     other = token(jti="j1", exp=EXP + 1, sub="spiffe://example.org/other")
@@ -473,7 +473,7 @@ def records():
     )
     yield row(
         "a judgment adds nothing",
-        "docs/USING.md; include/svid.h, svid_validator_judge",
+        "include/svid.h, svid_validator_judge",
         judge(named, accepted()),
         judge(named, accepted()),
         check(named, accepted()),
@@ -500,7 +500,7 @@ def records():
         check(later, "refused Replayed", EXP),
         readers=MANY,
     )
-    gone = formats.use(EXP, key, PLACE, NOW, True)
+    gone = formats.use(EXP, key, VALIDATOR_ID, NOW, True)
     yield row("a withdrawn token", withdrawn, withdraw(key, EXP), check(named, "refused Withdrawn"), tell(NOW, gone), readers=MANY)
     yield row(
         "a token that was used, and is withdrawn",
@@ -524,7 +524,7 @@ def records():
         withdraw(key, NOW, "Gone"),
         withdraw(key, NOW - 1, "Gone"),
         withdraw(key, NOW + 1),
-        tell(NOW, formats.use(NOW + 1, key, PLACE, NOW, True)),
+        tell(NOW, formats.use(NOW + 1, key, VALIDATOR_ID, NOW, True)),
         readers=MANY,
     )
     yield row(
@@ -548,7 +548,7 @@ def messages():
     )
     yield row("a withdrawal of another validator", joins, take(formats.claim(gone)), check(named, "refused Withdrawn"), readers=MANY)
     yield row("a message twice", joins, take(formats.claim(there)), take(formats.claim(there) * 2), tell(NOW, there), readers=MANY)
-    own = formats.use(EXP, key, PLACE, NOW)
+    own = formats.use(EXP, key, VALIDATOR_ID, NOW)
     yield row("a use here, and one there", joins, check(named, accepted()), take(formats.claim(there)), tell(NOW, own, there), readers=MANY)
     yield row(
         "a batch of version 1",
@@ -600,7 +600,7 @@ def clocks():
         check(named, accepted()),
         tick(EXP, "Jump"),
         check(named, "refused Replayed"),
-        tell(NOW, formats.use(EXP, formats.key_of(DOMAIN, "j1", named), PLACE, NOW)),
+        tell(NOW, formats.use(EXP, formats.key_of(DOMAIN, "j1", named), VALIDATOR_ID, NOW)),
         readers=NOT_PAGE,
         step=299,
     )

@@ -190,7 +190,7 @@ def modulus():
     good, made = entry(crypto.key("RS256")), token("RS256")
     least = "RFC 7518, section 3.3: 2,048 bits or more"
     spelt = "RFC 7515, section 2: base64url without padding, line ends or other characters"
-    odd = 'RFC 8017, section 3.1: an odd number from 3 on; docs/SIDECAR.md, "Keys": up to 2^31-1'
+    odd = 'RFC 8017, section 3.1: an odd number from 3 on; docs/FORMATS.md, "Keys that can be used": up to 2^31-1'
     for name, source, members in (
         ("no n", NE, without(good, "n")),
         ("no e", NE, without(good, "e")),
@@ -206,7 +206,7 @@ def modulus():
         ("an exponent of 2^32+1", odd, {**good, "e": number(2**32 + 1)}),
         ("an exponent of 2,041 bits", odd, {**good, "e": number(2**2040 + 1)}),
         ("an even modulus", "RFC 8017, section 3.1: a product of odd primes", {**good, "n": number(2**2048 + 2)}),
-        ("a modulus of 20,000 bits", 'docs/SIDECAR.md, "Keys"', {**good, "n": number(2**19_999 + 1)}),
+        ("a modulus of 20,000 bits", 'docs/FORMATS.md, "Keys that can be used"', {**good, "n": number(2**19_999 + 1)}),
         ("another key", "computed by cryptography", entry(crypto.rsa_key("two"))),
         ("names in capitals", NE, {**{name: it for name, it in good.items() if name not in "ne"}, "N": good["n"], "E": good["e"]}),
     ):
@@ -222,7 +222,7 @@ def modulus():
     for name in "ne":
         zero = {**good, name: b64(bytes(1) + unb64(good[name]))}
         yield row(f"RS256, an {name} with a zero in front", least_bytes, [zero], made, BAD)
-    bound = 'docs/SIDECAR.md, "Keys": at most 4,096 bits, or what the caller allows'
+    bound = 'docs/FORMATS.md, "Keys that can be used": at most 4,096 bits, or what the caller allows'
     for bits, most, answer in (
         (4096, None, accepted()),
         (4096, 4095, BAD),
@@ -237,7 +237,7 @@ def modulus():
     ):
         own = crypto.long_rsa_key(bits)
         allowed = "" if most is None else f" where {most:,} are allowed"
-        more = {} if most is None else {"rsa_bits": most, "readers": ["go", "python"]}
+        more = {} if most is None else {"rsa_bits": most, "readers": ["go", "python", "rust"]}
         yield row(f"RS256, a token by a key of {bits:,} bits{allowed}", bound, [entry(own)], token("RS256", own), answer, **more)
 
 
@@ -431,12 +431,12 @@ def pairs():
         }.items():
             assert not key.made(alg, signed, it)
             yield row(f"{alg}, {what}", length, [entry(key)], of(it), BAD)
-        for what, place in (("r", 0), ("s", 1)):
-            turn = next(n for n in range(10**6) if key.numbers(alg, signed, n)[place] >> 8 * (size - 1) == 0)
+        for what, index in (("r", 0), ("s", 1)):
+            turn = next(n for n in range(10**6) if key.numbers(alg, signed, n)[index] >> 8 * (size - 1) == 0)
             pair = [it.to_bytes(size, "big") for it in key.numbers(alg, signed, turn)]
             assert key.made(alg, signed, b"".join(pair))
             yield row(f"{alg}, {what} begins with a zero", length, [entry(key)], of(b"".join(pair)), accepted())
-            pair[place] = pair[place][1:]
+            pair[index] = pair[index][1:]
             yield row(f"{alg}, {what} without its zero", length, [entry(key)], of(b"".join(pair)), BAD)
     key = crypto.key("ES256")
     signed = token().rpartition(".")[0]

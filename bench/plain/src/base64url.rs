@@ -19,9 +19,9 @@ pub fn decode(text: &[u8]) -> Option<Vec<u8>> {
     let mut bytes = Vec::with_capacity(text.len() / 4 * 3 + 2);
     for group in text.chunks(4) {
         let mut bits = 0u32;
-        for place in 0..4 {
+        for index in 0..4 {
             let value = group
-                .get(place)
+                .get(index)
                 .map_or(0, |&digit| VALUES[usize::from(digit)]);
             if value == NONE {
                 return None;

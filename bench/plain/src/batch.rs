@@ -11,7 +11,7 @@ const HEAD_LEN: usize = 17;
 const USE_LEN: usize = 65;
 
 /// Where the number of uses stands.
-const COUNT_PLACE: usize = 13;
+const COUNT_OFFSET: usize = 13;
 
 /// A moment, and uses in rising order that were made by then and expire later.
 #[derive(Debug, PartialEq, Eq)]
@@ -27,15 +27,15 @@ impl Batch {
         let moment = u64::from_be_bytes(take(rest).ok_or(truncated)?);
         let count = u32::from_be_bytes(take(rest).ok_or(truncated)?) as usize;
         if count > MOST_USES {
-            return Err(fault(COUNT_PLACE, Reason::Count));
+            return Err(fault(COUNT_OFFSET, Reason::Count));
         }
         let mut uses: Vec<Use> = Vec::with_capacity(count);
         for index in 0..count {
-            let place = HEAD_LEN + USE_LEN * index;
+            let offset = HEAD_LEN + USE_LEN * index;
             let used = Use::read(rest).ok_or(truncated)?;
-            let used = used.ok_or(fault(place, Reason::UseKind))?;
+            let used = used.ok_or(fault(offset, Reason::UseKind))?;
             if let Some(reason) = flaw(moment, uses.last(), &used) {
-                return Err(fault(place, reason));
+                return Err(fault(offset, reason));
             }
             uses.push(used);
         }
@@ -43,8 +43,8 @@ impl Batch {
     }
 }
 
-fn fault(place: usize, reason: Reason) -> Fault {
-    Fault { place, reason }
+fn fault(offset: usize, reason: Reason) -> Fault {
+    Fault { offset, reason }
 }
 
 /// What is wrong with a use behind another one in a batch of this moment, if anything is.

@@ -20,11 +20,11 @@ pub type Bundles = HashMap<String, Vec<Key>>;
 pub fn read(bytes: &[u8]) -> Result<Bundles, String> {
     let members = Json::read(bytes).and_then(Json::into_object);
     let mut bundles = Bundles::new();
-    for (place, (name, set)) in members.ok_or("NotObject")?.into_iter().enumerate() {
+    for (index, (name, set)) in members.ok_or("NotObject")?.into_iter().enumerate() {
         if name.len() > 255 || !is_domain(&name) {
-            return Err(format!("Domain({place})"));
+            return Err(format!("Domain({index})"));
         }
-        let keys = read_keys(set).ok_or_else(|| format!("Keys({place})"))?;
+        let keys = read_keys(set).ok_or_else(|| format!("Keys({index})"))?;
         bundles.insert(name, keys);
     }
     Ok(bundles)

@@ -15,7 +15,7 @@ pub struct Setting {
     /// The moment, in seconds.
     pub now: u64,
     /// 32 hexadecimal digits.
-    pub place: String,
+    pub validator_id: String,
     /// The validator's own audiences.
     pub own: Vec<String>,
 }
@@ -23,7 +23,7 @@ pub struct Setting {
 /// A validator that began with no uses, so that it has no withdrawals.
 pub struct Validator<R> {
     pub bundles: Bundles,
-    pub place: [u8; 16],
+    pub validator_id: [u8; 16],
     pub own: Vec<String>,
     pub record: R,
 }
@@ -36,7 +36,7 @@ pub fn run(setting: Setting, out: &mut impl Write) -> Result<bool, Box<dyn Error
     let table = read_table(&table)?;
     let mut validator = Validator {
         bundles: bundles::read(&bundles).map_err(|fault| format!("bundles: {fault}"))?,
-        place: digits(setting.place.as_bytes()).ok_or("bad place")?,
+        validator_id: digits(setting.validator_id.as_bytes()).ok_or("bad place")?,
         own: setting.own,
         record: Record::default(),
     };
@@ -105,7 +105,7 @@ impl<R: Known> Validator<R> {
         self.record.insert(Use {
             exp: token.exp,
             key,
-            place: self.place,
+            validator_id: self.validator_id,
             at: self.record.moment(),
             told: Told::Used,
         });

@@ -2,34 +2,36 @@ use std::fmt;
 
 /// What is wrong with bytes that are no message.
 #[derive(Clone, Copy, Debug, PartialEq, Eq)]
+// lists:begin messages (written by tools/lists from lists/statuses.toml)
 pub enum Reason {
-    /// The first four bytes are not `JSR` and the version 2.
+    /// The first four bytes are those of no version.
     Magic,
-    /// The message is neither a batch nor a summary.
+    /// The fifth byte is that of no kind of message of the version.
     Kind,
-    /// There are more than 65,536 uses.
+    /// A batch tells of too many uses.
     Count,
-    /// A use's last byte is neither that of a use nor that of a withdrawal.
+    /// The last byte of a use is neither 0 nor 1.
     UseKind,
-    /// A use's `exp` is not greater than the moment.
+    /// A use expires at its batch's moment or before it.
     UseExpired,
-    /// A use's `at` is greater than the moment.
+    /// A use was made after its batch's moment.
     UseFuture,
     /// A use is not greater than the one before it.
     UseOrder,
-    /// The bytes end within a message.
+    /// The bytes end before the message does.
     Truncated,
 }
+// lists:end
 
-/// The first thing that is wrong with a message, and its place from the message's first byte.
+/// The first thing that is wrong with a message, and its offset from the message's first byte.
 #[derive(Clone, Copy, Debug, PartialEq, Eq)]
 pub struct Fault {
-    pub place: usize,
+    pub offset: usize,
     pub reason: Reason,
 }
 
 impl fmt::Display for Fault {
     fn fmt(&self, f: &mut fmt::Formatter<'_>) -> fmt::Result {
-        write!(f, "place {}: {:?}", self.place, self.reason)
+        write!(f, "place {}: {:?}", self.offset, self.reason)
     }
 }

@@ -64,9 +64,9 @@ impl Known for Kept {
 
     fn insert(&mut self, used: Use) {
         match self.uses.entry(used.key) {
-            Entry::Vacant(place) => {
+            Entry::Vacant(free) => {
                 self.expiring.entry(used.exp).or_default().push(used.key);
-                place.insert(used);
+                free.insert(used);
             }
             Entry::Occupied(first) if *first.get() != used => {
                 self.others.insert(used);
@@ -127,7 +127,7 @@ pub fn run(words: &[String], out: &mut impl Write) -> Result<(), Box<dyn Error>>
         let bundles = bundles::read(&text)?;
         Ok(Validator {
             bundles,
-            place: [1; 16],
+            validator_id: [1; 16],
             own: vec!["ledger".to_string()],
             record: Kept::default(),
         })

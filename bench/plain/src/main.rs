@@ -35,7 +35,7 @@ use token_use::Use;
 
 const USAGE: &str = "usage: plain report [--now N] [FILE...] | plain merge [FILE...] \
     | plain summary [FILE...] | plain answer --summary FILE [FILE...] \
-    | plain check --bundles FILE --table FILE --now N --place P AUD... | plain live FOLDER [FILE...]";
+    | plain check --bundles FILE --table FILE --now N --validator-id ID AUD... | plain live FOLDER [FILE...]";
 
 /// How many bytes go out at once.
 const ROOM: usize = 65_536;
@@ -47,7 +47,7 @@ struct Words {
     summary: Option<String>,
     bundles: Option<String>,
     table: Option<String>,
-    place: Option<String>,
+    validator_id: Option<String>,
     /// Files, or audiences.
     others: Vec<String>,
 }
@@ -61,7 +61,7 @@ impl Words {
                 "--summary" => read.summary = Some(words.next().ok_or(USAGE)?),
                 "--bundles" => read.bundles = Some(words.next().ok_or(USAGE)?),
                 "--table" => read.table = Some(words.next().ok_or(USAGE)?),
-                "--place" => read.place = Some(words.next().ok_or(USAGE)?),
+                "--validator-id" => read.validator_id = Some(words.next().ok_or(USAGE)?),
                 _ if word.starts_with('-') => return Err(USAGE.into()),
                 _ => read.others.push(word),
             }
@@ -118,7 +118,7 @@ fn run(mut words: impl Iterator<Item = String>) -> Result<bool, Box<dyn Error>> 
             bundles: words.bundles.ok_or(USAGE)?,
             table: words.table.ok_or(USAGE)?,
             now: words.now.ok_or(USAGE)?,
-            place: words.place.ok_or(USAGE)?,
+            validator_id: words.validator_id.ok_or(USAGE)?,
             own: words.others,
         };
         check::run(setting, &mut out)?

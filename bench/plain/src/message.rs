@@ -8,8 +8,8 @@ use std::io::{self, Write};
 const MAGIC: [u8; 4] = *b"JSR\x02";
 
 /// Where the fields stand that every message has.
-const MAGIC_PLACE: usize = 0;
-const KIND_PLACE: usize = 4;
+const MAGIC_OFFSET: usize = 0;
+const KIND_OFFSET: usize = 4;
 
 /// The fifth byte of a message.
 #[derive(Clone, Copy)]
@@ -37,12 +37,12 @@ impl Message {
     /// Takes the message that stands first in what is left, or answers the first field that is bad.
     pub fn read(rest: &mut &[u8]) -> Result<Message, Fault> {
         let truncated = Fault {
-            place: rest.len(),
+            offset: rest.len(),
             reason: Reason::Truncated,
         };
         if take(rest).ok_or(truncated)? != MAGIC {
             return Err(Fault {
-                place: MAGIC_PLACE,
+                offset: MAGIC_OFFSET,
                 reason: Reason::Magic,
             });
         }
@@ -51,7 +51,7 @@ impl Message {
             Some(Kind::Batch) => Batch::read(rest, truncated).map(Message::Batch),
             Some(Kind::Summary) => Summary::read(rest).map(Message::Summary).ok_or(truncated),
             None => Err(Fault {
-                place: KIND_PLACE,
+                offset: KIND_OFFSET,
                 reason: Reason::Kind,
             }),
         }

@@ -9,8 +9,8 @@ pub fn write(record: &Record, out: &mut impl Write) -> io::Result<()> {
     writeln!(out, "moment {}", record.moment())?;
     writeln!(out, "uses {}", uses.len())?;
     for used in uses {
-        let (key, place) = (Hex(used.key), Hex(used.place));
-        write!(out, "{} {key} {place} {}", used.exp, used.at)?;
+        let (key, id) = (Hex(used.key), Hex(used.validator_id));
+        write!(out, "{} {key} {id} {}", used.exp, used.at)?;
         match used.told {
             Told::Used => writeln!(out)?,
             Told::Withdrawn => writeln!(out, " withdrawn")?,

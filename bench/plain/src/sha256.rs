@@ -5,7 +5,7 @@ pub type Digest = [u8; 32];
 const BLOCK_LEN: usize = 64;
 
 /// Where the length of the message stands in the last block.
-const LENGTH_PLACE: usize = 56;
+const LENGTH_OFFSET: usize = 56;
 
 /// The first 32 bits of the fractional parts of the square roots of the first 8 primes.
 const START: [u32; 8] = [
@@ -67,7 +67,7 @@ impl Sha256 {
     pub fn finish(mut self) -> Digest {
         let bits = self.len * 8;
         self.update(&[0x80]);
-        while self.held() != LENGTH_PLACE {
+        while self.held() != LENGTH_OFFSET {
             self.update(&[0]);
         }
         self.update(&bits.to_be_bytes());

@@ -128,13 +128,13 @@ fn use_of(given: Given, number: u64) -> Use {
     };
     let mut key = [0; 32];
     key[..8].copy_from_slice(&first.to_be_bytes());
-    for (place, salt) in [(8, 1), (16, 2), (24, 3)] {
-        key[place..place + 8].copy_from_slice(&mixed(number ^ (salt << 60)).to_be_bytes());
+    for (offset, salt) in [(8, 1), (16, 2), (24, 3)] {
+        key[offset..offset + 8].copy_from_slice(&mixed(number ^ (salt << 60)).to_be_bytes());
     }
     Use {
         exp: MOMENT + 1 + second,
         key,
-        place: [7; 16],
+        validator_id: [7; 16],
         at: MOMENT,
         told: Told::Used,
     }

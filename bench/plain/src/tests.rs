@@ -16,12 +16,12 @@ use crate::token_use::{Told, Use};
 
 const MAGIC: &[u8] = b"JSR\x02";
 
-/// A use of a key of ones, at a place of twos.
+/// A use of a key of ones, by a validator of twos.
 fn used(exp: u64, at: u64) -> Use {
     Use {
         exp,
         key: [0x11; 32],
-        place: [0x22; 16],
+        validator_id: [0x22; 16],
         at,
         told: Told::Used,
     }
@@ -95,8 +95,8 @@ fn tells_the_first_bad_field() {
         (bad_kind, 17, Reason::UseKind),
         (short, 80, Reason::Truncated),
     ];
-    for (bytes, place, reason) in table {
-        assert_eq!(Message::read(&mut &*bytes), Err(Fault { place, reason }));
+    for (bytes, offset, reason) in table {
+        assert_eq!(Message::read(&mut &*bytes), Err(Fault { offset, reason }));
     }
 }
 
@@ -117,9 +117,9 @@ fn drops_what_expired_in_either_order() {
         }
         let mut text = Vec::new();
         report::write(&record, &mut text).unwrap();
-        let (key, place) = ("11".repeat(32), "22".repeat(16));
+        let (key, id) = ("11".repeat(32), "22".repeat(16));
         let expected =
-            format!("moment 8\nuses 2\n9 {key} {place} 5\n9 {key} {place} 6\ntwice 1\n{key} 2\n");
+            format!("moment 8\nuses 2\n9 {key} {id} 5\n9 {key} {id} 6\ntwice 1\n{key} 2\n");
         assert_eq!(String::from_utf8(text).unwrap(), expected);
     }
 }
@@ -127,9 +127,8 @@ fn drops_what_expired_in_either_order() {
 #[test]
 fn marks_withdrawals_and_counts_none_of_them() {
     let mut record = record(5, &[used(9, 4), withdrawn(9, 4), withdrawn(9, 5)]);
-    let (key, place) = ("11".repeat(32), "22".repeat(16));
-    let lines =
-        format!("9 {key} {place} 4\n9 {key} {place} 4 withdrawn\n9 {key} {place} 5 withdrawn\n");
+    let (key, id) = ("11".repeat(32), "22".repeat(16));
+    let lines = format!("9 {key} {id} 4\n9 {key} {id} 4 withdrawn\n9 {key} {id} 5 withdrawn\n");
     for (moment, expected) in [
         (5, format!("moment 5\nuses 3\n{lines}twice 0\n")),
         (9, "moment 9\nuses 0\ntwice 0\n".to_string()),

@@ -5,6 +5,7 @@ use crate::sha256::{Digest, Sha256};
 
 /// Why a token is refused, in the order in which it is looked for.
 #[derive(Clone, Copy, Debug, PartialEq, Eq)]
+// lists:begin refusals (written by tools/lists from lists/refusals.toml)
 pub enum Refusal {
     TooLong,
     NotThreeParts,
@@ -30,8 +31,10 @@ pub enum Refusal {
     BadSignature,
     Replayed,
 }
+// lists:end
 
 /// The names of algorithms, each with the kind of its keys.
+// lists:begin algorithms (written by tools/lists from lists/algorithms.toml)
 const ALGORITHMS: [(&str, &str); 9] = [
     ("RS256", "RSA"),
     ("RS384", "RSA"),
@@ -43,6 +46,7 @@ const ALGORITHMS: [(&str, &str); 9] = [
     ("PS384", "RSA"),
     ("PS512", "RSA"),
 ];
+// lists:end
 
 /// What a token says.
 pub struct Token<'a> {

@@ -22,7 +22,7 @@ pub struct Use {
     /// The key of the token.
     pub key: [u8; 32],
     /// The validator that accepted or withdrew it.
-    pub place: [u8; 16],
+    pub validator_id: [u8; 16],
     /// When it did, in seconds.
     pub at: u64,
     /// Which of the two it is.
@@ -40,12 +40,12 @@ impl Use {
     /// Takes the use that stands first in what is left. Answers `None` where the bytes end within it, and
     /// `Some(None)` where its last byte is no kind.
     pub fn read(rest: &mut &[u8]) -> Option<Option<Use>> {
-        let (exp, key, place) = (take(rest)?, take(rest)?, take(rest)?);
+        let (exp, key, validator_id) = (take(rest)?, take(rest)?, take(rest)?);
         let (at, [told]) = (take(rest)?, take(rest)?);
         Some(Told::read(told).map(|told| Use {
             exp: u64::from_be_bytes(exp),
             key,
-            place,
+            validator_id,
             at: u64::from_be_bytes(at),
             told,
         }))
@@ -56,7 +56,7 @@ impl Use {
         let mut text = [0; 65];
         text[..8].copy_from_slice(&self.exp.to_be_bytes());
         text[8..40].copy_from_slice(&self.key);
-        text[40..56].copy_from_slice(&self.place);
+        text[40..56].copy_from_slice(&self.validator_id);
         text[56..64].copy_from_slice(&self.at.to_be_bytes());
         text[64] = self.told as u8;
         text

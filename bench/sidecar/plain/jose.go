@@ -31,10 +31,14 @@ func newJose(bundle []byte, audience string) (verifier, error) {
 	return v, nil
 }
 
+// lists:begin algorithms (written by tools/lists from lists/algorithms.toml)
+
 var allowed = map[jose.SignatureAlgorithm]bool{
 	jose.RS256: true, jose.RS384: true, jose.RS512: true, jose.ES256: true, jose.ES384: true, jose.ES512: true,
 	jose.PS256: true, jose.PS384: true, jose.PS512: true,
 }
+
+// lists:end
 
 func (v *joseVerifier) verify(token string) (c claims, err error) {
 	parsed, err := jwt.ParseSigned(token)

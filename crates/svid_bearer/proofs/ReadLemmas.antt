@@ -12,35 +12,35 @@ use Rattle.svid_bearer.specs.declared.no_bearer.NoBearer.TheVariants.{Absent, Se
 use Rattle.svid_bearer.proofs.ScanLemmas.{Carries-unique, Scans-Carries}
 
 -- a token that is carried has its scheme
-pub Carries-scheme : (value : List ℕ) (place : ℕ) (token : List ℕ) → Carries value place token → IsBearer (scheme_of value)
-Carries-scheme value place token c = (Scans-Carries value place token c).scheme
+pub Carries-scheme : (value : List ℕ) (offset : ℕ) (token : List ℕ) → Carries value offset token → IsBearer (scheme_of value)
+Carries-scheme value offset token c = (Scans-Carries value offset token c).scheme
 
--- one place and one token are one thing found
-pub found-same : (p q : ℕ) (t u : List ℕ) → p ≡ q → t ≡ u → (let a : Found = record { place = p; token = t } in let b : Found = record { place = q; token = u } in a ≡ b)
+-- one offset and one token are one thing found
+pub found-same : (p q : ℕ) (t u : List ℕ) → p ≡ q → t ≡ u → (let a : Found = record { offset = p; token = t } in let b : Found = record { offset = q; token = u } in a ≡ b)
 found-same p q t u at is = rw at (rw is refl)
 
 -- of a value no two tokens are found
-pub same-found : (value : List ℕ) (one other : Found) → Carries value one.place one.token → Carries value other.place other.token → one ≡ other
+pub same-found : (value : List ℕ) (one other : Found) → Carries value one.offset one.token → Carries value other.offset other.token → one ≡ other
 same-found value one other c d =
-    let (place, token) = Carries-unique value one.place other.place one.token other.token c d in
-    found-same one.place other.place one.token other.token place token
+    let (offset, token) = Carries-unique value one.offset other.offset one.token other.token c d in
+    found-same one.offset other.offset one.token other.token offset token
 
 pub IsAnswer-unique : (fields : ℕ) (value : List ℕ) (one other : Result Found NoBearer)
     → IsAnswer fields value one → IsAnswer fields value other → one ≡ other
 IsAnswer-unique fields value (Ok a) (Ok b) (_, c, _) (_, d, _) = ap Ok (same-found value a b c d)
 IsAnswer-unique fields value (Ok a) (Err Absent) (n, _, _) m = absurd (omega arith)
 IsAnswer-unique fields value (Ok a) (Err Several) (n, _, _) m = absurd (omega arith)
-IsAnswer-unique fields value (Ok a) (Err Scheme) (_, c, _) (_, never) = absurd (never (Carries-scheme value a.place a.token c))
-IsAnswer-unique fields value (Ok a) (Err Spelling) (_, c, _) (_, _, never) = absurd (never a.place a.token c)
-IsAnswer-unique fields value (Ok a) (Err TooLong) (_, c, short) (_, (place, token, d, long)) =
-    let (_, same) = Carries-unique value a.place place a.token token c d in
+IsAnswer-unique fields value (Ok a) (Err Scheme) (_, c, _) (_, never) = absurd (never (Carries-scheme value a.offset a.token c))
+IsAnswer-unique fields value (Ok a) (Err Spelling) (_, c, _) (_, _, never) = absurd (never a.offset a.token c)
+IsAnswer-unique fields value (Ok a) (Err TooLong) (_, c, short) (_, (offset, token, d, long)) =
+    let (_, same) = Carries-unique value a.offset offset a.token token c d in
     let len = ap length same in absurd (omega arith)
 IsAnswer-unique fields value (Err Absent) (Ok b) m (n, _, _) = absurd (omega arith)
 IsAnswer-unique fields value (Err Several) (Ok b) m (n, _, _) = absurd (omega arith)
-IsAnswer-unique fields value (Err Scheme) (Ok b) (_, never) (_, c, _) = absurd (never (Carries-scheme value b.place b.token c))
-IsAnswer-unique fields value (Err Spelling) (Ok b) (_, _, never) (_, c, _) = absurd (never b.place b.token c)
-IsAnswer-unique fields value (Err TooLong) (Ok b) (_, (place, token, d, long)) (_, c, short) =
-    let (_, same) = Carries-unique value b.place place b.token token c d in
+IsAnswer-unique fields value (Err Scheme) (Ok b) (_, never) (_, c, _) = absurd (never (Carries-scheme value b.offset b.token c))
+IsAnswer-unique fields value (Err Spelling) (Ok b) (_, _, never) (_, c, _) = absurd (never b.offset b.token c)
+IsAnswer-unique fields value (Err TooLong) (Ok b) (_, (offset, token, d, long)) (_, c, short) =
+    let (_, same) = Carries-unique value b.offset offset b.token token c d in
     let len = ap length same in absurd (omega arith)
 IsAnswer-unique fields value (Err Absent) (Err Absent) m n = refl
 IsAnswer-unique fields value (Err Absent) (Err Several) m n = absurd (omega arith)
@@ -56,16 +56,16 @@ IsAnswer-unique fields value (Err Scheme) (Err Absent) (n, _) m = absurd (omega 
 IsAnswer-unique fields value (Err Scheme) (Err Several) (n, _) m = absurd (omega arith)
 IsAnswer-unique fields value (Err Scheme) (Err Scheme) m n = refl
 IsAnswer-unique fields value (Err Scheme) (Err Spelling) (_, never) (_, is, _) = absurd (never is)
-IsAnswer-unique fields value (Err Scheme) (Err TooLong) (_, never) (_, (place, token, c, _)) = absurd (never (Carries-scheme value place token c))
+IsAnswer-unique fields value (Err Scheme) (Err TooLong) (_, never) (_, (offset, token, c, _)) = absurd (never (Carries-scheme value offset token c))
 IsAnswer-unique fields value (Err Spelling) (Err Absent) (n, _, _) m = absurd (omega arith)
 IsAnswer-unique fields value (Err Spelling) (Err Several) (n, _, _) m = absurd (omega arith)
 IsAnswer-unique fields value (Err Spelling) (Err Scheme) (_, is, _) (_, never) = absurd (never is)
 IsAnswer-unique fields value (Err Spelling) (Err Spelling) m n = refl
-IsAnswer-unique fields value (Err Spelling) (Err TooLong) (_, _, never) (_, (place, token, c, _)) = absurd (never place token c)
+IsAnswer-unique fields value (Err Spelling) (Err TooLong) (_, _, never) (_, (offset, token, c, _)) = absurd (never offset token c)
 IsAnswer-unique fields value (Err TooLong) (Err Absent) (n, _) m = absurd (omega arith)
 IsAnswer-unique fields value (Err TooLong) (Err Several) (n, _) m = absurd (omega arith)
-IsAnswer-unique fields value (Err TooLong) (Err Scheme) (_, (place, token, c, _)) (_, never) = absurd (never (Carries-scheme value place token c))
-IsAnswer-unique fields value (Err TooLong) (Err Spelling) (_, (place, token, c, _)) (_, _, never) = absurd (never place token c)
+IsAnswer-unique fields value (Err TooLong) (Err Scheme) (_, (offset, token, c, _)) (_, never) = absurd (never (Carries-scheme value offset token c))
+IsAnswer-unique fields value (Err TooLong) (Err Spelling) (_, (offset, token, c, _)) (_, _, never) = absurd (never offset token c)
 IsAnswer-unique fields value (Err TooLong) (Err TooLong) m n = refl
 
 -- a header as it is mostly written carries its token
@@ -86,9 +86,9 @@ Carries-written token is = record {
 }
 
 pub IsAnswer-written : (token : List ℕ) (answer : Result Found NoBearer) → IsToken token → length token ≤ 65536
-    → IsAnswer 1 (codes "Bearer " ++ token) answer → answer ≡ Ok (record { place = 7; token = token })
+    → IsAnswer 1 (codes "Bearer " ++ token) answer → answer ≡ Ok (record { offset = 7; token = token })
 IsAnswer-written token answer is short due =
-    let found : Found = record { place = 7; token = token } in
+    let found : Found = record { offset = 7; token = token } in
     IsAnswer-unique 1 (codes "Bearer " ++ token) answer (Ok found) due (refl, Carries-written token is, short)
 
 -- bytes of a token are no separators

@@ -7,7 +7,7 @@ use Rattle.std.proofs.lemmas.Bool.Decides.{nat_tests}
 use Rattle.std.proofs.lemmas.List.{length-append, length-drop, length-map, length-take-le, get_or-take, take-append-drop, append_assoc}
 use Rattle.std.proofs.lemmas.List.Folds.{list_all-map, prefix_len-append, length-prefix_len}
 use Rattle.std.proofs.lemmas.List.Sums.{AllPass-from_list_all, list_all-from_AllPass, prefix_len-le-length, prefix_len_is, prefix_len_passes}
-use Rattle.svid_bearer.specs.Scan.{behind_word, has_token, place_of, rest_of, token_len, token_of, unblank, unspace}
+use Rattle.svid_bearer.specs.Scan.{behind_word, has_token, offset_of, rest_of, token_len, token_of, unblank, unspace}
 use Rattle.svid_bearer.specs.Value.{Carries, IsBearer, IsToken, is_blank, is_equals, is_space, is_token_byte, is_word_byte, scheme_of}
 
 pub ruleset runs_fit = (prefix_len-le-length)
@@ -96,11 +96,11 @@ scan-token bytes equals after of_bytes of_equals blank =
     (count, rw count (rw (drop-append_seam bytes (equals ++ after)) (rw more refl)))
 
 -- what a scan of a value finds, where it is a token in its place
-pub record Scans (value : List ℕ) (place : ℕ) (token : List ℕ) : Type 0 where
+pub record Scans (value : List ℕ) (offset : ℕ) (token : List ℕ) : Type 0 where
   pub scheme : IsBearer (scheme_of value)
   pub has : has_token (rest_of value) ≡ true
   pub token_is : token_of value ≡ token
-  pub place_is : place_of value ≡ place
+  pub offset_is : offset_of value ≡ offset
 
 -- what a text behind a scheme scans as
 pub scan-rest : (spaces bytes equals after : List ℕ) → AllPass is_space spaces → 0 < length spaces → 0 < length bytes
@@ -151,23 +151,23 @@ scan-value before scheme spaces bytes equals after is_before is_scheme of_space 
       scheme = rw named is_scheme;
       has = rw found has;
       token_is = rw found taken;
-      place_is = rw found (rw spaced (rw long (omega arith)));
+      offset_is = rw found (rw spaced (rw long (omega arith)));
     }
 
 -- a value that carries a token scans as it
-pub Scans-Carries : (value : List ℕ) (place : ℕ) (token : List ℕ) → Carries value place token → Scans value place token
-Scans-Carries value place token c =
+pub Scans-Carries : (value : List ℕ) (offset : ℕ) (token : List ℕ) → Carries value offset token → Scans value offset token
+Scans-Carries value offset token c =
     let t = c.is_token in
     let scanned : Scans (c.before ++ (c.scheme ++ (c.spaces ++ ((t.bytes ++ t.equals) ++ c.after)))) (length c.before + (length c.scheme + length c.spaces)) (t.bytes ++ t.equals) =
     scan-value c.before c.scheme c.spaces t.bytes t.equals c.after c.is_before c.is_scheme c.is_spaces c.some_space t.not_empty t.of_token t.of_equals c.is_after in
     let spelled : value ≡ c.before ++ (c.scheme ++ (c.spaces ++ ((t.bytes ++ t.equals) ++ c.after))) = rw (sym t.spelled) c.spelled in
-    subst (λ (v : List ℕ). Scans v place token) (sym spelled)
+    subst (λ (v : List ℕ). Scans v offset token) (sym spelled)
     (subst (λ (n : ℕ). Scans (c.before ++ (c.scheme ++ (c.spaces ++ ((t.bytes ++ t.equals) ++ c.after)))) n token) (sym c.placed)
     (subst (λ (x : List ℕ). Scans (c.before ++ (c.scheme ++ (c.spaces ++ ((t.bytes ++ t.equals) ++ c.after)))) (length c.before + (length c.scheme + length c.spaces)) x) (sym t.spelled) scanned))
 
 -- and what scans as a token carries it
 pub Carries-scan : (value : List ℕ) → IsBearer (scheme_of value) → has_token (rest_of value) ≡ true
-    → Carries value (place_of value) (token_of value)
+    → Carries value (offset_of value) (token_of value)
 Carries-scan value is_scheme has =
     let text = unblank value in
     let rest = rest_of value in
@@ -217,17 +217,17 @@ Carries-scan value is_scheme has =
     }
 
 -- a value carries at most one token, in one place
-pub Carries-unique : (value : List ℕ) (place other_place : ℕ) (token other : List ℕ)
-    → Carries value place token → Carries value other_place other → (place ≡ other_place) × (token ≡ other)
-Carries-unique value place other_place token other c d =
-    let a = Scans-Carries value place token c in
-    let b = Scans-Carries value other_place other d in
-    (sym a.place_is ∙ b.place_is, sym a.token_is ∙ b.token_is)
+pub Carries-unique : (value : List ℕ) (offset other_offset : ℕ) (token other : List ℕ)
+    → Carries value offset token → Carries value other_offset other → (offset ≡ other_offset) × (token ≡ other)
+Carries-unique value offset other_offset token other c d =
+    let a = Scans-Carries value offset token c in
+    let b = Scans-Carries value other_offset other d in
+    (sym a.offset_is ∙ b.offset_is, sym a.token_is ∙ b.token_is)
 
 -- one that scans as no token carries none
-pub Carries-none : (value : List ℕ) → has_token (rest_of value) ≡ false → (place : ℕ) (token : List ℕ) → ¬ Carries value place token
-Carries-none value none place token c =
-    let a = Scans-Carries value place token c in
+pub Carries-none : (value : List ℕ) → has_token (rest_of value) ≡ false → (offset : ℕ) (token : List ℕ) → ¬ Carries value offset token
+Carries-none value none offset token c =
+    let a = Scans-Carries value offset token c in
     let has = a.has in
     absurd (cc)
 
@@ -241,17 +241,17 @@ cut-steps value text scheme rest blanks word b t w s r =
     (rw s (rw word_is (rw text_is refl)), rw r (rw word_is (rw text_is refl)))
 
 -- a token that was found in what follows the scheme
-pub found-Carries : (value scheme rest token : List ℕ) (place : ℕ) → (scheme ≡ scheme_of value) × (rest ≡ rest_of value)
+pub found-Carries : (value scheme rest token : List ℕ) (offset : ℕ) → (scheme ≡ scheme_of value) × (rest ≡ rest_of value)
     → IsBearer scheme → has_token rest ≡ true → token ≡ take (token_len (unspace rest)) (unspace rest)
-    → place ≡ length value - length rest + prefix_len is_space rest → Carries value place token
-found-Carries value scheme rest token place (scheme_is, rest_is) is has taken placed =
+    → offset ≡ length value - length rest + prefix_len is_space rest → Carries value offset token
+found-Carries value scheme rest token offset (scheme_is, rest_is) is has taken placed =
     let scanned = Carries-scan value (subst (λ (s : List ℕ). IsBearer s) scheme_is is) (subst (λ (r : List ℕ). has_token r ≡ true) rest_is has) in
-    let at : place ≡ place_of value = rw (sym rest_is) placed in
+    let at : offset ≡ offset_of value = rw (sym rest_is) placed in
     let here : token ≡ token_of value = rw (sym rest_is) taken in
-    subst (λ (n : ℕ). Carries value n token) (sym at) (subst (λ (x : List ℕ). Carries value (place_of value) x) (sym here) scanned)
+    subst (λ (n : ℕ). Carries value n token) (sym at) (subst (λ (x : List ℕ). Carries value (offset_of value) x) (sym here) scanned)
 
 -- and where none was found
 pub none-Carries : (value scheme rest : List ℕ) → (scheme ≡ scheme_of value) × (rest ≡ rest_of value) → IsBearer scheme
-    → has_token rest ≡ false → IsBearer (scheme_of value) × ((place : ℕ) (token : List ℕ) → ¬ Carries value place token)
+    → has_token rest ≡ false → IsBearer (scheme_of value) × ((offset : ℕ) (token : List ℕ) → ¬ Carries value offset token)
 none-Carries value scheme rest (scheme_is, rest_is) is none =
     (subst (λ (s : List ℕ). IsBearer s) scheme_is is, Carries-none value (subst (λ (r : List ℕ). has_token r ≡ false) rest_is none))

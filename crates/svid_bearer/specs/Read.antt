@@ -6,17 +6,17 @@ use Rattle.svid_bearer.specs.declared.no_bearer.NoBearer.TheVariants.{Absent, Se
 
 -- a token, and where it stands in the value of its field
 pub record Found : Type 0 where
-  pub place : ℕ
+  pub offset : ℕ
   pub token : List ℕ
 
 -- of so many fields, whose first has this value, this is the answer: a token of at most 65,536 bytes, or why there is none
 abbrev pub IsAnswer : ℕ → List ℕ → Result Found NoBearer → Type 0
 IsAnswer fields value (Ok found) =
-    (fields ≡ 1) × Carries value found.place found.token × (length found.token ≤ 65536)
+    (fields ≡ 1) × Carries value found.offset found.token × (length found.token ≤ 65536)
 IsAnswer fields value (Err Absent) = fields ≡ 0
 IsAnswer fields value (Err Several) = 1 < fields
 IsAnswer fields value (Err Scheme) = (fields ≡ 1) × (¬ IsBearer (scheme_of value))
 IsAnswer fields value (Err Spelling) =
-    (fields ≡ 1) × IsBearer (scheme_of value) × ((place : ℕ) (token : List ℕ) → ¬ Carries value place token)
+    (fields ≡ 1) × IsBearer (scheme_of value) × ((offset : ℕ) (token : List ℕ) → ¬ Carries value offset token)
 IsAnswer fields value (Err TooLong) =
-    (fields ≡ 1) × ((place : ℕ) × (token : List ℕ) × Carries value place token × (65536 < length token))
+    (fields ≡ 1) × ((offset : ℕ) × (token : List ℕ) × Carries value offset token × (65536 < length token))

@@ -38,6 +38,6 @@ token_of value =
     let text = unspace (rest_of value) in
     take (token_len text) text
 
--- its place
-abbrev pub place_of : List ℕ → ℕ
-place_of value = length value - length (rest_of value) + prefix_len is_space (rest_of value)
+-- its offset
+abbrev pub offset_of : List ℕ → ℕ
+offset_of value = length value - length (rest_of value) + prefix_len is_space (rest_of value)

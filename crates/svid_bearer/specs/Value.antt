@@ -39,14 +39,14 @@ pub record IsToken (token : List ℕ) : Type 0 where
 abbrev pub IsBearer : List ℕ → Type 0
 IsBearer scheme = map to_ascii_lowercase scheme ≡ codes "bearer"
 
--- the value of a field that carries a token, which stands at a place, with the blanks that may stand around the value
-pub record Carries (value : List ℕ) (place : ℕ) (token : List ℕ) : Type 0 where
+-- the value of a field that carries a token, which stands at a offset, with the blanks that may stand around the value
+pub record Carries (value : List ℕ) (offset : ℕ) (token : List ℕ) : Type 0 where
   pub before : List ℕ
   pub scheme : List ℕ
   pub spaces : List ℕ
   pub after : List ℕ
   pub spelled : value ≡ before ++ (scheme ++ (spaces ++ (token ++ after)))
-  pub placed : place ≡ length before + (length scheme + length spaces)
+  pub placed : offset ≡ length before + (length scheme + length spaces)
   pub is_before : AllPass is_blank before
   pub is_scheme : IsBearer scheme
   pub is_spaces : AllPass is_space spaces

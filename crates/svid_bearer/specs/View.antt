@@ -6,5 +6,5 @@ use Rattle.svid_bearer.specs.declared.no_bearer.NoBearer.{NoBearer}
 
 -- an answer, of the token its bytes
 abbrev pub found : Result Bearer NoBearer → Result Found NoBearer
-found (Ok bearer) = Ok (record { place = bearer.at; token = bearer.token.now })
+found (Ok bearer) = Ok (record { offset = bearer.at; token = bearer.token.now })
 found (Err why) = Err why

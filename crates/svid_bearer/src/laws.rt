@@ -12,7 +12,7 @@ use crate::no_bearer::NoBearer;
 pub fn written_is_read()
     ensures { (token : List ℕ) (answer : Result Found NoBearer) → IsToken token → length token ≤ 65536
         → IsAnswer 1 (codes "Bearer " ++ token) answer
-        → answer ≡ Ok (record { place = 7; token = token }) }
+        → answer ≡ Ok (record { offset = 7; token = token }) }
 {}
 
 /// Of each header one answer is due.

@@ -20,13 +20,13 @@ same_says given questions same = λ i key alg input signature. same (question_of
 pub ready : (own : List (List ℕ)) (bundles questions messages : List ℕ) (given : SvidSetting) (kept : List Bundle) (given_table : List (List ℕ)) (r : State)
     → AreBundles bundles kept → IsTable questions
     → ((question : List ℕ) → is_among question given_table ≡ is_among question (questions_in questions)) → IsRecordOf messages given.moment r
-    → IsReady own bundles questions messages given (record { own = own; place = given.place; bundles = kept; says = table_says given_table; longest = Some given.longest }) r
+    → IsReady own bundles questions messages given (record { own = own; validator_id = given.validator_id; bundles = kept; says = table_says given_table; longest = Some given.longest }) r
 ready own bundles questions messages given kept given_table r are good same comes = record {
   kept = kept;
   are = are;
   good = good;
   comes = comes;
-  is = ap (λ (says : Says). record { own = own; place = given.place; bundles = kept; says = says; longest = Some given.longest }) (same_says given_table (questions_in questions) same);
+  is = ap (λ (says : Says). record { own = own; validator_id = given.validator_id; bundles = kept; says = says; longest = Some given.longest }) (same_says given_table (questions_in questions) same);
 }
 
 -- the bundles are refused

@@ -37,8 +37,8 @@ whole old new told w = subst (λ b. AreMessages b told) (sym (all_given old new 
 pub tells : (old new : List ℕ) (a b : State) → Joins (lent old new) a b → Tells old a b
 tells old new a b j = record { told = j.told; are = whole old new j.told j.whole; joins = j.joins }
 
-field : (old new : List ℕ) (message place : ℕ) (reason : Reason) → HasBadField (lent old new) message place reason → IsBadMessage old message place reason
-field old new message place reason h =
+field : (old new : List ℕ) (message offset : ℕ) (reason : Reason) → HasBadField (lent old new) message offset reason → IsBadMessage old message offset reason
+field old new message offset reason h =
     record {
       front = h.bytes;
       others = h.others ++ new;
@@ -52,8 +52,8 @@ field old new message place reason h =
       why = h.why.0;
     }
 
-cut : (old new : List ℕ) (message place : ℕ) → EndsWithin (lent old new) message place → IsBadMessage old message place wire.Truncated
-cut old new message place e =
+cut : (old new : List ℕ) (message offset : ℕ) → EndsWithin (lent old new) message offset → IsBadMessage old message offset wire.Truncated
+cut old new message offset e =
     record {
       front = e.bytes;
       others = new;
@@ -67,9 +67,9 @@ cut old new message place e =
       why = (e.at, e.some, e.good.unfinished);
     }
 
-bad : (old new : List ℕ) (message place : ℕ) (reason : Reason) → IsBroken (lent old new) message place reason → IsBadMessage old message place reason
-bad old new message place wire.Truncated b = cut old new message place b
-bad old new message place _ b = field old new message place _ b
+bad : (old new : List ℕ) (message offset : ℕ) (reason : Reason) → IsBroken (lent old new) message offset reason → IsBadMessage old message offset reason
+bad old new message offset wire.Truncated b = cut old new message offset b
+bad old new message offset _ b = field old new message offset _ b
 
 too_long : (old new : List ℕ) → IsTooLong (lent old new) → IsTooMuch old
 too_long old new l =
@@ -89,7 +89,7 @@ never_stops old new s = let no : 0 ≡ raised 0 = s.stopped in cc
 
 -- why such an input is refused
 pub refused : (number : ℕ) (old new : List ℕ) (fault : ToolFault) → IsInputFault number (lent old new) fault → IsRefused number old fault
-refused number old new (tool.Wire input message place reason) f = (f.0, bad old new message place reason f.1)
+refused number old new (tool.Wire input message offset reason) f = (f.0, bad old new message offset reason f.1)
 refused number old new (tool.TooMuch input) f = (f.0, too_long old new f.1)
 refused number old new (tool.Read input) f = never_stops old new f.1
 refused number old new tool.OutOfMemory f = tt
@@ -102,7 +102,7 @@ is_one old new asked w = whole old new (message.Summary asked ∷ []) w
 -- why the bytes of an input are no summary
 pub not_one : (old new : List ℕ) (fault : ToolFault) → IsSummaryFault 1 (lent old new) fault → IsSummaryRefused old fault
 not_one old new tool.NotSummary n = record { told = n.told; are = whole old new n.told n.whole; other = n.other }
-not_one old new (tool.Wire input message place reason) f = refused 1 old new (tool.Wire input message place reason) f
+not_one old new (tool.Wire input message offset reason) f = refused 1 old new (tool.Wire input message offset reason) f
 not_one old new (tool.TooMuch input) f = refused 1 old new (tool.TooMuch input) f
 not_one old new (tool.Read input) f = refused 1 old new (tool.Read input) f
 not_one old new tool.OutOfMemory f = refused 1 old new tool.OutOfMemory f

@@ -26,7 +26,7 @@ due_untold f (Some g) e is = cc
 pub read_as : (found : Next) (t u : Title) (r s new : Reader) (bytes : List ℕ) → t ≡ u → r ≡ s → IsNext found t r new bytes → IsNext found u s new bytes
 read_as found t u r s new bytes titles readers next = subst (λ x. IsNext found u x new bytes) readers (subst (λ x. IsNext found x r new bytes) titles next)
 
--- a payload stands 32 bytes behind the place of its frame
+-- a payload stands 32 bytes behind the offset of its frame
 pub stands : (t : Title) (old new : Reader) (bytes payload : List ℕ) → GoesOn t old new bytes payload → take (length payload) (drop (old.at + 32) bytes) ≡ payload
 unfolding frame_in
 stands t old new bytes payload goes =

@@ -1,7 +1,9 @@
+pub mod AllowedLemmas
 pub mod AloneLemmas
 pub mod AsBox
 pub mod AsTrustBox
 pub mod CheckedLemmas
+pub mod EntriesLemmas
 pub mod InputsLemmas
 pub mod JoinedLemmas
 mod JournalLemmas

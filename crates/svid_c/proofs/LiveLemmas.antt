@@ -16,17 +16,17 @@ use Rattle.svid_c.specs.Status.{told_length}
 use Rattle.svid_c.specs.declared.live.Live.{Live}
 use Rattle.svid_c.specs.declared.told.SvidTold.{SvidTold}
 use Rattle.svid_c.specs.declared.live.Nobody.{Nobody}
-use Rattle.svid_c.specs.declared.open.SvidTerms.{SvidTerms}
+use Rattle.svid_c.specs.declared.validator_open.SvidTerms.{SvidTerms}
 
 -- a validator that is made of what the inputs say begins
 pub begun : (own : List (List ℕ)) (text : List ℕ) (terms : SvidTerms) (kept : List Bundle) (nobody : Nobody) (r : State)
     → AreBundles text kept → r ≡ state_of 0 []
-    → IsBegun own text terms (record { validator = record { own = own; place = terms.place; ahead = terms.ahead; bundles = kept; verifier = nobody; longest = Some terms.longest; state = r }; step = terms.step; member = None })
+    → IsBegun own text terms (record { validator = record { own = own; validator_id = terms.validator_id; ahead = terms.ahead; bundles = kept; verifier = nobody; longest = Some terms.longest; state = r }; step = terms.step; member = None })
 begun own text terms kept nobody r are new = record {
   kept = kept;
   nobody = nobody;
   are = are;
-  held = ap (λ s. record { own = own; place = terms.place; ahead = terms.ahead; bundles = kept; verifier = nobody; longest = Some terms.longest; state = s }) new;
+  held = ap (λ s. record { own = own; validator_id = terms.validator_id; ahead = terms.ahead; bundles = kept; verifier = nobody; longest = Some terms.longest; state = s }) new;
   step = refl;
   member = refl;
 }
@@ -49,8 +49,8 @@ not_called now B D status given told old new (none_held held left number) is len
 not_called now B D status given told old new (too_far_on live held far left number) is length before = jumped live held far left (is ∙ number) length before
 
 -- what a withdrawal answers, where the fault is known
-pub withdrawing_fault : (place : List ℕ) (moment : ℕ) (key : List ℕ) (exp : ℕ) (f g : WithdrawFault) → f ≡ g → IsWithdrawal place moment key exp (Err f) → IsWithdrawal place moment key exp (Err g)
-withdrawing_fault place moment key exp f g is t = subst (λ h. IsWithdrawal place moment key exp (Err h)) is t
+pub withdrawing_fault : (validator_id : List ℕ) (moment : ℕ) (key : List ℕ) (exp : ℕ) (f g : WithdrawFault) → f ≡ g → IsWithdrawal validator_id moment key exp (Err f) → IsWithdrawal validator_id moment key exp (Err g)
+withdrawing_fault validator_id moment key exp f g is t = subst (λ h. IsWithdrawal validator_id moment key exp (Err h)) is t
 
 -- what refuses a token for its form refuses it as just that
 pub as_form : {A : Type 0} (token : List ℕ) (why : Refusal) → RefusesForm {A = A} token (Err why) → RefusesAs token why

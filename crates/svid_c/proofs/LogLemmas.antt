@@ -12,7 +12,7 @@ use Rattle.svid_check.specs.declared.accepted.Accepted.{Accepted}
 use Rattle.svid_c.specs.Live.{IsLeft, IsLookedBy, Kept, claimed_by}
 use Rattle.svid_c.specs.Log.{fate_seen, fates_seen}
 use Rattle.svid_c.specs.declared.live.Live.{Live}
-use Rattle.svid_c.specs.declared.log_read.SvidFate.{SvidFate}
+use Rattle.svid_c.specs.declared.validator_read.SvidFate.{SvidFate}
 
 -- where there is no log, no token is claimed
 pub unclaimed : (moment : ℕ) (verdict : Result (Option Accepted) Refusal) → unless_claimed (claimed_by None moment) verdict ≡ verdict

@@ -52,7 +52,7 @@ is_piece text lens names rest piece behind i d within so_far parts long = record
   later = drop (i + 1) lens;
   parts = so_far.parts ∙ ap (λ r. concat names ++ r) parts ∙ sym (append_assoc (concat names) piece behind);
   lengths = sym (take-append-drop i lens) ∙ ap (λ r. take i lens ++ r) (drop_more lens i d within) ∙ ap (λ n. take i lens ++ n ∷ drop (i + 1) lens) (sym long);
-  place = lengths_add_up names ∙ ap sum so_far.lengths;
+  offset = lengths_add_up names ∙ ap sum so_far.lengths;
 }
 
 -- a piece that is no audience is the fault

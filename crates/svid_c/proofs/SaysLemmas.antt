@@ -4,7 +4,7 @@ use Rattle.std.proofs.lemmas.List.{length-map}
 use Rattle.svid_check.specs.Said.{Said}
 use Rattle.svid_check.specs.Verdict.{key_of}
 use Rattle.svid_c.specs.Says.{said_seen, texts_of}
-use Rattle.svid_c.specs.declared.says.SvidSaid.{SvidSaid}
+use Rattle.svid_c.specs.declared.token_says.SvidSaid.{SvidSaid}
 
 -- a key, a time and a number of texts are what is told of a token
 pub said_told : (t : Said) (key : List ℕ) (lens : List ℕ) → key ≡ key_of t → lens ≡ map length (texts_of t)

@@ -20,7 +20,7 @@ use Rattle.svid_c.specs.declared.told.SvidTold.{SvidTold}
 abbrev pub verdict_alone : SvidSetting → List (List ℕ) → List Bundle → List (List ℕ) → List ℕ → Result (Option Accepted) Refusal
 verdict_alone setting own bundles given token =
     let x = raised_to (state_of 0 []) setting.moment in
-    verdict (record { own = own; place = setting.place; bundles = bundles; says = says_yes given; longest = Some setting.longest }) x.moment x.uses token
+    verdict (record { own = own; validator_id = setting.validator_id; bundles = bundles; says = says_yes given; longest = Some setting.longest }) x.moment x.uses token
 
 -- The verdict is told: the token is refused or accepted, and the text of an accepted token's ID is put, and its use is told; or there is too little
 -- room for an ID; or memory was refused.

@@ -57,7 +57,7 @@ RefusesAs token why = (refusal : Refusal) → first_row (compact_rows token) ≡
 
 -- the use of an acceptance, as C sees it
 abbrev pub use_seen : Use → SvidUse
-use_seen used = record { exp = used.exp; at = used.at; key = used.key; place = used.place }
+use_seen used = record { exp = used.exp; at = used.at; key = used.key; validator_id = used.validator_id }
 
 -- all inputs say what they are to say: the setting of the check, which has these audiences, and the record that it begins with
 pub record IsReady (own : List (List ℕ)) (bundles questions messages : List ℕ) (given : SvidSetting) (setting : Setting) (r : State) : Type 0 where
@@ -65,7 +65,7 @@ pub record IsReady (own : List (List ℕ)) (bundles questions messages : List �
   pub are : AreBundles bundles kept
   pub good : IsTable questions
   pub comes : IsRecordOf messages given.moment r
-  pub is : setting ≡ record { own = own; place = given.place; bundles = kept; says = table_says (questions_in questions); longest = Some given.longest }
+  pub is : setting ≡ record { own = own; validator_id = given.validator_id; bundles = kept; says = table_says (questions_in questions); longest = Some given.longest }
 
 -- why a check is not made: of the bundles, the table and the messages, the first that is refused, while those before it are good; or
 -- memory was refused

@@ -154,7 +154,7 @@ StandsAt next.Damage at bytes = Unit {0}
 StandsAt (next.Other format) at bytes = Unit {0}
 StandsAt next.Unfit at bytes = Unit {0}
 
--- What stands at the place of a reader is told, and a reader goes on behind a payload.
+-- What stands at the offset of a reader is told, and a reader goes on behind a payload.
 pub data Reads (title : Title) (bytes : List ℕ) (status : ℕ) (old_frame new_frame : SvidFrame) (old new : SvidReader) : Type 0 where
   reads : (found : Next) (r : Reader) → IsNext found title (reader_in old) r bytes → status ≡ next_number found → new ≡ moved_by found r old → new_frame ≡ found_by found old.at old_frame → StandsAt found old.at bytes
       → Reads title bytes status old_frame new_frame old new

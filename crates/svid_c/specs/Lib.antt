@@ -1,7 +1,9 @@
+pub mod Allowed
 pub mod Alone
 pub mod Answered
 pub mod Bearer
 pub mod Checked
+pub mod Entries
 pub mod Handle
 pub mod Inputs
 pub mod Joined
@@ -15,6 +17,7 @@ pub mod Own
 pub mod Parts
 pub mod Questions
 pub mod Says
+pub mod Signs
 pub mod Size
 pub mod Spki
 pub mod Status

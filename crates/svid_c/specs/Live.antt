@@ -29,9 +29,9 @@ use Rattle.svid_c.specs.Written.{HasFirst, IsPut}
 use Rattle.svid_c.specs.declared.check.SvidUse.{SvidUse}
 use Rattle.svid_c.specs.declared.live.Live.{Live}
 use Rattle.svid_c.specs.declared.live.Nobody.{Nobody}
-use Rattle.svid_c.specs.declared.live_check.Gain.{Gain}
-use Rattle.svid_c.specs.declared.live_check.Gain.TheVariants as gain
-use Rattle.svid_c.specs.declared.open.SvidTerms.{SvidTerms}
+use Rattle.svid_c.specs.declared.validator_check.Gain.{Gain}
+use Rattle.svid_c.specs.declared.validator_check.Gain.TheVariants as gain
+use Rattle.svid_c.specs.declared.validator_open.SvidTerms.{SvidTerms}
 use Rattle.svid_c.specs.declared.own_fault.OwnFault.{OwnFault}
 use Rattle.svid_c.specs.declared.told.SvidTold.{SvidTold}
 
@@ -86,7 +86,7 @@ pub record IsBegun (own : List (List ℕ)) (bundles : List ℕ) (terms : SvidTer
   pub kept : List Bundle
   pub nobody : Nobody
   pub are : AreBundles bundles kept
-  pub held : live.validator ≡ record { own = own; place = terms.place; ahead = terms.ahead; bundles = kept; verifier = nobody; longest = Some terms.longest; state = state_of 0 [] }
+  pub held : live.validator ≡ record { own = own; validator_id = terms.validator_id; ahead = terms.ahead; bundles = kept; verifier = nobody; longest = Some terms.longest; state = state_of 0 [] }
   pub step : live.step ≡ terms.step
   pub member : live.member ≡ None
 
@@ -177,10 +177,10 @@ pub record Ticks (now status : ℕ) (told : SvidTold) (old new : Kept) : Type 0 
 -- what withdrawing does: the record is raised, and gains the withdrawal, which is told; or the tokens have expired (7), or memory was refused (2),
 -- which it never is for a withdrawal that the record has already
 pub data Withdraws (now : ℕ) (key : List ℕ) (exp : ℕ) (status : ℕ) (told : SvidTold) (old_use new_use : SvidUse) (old new : Kept) : Type 0 where
-  withdrawn : (u : Use) → u ≡ withdrawal old.place (raised_to old.state now).moment key exp → (raised_to old.state now).moment < exp
+  withdrawn : (u : Use) → u ≡ withdrawal old.validator_id (raised_to old.state now).moment key exp → (raised_to old.state now).moment < exp
       → status ≡ 0 → told ≡ told_length 0 → new_use ≡ use_seen u → new ≡ with_state old (gains (raised_to old.state now) (Some u)) → Withdraws now key exp status told old_use new_use old new
   expired : exp ≤ (raised_to old.state now).moment → status ≡ 7 → told ≡ told_length 0 → new_use ≡ old_use → new ≡ with_state old (raised_to old.state now) → Withdraws now key exp status told old_use new_use old new
-  no_memory : (raised_to old.state now).moment < exp → ¬ IsTrue (holds (raised_to old.state now).uses (withdrawal old.place (raised_to old.state now).moment key exp))
+  no_memory : (raised_to old.state now).moment < exp → ¬ IsTrue (holds (raised_to old.state now).uses (withdrawal old.validator_id (raised_to old.state now).moment key exp))
       → status ≡ 2 → told ≡ told_length 0 → new_use ≡ old_use → new ≡ with_state old (raised_to old.state now) → Withdraws now key exp status told old_use new_use old new
 
 -- what taking messages does: the record is raised, and joined with that of the messages, if that lies within the horizon (8); or the

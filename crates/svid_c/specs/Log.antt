@@ -22,9 +22,9 @@ use Rattle.svid_c.specs.Checked.{use_seen}
 use Rattle.svid_c.specs.Status.{reason_number, told_length, told_rows}
 use Rattle.svid_c.specs.Written.{IsPut}
 use Rattle.svid_c.specs.declared.live.Live.{Live}
-use Rattle.svid_c.specs.declared.log_mark.SvidMark.{SvidMark}
-use Rattle.svid_c.specs.declared.log_read.SvidFate.{SvidFate}
-use Rattle.svid_c.specs.declared.log_read.SvidReading.{SvidReading}
+use Rattle.svid_c.specs.declared.validator_mark.SvidMark.{SvidMark}
+use Rattle.svid_c.specs.declared.validator_read.SvidFate.{SvidFate}
+use Rattle.svid_c.specs.declared.validator_read.SvidReading.{SvidReading}
 use Rattle.svid_c.specs.declared.told.SvidTold.{SvidTold}
 
 -- the same validator, where it is in a log
@@ -46,13 +46,13 @@ is_accepting m moment = not (nat_lt m.passed m.ready) && not (nat_lt moment m.de
 -- what is told of a value that is no row of messages: where in its message
 abbrev pub told_value : Option WireFault → SvidTold
 told_value None = told_length 0
-told_value (Some fault) = record { len = 0; input = 1; message = 0; place = fault.place; more = 0 }
+told_value (Some fault) = record { len = 0; input = 1; message = 0; offset = fault.offset; more = 0 }
 
 -- What beginning to read a log does: the validator has a member that goes on from this mark; or memory was refused, or the uses beside the
 -- record are no messages, and nothing happens.
 pub data BeginsToRead (mark : SvidMark) (ready lasts : ℕ) (beside : List ℕ) (status : ℕ) (told : SvidTold) (old new : Live) : Type 0 where
   begins : (uses : List Use) → HasUses beside uses None → status ≡ 0 → told ≡ told_length 0
-      → new ≡ with_member old (Some (restored old.validator.place lasts (mark_in mark) ready uses)) → BeginsToRead mark ready lasts beside status told old new
+      → new ≡ with_member old (Some (restored old.validator.validator_id lasts (mark_in mark) ready uses)) → BeginsToRead mark ready lasts beside status told old new
   beside_refused : (uses : List Use) (fault : WireFault) → HasUses beside uses (Some fault) → status ≡ reason_number fault.reason → told ≡ told_value (Some fault)
       → new ≡ old → BeginsToRead mark ready lasts beside status told old new
   no_memory_to_begin : status ≡ 2 → told ≡ told_length 0 → new ≡ old → BeginsToRead mark ready lasts beside status told old new
@@ -127,7 +127,7 @@ pub data Marks (status : ℕ) (told : SvidTold) (old_mark new_mark : SvidMark) (
 
 -- a member that is deaf no more
 abbrev pub hearing : MemberState → MemberState
-hearing m = record { beside = m.beside; place = m.place; lasts = m.lasts; passed = m.passed; begun = m.begun; ready = m.ready; deaf = 0 }
+hearing m = record { beside = m.beside; validator_id = m.validator_id; lasts = m.lasts; passed = m.passed; begun = m.begun; ready = m.ready; deaf = 0 }
 
 -- what going on does; the validator reads no log, and nothing happens, or it is deaf no more
 pub data GoesOn (status : ℕ) (told : SvidTold) (old new : Live) : Type 0 where

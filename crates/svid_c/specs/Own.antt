@@ -52,7 +52,7 @@ pub record IsPiece (text lens piece : List ℕ) : Type 0 where
   pub later : List ℕ
   pub parts : text ≡ before ++ piece ++ behind
   pub lengths : lens ≡ sooner ++ length piece ∷ later
-  pub place : length before ≡ sum sooner
+  pub offset : length before ≡ sum sooner
 
 -- the lengths do not add up to that of the text; or they do, and a piece is not UTF-8; or memory was refused
 abbrev pub IsCutFault : List ℕ → List ℕ → OwnFault → Type 0

@@ -11,7 +11,7 @@ use Rattle.svid_check.specs.Verdict.{key_of}
 use Rattle.svid_c.specs.Checked.{RefusesAs, refusal_number}
 use Rattle.svid_c.specs.Status.{told_length}
 use Rattle.svid_c.specs.Written.{HasFirst}
-use Rattle.svid_c.specs.declared.says.SvidSaid.{SvidSaid}
+use Rattle.svid_c.specs.declared.token_says.SvidSaid.{SvidSaid}
 use Rattle.svid_c.specs.declared.told.SvidTold.{SvidTold}
 
 -- the texts of a token: its algorithm, its subject, the trust domain of that, the name of its key, empty where it has none, and its audiences

@@ -3,7 +3,7 @@ use Rattle.std.specs.Prelude.{◌≡◌, ℕ}
 use Rattle.svid_replay.specs.Uses.{count}
 use Rattle.svid_c.specs.Live.{Kept}
 use Rattle.svid_c.specs.Status.{told_length}
-use Rattle.svid_c.specs.declared.size.SvidSize.{SvidSize}
+use Rattle.svid_c.specs.declared.validator_size.SvidSize.{SvidSize}
 use Rattle.svid_c.specs.declared.told.SvidTold.{SvidTold}
 
 -- the moment of the record and the number of its uses are told, and nothing happens

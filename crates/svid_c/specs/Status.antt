@@ -16,19 +16,19 @@ id_number id.OutOfMemory = 2
 id_number id.TooLong = 21
 id_number id.Scheme = 22
 id_number id.DomainEmpty = 23
-id_number (id.DomainByte place) = 24
+id_number (id.DomainByte offset) = 24
 id_number id.DomainLong = 25
-id_number (id.SegmentEmpty place) = 26
-id_number (id.SegmentDots place) = 27
-id_number (id.PathByte place) = 28
+id_number (id.SegmentEmpty offset) = 26
+id_number (id.SegmentDots offset) = 27
+id_number (id.PathByte offset) = 28
 
--- the place of an ID's fault, 0 where it has none
-abbrev pub id_place : IdFault → ℕ
-id_place (id.DomainByte place) = place
-id_place (id.SegmentEmpty place) = place
-id_place (id.SegmentDots place) = place
-id_place (id.PathByte place) = place
-id_place _ = 0
+-- the offset of an ID's fault, 0 where it has none
+abbrev pub id_offset : IdFault → ℕ
+id_offset (id.DomainByte offset) = offset
+id_offset (id.SegmentEmpty offset) = offset
+id_offset (id.SegmentDots offset) = offset
+id_offset (id.PathByte offset) = offset
+id_offset _ = 0
 
 -- why bytes are no messages
 abbrev pub reason_number : Reason → ℕ
@@ -47,12 +47,12 @@ reason_number wire.Truncated = 18
 abbrev pub bundles_number : BundleFault → ℕ
 bundles_number bundles.OutOfMemory = 2
 bundles_number bundles.NotObject = 31
-bundles_number (bundles.Domain place) = 32
-bundles_number (bundles.Keys place) = 33
+bundles_number (bundles.Domain index) = 32
+bundles_number (bundles.Keys index) = 33
 
 -- why a call gave up; no input is read from a stream, and no output goes to one, but memory may be refused for it
 abbrev pub fault_number : ToolFault → ℕ
-fault_number (tool.Wire input message place reason) = reason_number reason
+fault_number (tool.Wire input message offset reason) = reason_number reason
 fault_number tool.NotSummary = 4
 fault_number (tool.Bundles fault) = bundles_number fault
 fault_number (tool.Table line) = 34
@@ -63,7 +63,7 @@ fault_number tool.OutOfMemory = 2
 
 -- what is told of a text that a call wrote, or has no room for: its length
 abbrev pub told_length : ℕ → SvidTold
-told_length len = record { len = len; input = 0; message = 0; place = 0; more = 0 }
+told_length len = record { len = len; input = 0; message = 0; offset = 0; more = 0 }
 
 -- a truth as C has it
 abbrev pub flag : Bool → ℕ
@@ -71,18 +71,18 @@ flag b = if b then 1 else 0
 
 -- what is told of rows that were put, or have no room: the length of their text, and whether there are more
 abbrev pub told_rows : ℕ → Bool → SvidTold
-told_rows len more = record { len = len; input = 0; message = 0; place = 0; more = flag more }
+told_rows len more = record { len = len; input = 0; message = 0; offset = 0; more = flag more }
 
--- the place of a fault of bundles: that of the name among all names in rising order of their bytes, from 0
-abbrev pub bundles_place : BundleFault → ℕ
-bundles_place (bundles.Domain place) = place
-bundles_place (bundles.Keys place) = place
-bundles_place _ = 0
+-- the offset of a fault of bundles: that of the name among all names in rising order of their bytes, from 0
+abbrev pub bundles_index : BundleFault → ℕ
+bundles_index (bundles.Domain index) = index
+bundles_index (bundles.Keys index) = index
+bundles_index _ = 0
 
--- what is told of a fault: of messages, the number of the input and of the message in it, and the place in that; else a place
+-- what is told of a fault: of messages, the number of the input and of the message in it, and the offset in that; else a offset
 abbrev pub told_fault : ToolFault → SvidTold
-told_fault (tool.Wire input message place reason) = record { len = 0; input = input; message = message; place = place; more = 0 }
-told_fault (tool.Bundles fault) = record { len = 0; input = 0; message = 0; place = bundles_place fault; more = 0 }
-told_fault (tool.Table line) = record { len = 0; input = 0; message = 0; place = line; more = 0 }
-told_fault (tool.TooMuch input) = record { len = 0; input = input; message = 0; place = 0; more = 0 }
-told_fault _ = record { len = 0; input = 0; message = 0; place = 0; more = 0 }
+told_fault (tool.Wire input message offset reason) = record { len = 0; input = input; message = message; offset = offset; more = 0 }
+told_fault (tool.Bundles fault) = record { len = 0; input = 0; message = 0; offset = bundles_index fault; more = 0 }
+told_fault (tool.Table line) = record { len = 0; input = 0; message = 0; offset = line; more = 0 }
+told_fault (tool.TooMuch input) = record { len = 0; input = input; message = 0; offset = 0; more = 0 }
+told_fault _ = record { len = 0; input = 0; message = 0; offset = 0; more = 0 }

@@ -4,8 +4,8 @@ ghost use Rattle.svid_c.specs.Joined.{IsAnswer, IsAnswerRefused, IsTextOf, answe
 ghost use Rattle.svid_c.specs.Written.{Answers};
 
 use crate::inputs::{record_of, summary_in};
-use crate::reply::texts_of;
 use crate::told::SvidTold;
+use crate::validator_answer::texts_of;
 use crate::writing::{put, refuse};
 use std::alloc::Global;
 use svid_replay::Summary;

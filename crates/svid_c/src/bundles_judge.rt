@@ -10,10 +10,10 @@ use crate::bundles::SvidBundles;
 use crate::check::{SvidSetting, SvidUse, accept_whole};
 use crate::live::Nobody;
 use crate::names::names_by;
-use crate::offer::refuse_token;
 use crate::told::{SvidTold, told_length};
 use crate::trust::Trust;
 use crate::validator::only;
+use crate::validator_ask::refuse_token;
 use std::alloc::Global;
 use svid_check::{Accepted, Validator};
 use svid_keys::Bundles;
@@ -42,11 +42,11 @@ fn judge_new(
     ensures back { result.bundles ≡ bundles }
 {
     let record = Record::new(RunUses::new(alloc));
-    let place = setting.place;
+    let validator_id = setting.validator_id;
     let mut validator = Validator::new(
         alloc,
         own,
-        place,
+        validator_id,
         0,
         bundles,
         Nobody,

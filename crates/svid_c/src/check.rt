@@ -29,7 +29,7 @@ pub struct SvidSetting {
     /// 2^64-1 it may at any moment.
     pub longest: u64,
     /// What tells the validator from every other one that shares its record.
-    pub place: [u8; 16],
+    pub validator_id: [u8; 16],
 }
 
 /// The use that an acceptance adds to the record.
@@ -42,8 +42,8 @@ pub struct SvidUse {
     pub at: u64,
     /// The key by which the uses of the token are told.
     pub key: [u8; 32],
-    /// The place of the validator.
-    pub place: [u8; 16],
+    /// The validator ID of the validator.
+    pub validator_id: [u8; 16],
 }
 
 pub(crate) fn use_seen(used: Use) -> SvidUse
@@ -52,7 +52,7 @@ pub(crate) fn use_seen(used: Use) -> SvidUse
     let Use {
         exp,
         key,
-        place,
+        validator_id,
         at,
         ..
     } = used;
@@ -60,7 +60,7 @@ pub(crate) fn use_seen(used: Use) -> SvidUse
         exp,
         at,
         key,
-        place,
+        validator_id,
     }
 }
 
@@ -83,7 +83,7 @@ pub(crate) fn accept(
     status
 }
 
-// The same in a room that has place for any ID.
+// The same in a room that has validator ID for any ID.
 #[tactic(auto, using(crate::proofs::CheckedLemmas::has_room))]
 pub(crate) fn accept_whole(
     accepted: Accepted,
@@ -124,11 +124,11 @@ fn validator_of(
         Ok(record) => record,
         Err(fault) => return Err(fault),
     };
-    let place = setting.place;
+    let validator_id = setting.validator_id;
     Ok(Validator::new(
         alloc,
         own,
-        place,
+        validator_id,
         0,
         bundles,
         table,

@@ -30,7 +30,7 @@ pub struct SvidFolder {
 /// What tells a state folder from each other one.
 #[repr(C)]
 #[derive(Drop)]
-pub struct SvidPlace {
+pub struct SvidFolderId {
     /// Its bytes.
     pub bytes: [u8; 16],
 }

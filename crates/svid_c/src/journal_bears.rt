@@ -1,8 +1,8 @@
 ghost use Rattle.std.specs.Prelude.{◌≡◌};
 ghost use Rattle.svid_c.specs.Payloads.{Bears, mark_of};
 
-use crate::log_mark::SvidMark;
-use svid_journal::{LOG_PLACE_LEN, LogPlace};
+use crate::validator_mark::SvidMark;
+use svid_journal::{LOG_POSITION_LEN, LogPosition};
 
 /// What a payload bears.
 #[repr(C)]
@@ -16,27 +16,27 @@ pub struct SvidBears {
     pub messages: usize,
 }
 
-fn mark_of(place: &LogPlace) -> SvidMark
-    ensures { result ≡ mark_of place.now }
+fn mark_of(position: &LogPosition) -> SvidMark
+    ensures { result ≡ mark_of position.now }
 {
     SvidMark {
-        passed: place.passed,
-        begun: place.begun as usize,
-        deaf: place.deaf,
+        passed: position.passed,
+        begun: position.begun as usize,
+        deaf: position.deaf,
     }
 }
 
-/// Tells what a payload bears: the place of a validator in its log, where it begins with one, and where its messages begin. It does not look
+/// Tells what a payload bears: the position of a validator in its log, where it begins with one, and where its messages begin. It does not look
 /// at the messages.
 #[unsafe(no_mangle)]
 pub extern "C" fn svid_journal_bears(payload: &[u8], bears: &mut SvidBears)
     ensures { Bears payload.now bears.new }
 {
-    *bears = match LogPlace::split(payload) {
-        Some((place, _)) => SvidBears {
-            mark: mark_of(&place),
+    *bears = match LogPosition::split(payload) {
+        Some((position, _)) => SvidBears {
+            mark: mark_of(&position),
             marked: 1,
-            messages: LOG_PLACE_LEN,
+            messages: LOG_POSITION_LEN,
         },
         None => SvidBears {
             mark: SvidMark {

@@ -1,7 +1,7 @@
 ghost use Rattle.std.specs.Prelude.{◌≡◌};
 ghost use Rattle.svid_c.specs.Journal.{Reads, file_of, reader_in, reader_out, title_of};
 
-use crate::journal::SvidPlace;
+use crate::journal::SvidFolderId;
 use crate::told::flag;
 use svid_journal::{FORMAT, File, Next, Reader, Title};
 
@@ -11,7 +11,7 @@ use svid_journal::{FORMAT, File, Next, Reader, Title};
 pub struct SvidReader {
     /// How many frames were read.
     pub count: u64,
-    /// How many bytes they take: the place of the next one.
+    /// How many bytes they take: the offset of the next one.
     pub at: u64,
     /// 1 where the last of them is a mark, and else 0.
     pub marked: u64,
@@ -21,7 +21,7 @@ pub struct SvidReader {
 #[repr(C)]
 #[derive(Drop)]
 pub struct SvidFrame {
-    /// The place of the payload's first byte.
+    /// The offset of the payload's first byte.
     pub payload: usize,
     /// How many bytes it has.
     pub len: usize,
@@ -39,12 +39,12 @@ fn file_of(number: u64) -> File
     }
 }
 
-fn title_of(number: u64, place: &SvidPlace) -> Title
-    ensures { result ≡ title_of number place.now.bytes }
+fn title_of(number: u64, folder_id: &SvidFolderId) -> Title
+    ensures { result ≡ title_of number folder_id.now.bytes }
 {
     Title {
         file: file_of(number),
-        folder: place.bytes,
+        folder: folder_id.bytes,
     }
 }
 
@@ -68,25 +68,25 @@ fn reader_out(reader: &Reader) -> SvidReader
     }
 }
 
-/// Reads the next frame of a file of the state folder `place`: of the journal of this number, or of the snapshot where `journal` is 0.
+/// Reads the next frame of a file of the state folder `folder_id`: of the journal of this number, or of the snapshot where `journal` is 0.
 /// `bytes` are those of the whole file.
 ///
 /// 0, and `frame` tells where in `bytes` its payload stands, and the reader goes on behind it. Else the reader stays, and the number tells
-/// what stands at its place, `reader.at`: 52 the end; 53 a write that was cut off; 54 what was synced and has changed; 55 a frame of another
+/// what stands at its offset, `reader.at`: 52 the end; 53 a write that was cut off; 54 what was synced and has changed; 55 a frame of another
 /// format, whose number `frame.format` is then, and the rest of `frame` 0; 41 where the numbers of the reader do not fit the bytes. But for
 /// 0 and 55 `frame` stays as it was too.
 #[unsafe(no_mangle)]
 pub extern "C" fn svid_journal_read(
-    place: &SvidPlace,
+    folder_id: &SvidFolderId,
     journal: u64,
     bytes: &[u8],
     reader: &mut SvidReader,
     frame: &mut SvidFrame,
 ) -> u32
-    ensures { Reads (title_of journal place.now.bytes) bytes.now result frame.old frame.new reader.old reader.new }
+    ensures { Reads (title_of journal folder_id.now.bytes) bytes.now result frame.old frame.new reader.old reader.new }
 {
     let mut read = reader_in(reader);
-    match read.next(&title_of(journal, place), bytes) {
+    match read.next(&title_of(journal, folder_id), bytes) {
         Next::Payload(payload) => {
             *frame = SvidFrame {
                 payload: reader.at as usize + 32,

@@ -1,5 +1,5 @@
 ghost use Rattle.std.specs.Prelude.{◌≡◌};
-ghost use Rattle.svid_c.specs.Status.{bundles_number, bundles_place, fault_number, flag, reason_number, told_fault, told_length, told_rows};
+ghost use Rattle.svid_c.specs.Status.{bundles_number, bundles_index, fault_number, flag, reason_number, told_fault, told_length, told_rows};
 
 use svid_keys::BundleFault;
 use svid_share::ToolFault;
@@ -16,10 +16,10 @@ pub struct SvidTold {
     pub input: usize,
     /// The number of its message that is refused, counted from 1.
     pub message: usize,
-    /// The place in that message, in bytes from its first; of bundles, the place of the refused name among all
+    /// The offset in that message, in bytes from its first; of bundles, the offset of the refused name among all
     /// names in rising order of their bytes, from 0; of a table, the number of the line, counted from 1.
-    pub place: usize,
-    /// Of [`svid_validator_ask`](crate::offer::svid_validator_ask) and [`svid_bundles_ask`](crate::bundles_ask::svid_bundles_ask), 1 where
+    pub offset: usize,
+    /// Of [`svid_validator_ask`](crate::validator_ask::svid_validator_ask) and [`svid_bundles_ask`](crate::bundles_ask::svid_bundles_ask), 1 where
     /// more keys may have signed the token than it lists, and else 0.
     pub more: usize,
 }
@@ -38,7 +38,7 @@ pub(crate) fn told_length(len: usize) -> SvidTold
         len,
         input: 0,
         message: 0,
-        place: 0,
+        offset: 0,
         more: 0,
     }
 }
@@ -50,7 +50,7 @@ pub(crate) fn told_rows(len: usize, more: bool) -> SvidTold
         len,
         input: 0,
         message: 0,
-        place: 0,
+        offset: 0,
         more: flag(more),
     }
 }
@@ -58,14 +58,14 @@ pub(crate) fn told_rows(len: usize, more: bool) -> SvidTold
 pub(crate) fn told_fault(fault: ToolFault) -> SvidTold
     ensures { result ≡ told_fault fault }
 {
-    let (input, message, place) = match fault {
+    let (input, message, offset) = match fault {
         ToolFault::Wire {
             input,
             message,
-            place,
+            offset,
             ..
-        } => (input, message, place),
-        ToolFault::Bundles(fault) => (0, 0, bundles_place(fault)),
+        } => (input, message, offset),
+        ToolFault::Bundles(fault) => (0, 0, bundles_index(fault)),
         ToolFault::Table(line) => (0, 0, line),
         ToolFault::TooMuch { input } => (input, 0, 0),
         ToolFault::NotSummary
@@ -77,16 +77,16 @@ pub(crate) fn told_fault(fault: ToolFault) -> SvidTold
         len: 0,
         input,
         message,
-        place,
+        offset,
         more: 0,
     }
 }
 
-fn bundles_place(fault: BundleFault) -> usize
-    ensures { result ≡ bundles_place fault }
+fn bundles_index(fault: BundleFault) -> usize
+    ensures { result ≡ bundles_index fault }
 {
     match fault {
-        BundleFault::Domain(place) | BundleFault::Keys(place) => place,
+        BundleFault::Domain(index) | BundleFault::Keys(index) => index,
         BundleFault::NotObject | BundleFault::OutOfMemory => 0,
     }
 }

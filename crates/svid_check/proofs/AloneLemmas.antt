@@ -72,11 +72,11 @@ put_back_spent u n w k None h le e = h
 put_back_spent u n w k (Some a) h le e = with_spent u n w a h (h.saves k a le e)
 
 -- what is in a list with one thing more was in it, or is that thing
-place_cases : {A : Type 0} (xs : List A) (y : A) (k : ℕ) (x : A) → slice_get (xs ++ y ∷ []) k ≡ Some x → (slice_get xs k ≡ Some x) ⊎ (y ≡ x)
-place_cases [] y zero x e = inr (same_some y x e)
-place_cases [] y (suc k) x e = absurd (none-some x e)
-place_cases (z ∷ xs) y zero x e = inl e
-place_cases (z ∷ xs) y (suc k) x e = place_cases xs y k x e
+index_cases : {A : Type 0} (xs : List A) (y : A) (k : ℕ) (x : A) → slice_get (xs ++ y ∷ []) k ≡ Some x → (slice_get xs k ≡ Some x) ⊎ (y ≡ x)
+index_cases [] y zero x e = inr (same_some y x e)
+index_cases [] y (suc k) x e = absurd (none-some x e)
+index_cases (z ∷ xs) y zero x e = inl e
+index_cases (z ∷ xs) y (suc k) x e = index_cases xs y k x e
 
 past_not : (m e f : ℕ) → m < f → e ≡ f → e ≤ m → ⊥
 past_not m e f lt same le = omega arith
@@ -111,7 +111,7 @@ module _ (t : Terms) where
       calls_spent u n more (called t w Save) from
       (record {
         held = h.held;
-        saves = λ k a le e. elim (place_cases w.saves w.held k a e) [ inl old ↦ h.saves k a le old | inr new ↦ subst (Spent u) new h.held ];
+        saves = λ k a le e. elim (index_cases w.saves w.held k a e) [ inl old ↦ h.saves k a le old | inr new ↦ subst (Spent u) new h.held ];
       })
   calls_spent u n (Renew renewal ∷ more) w from h = calls_spent u n more (called t w (Renew renewal)) from (record { held = h.held; saves = h.saves })
   calls_spent u n (Restart k ∷ more) w from h =

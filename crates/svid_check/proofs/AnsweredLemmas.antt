@@ -43,8 +43,8 @@ module _ (w : World) (v j k : ℕ) (answer summary : Posting) (parts : List Batc
   -- what a part carries is told
   part_told : (p : ℕ) (b : BatchData) (u : Use) → slice_get (cut answer.was.held.moment (rising (stale gave.0 answer.was.held.uses))) p ≡ Some b → IsTrue (holds (carried answer.was.told.uses b) u) → IsTrue (holds (w.members v).told.uses u)
   part_told p b u e h =
-      let place = ap (λ (c : Content). slice_get (parts_in c) p) is_answer ∙ (ap (λ (ps : List BatchData). slice_get ps p) gave.4 ∙ e) in
-      arrived_within w.pool j p (w.members v).told.uses answer b ((sound.members v).entries (Took j p) (taken p b place)) at_j place u h
+      let index = ap (λ (c : Content). slice_get (parts_in c) p) is_answer ∙ (ap (λ (ps : List BatchData). slice_get ps p) gave.4 ∙ e) in
+      arrived_within w.pool j p (w.members v).told.uses answer b ((sound.members v).entries (Took j p) (taken p b index)) at_j index u h
 
   -- the summary's maker had been told no more
   summary_told : IsWithin summary.was.told.uses (w.members v).told.uses
@@ -80,5 +80,5 @@ module _ (w : World) (v j k : ℕ) (answer summary : Posting) (parts : List Batc
       ]
 
 pub answers_tell : AnswersTellAll
-answers_tell group events v j k answer summary parts s places at at_k is_summary made at_j is_answer taken =
-    answer_told (happen group start events) v j k answer summary parts s (is_sound group events) (told_are_uses group events places at) at_k is_summary made at_j is_answer taken
+answers_tell group events v j k answer summary parts s ids at at_k is_summary made at_j is_answer taken =
+    answer_told (happen group start events) v j k answer summary parts s (is_sound group events) (told_are_uses group events ids at) at_k is_summary made at_j is_answer taken

@@ -44,16 +44,16 @@ each_within size (suc n) m us (suc p) b e u h = dropped size us u (each_within s
 
 -- a batch of these lists the use
 record InOne (batches : List BatchData) (u : Use) : Type 0 where
-  place : ℕ
+  index : ℕ
   part : BatchData
-  stands : slice_get batches place ≡ Some part
+  stands : slice_get batches index ≡ Some part
   lists : Listed part.uses u
 
 here : (b : BatchData) (bs : List BatchData) (u : Use) → Listed b.uses u → InOne (b ∷ bs) u
-here b bs u h = record { place = zero; part = b; stands = refl; lists = h }
+here b bs u h = record { index = zero; part = b; stands = refl; lists = h }
 
 later : (b : BatchData) (bs : List BatchData) (u : Use) → InOne bs u → InOne (b ∷ bs) u
-later b bs u i = record { place = suc i.place; part = i.part; stands = i.stands; lists = i.lists }
+later b bs u i = record { index = suc i.index; part = i.part; stands = i.stands; lists = i.lists }
 
 in_one : (size n m : ℕ) (us : List Use) (u : Use) → Listed us u → InOne (full_batches size n m us) u
 unfolding full_batches
@@ -88,7 +88,7 @@ part_within m us batches p b are e u h =
 pub in_part : (m : ℕ) (us : List Use) (batches : List BatchData) (u : Use) → AreCut m us batches → IsTrue (holds (uses_in us) u) → (p : ℕ) × (b : BatchData) × (slice_get batches p ≡ Some b) × IsTrue (holds (uses_in b.uses) u)
 in_part m us batches u are h =
     let i = in_one are.size are.full m us u (sym (holds-uses_in us u) ∙ h) in
-    (i.place, i.part, ap (λ (bs : List BatchData). slice_get bs i.place) are.is ∙ i.stands, holds-uses_in i.part.uses u ∙ i.lists)
+    (i.index, i.part, ap (λ (bs : List BatchData). slice_get bs i.index) are.is ∙ i.stands, holds-uses_in i.part.uses u ∙ i.lists)
 
 first_one : (size n m : ℕ) (us : List Use) → (b : BatchData) × (slice_get (full_batches size n m us) 0 ≡ Some b) × (b.moment ≡ m)
 unfolding full_batches

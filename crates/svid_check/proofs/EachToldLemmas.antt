@@ -32,7 +32,7 @@ use Rattle.svid_check.specs.World.{Answer, Answered, Check, Content, Entry, Even
 use Rattle.svid_check.proofs.AnswersLemmas.{accepted_is}
 use Rattle.svid_check.proofs.LawfulLemmas.{is_used}
 use Rattle.svid_check.proofs.MembersLemmas.{carried_within}
-use Rattle.svid_check.proofs.PlacesLemmas.{place_cases}
+use Rattle.svid_check.proofs.IndexesLemmas.{index_cases}
 
 -- each validator, as it is, as it was at each posting, and as it was at each save
 pub record Everywhere (I : Member → Type 0) (w : World) : Type 0 where
@@ -69,7 +69,7 @@ module _ (N : ℕ → Type 0) (A : Use → Type 0) (I : Member → Type 0) (kept
   post_everywhere : (w : World) (v : ℕ) (x : Member) (content : Content) → Everywhere I w → I x → Everywhere I (post w v x content)
   post_everywhere w v x content h is = record {
     members = h.members;
-    pool = λ k q at. elim (place_cases w.pool (record { maker = v; was = x; content = content }) k q at) [ inl before ↦ h.pool k q before | inr same ↦ subst (λ (p : Posting). I p.was) same is ];
+    pool = λ k q at. elim (index_cases w.pool (record { maker = v; was = x; content = content }) k q at) [ inl before ↦ h.pool k q before | inr same ↦ subst (λ (p : Posting). I p.was) same is ];
     saves = h.saves;
   }
 
@@ -77,7 +77,7 @@ module _ (N : ℕ → Type 0) (A : Use → Type 0) (I : Member → Type 0) (kept
   save_everywhere w v x h is = record {
     members = h.members;
     pool = h.pool;
-    saves = λ k s at. elim (place_cases w.saves (record { owner = v; was = x }) k s at) [ inl before ↦ h.saves k s before | inr same ↦ subst (λ (r : Saved). I r.was) same is ];
+    saves = λ k s at. elim (index_cases w.saves (record { owner = v; was = x }) k s at) [ inl before ↦ h.saves k s before | inr same ↦ subst (λ (r : Saved). I r.was) same is ];
   }
 
   took_is : (now ahead : ℕ) (x maker : Member) (entry : Entry) (b : BatchData) (refused : Option ℕ) → I x → I maker → I (took (horizon now ahead) x entry maker.told.uses b refused)
@@ -222,16 +222,16 @@ accepted_used s x token refused (Ok accepted) u is one =
     subst (λ (v : Use). v.withdrawn ≡ false) same (is_used s x.moment x.uses token accepted.used (accepted_is s x token refused accepted is))
 accepted_used s x token refused (Err refusal) u is one = absurd (none-some u one)
 
-withdrawn_gone : (place : List ℕ) (x : State) (key : List ℕ) (exp : ℕ) (in_time refused : Bool) (u : Use)
-    → withdrawn_in (if in_time then (if refused then Err withdraw.OutOfMemory else Ok (withdrawal place x.moment key exp)) else Err withdraw.Expired) ≡ Some u → u ≡ withdrawal place x.moment key exp
-withdrawn_gone place x key exp true true u one = absurd (none-some u one)
-withdrawn_gone place x key exp true false u one = sym (same_Some (withdrawal place x.moment key exp) u one)
-withdrawn_gone place x key exp false refused u one = absurd (none-some u one)
+withdrawn_gone : (validator_id : List ℕ) (x : State) (key : List ℕ) (exp : ℕ) (in_time refused : Bool) (u : Use)
+    → withdrawn_in (if in_time then (if refused then Err withdraw.OutOfMemory else Ok (withdrawal validator_id x.moment key exp)) else Err withdraw.Expired) ≡ Some u → u ≡ withdrawal validator_id x.moment key exp
+withdrawn_gone validator_id x key exp true true u one = absurd (none-some u one)
+withdrawn_gone validator_id x key exp true false u one = sym (same_Some (withdrawal validator_id x.moment key exp) u one)
+withdrawn_gone validator_id x key exp false refused u one = absurd (none-some u one)
 
 -- what a withdrawal adds
-pub withdrawal_is : (place : List ℕ) (x : State) (key : List ℕ) (exp : ℕ) (refused : Bool) (u : Use) → Contains (one_or_none (withdrawn_in (withdraw_answer place x key exp refused))) u → u ≡ withdrawal place x.moment key exp
-withdrawal_is place x key exp refused u has =
-    withdrawn_gone place x key exp (nat_lt x.moment exp) refused u (at_most_one (withdrawn_in (withdraw_answer place x key exp refused)) u has)
+pub withdrawal_is : (validator_id : List ℕ) (x : State) (key : List ℕ) (exp : ℕ) (refused : Bool) (u : Use) → Contains (one_or_none (withdrawn_in (withdraw_answer validator_id x key exp refused))) u → u ≡ withdrawal validator_id x.moment key exp
+withdrawal_is validator_id x key exp refused u has =
+    withdrawn_gone validator_id x key exp (nat_lt x.moment exp) refused u (at_most_one (withdrawn_in (withdraw_answer validator_id x key exp refused)) u has)
 
 module _ (group : ℕ → Terms) where
   used_by : (w : World) (e : Event) (u : Use) → Contains (accepted_by group w e) u → u.withdrawn ≡ false
@@ -241,7 +241,7 @@ module _ (group : ℕ → Terms) where
   used_by w _ u has = has_none u has
 
   gone_by : (w : World) (e : Event) (u : Use) → Contains (withdrawn_by group w e) u → u.withdrawn ≡ true
-  gone_by w (Withdraw v now key exp refused) u has = ap (λ (v : Use). v.withdrawn) (withdrawal_is (group v).setting.place (raised_to (w.members v).held now) key exp refused u has)
+  gone_by w (Withdraw v now key exp refused) u has = ap (λ (v : Use). v.withdrawn) (withdrawal_is (group v).setting.validator_id (raised_to (w.members v).held now) key exp refused u has)
   gone_by w _ u has = has_none u has
 
   all_used : (w : World) (events : List Event) (u : Use) → Contains (accepted group w events) u → u.withdrawn ≡ false

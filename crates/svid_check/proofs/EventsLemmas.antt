@@ -28,7 +28,7 @@ use Rattle.svid_check.specs.Alone.{AnswersAreCalls, ChecksAreCalls, RecordTakesA
 use Rattle.svid_check.specs.Setting.{Renewal, Setting, renewed}
 use Rattle.svid_check.specs.Verdict.{again_rows, verdict}
 use Rattle.svid_check.specs.World.{Answer, Answered, Content, Entry, Made, Member, Pieced, Posting, Sent, Summed, Take, Took, World, answer_at, answer_by, answer_content, answer_posting, answer_summary, check_answer, checked, far, form_or_memory, front, happens, joined, logged, post, put, take_part, take_posting, ticked, took, withdraw_answer, withdrawal_at, withdrew, happen, setting_at, start, with_renewal}
-use Rattle.svid_check.proofs.PlacesLemmas.{put_own}
+use Rattle.svid_check.proofs.IndexesLemmas.{put_own}
 use Rattle.svid_check.proofs.RestartsLemmas.{restart_absorbs}
 use Rattle.svid_check.proofs.RowsLemmas.{told}
 use Rattle.svid_check.proofs.SoundLemmas.{is_sound}
@@ -58,19 +58,19 @@ checks_are_events group w v now token answer due form =
 
 -- Withdrawals.
 
-withdraw_gives : (place : List ℕ) (x : State) (key : List ℕ) (exp : ℕ) (answer : Result Use WithdrawFault) → IsWithdrawal place x.moment key exp answer → (refused : Bool) × (withdraw_answer place x key exp refused ≡ answer)
-withdraw_gives place x key exp (Ok used) h =
-    let due = withdrawal place x.moment key exp in
+withdraw_gives : (validator_id : List ℕ) (x : State) (key : List ℕ) (exp : ℕ) (answer : Result Use WithdrawFault) → IsWithdrawal validator_id x.moment key exp answer → (refused : Bool) × (withdraw_answer validator_id x key exp refused ≡ answer)
+withdraw_gives validator_id x key exp (Ok used) h =
+    let due = withdrawal validator_id x.moment key exp in
     (false, ap (λ (test : Bool). if test then Ok due else Err withdraw.Expired) (lt-ltb x.moment exp h.0) ∙ ap Ok (sym h.1))
-withdraw_gives place x key exp (Err withdraw.Expired) h =
-    let due = withdrawal place x.moment key exp in
+withdraw_gives validator_id x key exp (Err withdraw.Expired) h =
+    let due = withdrawal validator_id x.moment key exp in
     (false, ap (λ (test : Bool). if test then Ok due else Err withdraw.Expired) (le-ltb x.moment exp h))
-withdraw_gives place x key exp (Err withdraw.OutOfMemory) h = (true, ap (λ (test : Bool). if test then Err withdraw.OutOfMemory else Err withdraw.Expired) (lt-ltb x.moment exp h))
+withdraw_gives validator_id x key exp (Err withdraw.OutOfMemory) h = (true, ap (λ (test : Bool). if test then Err withdraw.OutOfMemory else Err withdraw.Expired) (lt-ltb x.moment exp h))
 
 pub withdrawals_are_events : WithdrawalsAreEvents
 withdrawals_are_events group w v now key exp answer h =
     let x = raised_to (w.members v).held now in
-    let g = withdraw_gives (group v).setting.place x key exp answer h in
+    let g = withdraw_gives (group v).setting.validator_id x key exp answer h in
     (g.0, g.1, ap (λ (m : Member). m.held) (put_own w v (withdrew (ticked (w.members v) now) (withdrawal_at group w v now key exp g.0))) ∙ ap (λ (a : Result Use WithdrawFault). gains x (withdrawn_in a)) g.1)
 
 -- Ticks.
@@ -208,7 +208,7 @@ checks_are_calls t w now token answer due form =
 pub withdrawals_are_calls : WithdrawalsAreCalls
 withdrawals_are_calls t w now key exp answer h =
     let x = raised_to w.held now in
-    let g = withdraw_gives t.setting.place x key exp answer h in
+    let g = withdraw_gives t.setting.validator_id x key exp answer h in
     (g.0, g.1, ap (λ (a : Result Use WithdrawFault). gains x (withdrawn_in a)) g.1)
 
 pub ticks_are_calls : TicksAreCalls

@@ -77,9 +77,9 @@ not_so : {A : Type 0} (test : Bool) (a b : A) → test ≡ false → (if test th
 not_so true a b is = cc
 not_so false a b is = refl
 
-only_place : {A : Type 0} (x y : A) (p : ℕ) → slice_get (x ∷ []) p ≡ Some y → p ≡ 0
-only_place x y zero is = refl
-only_place x y (suc p) is = absurd (none-some y is)
+only_index : {A : Type 0} (x y : A) (p : ℕ) → slice_get (x ∷ []) p ≡ Some y → p ≡ 0
+only_index x y zero is = refl
+only_index x y (suc p) is = absurd (none-some y is)
 
 summary_moment : (r : State) → (summary_of r).moment ≡ r.moment
 unfolding summary_of
@@ -145,7 +145,7 @@ module _ (t : Terms) (now : ℕ) (first : Accepted) (fits : now < 2 ^ 64) (later
   told_use = with_holds_one_more (uses_in []) u u ∙ or_left (eq_by_cmp use_cmp u u) (holds (uses_in []) u) (ap is_eq (tied_itself use_total u))
 
   has_only : (k : ℕ) (log : List Entry) (bs : List BatchData) (c d : BatchData) (p : ℕ) → bs ≡ c ∷ [] → slice_get bs p ≡ Some d → Contains log (Took k 0) → Contains log (Took k p)
-  has_only k log bs c d p is at has = subst (λ n. Contains log (Took k n)) (sym (only_place c d p (sym (ap (λ (l : List BatchData). slice_get l p) is) ∙ at))) has
+  has_only k log bs c d p is at has = subst (λ n. Contains log (Took k n)) (sym (only_index c d p (sym (ap (λ (l : List BatchData). slice_get l p) is) ∙ at))) has
 
   send_forgotten : IsSendForgotten (happen_forgetful group sent (Take 1 now 0 0 None ∷ Restart 1 0 ∷ [])) 1 0 u
   send_forgotten =
@@ -245,11 +245,11 @@ module _ (t : Terms) (now : ℕ) (token : List ℕ) (first : Accepted) (is : Acc
   lives : now < first.used.exp
   lives = subst (λ n. n < first.used.exp) (raised_moment now) (alive t.setting (raised_to new_member.held now).moment (raised_to new_member.held now).uses token first.used accepts)
 
-  one_is_record : now < 2 ^ 64 → IsBytes 16 t.setting.place → IsRecord (state_of now (first.used ∷ []))
-  one_is_record fits place =
+  one_is_record : now < 2 ^ 64 → IsBytes 16 t.setting.validator_id → IsRecord (state_of now (first.used ∷ []))
+  one_is_record fits validator_id =
       let a = raised_to new_member.held now in
       let held : IsHeldAt now first.used = record {
-        fields = in_range t.setting a.moment a.uses token first.used accepts place (subst (λ n. n < 2 ^ 64) (sym (raised_moment now)) fits);
+        fields = in_range t.setting a.moment a.uses token first.used accepts validator_id (subst (λ n. n < 2 ^ 64) (sym (raised_moment now)) fits);
         made = omega (arith, made_now t.setting a.moment a.uses token first.used accepts, raised_moment now);
         live = lives;
       } in
@@ -261,6 +261,6 @@ sends_are_forgotten t now token first fits is =
     (sym is) (send_forgotten t now first fits (lives t now token first is))
 
 pub answers_are_forgotten : AnswersAreForgotten
-answers_are_forgotten t now token first fits place is =
+answers_are_forgotten t now token first fits validator_id is =
     subst (λ (answer : Result Accepted Refusal). IsAnswerForgotten (happen_forgetful (λ v. t) (put (save start 1 new_member) 0 (checked (ticked new_member now) answer)) (Send 0 ∷ Take 1 now 0 0 None ∷ Sum 1 ∷ Restart 1 0 ∷ Answer 0 now 1 false ∷ Take 1 now 2 0 None ∷ [])) 1 2 1 first.used)
-    (sym is) (answer_forgotten t now first fits (lives t now token first is) (one_is_record t now token first is fits place))
+    (sym is) (answer_forgotten t now first fits (lives t now token first is) (one_is_record t now token first is fits validator_id))

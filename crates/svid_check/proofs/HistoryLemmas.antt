@@ -103,7 +103,7 @@ module _ (t : Terms) (now : ℕ) (first : Accepted) (key : List ℕ) (exp : ℕ)
       moment-join takes.held (state_of now []) ∙ omega (arith, at, joins, part.2, checks_at)
 
   abbrev gone : Use
-  gone = withdrawal t.setting.place now key exp
+  gone = withdrawal t.setting.validator_id now key exp
 
   abbrev withdraws : Member
   withdraws = gained (ticked takes now) (Some gone)
@@ -111,7 +111,7 @@ module _ (t : Terms) (now : ℕ) (first : Accepted) (key : List ℕ) (exp : ℕ)
   withdrawn : happens group (put sent 0 takes) (Withdraw 0 now key exp false) ≡ put (put sent 0 takes) 0 withdraws
   withdrawn =
       let x = ticked takes now in
-      let due = λ (m : ℕ). put (put sent 0 takes) 0 (withdrew x (if nat_lt m exp then Ok (withdrawal t.setting.place m key exp) else Err withdraw.Expired)) in
+      let due = λ (m : ℕ). put (put sent 0 takes) 0 (withdrew x (if nat_lt m exp then Ok (withdrawal t.setting.validator_id m key exp) else Err withdraw.Expired)) in
       ap due takes_at ∙ ap (λ (test : Bool). put (put sent 0 takes) 0 (withdrew x (if test then Ok gone else Err withdraw.Expired))) (lt-ltb now exp later)
 
   abbrev summed : World

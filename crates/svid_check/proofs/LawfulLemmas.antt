@@ -175,11 +175,11 @@ unfolding sha256
 is_digest m = record { size = length-sha256 m; each = digest_each (final_hash initial_hash_256 m) 8 }
 
 pub in_range : IsInRange
-in_range s moment uses token u a place now =
+in_range s moment uses token u a validator_id now =
     let is = is_accepted s moment uses token u a in
     let of = is_of token is.said is.is_said in
     let by = is_said_by of.parts is.said of.says in
-    subst IsUse is.is_used (record { exp = exp_below (part_object of.parts.payload) is.said.exp by.exp; key = is_digest _; place = place; at = now })
+    subst IsUse is.is_used (record { exp = exp_below (part_object of.parts.payload) is.said.exp by.exp; key = is_digest _; validator_id = validator_id; at = now })
 
 -- an input and one more period are cut into the parts that the input is made of
 input_parts : (token : List ℕ) (p : Parts) → parts_of token ≡ Some p → parts_of (signing_input p.header p.payload ++ 46 ∷ []) ≡ Some (record { header = p.header; payload = p.payload; signature = [] })

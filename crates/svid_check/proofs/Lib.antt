@@ -12,7 +12,7 @@ pub mod HistoryLemmas
 pub mod LaterLemmas
 pub mod LawfulLemmas
 pub mod MembersLemmas
-pub mod PlacesLemmas
+pub mod IndexesLemmas
 pub mod RangesLemmas
 pub mod ReportsLemmas
 pub mod RestartsLemmas

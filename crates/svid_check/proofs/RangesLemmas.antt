@@ -1,4 +1,4 @@
--- Where the places and the moments of a group are in range, so are each use that is told and each record's moment.
+-- Where the validator IDs and the moments of a group are in range, so are each use that is told and each record's moment.
 use Rattle.std.proofs.Common.{◌≡◌, ◌+◌, ◌-◌, ◌^◌, ◌<◌, ◌≤◌, ℕ, max, min, List, [], ◌∷◌, Contains, Option, None, Some, Result, Ok, Err, refl, sym, subst, inl, inr, arith}
 use Rattle.std.specs.List.{AllByRecursion}
 use Rattle.std.proofs.lemmas.List.Elements.{Contains-append_cases}
@@ -11,13 +11,13 @@ use Rattle.svid_replay.proofs.ListLemmas.{has_cases, has_none}
 use Rattle.svid_replay.proofs.RecordsLemmas.{moment-join}
 use Rattle.svid_check.specs.declared.accepted.Accepted.{Accepted}
 use Rattle.svid_check.specs.Changes.{accepted_in, gains}
-use Rattle.svid_check.specs.Headline.{HasPlaces, IsEventInRange}
+use Rattle.svid_check.specs.Headline.{HasIds, IsEventInRange}
 use Rattle.svid_check.specs.Runs.{Terms}
 use Rattle.svid_check.specs.World.{Answer, Check, Event, Member, OldSend, Restart, Save, Send, Sum, Take, Tick, Withdraw, World, accepted, accepted_by, answer_at, happen, happens, one_or_none, start, withdrawn, withdrawn_by, Renew, setting_at, Piece}
 use Rattle.svid_check.proofs.AnswersLemmas.{accepted_is}
 use Rattle.svid_check.proofs.EachToldLemmas.{AllTold, Everywhere, IsAt, IsKept, each_told, happens_everywhere, start_everywhere, withdrawal_is}
 use Rattle.svid_check.proofs.LawfulLemmas.{in_range}
-use Rattle.svid_check.proofs.PlacesLemmas.{renewed_place}
+use Rattle.svid_check.proofs.IndexesLemmas.{renewed_validator_id}
 
 -- a moment
 abbrev pub IsMoment : ℕ → Type 0
@@ -70,7 +70,7 @@ module _ (group : ℕ → Terms) where
   next_moments : (w : World) (e : Event) → IsEventInRange e → Everywhere HasMoment w → Everywhere HasMoment (happens group w e)
   next_moments w e at h = happens_everywhere IsMoment (λ u. Unit {0}) HasMoment moments_are_kept group w e (in_moment e at) (λ u has. tt) (λ u has. tt) h
 
-  module _ (places : HasPlaces group) where
+  module _ (ids : HasIds group) where
     use_by : (w : World) (e : Event) → IsEventInRange e → Everywhere HasMoment w → (u : Use) → Contains (accepted_by group w e) u → IsUse u
     use_by w (Check v now token refused) at h u has =
         let x = (w.members v).held in
@@ -78,8 +78,8 @@ module _ (group : ℕ → Terms) where
         let found = in_answer (answer_at group w v now token refused) u has in
         let low = greater x.moment now y.moment (moment-join x (state_of now [])) (h.members v) at in
         let s = setting_at group w v in
-        let place = subst (IsBytes 16) (sym (renewed_place (group v).setting (w.members v).renewal)) (places v) in
-        subst IsUse found.2 (in_range s y.moment y.uses token found.0.used (accepted_is s y token refused found.0 found.1) place low)
+        let validator_id = subst (IsBytes 16) (sym (renewed_validator_id (group v).setting (w.members v).renewal)) (ids v) in
+        subst IsUse found.2 (in_range s y.moment y.uses token found.0.used (accepted_is s y token refused found.0 found.1) validator_id low)
     use_by w _ at h u has = has_none u has
 
     gone_by : (w : World) (e : Event) → IsEventInRange e → Everywhere HasMoment w → (u : Use) → Contains (withdrawn_by group w e) u → IsUse u
@@ -87,7 +87,7 @@ module _ (group : ℕ → Terms) where
         let x = (w.members v).held in
         let y = raised_to x now in
         let low = greater x.moment now y.moment (moment-join x (state_of now [])) (h.members v) at.0 in
-        subst IsUse (sym (withdrawal_is (group v).setting.place y key exp refused u has)) (record { exp = at.2; key = at.1; place = places v; at = low })
+        subst IsUse (sym (withdrawal_is (group v).setting.validator_id y key exp refused u has)) (record { exp = at.2; key = at.1; validator_id = ids v; at = low })
     gone_by w _ at h u has = has_none u has
 
     withdrawn_are_uses : (w : World) (events : List Event) → AllByRecursion IsEventInRange events → Everywhere HasMoment w → (u : Use) → Contains (withdrawn group w events) u → IsUse u
@@ -104,7 +104,7 @@ module _ (group : ℕ → Terms) where
       | inr later ↦ accepted_are_uses (happens group w e) events at.1 (next_moments w e at.0 h) u later
     ]
 
-pub told_are_uses : (group : ℕ → Terms) (events : List Event) → HasPlaces group → AllByRecursion IsEventInRange events → AllTold IsUse (happen group start events)
-told_are_uses group events places at =
+pub told_are_uses : (group : ℕ → Terms) (events : List Event) → HasIds group → AllByRecursion IsEventInRange events → AllTold IsUse (happen group start events)
+told_are_uses group events ids at =
     let begun = start_everywhere IsMoment (λ u. Unit {0}) HasMoment moments_are_kept in
-    each_told group events IsUse (accepted_are_uses group places start events at begun) (withdrawn_are_uses group places start events at begun)
+    each_told group events IsUse (accepted_are_uses group ids start events at begun) (withdrawn_are_uses group ids start events at begun)

@@ -17,7 +17,7 @@ use Rattle.svid_replay.proofs.SetsLemmas.{rising_rises}
 use Rattle.svid_replay.proofs.TestsLemmas.{equal}
 use Rattle.svid_replay.proofs.TwiceLemmas.{is_twice}
 use Rattle.svid_replay.proofs.UsesLemmas.{holds-live, rising_has_held}
-use Rattle.svid_check.specs.Headline.{IsLiveUse, IsUsedTwice, RecordsAreTold, ReportedWereAcceptedTwice, ReportsAreExact, ReportsAreWhole, TwoPlacesAreReported, member_after, report_of}
+use Rattle.svid_check.specs.Headline.{IsLiveUse, IsUsedTwice, RecordsAreTold, ReportedWereAcceptedTwice, ReportsAreExact, ReportsAreWhole, TwoValidatorsAreReported, member_after, report_of}
 use Rattle.svid_check.specs.Told.{record_of}
 use Rattle.svid_check.specs.World.{Member}
 use Rattle.svid_check.proofs.EachToldLemmas.{told_were_accepted}
@@ -105,10 +105,10 @@ module _ (records : RecordsAreTold) where
   pub reports_are_whole : ReportsAreWhole
   reports_are_whole group events v t u listed = report_is_whole (member_after group events v) (records group events v) t u listed
 
-  pub two_places_are_reported : TwoPlacesAreReported
-  two_places_are_reported group events v s other moment later uses others token again a b accepts accepts_also input places told_a told_b live_at =
+  pub two_validators_are_reported : TwoValidatorsAreReported
+  two_validators_are_reported group events v s other moment later uses others token again a b accepts accepts_also input ids told_a told_b live_at =
       let same = of_its_input s other moment later uses others token again a b accepts accepts_also input in
-      two_are_reported (member_after group events v) (records group events v) a b (λ e. places (ap (λ (u : Use). u.place) e)) (is_used s moment uses token a accepts) (is_used other later others again b accepts_also) same.0 same.1 told_a told_b live_at
+      two_are_reported (member_after group events v) (records group events v) a b (λ e. ids (ap (λ (u : Use). u.validator_id) e)) (is_used s moment uses token a accepts) (is_used other later others again b accepts_also) same.0 same.1 told_a told_b live_at
 
   pub reported_were_accepted_twice : ReportedWereAcceptedTwice
   reported_were_accepted_twice group events v key listed =

@@ -33,6 +33,6 @@ parts_restore x =
     join_all-one (state_of 0 []) r.moment (parts_of r) (rising r.uses) (cut_gives_parts r.moment (rising r.uses))
     ∙ ap (λ (s : Uses). join (state_of 0 []) (record { moment = r.moment; uses = s })) (uses_in-rising r.uses) ∙ new_joined x
 
--- so a restart absorbs, whatever the places and the moments
+-- so a restart absorbs, whatever the validator IDs and the moments
 pub restart_absorbs : (x : Member) → x.held ≡ record_of x.told → join_all (state_of 0 []) (parts_of x.held) ≡ x.held
 restart_absorbs x told = subst (λ (r : State). join_all (state_of 0 []) (parts_of r) ≡ r) (sym told) (parts_restore x.told)

@@ -21,7 +21,7 @@ use Rattle.svid_check.specs.Told.{TellsBatch, Told, record_of, tell_now}
 use Rattle.svid_check.specs.Verdict.{verdict}
 use Rattle.svid_check.specs.World.{Check, Entry, Event, Member, Posting, Take, Tick, Took, Withdraw, World, answer_at, checked, far, front, happen, happens, joined, logged, put, setting_at, start, take_part, take_posting, ticked, took, withdrawal_at, withdrew}
 use Rattle.svid_check.proofs.EventsLemmas.{checks_are_events, takes_are_events, ticks_are_events, withdrawals_are_events}
-use Rattle.svid_check.proofs.PlacesLemmas.{put_own, renewed_place}
+use Rattle.svid_check.proofs.IndexesLemmas.{put_own, renewed_validator_id}
 use Rattle.svid_check.proofs.RunsLemmas.{told_all, told_now, told_one, told_use}
 use Rattle.svid_check.proofs.SoundLemmas.{is_sound}
 
@@ -96,9 +96,9 @@ module _ (group : ℕ → Terms) (v : ℕ) where
       }
   goes w x y (call.Withdraw now key exp) (Withdrawn answer) is posted step =
       let told = told_now x (w.members v).held now is in
-      let place = (setting_at group w v).place in
-      let due = subst (λ (r : State). IsWithdrawal place r.moment key exp answer) told step.0 in
-      let g = withdrawals_are_events group w v now key exp answer (subst (λ (n : List ℕ). IsWithdrawal n (raised_to (w.members v).held now).moment key exp answer) (place_of w) due) in
+      let validator_id = (setting_at group w v).validator_id in
+      let due = subst (λ (r : State). IsWithdrawal validator_id r.moment key exp answer) told step.0 in
+      let g = withdrawals_are_events group w v now key exp answer (subst (λ (n : List ℕ). IsWithdrawal n (raised_to (w.members v).held now).moment key exp answer) (validator_id_of w) due) in
       record {
         event = Withdraw v now key exp g.0;
         is_call = (g.0, refl, g.1);
@@ -107,8 +107,8 @@ module _ (group : ℕ → Terms) (v : ℕ) where
         held = g.2 ∙ sym (ap record_of step.1 ∙ (told_one (tell_now x now) (withdrawn_in answer) ∙ ap (λ (r : State). gains r (withdrawn_in answer)) told));
       }
     where
-      place_of : (w : World) → (setting_at group w v).place ≡ (group v).setting.place
-      place_of w = renewed_place (group v).setting (w.members v).renewal
+      validator_id_of : (w : World) → (setting_at group w v).validator_id ≡ (group v).setting.validator_id
+      validator_id_of w = renewed_validator_id (group v).setting (w.members v).renewal
   goes w x y _ _ is posted step = absurd step
 
   run_goes : (calls : List Call) (answers : List Answer) (w : World) (x y : Told) → ArePosted w.pool calls → record_of x ≡ (w.members v).held → Runs (terms_at group v w) x calls answers y

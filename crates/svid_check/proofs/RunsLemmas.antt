@@ -85,16 +85,16 @@ checks t a b now event answer token due form left step x is =
 
 -- a withdrawal
 pub withdraws : (t : Terms) (a b : State) (now : ℕ) (event : Event) (key : List ℕ) (exp : ℕ) (answer : Result Use WithdrawFault)
-    → IsWithdrawal t.setting.place (raised_to a now).moment key exp answer
+    → IsWithdrawal t.setting.validator_id (raised_to a now).moment key exp answer
     → b ≡ gains (raised_to a now) (withdrawn_in answer)
-    → ((x : Told) → IsWithdrawal t.setting.place (tell_now x now).greatest key exp answer → Step t x event (Withdrawn answer) (tell_one (tell_now x now) (withdrawn_in answer)))
+    → ((x : Told) → IsWithdrawal t.setting.validator_id (tell_now x now).greatest key exp answer → Step t x event (Withdrawn answer) (tell_one (tell_now x now) (withdrawn_in answer)))
     → RunsFrom t a (event ∷ []) (Withdrawn answer ∷ []) b
 withdraws t a b now event key exp answer due left step x is =
     let y = tell_now x now in
     let told = told_now x a now is in
     let z = tell_one y (withdrawn_in answer) in (
       z,
-      (z, step x (subst (λ (r : State). IsWithdrawal t.setting.place r.moment key exp answer) (sym told) due), refl),
+      (z, step x (subst (λ (r : State). IsWithdrawal t.setting.validator_id r.moment key exp answer) (sym told) due), refl),
       told_one y (withdrawn_in answer) ∙ ap (λ (r : State). gains r (withdrawn_in answer)) told ∙ sym left,
     )
 

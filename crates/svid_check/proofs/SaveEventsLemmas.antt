@@ -18,7 +18,7 @@ use Rattle.svid_check.specs.SaveEvents.{EventsLeaveLater, IsNoRestartOf, IsSaved
 use Rattle.svid_check.specs.Saves.{IsLater, IsSaved, piece_of}
 use Rattle.svid_check.specs.World.{Answer, Answered, Check, Content, Entry, Event, Made, Member, OldSend, Piece, Pieced, Posting, Renew, Restart, Save, Saved, Send, Sent, Sum, Summed, Take, Tick, Took, Withdraw, World, answer_at, answer_content, answer_posting, answer_summary, checked, far, front, happen, happens, has_withdrawal, joined, logged, old_parts_of, parts_in, post, put, restart, take_part, take_posting, ticked, took, with_renewal, withdrawal_at, withdrew}
 use Rattle.svid_check.proofs.LaterLemmas.{gains_later, join_later, later_goes_on, raised_first, raised_later, same_later, saved_moments, saved_whole}
-use Rattle.svid_check.proofs.PlacesLemmas.{last_place, later_place, put_own}
+use Rattle.svid_check.proofs.IndexesLemmas.{last_index, later_index, put_own}
 use Rattle.svid_check.proofs.WholeEventsLemmas.{take_is}
 
 -- Later records.
@@ -116,7 +116,7 @@ grows_put : (w : World) (n : ℕ) (x : Member) → Grows w (put w n x)
 grows_put w n x = grows_same w (put w n x) refl refl
 
 grows_post : (w : World) (n : ℕ) (x : Member) (c : Content) → Grows w (post w n x c)
-grows_post w n x c = record { pool = λ k q e. later_place w.pool (record { maker = n; was = x; content = c }) k q e; saves = λ k s e. e }
+grows_post w n x c = record { pool = λ k q e. later_index w.pool (record { maker = n; was = x; content = c }) k q e; saves = λ k s e. e }
 
 module _ (w : World) where
   take_grows : (n last : ℕ) (x : Member) (k p : ℕ) (refused : Option ℕ) (q : Option Posting) → Grows w (take_posting w n last x k p refused q)
@@ -160,7 +160,7 @@ module _ (group : ℕ → Terms) where
       grows_on w y (post y n x (Summed (summary_of x.held))) (grows_put w n (logged x (Made (length w.pool)))) (grows_post y n x (Summed (summary_of x.held)))
   event_grows w (Answer n now k refused) = answer_grows w n (far group n now) (ticked (w.members n) now) k refused (slice_get w.pool k)
   event_grows w (Take n now k p refused) = take_grows w n (far group n now) (ticked (w.members n) now) k p refused (slice_get w.pool k)
-  event_grows w (Save n) = record { pool = λ k q e. e; saves = λ k s e. later_place w.saves (record { owner = n; was = w.members n }) k s e }
+  event_grows w (Save n) = record { pool = λ k q e. e; saves = λ k s e. later_index w.saves (record { owner = n; was = w.members n }) k s e }
   event_grows w (Piece n after most) = grows_post w n (w.members n) (Pieced (piece_of (w.members n).held after most))
   event_grows w (Restart n k) = restart_grows w n (slice_get w.saves k)
   event_grows w (Renew n renewal) = grows_put w n (with_renewal (w.members n) (Some renewal))
@@ -178,42 +178,42 @@ module _ (group : ℕ → Terms) (v : ℕ) where
       let x = happens group w e in
       later_goes_on (w.members v).held (x.members v).held ((happen group x events).members v).held (events_leave_later group w v e free.0) (between_later x events free.1)
 
-  pieces_saved : (w z : World) (after : Option Use) (places : List ℕ) (pieces : List BatchData) → IsSavedIn group v w after places pieces z → IsSaved (w.members v).held after pieces (z.members v).held
+  pieces_saved : (w z : World) (after : Option Use) (indexes : List ℕ) (pieces : List BatchData) → IsSavedIn group v w after indexes pieces z → IsSaved (w.members v).held after pieces (z.members v).held
   pieces_saved w z after (k ∷ []) (b ∷ []) h = (h.0, h.2, h.3, ap (λ (x : World). (x.members v).held) h.4)
-  pieces_saved w z after (k ∷ j ∷ places) (b ∷ c ∷ pieces) h =
+  pieces_saved w z after (k ∷ j ∷ indexes) (b ∷ c ∷ pieces) h =
       let x = happens group w (Piece v after h.0) in
       let y = happen group x h.1 in
-      (h.0, (y.members v).held, h.3, between_later x h.1 h.4, pieces_saved y z (last_of after b.uses) (j ∷ places) (c ∷ pieces) h.5)
+      (h.0, (y.members v).held, h.3, between_later x h.1 h.4, pieces_saved y z (last_of after b.uses) (j ∷ indexes) (c ∷ pieces) h.5)
   pieces_saved w z after _ _ h = absurd h
 
-  saving_grows : (w z : World) (after : Option Use) (places : List ℕ) (pieces : List BatchData) → IsSavedIn group v w after places pieces z → Grows w z
+  saving_grows : (w z : World) (after : Option Use) (indexes : List ℕ) (pieces : List BatchData) → IsSavedIn group v w after indexes pieces z → Grows w z
   saving_grows w z after (k ∷ []) (b ∷ []) h = subst (Grows w) (sym h.4) (event_grows group w (Piece v after h.0))
-  saving_grows w z after (k ∷ j ∷ places) (b ∷ c ∷ pieces) h =
+  saving_grows w z after (k ∷ j ∷ indexes) (b ∷ c ∷ pieces) h =
       let x = happens group w (Piece v after h.0) in
       let y = happen group x h.1 in
-      grows_on w x z (event_grows group w (Piece v after h.0)) (grows_on x y z (events_grow group x h.1) (saving_grows y z (last_of after b.uses) (j ∷ places) (c ∷ pieces) h.5))
+      grows_on w x z (event_grows group w (Piece v after h.0)) (grows_on x y z (events_grow group x h.1) (saving_grows y z (last_of after b.uses) (j ∷ indexes) (c ∷ pieces) h.5))
   saving_grows w z after _ _ h = absurd h
 
   -- these postings are these pieces
   abbrev ArePieces : List Posting → List ℕ → List BatchData → Type 0
   ArePieces pool [] [] = Unit {0}
-  ArePieces pool (k ∷ places) (b ∷ pieces) = ((q : Posting) × (slice_get pool k ≡ Some q) × (q.content ≡ Pieced b)) × ArePieces pool places pieces
+  ArePieces pool (k ∷ indexes) (b ∷ pieces) = ((q : Posting) × (slice_get pool k ≡ Some q) × (q.content ≡ Pieced b)) × ArePieces pool indexes pieces
   ArePieces pool _ _ = ⊥
 
   -- a piece is posted at the end of the pool
   posted_piece : (w z : World) (after : Option Use) (most k : ℕ) (b : BatchData) → k ≡ length w.pool → b ≡ piece_of (w.members v).held after most → Grows (happens group w (Piece v after most)) z → (q : Posting) × (slice_get z.pool k ≡ Some q) × (q.content ≡ Pieced b)
   posted_piece w z after most k b at is grows =
       let q : Posting = record { maker = v; was = w.members v; content = Pieced (piece_of (w.members v).held after most) } in
-      (q, ap (slice_get z.pool) at ∙ grows.pool (length w.pool) q (last_place w.pool q), ap Pieced (sym is))
+      (q, ap (slice_get z.pool) at ∙ grows.pool (length w.pool) q (last_index w.pool q), ap Pieced (sym is))
 
-  are_pieces : (w z y : World) (after : Option Use) (places : List ℕ) (pieces : List BatchData) → IsSavedIn group v w after places pieces z → Grows z y → ArePieces y.pool places pieces
+  are_pieces : (w z y : World) (after : Option Use) (indexes : List ℕ) (pieces : List BatchData) → IsSavedIn group v w after indexes pieces z → Grows z y → ArePieces y.pool indexes pieces
   are_pieces w z y after (k ∷ []) (b ∷ []) h grows = (posted_piece w y after h.0 k b h.1 h.2 (subst (λ (x : World). Grows x y) h.4 grows), tt)
-  are_pieces w z y after (k ∷ j ∷ places) (b ∷ c ∷ pieces) h grows =
+  are_pieces w z y after (k ∷ j ∷ indexes) (b ∷ c ∷ pieces) h grows =
       let x = happens group w (Piece v after h.0) in
       let next = happen group x h.1 in
-      let rest = saving_grows next z (last_of after b.uses) (j ∷ places) (c ∷ pieces) h.5 in (
+      let rest = saving_grows next z (last_of after b.uses) (j ∷ indexes) (c ∷ pieces) h.5 in (
         posted_piece w y after h.0 k b h.2 h.3 (grows_on x z y (grows_on x next z (events_grow group x h.1) rest) grows),
-        are_pieces next z y (last_of after b.uses) (j ∷ places) (c ∷ pieces) h.5 grows,
+        are_pieces next z y (last_of after b.uses) (j ∷ indexes) (c ∷ pieces) h.5 grows,
       )
   are_pieces w z y after _ _ h grows = absurd h
 
@@ -221,13 +221,13 @@ module _ (group : ℕ → Terms) (v : ℕ) where
   within m ahead small = omega arith
 
   -- what takes of these pieces leave
-  record Restored (w : World) (a : State) (places : List ℕ) (pieces : List BatchData) : Type 0 where
-    held : ((happen group w (takes_of v places pieces)).members v).held ≡ join_all a pieces
-    log : ((happen group w (takes_of v places pieces)).members v).log ≡ (w.members v).log ++ took_pieces places
+  record Restored (w : World) (a : State) (indexes : List ℕ) (pieces : List BatchData) : Type 0 where
+    held : ((happen group w (takes_of v indexes pieces)).members v).held ≡ join_all a pieces
+    log : ((happen group w (takes_of v indexes pieces)).members v).log ≡ (w.members v).log ++ took_pieces indexes
 
-  takes_restore : (w : World) (a : State) (places : List ℕ) (pieces : List BatchData) → ArePieces w.pool places pieces → AllByRecursion (λ b. b.moment < 2 ^ 64) pieces → (w.members v).held ≡ a → Restored w a places pieces
+  takes_restore : (w : World) (a : State) (indexes : List ℕ) (pieces : List BatchData) → ArePieces w.pool indexes pieces → AllByRecursion (λ b. b.moment < 2 ^ 64) pieces → (w.members v).held ≡ a → Restored w a indexes pieces
   takes_restore w a [] [] are small is = record { held = is; log = sym (append-nil (w.members v).log) }
-  takes_restore w a (k ∷ places) (b ∷ pieces) are small is =
+  takes_restore w a (k ∷ indexes) (b ∷ pieces) are small is =
       let q = are.0.0 in
       let last = far group v b.moment in
       let x = ticked (w.members v) b.moment in
@@ -236,33 +236,33 @@ module _ (group : ℕ → Terms) (v : ℕ) where
       let same : happens group w (Take v b.moment k 0 None) ≡ put w v y =
       take_is group v b.moment w k 0 q b None are.0.1 (ap (λ (c : Content). slice_get (parts_in c) 0) are.0.2) ∙ ap (put w v) taken in
       let held : ((put w v y).members v).held ≡ join a (batch_state b) = ap (λ (m : Member). m.held) (put_own w v y) ∙ raised_first (w.members v).held b.moment b (omega arith) ∙ ap (λ (r : State). join r (batch_state b)) is in
-      let rest = takes_restore (put w v y) (join a (batch_state b)) places pieces are.1 small.1 held in
+      let rest = takes_restore (put w v y) (join a (batch_state b)) indexes pieces are.1 small.1 held in
       record {
-        held = ap (λ (after : World). ((happen group after (takes_of v places pieces)).members v).held) same ∙ rest.held;
-        log = ap (λ (after : World). ((happen group after (takes_of v places pieces)).members v).log) same ∙ rest.log
-            ∙ ap (λ (m : Member). m.log ++ took_pieces places) (put_own w v y) ∙ append_assoc (w.members v).log (Took k 0 ∷ []) (took_pieces places);
+        held = ap (λ (after : World). ((happen group after (takes_of v indexes pieces)).members v).held) same ∙ rest.held;
+        log = ap (λ (after : World). ((happen group after (takes_of v indexes pieces)).members v).log) same ∙ rest.log
+            ∙ ap (λ (m : Member). m.log ++ took_pieces indexes) (put_own w v y) ∙ append_assoc (w.members v).log (Took k 0 ∷ []) (took_pieces indexes);
       }
   takes_restore w a [] (b ∷ pieces) are small is = absurd are
-  takes_restore w a (k ∷ places) [] are small is = absurd are
+  takes_restore w a (k ∷ indexes) [] are small is = absurd are
 
 pub pieces_are_saved : PiecesAreSaved
-pieces_are_saved group w z v places pieces h = pieces_saved group v w z None places pieces h
+pieces_are_saved group w z v indexes pieces h = pieces_saved group v w z None indexes pieces h
 
 pub restarts_from_pieces : RestartsFromPieces
-restarts_from_pieces group w z v places pieces later small h =
+restarts_from_pieces group w z v indexes pieces later small h =
     let x = w.members v in
     let began = happens group w (Save v) in
     let y = happen group z later in
     let k = length w.saves in
     let s : Saved = record { owner = v; was = x } in
     let on = events_grow group z later in
-    let at : slice_get y.saves k ≡ Some s = on.saves k s ((saving_grows group v began z None places pieces h).saves k s (last_place w.saves s)) in
+    let at : slice_get y.saves k ≡ Some s = on.saves k s ((saving_grows group v began z None indexes pieces h).saves k s (last_index w.saves s)) in
     let m = with_renewal x (y.members v).renewal in
     let back : happens group y (Restart v k) ≡ put y v m = ap (restart y v) at ∙ cond-true (v == v) (put y v m) y (eq-eqb v v refl) in
-    let saved = pieces_saved group v began z None places pieces h in
+    let saved = pieces_saved group v began z None indexes pieces h in
     let moments = each_weaker (λ b. b.moment ≤ (z.members v).held.moment) (λ b. b.moment < 2 ^ 64) (λ b le. omega (arith, le, small)) pieces (saved_moments x.held None pieces (z.members v).held saved) in
-    let r = takes_restore group v (put y v m) x.held places pieces (are_pieces group v began z y None places pieces h on) moments (ap (λ (n : Member). n.held) (put_own y v m)) in
-    let takes = takes_of v places pieces in (
+    let r = takes_restore group v (put y v m) x.held indexes pieces (are_pieces group v began z y None indexes pieces h on) moments (ap (λ (n : Member). n.held) (put_own y v m)) in
+    let takes = takes_of v indexes pieces in (
       ap (λ (after : World). ((happen group after takes).members v).held) back ∙ r.held ∙ saved_whole x.held (z.members v).held pieces saved,
-      ap (λ (after : World). ((happen group after takes).members v).log) back ∙ r.log ∙ ap (λ (n : Member). n.log ++ took_pieces places) (put_own y v m),
+      ap (λ (after : World). ((happen group after takes).members v).log) back ∙ r.log ∙ ap (λ (n : Member). n.log ++ took_pieces indexes) (put_own y v m),
     )

@@ -32,7 +32,7 @@ use Rattle.svid_check.proofs.AnswersLemmas.{accepted_is}
 use Rattle.svid_check.proofs.CutsLemmas.{AreCut, first_part, in_part}
 use Rattle.svid_check.proofs.LawfulLemmas.{alive, fresh, is_accepted, said_is_of_its_input}
 use Rattle.svid_check.proofs.MembersLemmas.{IsTold, carried_within, holds-carried, union_within}
-use Rattle.svid_check.proofs.PlacesLemmas.{later_place, put_own}
+use Rattle.svid_check.proofs.IndexesLemmas.{later_index, put_own}
 use Rattle.svid_check.proofs.RestartsLemmas.{restart_absorbs}
 use Rattle.svid_check.proofs.RunsLemmas.{told_now}
 use Rattle.svid_check.proofs.SoundLemmas.{Arrived, Given, Sound, Stands, goes_on_sound, is_sound}
@@ -88,8 +88,8 @@ pub send_told : (w : World) (x : Member) (k : ℕ) (q : Posting) → Sound w →
 send_told w x k q s stands send taken u h =
     let are : AreCut q.was.held.moment (rising q.was.held.uses) send.1.0 = subst (Given w.pool q.was.held) send.1.1 (s.pool k q send.0) in
     let i = cut_carries q.was send.1.0 u are (s.makers k q send.0).is_told h in
-    let place = ap (λ (c : Content). slice_get (parts_in c) i.0) send.1.1 ∙ i.2 in
-    arrived_within w.pool k i.0 x.told.uses q i.1 (stands.entries (Took k i.0) (taken i.0 i.1 place)) send.0 place u i.3
+    let index = ap (λ (c : Content). slice_get (parts_in c) i.0) send.1.1 ∙ i.2 in
+    arrived_within w.pool k i.0 x.told.uses q i.1 (stands.entries (Took k i.0) (taken i.0 i.1 index)) send.0 index u i.3
 
 pub sends_tell : SendsTellAll
 sends_tell group events v k q send taken = send_told (happen group start events) ((happen group start events).members v) k q (is_sound group events) ((is_sound group events).members v) send taken
@@ -166,21 +166,21 @@ took_within limit x e s b (Some n) h =
 module _ (group : ℕ → Terms) (v k : ℕ) (q : Posting) where
   -- posting k is q, and validator v was told no more than its maker
   record Under (w : World) : Type 0 where
-    place : slice_get w.pool k ≡ Some q
+    index : slice_get w.pool k ≡ Some q
     told : IsWithin (w.members v).told.uses q.was.told.uses
 
   other_put : (w : World) (n : ℕ) (x : Member) → n ≢ v → Under w → Under (put w n x)
-  other_put w n x d h = record { place = h.place; told = subst (λ (y : Member). IsWithin y.told.uses q.was.told.uses) (sym (put_other w v n x d)) h.told }
+  other_put w n x d h = record { index = h.index; told = subst (λ (y : Member). IsWithin y.told.uses q.was.told.uses) (sym (put_other w v n x d)) h.told }
 
   posted : (w : World) (n : ℕ) (x : Member) (c : Content) → Under w → Under (post w n x c)
-  posted w n x c h = record { place = later_place w.pool (record { maker = n; was = x; content = c }) k q h.place; told = h.told }
+  posted w n x c h = record { index = later_index w.pool (record { maker = n; was = x; content = c }) k q h.index; told = h.told }
 
   own_part : (w : World) (n limit now : ℕ) (e : Entry) (refused : Option ℕ) (b : Option BatchData) → Under w → Under (take_part w n limit (ticked (w.members n) now) e refused q b)
   own_part w n limit now e refused None h = h
   own_part w n limit now e refused (Some b) h =
       let y = took limit (ticked (w.members n) now) e q.was.told.uses b refused in
       record {
-        place = h.place;
+        index = h.index;
         told = cond_both (v == n) y (w.members v) (λ (z : Member). IsWithin z.told.uses q.was.told.uses)
             (λ same. took_within limit (ticked (w.members n) now) e q.was.told.uses b refused (subst (λ (i : ℕ). IsWithin (w.members i).told.uses q.was.told.uses) (eqb-true v n same) h.told))
             (λ _. h.told);
@@ -199,7 +199,7 @@ module _ (group : ℕ → Terms) (v k : ℕ) (q : Posting) where
       let x = ticked (w.members n) now in
       elim (cases_eq n v) [
         | inl e ↦
-            let here : slice_get w.pool j ≡ Some q = ap (slice_get w.pool) (own e) ∙ h.place in
+            let here : slice_get w.pool j ≡ Some q = ap (slice_get w.pool) (own e) ∙ h.index in
             subst (λ (r : Option Posting). Under (take_posting w n (far group n now) x j p refused r)) (sym here)
             (own_part w n (far group n now) now (Took j p) refused (slice_get (parts_in q.content) p) h)
         | inr d ↦ other_take w n (far group n now) x j p refused (slice_get w.pool j) d h
@@ -241,7 +241,7 @@ module _ (group : ℕ → Terms) (v k : ℕ) (q : Posting) where
       posted (put w n x) n (w.members n) (Summed (summary_of (w.members n).held)) (other_put w n x d h)
   one_under w (Answer n now j refused) d h = other_answer w n (far group n now) (ticked (w.members n) now) j refused (slice_get w.pool j) d h
   one_under w (Take n now j p refused) own h = own_take w n now j p refused own h
-  one_under w (Save n) d h = record { place = h.place; told = h.told }
+  one_under w (Save n) d h = record { index = h.index; told = h.told }
   one_under w (Piece n after most) d h = posted w n (w.members n) (Pieced (piece_of (w.members n).held after most)) h
   one_under w (Restart n j) d h = other_restart w n (slice_get w.saves j) d h
   one_under w (Renew n renewal) d h = other_put w n (with_renewal (w.members n) (Some renewal)) d h
@@ -254,10 +254,10 @@ pub sends_make_equal : SendsMakeEqual
 sends_make_equal group events takes v k q send told only taken =
     let before = happen group start events in
     let after = happen group before takes in
-    let under = all_under group v k q before takes only (record { place = send.0; told = told }) in
+    let under = all_under group v k q before takes only (record { index = send.0; told = told }) in
     let sound = goes_on_sound group before takes (is_sound group events) in
     same_uses (after.members v).told.uses q.was.told.uses (λ u.
-    both_ways (holds (after.members v).told.uses u) (holds q.was.told.uses u) (under.told u) (send_told after (after.members v) k q sound (sound.members v) (under.place, send.1) taken u))
+    both_ways (holds (after.members v).told.uses u) (holds q.was.told.uses u) (under.told u) (send_told after (after.members v) k q sound (sound.members v) (under.index, send.1) taken u))
 
 -- a restart puts back a save of its own
 restarted : (w : World) (v : ℕ) (s : Saved) → s.owner ≡ v → (restart w v (Some s)).members v ≡ with_renewal s.was (w.members v).renewal

@@ -24,7 +24,7 @@ use Rattle.svid_check.specs.Saves.{piece_of}
 use Rattle.svid_check.specs.World.{Answer, Answered, Check, Content, Entry, Event, Made, Member, OldSend, Posting, Restart, Save, Saved, Send, Sent, Sum, Summed, Take, Tick, Took, Withdraw, World, answer_at, answer_content, answer_posting, answer_summary, carried, far, front, gained, happen, happens, has_withdrawal, joined, logged, new_member, old_parts_of, parts_in, post, put, restart, save, start, take_part, take_posting, ticked, took, withdrawal_at, Renew, with_renewal, Piece, Pieced}
 use Rattle.svid_check.proofs.CutsLemmas.{AreCut, cut_are_cut, front_within, old_are_cut, part_within, piece_within}
 use Rattle.svid_check.proofs.MembersLemmas.{IsTold, gained_told, joined_told, live_within, ticked_told, told_before, union_tells, within_union}
-use Rattle.svid_check.proofs.PlacesLemmas.{last_place, later_place, place_cases}
+use Rattle.svid_check.proofs.IndexesLemmas.{last_index, later_index, index_cases}
 use Rattle.svid_check.specs.Setting.{Renewal}
 
 -- a part of a posting was taken: what it carries is told
@@ -51,8 +51,8 @@ means_more pool s t (Took k p) w a = record { posting = a.posting; part = a.part
 means_more pool s t (Made k) w a = record { posting = a.posting; stands = a.stands; within = λ u h. w u (a.within u h) }
 
 means_later : (pool : List Posting) (q : Posting) (s : Uses) (e : Entry) → Means pool s e → Means (pool ++ q ∷ []) s e
-means_later pool q s (Took k p) a = record { posting = a.posting; part = a.part; stands = later_place pool q k a.posting a.stands; is_part = a.is_part; within = a.within }
-means_later pool q s (Made k) a = record { posting = a.posting; stands = later_place pool q k a.posting a.stands; within = a.within }
+means_later pool q s (Took k p) a = record { posting = a.posting; part = a.part; stands = later_index pool q k a.posting a.stands; is_part = a.is_part; within = a.within }
+means_later pool q s (Made k) a = record { posting = a.posting; stands = later_index pool q k a.posting a.stands; within = a.within }
 
 -- a validator's record is what it was told, and its log says what is so
 pub record Stands (pool : List Posting) (x : Member) : Type 0 where
@@ -95,7 +95,7 @@ given_later : (pool : List Posting) (q : Posting) (held : State) (c : Content) �
 given_later pool q held (Sent parts) g = g
 given_later pool q held (Summed s) g = g
 given_later pool q held (Pieced piece) g = g
-given_later pool q held (Answered k parts) g = (g.0, g.1, later_place pool q k g.1 g.2, g.3, g.4)
+given_later pool q held (Answered k parts) g = (g.0, g.1, later_index pool q k g.1 g.2, g.3, g.4)
 
 -- a record that is what was told holds nothing else
 pub held_within : (x : Member) → IsTold x → IsWithin x.held.uses x.told.uses
@@ -151,8 +151,8 @@ post_sound w v x c s h g =
     record {
       members = λ n. stands_later w.pool q (w.members n) (s.members n);
       saves = λ k r e. stands_later w.pool q r.was (s.saves k r e);
-      makers = λ k r e. stands_later w.pool q r.was (elim (place_cases w.pool q k r e) [ inl a ↦ s.makers k r a | inr b ↦ subst (λ (p : Posting). Stands w.pool p.was) b h ]);
-      pool = λ k r e. given_later w.pool q r.was.held r.content (elim (place_cases w.pool q k r e) [ inl a ↦ s.pool k r a | inr b ↦ subst (λ (p : Posting). Given w.pool p.was.held p.content) b g ]);
+      makers = λ k r e. stands_later w.pool q r.was (elim (index_cases w.pool q k r e) [ inl a ↦ s.makers k r a | inr b ↦ subst (λ (p : Posting). Stands w.pool p.was) b h ]);
+      pool = λ k r e. given_later w.pool q r.was.held r.content (elim (index_cases w.pool q k r e) [ inl a ↦ s.pool k r a | inr b ↦ subst (λ (p : Posting). Given w.pool p.was.held p.content) b g ]);
     }
 
 save_sound : (w : World) (v : ℕ) (x : Member) → Sound w → Stands w.pool x → Sound (save w v x)
@@ -160,7 +160,7 @@ save_sound w v x s h =
     let r : Saved = record { owner = v; was = x } in
     record {
       members = s.members;
-      saves = λ k t e. elim (place_cases w.saves r k t e) [ inl a ↦ s.saves k t a | inr b ↦ subst (λ (p : Saved). Stands w.pool p.was) b h ];
+      saves = λ k t e. elim (index_cases w.saves r k t e) [ inl a ↦ s.saves k t a | inr b ↦ subst (λ (p : Saved). Stands w.pool p.was) b h ];
       makers = s.makers;
       pool = s.pool;
     }
@@ -223,7 +223,7 @@ sum_sound w v s =
     let q : Posting = record { maker = v; was = x; content = Summed (summary_of x.held) } in
     let later = post_sound w v x (Summed (summary_of x.held)) s (s.members v) refl in
     put_sound (post w v x (Summed (summary_of x.held))) v (logged x (Made (length w.pool))) later
-    (stands_logged (w.pool ++ q ∷ []) x (Made (length w.pool)) (later.members v) (record { posting = q; stands = last_place w.pool q; within = λ u h. h }))
+    (stands_logged (w.pool ++ q ∷ []) x (Made (length w.pool)) (later.members v) (record { posting = q; stands = last_index w.pool q; within = λ u h. h }))
 
 restart_sound : (w : World) (v k : ℕ) (r : Option Saved) → Sound w → slice_get w.saves k ≡ r → Sound (restart w v r)
 restart_sound w v k None s e = s

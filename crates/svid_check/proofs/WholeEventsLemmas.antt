@@ -26,7 +26,7 @@ use Rattle.svid_check.specs.declared.take_fault.TakeFault.TheVariants.{OutOfMemo
 use Rattle.svid_check.specs.RunEvents.{ArePlaced, AreTakes, RecordTakesAreEvents, took_all}
 use Rattle.svid_check.specs.Runs.{Terms}
 use Rattle.svid_check.specs.World.{Entry, Event, Member, Posting, Take, Took, World, far, front, happen, happens, joined, logged, parts_in, put, take_part, take_posting, ticked, took}
-use Rattle.svid_check.proofs.PlacesLemmas.{put_own}
+use Rattle.svid_check.proofs.IndexesLemmas.{put_own}
 
 -- Fronts of batches.
 
@@ -168,9 +168,9 @@ module _ (group : ℕ → Terms) (v now : ℕ) where
       ∙ ap (λ (o : Option BatchData). take_part w v (far group v now) x (Took k p) refused q o) at_p
 
   -- what takes of all these parts leave, where a record s was joined to a raised one before
-  record Leaves (a s : State) (places : List (ℕ × ℕ)) (batches : List BatchData) (entries : List Entry) (w : World) : Type 0 where
+  record Leaves (a s : State) (indexes : List (ℕ × ℕ)) (batches : List BatchData) (entries : List Entry) (w : World) : Type 0 where
     events : List Event
-    are : AreTakes v now places events
+    are : AreTakes v now indexes events
     held : ((happen group w events).members v).held ≡ join (raised_to a now) (join_all s batches)
     log : ((happen group w events).members v).log ≡ (w.members v).log ++ entries
 
@@ -178,10 +178,10 @@ module _ (group : ℕ → Terms) (v now : ℕ) where
   leaves_none a s w is = record { events = []; are = tt; held = is; log = sym (append-nil (w.members v).log) }
 
   -- one take more in front
-  leaves_more : (a s : State) (place : ℕ × ℕ) (places : List (ℕ × ℕ)) (b : BatchData) (batches : List BatchData) (entries more : List Entry) (w : World) (refused : Option ℕ) (x : Member)
-      → happens group w (Take v now place.0 place.1 refused) ≡ put w v x → x.log ≡ (w.members v).log ++ entries → Leaves a (join s (batch_state b)) places batches more (put w v x) → Leaves a s (place ∷ places) (b ∷ batches) (entries ++ more) w
-  leaves_more a s place places b batches entries more w refused x is log l = record {
-    events = Take v now place.0 place.1 refused ∷ l.events;
+  leaves_more : (a s : State) (index : ℕ × ℕ) (indexes : List (ℕ × ℕ)) (b : BatchData) (batches : List BatchData) (entries more : List Entry) (w : World) (refused : Option ℕ) (x : Member)
+      → happens group w (Take v now index.0 index.1 refused) ≡ put w v x → x.log ≡ (w.members v).log ++ entries → Leaves a (join s (batch_state b)) indexes batches more (put w v x) → Leaves a s (index ∷ indexes) (b ∷ batches) (entries ++ more) w
+  leaves_more a s index indexes b batches entries more w refused x is log l = record {
+    events = Take v now index.0 index.1 refused ∷ l.events;
     are = ((refused, refl), l.are);
     held = ap (λ (after : World). ((happen group after l.events).members v).held) is ∙ l.held;
     log = ap (λ (after : World). ((happen group after l.events).members v).log) is ∙ l.log
@@ -193,28 +193,28 @@ module _ (group : ℕ → Terms) (v now : ℕ) where
   joins a s x b is =
       ap (λ (r : State). join (raised_to r now) (batch_state b)) is ∙ ap (λ (r : State). join r (batch_state b)) (raised_over a s now) ∙ join_assoc (raised_to a now) s (batch_state b)
 
-  takes_all : (a s : State) (places : List (ℕ × ℕ)) (batches : List BatchData) (w : World) → ArePlaced w.pool places batches → AllByRecursion (λ b. b.moment ≤ far group v now) batches
-      → (w.members v).held ≡ join (raised_to a now) s → Leaves a s places batches (took_all places) w
+  takes_all : (a s : State) (indexes : List (ℕ × ℕ)) (batches : List BatchData) (w : World) → ArePlaced w.pool indexes batches → AllByRecursion (λ b. b.moment ≤ far group v now) batches
+      → (w.members v).held ≡ join (raised_to a now) s → Leaves a s indexes batches (took_all indexes) w
   takes_all a s [] [] w placed within is = leaves_none a s w is
-  takes_all a s (place ∷ places) (b ∷ batches) w placed within is =
+  takes_all a s (index ∷ indexes) (b ∷ batches) w placed within is =
       let q = placed.0.0 in
       let last = far group v now in
-      let entry = Took place.0 place.1 in
+      let entry = Took index.0 index.1 in
       let x = ticked (w.members v) now in
       let y = logged (joined x q.was.told.uses b) entry in
       let taken : took last x entry q.was.told.uses b None ≡ y = ap (λ (test : Bool). if test then x else y) (le-ltb last b.moment within.0) in
-      let rest = takes_all a (join s (batch_state b)) places batches (put w v y) placed.1 within.1 (ap (λ (m : Member). m.held) (put_own w v y) ∙ joins a s (w.members v).held b is) in
-      leaves_more a s place places b batches (entry ∷ []) (took_all places) w None y (take_is w place.0 place.1 q b None placed.0.1 placed.0.2 ∙ ap (put w v) taken) refl rest
+      let rest = takes_all a (join s (batch_state b)) indexes batches (put w v y) placed.1 within.1 (ap (λ (m : Member). m.held) (put_own w v y) ∙ joins a s (w.members v).held b is) in
+      leaves_more a s index indexes b batches (entry ∷ []) (took_all indexes) w None y (take_is w index.0 index.1 q b None placed.0.1 placed.0.2 ∙ ap (put w v) taken) refl rest
   takes_all a s [] (b ∷ batches) w placed within is = absurd placed
-  takes_all a s (place ∷ places) [] w placed within is = absurd placed
+  takes_all a s (index ∷ indexes) [] w placed within is = absurd placed
 
-  takes_fronts : (refused : Use) (a s : State) (places : List (ℕ × ℕ)) (batches : List BatchData) (w : World) → ArePlaced w.pool places batches → AllByRecursion (λ b. b.moment ≤ far group v now) batches → AllByRecursion IsBatch batches
-      → (w.members v).held ≡ join (raised_to a now) s → Leaves a s places (map (cut_at refused) batches) [] w
+  takes_fronts : (refused : Use) (a s : State) (indexes : List (ℕ × ℕ)) (batches : List BatchData) (w : World) → ArePlaced w.pool indexes batches → AllByRecursion (λ b. b.moment ≤ far group v now) batches → AllByRecursion IsBatch batches
+      → (w.members v).held ≡ join (raised_to a now) s → Leaves a s indexes (map (cut_at refused) batches) [] w
   takes_fronts refused a s [] [] w placed within are is = leaves_none a s w is
-  takes_fronts refused a s (place ∷ places) (b ∷ batches) w placed within are is =
+  takes_fronts refused a s (index ∷ indexes) (b ∷ batches) w placed within are is =
       let q = placed.0.0 in
       let last = far group v now in
-      let entry = Took place.0 place.1 in
+      let entry = Took index.0 index.1 in
       let x = ticked (w.members v) now in
       let few = first_before refused b.uses (good_rises b.moment b.uses are.0.good) in
       let c = cut_at refused b in
@@ -222,30 +222,30 @@ module _ (group : ℕ → Terms) (v now : ℕ) where
       let same : front few.0 b ≡ c = ap (λ (us : List Use). record { moment = b.moment; uses = us }) few.1 in
       let taken : took last x entry q.was.told.uses b (Some few.0) ≡ y =
       ap (λ (test : Bool). if test then x else joined x q.was.told.uses (front few.0 b)) (le-ltb last b.moment within.0) ∙ ap (joined x q.was.told.uses) same in
-      let rest = takes_fronts refused a (join s (batch_state c)) places batches (put w v y) placed.1 within.1 are.1 (ap (λ (m : Member). m.held) (put_own w v y) ∙ joins a s (w.members v).held c is) in
-      leaves_more a s place places c (map (cut_at refused) batches) [] [] w (Some few.0) y (take_is w place.0 place.1 q b (Some few.0) placed.0.1 placed.0.2 ∙ ap (put w v) taken) (sym (append-nil x.log)) rest
+      let rest = takes_fronts refused a (join s (batch_state c)) indexes batches (put w v y) placed.1 within.1 are.1 (ap (λ (m : Member). m.held) (put_own w v y) ∙ joins a s (w.members v).held c is) in
+      leaves_more a s index indexes c (map (cut_at refused) batches) [] [] w (Some few.0) y (take_is w index.0 index.1 q b (Some few.0) placed.0.1 placed.0.2 ∙ ap (put w v) taken) (sym (append-nil x.log)) rest
   takes_fronts refused a s [] (b ∷ batches) w placed within are is = absurd placed
-  takes_fronts refused a s (place ∷ places) [] w placed within are is = absurd placed
+  takes_fronts refused a s (index ∷ indexes) [] w placed within are is = absurd placed
 
 pub record_takes_are_events : RecordTakesAreEvents
-record_takes_are_events group w v now places batches (Ok taken) y placed are h =
+record_takes_are_events group w v now indexes batches (Ok taken) y placed are h =
     let a = (w.members v).held in
     let x = ticked (w.members v) now in
     let ticks = put_own w v x in
-    let l = takes_all group v now a (state_of 0 []) places batches (put w v x) placed (all_within (state_of 0 []) batches (far group v now) h.0)
+    let l = takes_all group v now a (state_of 0 []) indexes batches (put w v x) placed (all_within (state_of 0 []) batches (far group v now) h.0)
     (ap (λ (m : Member). m.held) ticks ∙ sym (raised_once a now 0 (omega arith))) in
-    (l.events, inl l.are, (l.held ∙ sym h.1, l.log ∙ ap (λ (m : Member). m.log ++ took_all places) ticks))
-record_takes_are_events group w v now places batches (Err TooFarAhead) y placed are h =
+    (l.events, inl l.are, (l.held ∙ sym h.1, l.log ∙ ap (λ (m : Member). m.log ++ took_all indexes) ticks))
+record_takes_are_events group w v now indexes batches (Err TooFarAhead) y placed are h =
     let x = ticked (w.members v) now in
     let ticks = put_own w v x in
     ([], inr (h.0, refl), (ap (λ (m : Member). m.held) ticks ∙ sym h.1, ap (λ (m : Member). m.log) ticks ∙ sym (append-nil x.log)))
-record_takes_are_events group w v now places batches (Err OutOfMemory) y placed are h =
+record_takes_are_events group w v now indexes batches (Err OutOfMemory) y placed are h =
     let a = (w.members v).held in
     let x = ticked (w.members v) now in
     let ticks = put_own w v x in
     let part = h.1 in
     let r = join_all (state_of 0 []) batches in
-    let l = takes_fronts group v now part.refused a (state_of 0 []) places batches (put w v x) placed (all_within (state_of 0 []) batches (far group v now) h.0) are
+    let l = takes_fronts group v now part.refused a (state_of 0 []) indexes batches (put w v x) placed (all_within (state_of 0 []) batches (far group v now) h.0) are
     (ap (λ (m : Member). m.held) ticks ∙ sym (raised_once a now 0 (omega arith))) in
     let left = front_of r (join_all (state_of 0 []) (map (cut_at part.refused) batches)) part.front part.refused part.rest part.parts (all_front part.refused batches (state_of 0 []) (state_of 0 []) (nothing_front part.refused)) in
     (l.events, inl l.are, (l.held ∙ ap (join (raised_to a now)) left ∙ sym part.joined, l.log ∙ ap (λ (m : Member). m.log ++ []) ticks))

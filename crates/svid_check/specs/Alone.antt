@@ -61,7 +61,7 @@ module _ (t : Terms) where
 
   -- what a withdrawal answers
   abbrev pub withdrawal_alone : Alone → ℕ → List ℕ → ℕ → Bool → Result Use WithdrawFault
-  withdrawal_alone w now key exp refused = withdraw_answer t.setting.place (raised_to w.held now) key exp refused
+  withdrawal_alone w now key exp refused = withdraw_answer t.setting.validator_id (raised_to w.held now) key exp refused
 
   -- what a call leaves
   abbrev pub called : Alone → Call → Alone
@@ -91,7 +91,7 @@ ChecksAreCalls = (t : Terms) (w : Alone) (now : ℕ) (token : List ℕ) (answer 
 abbrev pub WithdrawalsAreCalls : Type 0
 WithdrawalsAreCalls = (t : Terms) (w : Alone) (now : ℕ) (key : List ℕ) (exp : ℕ) (answer : Result Use WithdrawFault)
     → let x = raised_to w.held now in
-    IsWithdrawal t.setting.place x.moment key exp answer
+    IsWithdrawal t.setting.validator_id x.moment key exp answer
     → (refused : Bool) × (withdrawal_alone t w now key exp refused ≡ answer) × ((called t w (Withdraw now key exp refused)).held ≡ gains x (withdrawn_in answer))
 
 -- with a tick

@@ -45,7 +45,7 @@ RecordTakesAreSteps = (t : Terms) (a b r : State) (now : ℕ) (batch : Bor Batch
 -- and a withdrawal
 abbrev pub WithdrawalsAreSteps : Type 0
 WithdrawalsAreSteps = (t : Terms) (a : State) (now : ℕ) (key : List ℕ) (exp : ℕ) (answer : Result Use WithdrawFault)
-    → IsWithdrawal t.setting.place (raised_to a now).moment key exp answer → RunsFrom t a (Withdraw now key exp ∷ []) (Withdrawn answer ∷ []) (gains (raised_to a now) (withdrawn_in answer))
+    → IsWithdrawal t.setting.validator_id (raised_to a now).moment key exp answer → RunsFrom t a (Withdraw now key exp ∷ []) (Withdrawn answer ∷ []) (gains (raised_to a now) (withdrawn_in answer))
 
 -- an answer to a summary is no event: of what was told it moves the moment alone
 abbrev pub AnswersTellMoments : Type 0

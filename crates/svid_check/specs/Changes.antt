@@ -28,15 +28,15 @@ accepted_in (Err refusal) = None
 abbrev pub settled : State → Result Accepted Refusal → State
 settled x answer = gains x (accepted_in answer)
 
--- the withdrawal of tokens with this key and expiry, made at this place and moment
+-- the withdrawal of tokens with this key and expiry, made at this validator ID and moment
 abbrev pub withdrawal : List ℕ → ℕ → List ℕ → ℕ → Use
-withdrawal place moment key exp = record { exp = exp; key = key; place = place; at = moment; withdrawn = true }
+withdrawal validator_id moment key exp = record { exp = exp; key = key; validator_id = validator_id; at = moment; withdrawn = true }
 
 -- what a call to withdraw answers, at the record's moment: the withdrawal or want of memory, unless the tokens have expired
 abbrev pub IsWithdrawal : List ℕ → ℕ → List ℕ → ℕ → Result Use WithdrawFault → Type 0
-IsWithdrawal place moment key exp (Ok used) = (moment < exp) × (used ≡ withdrawal place moment key exp)
-IsWithdrawal place moment key exp (Err withdraw.Expired) = exp ≤ moment
-IsWithdrawal place moment key exp (Err withdraw.OutOfMemory) = moment < exp
+IsWithdrawal validator_id moment key exp (Ok used) = (moment < exp) × (used ≡ withdrawal validator_id moment key exp)
+IsWithdrawal validator_id moment key exp (Err withdraw.Expired) = exp ≤ moment
+IsWithdrawal validator_id moment key exp (Err withdraw.OutOfMemory) = moment < exp
 
 -- what it adds: the withdrawal that it answers
 abbrev pub withdrawn_in : Result Use WithdrawFault → Option Use

@@ -23,7 +23,7 @@ or_claimed claimed None = if claimed then Some Replayed else None
 
 -- a member without the uses beside its record that have expired by a moment
 abbrev pub looked_at : MemberState → ℕ → MemberState
-looked_at m moment = record { beside = live m.beside moment; place = m.place; lasts = m.lasts; passed = m.passed; begun = m.begun; ready = m.ready; deaf = m.deaf }
+looked_at m moment = record { beside = live m.beside moment; validator_id = m.validator_id; lasts = m.lasts; passed = m.passed; begun = m.begun; ready = m.ready; deaf = m.deaf }
 
 -- a member after a look at the uses beside its record: those that have expired may be gone
 abbrev pub IsLooked : ℕ → MemberState → MemberState → Type 0

@@ -33,7 +33,7 @@ ChecksAreEvents = (group : ℕ → Terms) (w : World) (v now : ℕ) (token : Lis
 abbrev pub WithdrawalsAreEvents : Type 0
 WithdrawalsAreEvents = (group : ℕ → Terms) (w : World) (v now : ℕ) (key : List ℕ) (exp : ℕ) (answer : Result Use WithdrawFault)
     → let x = raised_to (w.members v).held now in
-    IsWithdrawal (group v).setting.place x.moment key exp answer
+    IsWithdrawal (group v).setting.validator_id x.moment key exp answer
     → (refused : Bool) × (withdrawal_at group w v now key exp refused ≡ answer) × (((happens group w (Withdraw v now key exp refused)).members v).held ≡ gains x (withdrawn_in answer))
 
 -- so is a tick
@@ -91,7 +91,7 @@ PiecesAreEvents = (group : ℕ → Terms) (w : World) (v most : ℕ) (before : O
     let after = happens group w (Piece v before most) in
     piece ≡ piece_of x.held before most → (after.members v ≡ x) × (after.pool ≡ w.pool ++ record { maker = v; was = x; content = Pieced piece } ∷ [])
 
--- a summary leaves a validator's record as it is, is posted, and stands in the log by its place
+-- a summary leaves a validator's record as it is, is posted, and stands in the log by its validator ID
 abbrev pub SumsAreEvents : Type 0
 SumsAreEvents = (group : ℕ → Terms) (w : World) (v : ℕ) (summary : SummaryData)
     → let x = w.members v in

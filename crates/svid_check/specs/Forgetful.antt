@@ -69,5 +69,5 @@ sum_and_go_back now token =
 
 -- nor does one with a summary and its answer
 abbrev pub AnswersAreForgotten : Type 0
-AnswersAreForgotten = (t : Terms) (now : ℕ) (token : List ℕ) (first : Accepted) → now < 2 ^ 64 → IsBytes 16 t.setting.place → AcceptsNew t now token first
+AnswersAreForgotten = (t : Terms) (now : ℕ) (token : List ℕ) (first : Accepted) → now < 2 ^ 64 → IsBytes 16 t.setting.validator_id → AcceptsNew t now token first
     → IsAnswerForgotten (happen_forgetful (λ v. t) start (sum_and_go_back now token)) 1 2 1 first.used

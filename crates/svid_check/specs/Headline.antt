@@ -193,11 +193,11 @@ abbrev pub ReportedWereAcceptedTwice : Type 0
 ReportedWereAcceptedTwice = (group : ℕ → Terms) (events : List Event) (v : ℕ) (key : List ℕ) → Contains (map (λ t. t.key) (report_of (member_after group events v))) key
     → (one : Use) × (other : Use) × (one ≢ other) × (one.key ≡ key) × (other.key ≡ key) × Contains (accepted group start events) one × Contains (accepted group start events) other
 
--- one signing input that was accepted at two places is reported wherever both uses were told, until it expires
-abbrev pub TwoPlacesAreReported : Type 0
-TwoPlacesAreReported = (group : ℕ → Terms) (events : List Event) (v : ℕ) (s other : Setting) (moment later : ℕ) (uses others : Uses) (token again : List ℕ) (a b : Use)
+-- one signing input that was accepted at two validator IDs is reported wherever both uses were told, until it expires
+abbrev pub TwoValidatorsAreReported : Type 0
+TwoValidatorsAreReported = (group : ℕ → Terms) (events : List Event) (v : ℕ) (s other : Setting) (moment later : ℕ) (uses others : Uses) (token again : List ℕ) (a b : Use)
     → let x = member_after group events v in
-    Accepts s moment uses token a → Accepts other later others again b → input_of token ≡ input_of again → a.place ≢ b.place
+    Accepts s moment uses token a → Accepts other later others again b → input_of token ≡ input_of again → a.validator_id ≢ b.validator_id
     → IsTrue (holds x.told.uses a) → IsTrue (holds x.told.uses b) → x.told.greatest < a.exp
     → (listed : Twice) × Contains (report_of x) listed × (listed.key ≡ a.key) × Contains listed.uses a × Contains listed.uses b
 
@@ -216,9 +216,9 @@ RestartsPutBack = (group : ℕ → Terms) (events : List Event) (v k : ℕ) (s :
 
 -- Summaries and answers.
 
--- the places of a group have 16 bytes
-abbrev pub HasPlaces : (ℕ → Terms) → Type 0
-HasPlaces group = (v : ℕ) → IsBytes 16 (group v).setting.place
+-- the validator IDs of a group have 16 bytes
+abbrev pub HasIds : (ℕ → Terms) → Type 0
+HasIds group = (v : ℕ) → IsBytes 16 (group v).setting.validator_id
 
 -- the moment of an event is one, and so is the expiry of a withdrawal, whose key has 32 bytes
 abbrev pub IsEventInRange : Event → Type 0
@@ -239,7 +239,7 @@ pub record IsClash (s t : Uses) : Type 0 where
 -- a validator that made a summary and took an answer to it whole was told all uses that the answerer had been told by then; or else some bucket of its own, when it made the summary, and of the answerer, when it answered, had two texts of one digest
 abbrev pub AnswersTellAll : Type 0
 AnswersTellAll = (group : ℕ → Terms) (events : List Event) (v j k : ℕ) (answer summary : Posting) (parts : List BatchData) (s : SummaryData)
-    → HasPlaces group → AllByRecursion IsEventInRange events
+    → HasIds group → AllByRecursion IsEventInRange events
     → let w = happen group start events in
     slice_get w.pool k ≡ Some summary → summary.content ≡ Summed s → Contains (w.members v).log (Made k)
     → slice_get w.pool j ≡ Some answer → answer.content ≡ Answered k parts → HasTaken (w.members v).log j answer

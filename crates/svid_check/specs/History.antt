@@ -18,7 +18,7 @@ every_kind now token key exp renewal =
 -- what is to be seen of these: validator 0 was told the acceptance and the withdrawal, and noted what it took; five messages and a save are there; validator 1 is as it was saved, under the renewal
 pub record AllHappened (t : Terms) (now : ℕ) (first : Accepted) (key : List ℕ) (exp : ℕ) (renewal : Renewal) (w : World) : Type 0 where
   pub accepted : IsTrue (holds (w.members 0).told.uses first.used)
-  pub withdrawn : IsTrue (holds (w.members 0).told.uses (withdrawal t.setting.place now key exp))
+  pub withdrawn : IsTrue (holds (w.members 0).told.uses (withdrawal t.setting.validator_id now key exp))
   pub taken : Contains (w.members 0).log (Took 0 0)
   pub posted : length w.pool ≡ 5
   pub saved : length w.saves ≡ 1

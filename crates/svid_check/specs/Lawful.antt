@@ -38,6 +38,6 @@ abbrev pub IsOfItsInput : Type 0
 IsOfItsInput = (s other : Setting) (moment later : ℕ) (uses others : Uses) (token again : List ℕ) (u v : Use)
     → Accepts s moment uses token u → Accepts other later others again v → input_of token ≡ input_of again → (u.key ≡ v.key) × (u.exp ≡ v.exp)
 
--- an accepted use has the ranges of its fields, where the place and the moment have theirs
+-- an accepted use has the ranges of its fields, where the validator ID and the moment have theirs
 abbrev pub IsInRange : Type 0
-IsInRange = (s : Setting) (moment : ℕ) (uses : Uses) (token : List ℕ) (u : Use) → Accepts s moment uses token u → IsBytes 16 s.place → moment < 2 ^ 64 → IsUse u
+IsInRange = (s : Setting) (moment : ℕ) (uses : Uses) (token : List ℕ) (u : Use) → Accepts s moment uses token u → IsBytes 16 s.validator_id → moment < 2 ^ 64 → IsUse u

@@ -22,7 +22,7 @@ IsPart pool k p b = (q : Posting) × (slice_get pool k ≡ Some q) × (slice_get
 -- the batches are these parts, each with the number of its posting and its own, one for each in their order
 abbrev pub ArePlaced : List Posting → List (ℕ × ℕ) → List BatchData → Type 0
 ArePlaced pool [] [] = Unit {0}
-ArePlaced pool (place ∷ places) (b ∷ batches) = IsPart pool place.0 place.1 b × ArePlaced pool places batches
+ArePlaced pool (index ∷ indexes) (b ∷ batches) = IsPart pool index.0 index.1 b × ArePlaced pool indexes batches
 ArePlaced pool _ _ = ⊥
 
 -- if the call takes a batch, that was posted
@@ -68,23 +68,23 @@ RunsAreEvents = (group : ℕ → Terms) (before : List Event) (v : ℕ) (calls :
 -- the entries of these parts
 abbrev pub took_all : List (ℕ × ℕ) → List Entry
 took_all [] = []
-took_all (place ∷ places) = Took place.0 place.1 ∷ took_all places
+took_all (index ∷ indexes) = Took index.0 index.1 ∷ took_all indexes
 
 -- what taking a record adds to a log: an entry for each of its parts, where it was taken
 abbrev pub whole_entries : List (ℕ × ℕ) → Result (Unit {0}) TakeFault → List Entry
-whole_entries places (Ok taken) = took_all places
-whole_entries places (Err fault) = []
+whole_entries indexes (Ok taken) = took_all indexes
+whole_entries indexes (Err fault) = []
 
 -- the events are takes of these parts by validator v at this moment, one for each in their order
 abbrev pub AreTakes : ℕ → ℕ → List (ℕ × ℕ) → List Event → Type 0
 AreTakes v now [] [] = Unit {0}
-AreTakes v now (place ∷ places) (e ∷ events) = ((refused : Option ℕ) × (e ≡ Take v now place.0 place.1 refused)) × AreTakes v now places events
+AreTakes v now (index ∷ indexes) (e ∷ events) = ((refused : Option ℕ) × (e ≡ Take v now index.0 index.1 refused)) × AreTakes v now indexes events
 AreTakes v now _ _ = ⊥
 
 -- a validator that takes a record, which batches that were posted come to, ticks and takes each of them, for some memory that was refused; or it ticks, where the record is past the horizon
 abbrev pub RecordTakesAreEvents : Type 0
-RecordTakesAreEvents = (group : ℕ → Terms) (w : World) (v now : ℕ) (places : List (ℕ × ℕ)) (batches : List BatchData) (answer : Result (Unit {0}) TakeFault) (y : State)
+RecordTakesAreEvents = (group : ℕ → Terms) (w : World) (v now : ℕ) (indexes : List (ℕ × ℕ)) (batches : List BatchData) (answer : Result (Unit {0}) TakeFault) (y : State)
     → let r = join_all (state_of 0 []) batches in
-    ArePlaced w.pool places batches → AllByRecursion IsBatch batches → TakesRecord (raised_to (w.members v).held now) (far group v now) r answer y
-    → (takes : List Event) × (AreTakes v now places takes ⊎ ((far group v now < r.moment) × (takes ≡ [])))
-    × (let x = (happen group w (Tick v now ∷ takes)).members v in (x.held ≡ y) × (x.log ≡ (w.members v).log ++ whole_entries places answer))
+    ArePlaced w.pool indexes batches → AllByRecursion IsBatch batches → TakesRecord (raised_to (w.members v).held now) (far group v now) r answer y
+    → (takes : List Event) × (AreTakes v now indexes takes ⊎ ((far group v now < r.moment) × (takes ≡ [])))
+    × (let x = (happen group w (Tick v now ∷ takes)).members v in (x.held ≡ y) × (x.log ≡ (w.members v).log ++ whole_entries indexes answer))

@@ -33,7 +33,7 @@ abbrev pub Step : Terms → Told → Event → Answer → Told → Type 0
 Step t x (Check now token) (Checked answer) y = IsAnswered t.setting (tell_now x now) token.now answer × (y ≡ tell_use (tell_now x now) answer)
 Step t x (Tick now) Ticked y = y ≡ tell_now x now
 Step t x (Take now batch) (Taken answer) y = TellsBatch (tell_now x now) (horizon now t.ahead) batch.now answer y
-Step t x (Withdraw now key exp) (Withdrawn answer) y = IsWithdrawal t.setting.place (tell_now x now).greatest key exp answer × (y ≡ tell_one (tell_now x now) (withdrawn_in answer))
+Step t x (Withdraw now key exp) (Withdrawn answer) y = IsWithdrawal t.setting.validator_id (tell_now x now).greatest key exp answer × (y ≡ tell_one (tell_now x now) (withdrawn_in answer))
 Step t x _ _ y = ⊥
 
 -- it may give the events these answers, one for each in their order, and then was told y

@@ -41,23 +41,23 @@ module _ (group : ℕ → Terms) (v : ℕ) where
 
 -- so a record is saved, from what it was at the first piece to what it is at the last
 abbrev pub PiecesAreSaved : Type 0
-PiecesAreSaved = (group : ℕ → Terms) (w z : World) (v : ℕ) (places : List ℕ) (pieces : List BatchData)
-    → IsSavedIn group v w None places pieces z → IsSaved (w.members v).held None pieces (z.members v).held
+PiecesAreSaved = (group : ℕ → Terms) (w z : World) (v : ℕ) (indexes : List ℕ) (pieces : List BatchData)
+    → IsSavedIn group v w None indexes pieces z → IsSaved (w.members v).held None pieces (z.members v).held
 
 -- validator v takes these pieces, each at its own moment
 abbrev pub takes_of : ℕ → List ℕ → List BatchData → List Event
-takes_of v (k ∷ places) (b ∷ pieces) = Take v b.moment k 0 None ∷ takes_of v places pieces
+takes_of v (k ∷ indexes) (b ∷ pieces) = Take v b.moment k 0 None ∷ takes_of v indexes pieces
 takes_of v _ _ = []
 
 -- the entries of these pieces
 abbrev pub took_pieces : List ℕ → List Entry
 took_pieces [] = []
-took_pieces (k ∷ places) = Took k 0 ∷ took_pieces places
+took_pieces (k ∷ indexes) = Took k 0 ∷ took_pieces indexes
 
 -- a restart from pieces, whenever it comes, is a restart from a save of when they began, and a take of each: it leaves the record that the pieces give, and the log of when they began with an entry for each
 abbrev pub RestartsFromPieces : Type 0
-RestartsFromPieces = (group : ℕ → Terms) (w z : World) (v : ℕ) (places : List ℕ) (pieces : List BatchData) (later : List Event)
+RestartsFromPieces = (group : ℕ → Terms) (w z : World) (v : ℕ) (indexes : List ℕ) (pieces : List BatchData) (later : List Event)
     → (z.members v).held.moment < 2 ^ 64
-    → IsSavedIn group v (happens group w (Save v)) None places pieces z
-    → let x = (happen group (happen group z later) (Restart v (length w.saves) ∷ takes_of v places pieces)).members v in
-    (x.held ≡ join_all (state_of 0 []) pieces) × (x.log ≡ (w.members v).log ++ took_pieces places)
+    → IsSavedIn group v (happens group w (Save v)) None indexes pieces z
+    → let x = (happen group (happen group z later) (Restart v (length w.saves) ∷ takes_of v indexes pieces)).members v in
+    (x.held ≡ join_all (state_of 0 []) pieces) × (x.log ≡ (w.members v).log ++ took_pieces indexes)

@@ -16,7 +16,7 @@ Says = KeyData → Alg → List ℕ → List ℕ → Bool
 -- what a check depends on, beside the token, the moment and the uses
 pub record Setting : Type 0 where
   pub own : List (List ℕ)
-  pub place : List ℕ
+  pub validator_id : List ℕ
   pub bundles : List Bundle
   pub says : Says
   pub longest : Option ℕ
@@ -26,15 +26,15 @@ pub record Renewal : Type 0 where
   pub bundles : List Bundle
   pub says : Says
 
--- a setting as it is since the last renewal, if there was one: the audiences, the place and the longest life stay for good
+-- a setting as it is since the last renewal, if there was one: the audiences, the validator ID and the longest life stay for good
 abbrev pub renewed : Setting → Option Renewal → Setting
 renewed s None = s
-renewed s (Some r) = record { own = s.own; place = s.place; bundles = r.bundles; says = r.says; longest = s.longest }
+renewed s (Some r) = record { own = s.own; validator_id = s.validator_id; bundles = r.bundles; says = r.says; longest = s.longest }
 
 -- what a validator is to a contract; its verifier is a V
 pub record Held (V : Type 0) : Type 0 where
   pub own : List (List ℕ)
-  pub place : List ℕ
+  pub validator_id : List ℕ
   pub ahead : ℕ
   pub bundles : List Bundle
   pub verifier : V
@@ -43,7 +43,7 @@ pub record Held (V : Type 0) : Type 0 where
 
 -- the setting of a validator, with what some verifier says
 abbrev pub setting_by : {V : Type 0} → Says → Held V → Setting
-setting_by says held = record { own = held.own; place = held.place; bundles = held.bundles; says = says; longest = held.longest }
+setting_by says held = record { own = held.own; validator_id = held.validator_id; bundles = held.bundles; says = says; longest = held.longest }
 
 -- the setting of a validator by its own verifier, where this is what verifiers say
 abbrev pub setting_of : {V : Type 0} → (V → Says) → Held V → Setting
@@ -51,15 +51,15 @@ setting_of says held = setting_by (says held.verifier) held
 
 -- the setting of what a validator is given, with what some verifier says
 abbrev pub given_setting : Says → Given → Setting
-given_setting says given = record { own = map string_bytes given.own.items; place = given.place; bundles = given.bundles; says = says; longest = given.longest }
+given_setting says given = record { own = map string_bytes given.own.items; validator_id = given.validator_id; bundles = given.bundles; says = says; longest = given.longest }
 
 -- the same validator with another record
 abbrev pub with_state : {V : Type 0} → Held V → State → Held V
-with_state held state = record { own = held.own; place = held.place; ahead = held.ahead; bundles = held.bundles; verifier = held.verifier; longest = held.longest; state = state }
+with_state held state = record { own = held.own; validator_id = held.validator_id; ahead = held.ahead; bundles = held.bundles; verifier = held.verifier; longest = held.longest; state = state }
 
 -- the same validator with other trust bundles
 abbrev pub with_bundles : {V : Type 0} → Held V → List Bundle → Held V
-with_bundles held bundles = record { own = held.own; place = held.place; ahead = held.ahead; bundles = bundles; verifier = held.verifier; longest = held.longest; state = held.state }
+with_bundles held bundles = record { own = held.own; validator_id = held.validator_id; ahead = held.ahead; bundles = bundles; verifier = held.verifier; longest = held.longest; state = held.state }
 
 -- how a key is stored
 abbrev pub key_code : Coded KeyData
@@ -76,6 +76,6 @@ abbrev pub held_code : {V : Type 0} → Coded V → Coded (Held V)
 held_code {V} verifier =
     code_by (List (List ℕ) × (List ℕ × (ℕ × (List Bundle × (V × (Option ℕ × State))))))
     (coded× (coded_list (coded_list coded_ℕ)) (coded× (coded_list coded_ℕ) (coded× coded_ℕ (coded× (coded_list bundle_code) (coded× verifier (coded× (coded_option coded_ℕ) state_code))))))
-    (λ h. (h.own, (h.place, (h.ahead, (h.bundles, (h.verifier, (h.longest, h.state)))))))
-    (λ p. record { own = p.0; place = p.1.0; ahead = p.1.1.0; bundles = p.1.1.1.0; verifier = p.1.1.1.1.0; longest = p.1.1.1.1.1.0; state = p.1.1.1.1.1.1 })
+    (λ h. (h.own, (h.validator_id, (h.ahead, (h.bundles, (h.verifier, (h.longest, h.state)))))))
+    (λ p. record { own = p.0; validator_id = p.1.0; ahead = p.1.1.0; bundles = p.1.1.1.0; verifier = p.1.1.1.1.0; longest = p.1.1.1.1.1.0; state = p.1.1.1.1.1.1 })
     (λ _. refl)

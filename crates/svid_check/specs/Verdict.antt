@@ -77,7 +77,7 @@ verdict_rows s moment uses token = token_rows token ++ rows_if_said (setting_row
 
 -- the use that an acceptance adds
 abbrev pub use_of : Setting → ℕ → Said → Use
-use_of s moment t = record { exp = t.exp; key = key_of t; place = s.place; at = moment; withdrawn = false }
+use_of s moment t = record { exp = t.exp; key = key_of t; validator_id = s.validator_id; at = moment; withdrawn = false }
 
 -- an acceptance: the ID of the subject, and the use
 abbrev pub acceptance : Setting → ℕ → Said → Accepted
@@ -97,7 +97,7 @@ again_rows moment uses key exp = (Expired, not (nat_lt moment exp)) ∷ record_r
 
 -- an acceptance, made at another moment
 abbrev pub made_at : ℕ → Accepted → Accepted
-made_at moment a = record { id = a.id; used = record { exp = a.used.exp; key = a.used.key; place = a.used.place; at = moment; withdrawn = a.used.withdrawn } }
+made_at moment a = record { id = a.id; used = record { exp = a.used.exp; key = a.used.key; validator_id = a.used.validator_id; at = moment; withdrawn = a.used.withdrawn } }
 
 -- once a token was accepted, its use tells each later verdict on it, while the setting stays
 abbrev pub AcceptedAreJudgedAgain : Type 0

@@ -11,7 +11,7 @@ use Rattle.svid_check.specs.Verdict.{keys_for, verdict}
 
 -- the same setting with another verifier
 abbrev pub with_says : Setting → Says → Setting
-with_says s says = record { own = s.own; place = s.place; bundles = s.bundles; says = says; longest = s.longest }
+with_says s says = record { own = s.own; validator_id = s.validator_id; bundles = s.bundles; says = says; longest = s.longest }
 
 -- of a token's candidates, the table has the questions of just those that the verifier says yes to
 abbrev pub HasAnswers : Setting → Says → List (List ℕ) → List ℕ → Type 0

@@ -118,7 +118,7 @@ check_answer s x token refused = if refused then Err (form_or_memory (first_row 
 
 -- what a withdrawal of a raised record answers
 abbrev pub withdraw_answer : List ℕ → State → List ℕ → ℕ → Bool → Result Use WithdrawFault
-withdraw_answer place x key exp refused = if nat_lt x.moment exp then (if refused then Err withdraw.OutOfMemory else Ok (withdrawal place x.moment key exp)) else Err withdraw.Expired
+withdraw_answer validator_id x key exp refused = if nat_lt x.moment exp then (if refused then Err withdraw.OutOfMemory else Ok (withdrawal validator_id x.moment key exp)) else Err withdraw.Expired
 
 -- a use is added and told, or none
 abbrev pub gained : Member → Option Use → Member
@@ -228,7 +228,7 @@ module _ (group : ℕ → Terms) where
 
   -- what validator v answers to a withdrawal
   abbrev pub withdrawal_at : World → ℕ → ℕ → List ℕ → ℕ → Bool → Result Use WithdrawFault
-  withdrawal_at w v now key exp refused = withdraw_answer (group v).setting.place (raised_to (w.members v).held now) key exp refused
+  withdrawal_at w v now key exp refused = withdraw_answer (group v).setting.validator_id (raised_to (w.members v).held now) key exp refused
 
   -- what an event leaves; one that names a part or a summary that is not there, or a save that is not there or another's, leaves all as it was
   abbrev pub happens : World → Event → World

@@ -33,9 +33,9 @@ impl<V: Verifier, S: UseStore> Validator<V, S> {
         beside: &[Use],
     ) -> Result<Member<C>, AllocError>
         requires { C.content store ≡ no_uses }
-        ensures { IfOk result (λ member. member ≡ restored self.now.place lasts mark ready beside.now) }
+        ensures { IfOk result (λ member. member ≡ restored self.now.validator_id lasts mark ready beside.now) }
     {
-        Member::restore(store, self.given.place, lasts, mark, ready, beside)
+        Member::restore(store, self.given.validator_id, lasts, mark, ready, beside)
     }
 
     /// Reads the value of the log with this number at a moment, in seconds, and writes the fate of each of its uses: as

@@ -4,7 +4,7 @@ use svid_keys::Bundles;
 #[derive(Drop)]
 pub(crate) struct Given {
     pub(crate) own: Vec<String>,
-    pub(crate) place: [u8; 16],
+    pub(crate) validator_id: [u8; 16],
     pub(crate) ahead: u64,
     pub(crate) bundles: Bundles,
     pub(crate) longest: Option<u64>,

@@ -7,7 +7,7 @@ ghost use Rattle.svid_check.specs.Alone.{AcceptsOnce, AnswersAreCalls, ChecksAre
 ghost use Rattle.svid_check.specs.Changes.{RecordTakesAreTakes};
 ghost use Rattle.svid_check.specs.Events.{AnswersAreEvents, ChecksAreEvents, JudgmentsAgainAreTicks, JudgmentsAreTicks, PiecesAreEvents, RenewalsAreEvents, SavesAreEvents, SendsAreEvents, SumsAreEvents, TakesAreEvents, TicksAreEvents, WithdrawalsAreEvents};
 ghost use Rattle.svid_check.specs.Forgetful.{AnswersAreForgotten, SendsAreForgotten};
-ghost use Rattle.svid_check.specs.Headline.{AcceptanceGoesAlong, AcceptanceTells, AcceptedIsRefused, AnswersTellAll, ChainsTell, ChecksAreVerdicts, EqualTellings, RecordsAreTold, ReportedWereAcceptedTwice, ReportsAreExact, ReportsAreWhole, RestartsAbsorb, RestartsPutBack, SendsMakeEqual, SendsTellAll, ToldIsRefused, ToldWereAccepted, ToldWereWithdrawn, TwoPlacesAreReported, WithMemoryVerdicts, WithdrawnAreRefused};
+ghost use Rattle.svid_check.specs.Headline.{AcceptanceGoesAlong, AcceptanceTells, AcceptedIsRefused, AnswersTellAll, ChainsTell, ChecksAreVerdicts, EqualTellings, RecordsAreTold, ReportedWereAcceptedTwice, ReportsAreExact, ReportsAreWhole, RestartsAbsorb, RestartsPutBack, SendsMakeEqual, SendsTellAll, ToldIsRefused, ToldWereAccepted, ToldWereWithdrawn, TwoValidatorsAreReported, WithMemoryVerdicts, WithdrawnAreRefused};
 ghost use Rattle.svid_check.specs.History.{EveryKindHappens};
 ghost use Rattle.svid_check.specs.Lawful.{IsAlive, IsFresh, IsInRange, IsMadeNow, IsOfItsInput, IsUsed};
 ghost use Rattle.svid_check.specs.RunEvents.{RecordTakesAreEvents, RunsAreEvents};
@@ -151,14 +151,14 @@ pub fn withdrawn_tokens_are_refused()
 /// A report lists the keys of which two different uses were told that are live, with all of them, and
 /// no withdrawal; each use that was told was accepted by a check of the group, and each withdrawal was
 /// made by a validator of it; and one signing input that was accepted at
-/// two places is reported wherever both uses were told, until it expires.
+/// two validator IDs is reported wherever both uses were told, until it expires.
 pub fn reports_are_exact()
     ensures exact { ReportsAreExact }
     ensures whole { ReportsAreWhole }
     ensures accepted { ToldWereAccepted }
     ensures withdrawn { ToldWereWithdrawn }
     ensures twice { ReportedWereAcceptedTwice }
-    ensures places { TwoPlacesAreReported }
+    ensures validators { TwoValidatorsAreReported }
 {}
 
 /// A new record that absorbs all parts of a saved record is that record; and a restart puts back that
@@ -170,7 +170,7 @@ pub fn restarts_absorb()
 
 /// A validator that made a summary and took all parts of an answer to it was told all uses that the
 /// answerer had been told by then; or else some bucket of its own, when it made the summary, and of the
-/// answerer, when it answered, had two texts of one digest. Places have 16 bytes, the keys of withdrawals
+/// answerer, when it answered, had two texts of one digest. Validator IDs have 16 bytes, the keys of withdrawals
 /// 32, and moments and their expiries are below 2^64.
 pub fn answers_tell_all()
     ensures { AnswersTellAll }

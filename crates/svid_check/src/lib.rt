@@ -1,6 +1,6 @@
 //! The validator of JWT-SVIDs: it accepts a token, or names the first of 25 refusals.
 //!
-//! A [`Validator`] is given its own audiences, its place, trust bundles, a verifier of signatures and
+//! A [`Validator`] is given its own audiences, its validator ID, trust bundles, a verifier of signatures and
 //! the record of the tokens that were used or withdrawn. [`Validator::check`] answers for a token at a moment that
 //! is handed in: no clock is looked at. An accepted token is added to the record: until it expires it is
 //! then refused as `Replayed`, or as `Withdrawn` while the record has a withdrawal of it, and afterwards
@@ -19,7 +19,7 @@
 //! let bundles = Bundles::read(alloc, bundles_json)?;
 //! let verifier = TableVerifier::read(alloc, table_text)?;
 //! let record = Record::new(IndexedUses::new(alloc));
-//! let mut validator = Validator::new(alloc, audiences, place, 10, bundles, verifier, record, None);
+//! let mut validator = Validator::new(alloc, audiences, validator ID, 10, bundles, verifier, record, None);
 //! match validator.check(now, token) {
 //!     Ok(accepted) => println!(rt; "{}", accepted.id.as_str())?,
 //!     Err(refusal) => println!(rt; "{refusal}")?,

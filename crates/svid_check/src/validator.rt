@@ -17,7 +17,7 @@ use svid_keys::{Bundles, Verifier};
 use svid_replay::{Record, Use, UseStore};
 use svid_token::{Claims, Refusal};
 
-/// What checks tokens: its own audiences, its place, how far ahead a message may lie, trust bundles, a
+/// What checks tokens: its own audiences, its validator ID, how far ahead a message may lie, trust bundles, a
 /// verifier of signatures, how long a token may last, and the record of the tokens that it knows to have
 /// been used or withdrawn.
 ///
@@ -40,7 +40,7 @@ impl<V: Verifier, S: UseStore> Model for Validator<V, S> {
 
     ghost view = { λ v. record {
       own = map string_bytes v.given.own.items;
-      place = v.given.place;
+      validator_id = v.given.validator_id;
       ahead = v.given.ahead;
       bundles = v.given.bundles;
       verifier = v.verifier;
@@ -52,27 +52,27 @@ impl<V: Verifier, S: UseStore> Model for Validator<V, S> {
 impl<V: Verifier, S: UseStore> Validator<V, S> {
     /// A validator that begins with a record. No memory is taken.
     ///
-    /// `own` are the audiences that it answers to, `place` tells it from every other validator that
+    /// `own` are the audiences that it answers to, `validator_id` tells it from every other validator that
     /// shares its record, and `ahead` is how many seconds the moment of a message may lie ahead of its
     /// own. Where `longest` is there, a token is refused that expires more than so many seconds past
     /// the moment at which it is judged. Later calls take their memory from `alloc`.
     pub fn new(
         alloc: Global,
         own: Vec<String>,
-        place: [u8; 16],
+        validator_id: [u8; 16],
         ahead: u64,
         bundles: Bundles,
         verifier: V,
         replay: Record<S>,
         longest: Option<u64>,
     ) -> Self
-        ensures { result ≡ record { own = map string_bytes own.items; place = place; ahead = ahead; bundles = bundles; verifier = verifier; longest = longest; state = replay } }
+        ensures { result ≡ record { own = map string_bytes own.items; validator_id = validator_id; ahead = ahead; bundles = bundles; verifier = verifier; longest = longest; state = replay } }
     {
         Validator {
             alloc,
             given: Given {
                 own,
-                place,
+                validator_id,
                 ahead,
                 bundles,
                 longest,
@@ -207,7 +207,7 @@ fn judge<V: Verifier, S: UseStore>(
     let used = Use {
         exp: reading.claims.exp,
         key,
-        place: given.place,
+        validator_id: given.validator_id,
         at: replay.moment(),
         withdrawn: false,
     };

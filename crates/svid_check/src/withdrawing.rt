@@ -20,10 +20,10 @@ impl<V: Verifier, S: UseStore> Validator<V, S> {
     /// that moment. Where memory is refused, only the raise stands. A withdrawal that the record has
     /// already always succeeds.
     pub fn withdraw(&mut self, now: u64, key: [u8; 32], exp: u64) -> Result<Use, WithdrawFault>
-        ensures answer { IsWithdrawal self.old.place (raised_to self.old.state now).moment key exp result }
+        ensures answer { IsWithdrawal self.old.validator_id (raised_to self.old.state now).moment key exp result }
         ensures state { self.new ≡ with_state self.old (gains (raised_to self.old.state now) (withdrawn_in result)) }
         ensures held { let x = raised_to self.old.state now in
-            IsTrue (holds x.uses (withdrawal self.old.place x.moment key exp)) → result ≢ Err OutOfMemory }
+            IsTrue (holds x.uses (withdrawal self.old.validator_id x.moment key exp)) → result ≢ Err OutOfMemory }
     {
         self.tick(now);
         let moment = self.replay.moment();
@@ -33,7 +33,7 @@ impl<V: Verifier, S: UseStore> Validator<V, S> {
         let used = Use {
             exp,
             key,
-            place: self.given.place,
+            validator_id: self.given.validator_id,
             at: moment,
             withdrawn: true,
         };

@@ -11,7 +11,7 @@ use Rattle.svid_check.specs.Runs.{Terms}
 use Rattle.svid_check.specs.Saves.{piece_of}
 use Rattle.svid_check.specs.Setting.{Renewal}
 use Rattle.svid_check.specs.World.{Answer, Answered, Check, Content, Entry, Event, Made, Member, OldSend, Piece, Pieced, Posting, Renew, Restart, Save, Saved, Send, Sent, Sum, Summed, Take, Tick, Took, Withdraw, World, answer_at, answer_content, answer_posting, answer_summary, checked, far, front, happens, has_withdrawal, joined, logged, old_parts_of, parts_in, post, put, restart, take_part, take_posting, ticked, took, with_renewal, withdrawal_at, withdrew}
-use Rattle.svid_check.proofs.PlacesLemmas.{later_place, put_own}
+use Rattle.svid_check.proofs.IndexesLemmas.{later_index, put_own}
 
 -- whose event it is
 abbrev pub who : Event → ℕ
@@ -72,7 +72,7 @@ module _ (w : World) (v : ℕ) where
     others = h.others;
     saves = h.saves;
     renewal = h.renewal;
-    pool = λ k q at. later_place after.pool (record { maker = v; was = x; content = content }) k q (h.pool k q at);
+    pool = λ k q at. later_index after.pool (record { maker = v; was = x; content = content }) k q (h.pool k q at);
   }
 
   part_changes : (limit : ℕ) (x : Member) (entry : Entry) (refused : Option ℕ) (q : Posting) (b : Option BatchData) → x.renewal ≡ (w.members v).renewal → Is (take_part w v limit x entry refused q b)

@@ -21,7 +21,7 @@ use Rattle.svid_check.specs.World.{Answer, Check, Member, OldSend, Piece, Renew,
 use Rattle.svid_check.proofs.AnswersLemmas.{accepted_is}
 use Rattle.svid_check.proofs.HistoryLemmas.{every_kind_happens as every_call_happens}
 use Rattle.svid_check.proofs.LawfulLemmas.{alive, is_accepted, is_used, made_now}
-use Rattle.svid_check.proofs.PlacesLemmas.{put_own}
+use Rattle.svid_check.proofs.IndexesLemmas.{put_own}
 use Rattle.svid_log.specs.declared.fate.Fate.TheVariants.{First}
 use Rattle.svid_log.specs.Groups as log
 use Rattle.svid_log.specs.Steps.{counts, fate_at, is_early, reached}
@@ -88,7 +88,7 @@ module _ (now far : ℕ) (c : Use) (h : IsNewClaim now c) where
       (none_of_key (live no_uses y.moment) c.key (λ u held same. true≢false (sym (live_is_held no_uses y.moment u held) ∙ no_uses_hold_none u)))
 
 -- an acceptance by a new validator is such a claim
-new_claim : (t : Terms) (now : ℕ) (token : List ℕ) (a : Accepted) → AcceptsNew t now token a → IsNewClaim now a.used × (a.used.place ≡ t.setting.place)
+new_claim : (t : Terms) (now : ℕ) (token : List ℕ) (a : Accepted) → AcceptsNew t now token a → IsNewClaim now a.used × (a.used.validator_id ≡ t.setting.validator_id)
 new_claim t now token a is =
     let x = new_at now in
     let accepts : verdicts.Accepts t.setting x.moment x.uses token a.used = accepted_is t.setting x token false a is in (
@@ -97,11 +97,11 @@ new_claim t now token a is =
         live = alive t.setting x.moment x.uses token a.used accepts;
         claims = is_used t.setting x.moment x.uses token a.used accepts;
       },
-      sym (ap (λ (u : Use). u.place) (is_accepted t.setting x.moment x.uses token a.used accepts).is_used),
+      sym (ap (λ (u : Use). u.validator_id) (is_accepted t.setting x.moment x.uses token a.used accepts).is_used),
     )
 
 module _ (group : ℕ → Terms) where
-  new_accepts : (w : World) (v now : ℕ) (c : Use) → IsNewClaim now c → c.place ≡ (group v).setting.place → w.log ≡ c ∷ [] → w.asides v ≡ aside_of log.new_reader
+  new_accepts : (w : World) (v now : ℕ) (c : Use) → IsNewClaim now c → c.validator_id ≡ (group v).setting.validator_id → w.log ≡ c ∷ [] → w.asides v ≡ aside_of log.new_reader
       → (w.group.members v).held ≡ new_at now → Accepts group w v now c
   new_accepts w v now c h own log_is aside held = record {
     next = ap (λ (l : List Use). slice_get l (w.asides v).read) log_is ∙ ap (λ (a : Aside). slice_get (c ∷ []) a.read) aside;

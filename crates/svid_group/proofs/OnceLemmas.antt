@@ -18,7 +18,7 @@ use Rattle.svid_log.specs.Groups as log
 use Rattle.svid_log.specs.Once.{AllGone, IsOwnClaim}
 use Rattle.svid_log.proofs.FirstsLemmas as firsts
 use Rattle.svid_log.proofs.GroupsLemmas as groups
-use Rattle.svid_group.specs.Once.{AcceptedIsFirst, AcceptedIsHeld, AcceptedIsUnrefused, AcceptedOnce, LaterInLogIsPast, OneUseOfAKey, OnlyClaimIsAccepted, OwnIsAccepted, PlaceIsAcceptedOnce}
+use Rattle.svid_group.specs.Once.{AcceptedIsFirst, AcceptedIsHeld, AcceptedIsUnrefused, AcceptedOnce, LaterInLogIsPast, OneUseOfAKey, OnlyClaimIsAccepted, OwnIsAccepted, PositionIsAcceptedOnce}
 use Rattle.svid_group.specs.World.{Accepts, Event, Read, World, as_readers, as_terms, gain_by, happen, happens, passed, read_next, start, told_by}
 use Rattle.svid_group.proofs.ReadersLemmas.{Leads, leads_to, read_readers}
 use Rattle.svid_group.proofs.StandsLemmas.{happens_whole, is_whole}
@@ -64,14 +64,14 @@ module _ (group : ℕ → Terms) (before between : List Event) (v now : ℕ) whe
   both_carried P h = subst (λ (z : log.World). P z (as_readers other_world)) (sym first.leads) (subst (P one_group) (sym other_leads) h)
 
 pub accepted_once : AcceptedOnce
-accepted_once group before between v w now later c d places =
+accepted_once group before between v w now later c d ids =
     both_carried group before between v now (λ a b. log.Accepts (as_terms group) a v now c → log.Accepts (as_terms group) b w later d → c.key ≡ d.key → c.exp ≢ d.exp)
-    (groups.accepted_once (as_terms group) (first group before between v now).events (more group before between v now).events v w now later c d places)
+    (groups.accepted_once (as_terms group) (first group before between v now).events (more group before between v now).events v w now later c d ids)
 
-pub place_is_accepted_once : PlaceIsAcceptedOnce
-place_is_accepted_once group before between v w now later c d places =
+pub position_is_accepted_once : PositionIsAcceptedOnce
+position_is_accepted_once group before between v w now later c d ids =
     both_carried group before between v now (λ a b. log.Accepts (as_terms group) a v now c → log.Accepts (as_terms group) b w later d → (a.members v).read ≢ (b.members w).read)
-    (groups.place_is_accepted_once (as_terms group) (first group before between v now).events (more group before between v now).events v w now later c d places)
+    (groups.position_is_accepted_once (as_terms group) (first group before between v now).events (more group before between v now).events v w now later c d ids)
 
 pub later_in_log_is_past : LaterInLogIsPast
 later_in_log_is_past group before between v w now later c d =

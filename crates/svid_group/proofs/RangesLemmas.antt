@@ -1,4 +1,4 @@
--- Where the places, the moments and the uses of the log of a group are in range, so are each use that is told and each record's moment; so answers tell all.
+-- Where the validator IDs, the moments and the uses of the log of a group are in range, so are each use that is told and each record's moment; so answers tell all.
 use Rattle.std.proofs.Common.{◌≡◌, ◌+◌, ◌-◌, ◌^◌, ◌<◌, ◌≤◌, ℕ, max, min, List, [], ◌∷◌, Contains, Option, None, Some, Result, Ok, Err, refl, sym, subst, inl, inr, arith}
 use Rattle.std.specs.List.{AllByRecursion}
 use Rattle.std.proofs.lemmas.List.Elements.{Contains-append_cases}
@@ -11,7 +11,7 @@ use Rattle.svid_replay.proofs.ListLemmas.{has_cases, has_none}
 use Rattle.svid_replay.proofs.RecordsLemmas.{moment-join}
 use Rattle.svid_check.specs.declared.accepted.Accepted.{Accepted}
 use Rattle.svid_check.specs.Changes.{accepted_in, gains}
-use Rattle.svid_check.specs.Headline.{HasPlaces, IsEventInRange as IsCallInRange}
+use Rattle.svid_check.specs.Headline.{HasIds, IsEventInRange as IsCallInRange}
 use Rattle.svid_check.specs.Runs.{Terms}
 use Rattle.svid_check.specs.World as check
 use Rattle.svid_check.specs.World.{Check, Member, Withdraw, answer_at, carried, one_or_none, setting_at}
@@ -20,7 +20,7 @@ use Rattle.svid_check.proofs.AnswersLemmas.{accepted_is}
 use Rattle.svid_check.proofs.EachToldLemmas.{AllTold, Each, IsAt, IsKept, withdrawal_is}
 use Rattle.svid_check.proofs.LawfulLemmas.{in_range}
 use Rattle.svid_check.proofs.MembersLemmas.{carried_within}
-use Rattle.svid_check.proofs.PlacesLemmas.{renewed_place}
+use Rattle.svid_check.proofs.IndexesLemmas.{renewed_validator_id}
 use Rattle.svid_group.specs.Told.{AnswersTellAll, IsEventInRange, made_by}
 use Rattle.svid_group.specs.World.{Call, Event, Put, World, happen, happens, start}
 use Rattle.svid_group.proofs.MadeLemmas.{Holds, IsTimely, gained_each, happens_holds, none_each, start_holds, union_each}
@@ -72,7 +72,7 @@ in_time (Call e) h = call_in_time e h
 in_time (Put u) h = h.at
 in_time _ h = h
 
-module _ (group : ℕ → Terms) (places : HasPlaces group) where
+module _ (group : ℕ → Terms) (ids : HasIds group) where
   use_by : (w : check.World) (e : check.Event) → IsCallInRange e → ((v : ℕ) → IsMoment (w.members v).held.moment) → (u : Use) → Contains (check.accepted_by group w e) u → IsUse u
   use_by w (Check v now token refused) at h u has =
       let x = (w.members v).held in
@@ -80,8 +80,8 @@ module _ (group : ℕ → Terms) (places : HasPlaces group) where
       let found = in_answer (answer_at group w v now token refused) u has in
       let low = greater x.moment now y.moment (moment-join x (state_of now [])) (h v) at in
       let s = setting_at group w v in
-      let place = subst (IsBytes 16) (sym (renewed_place (group v).setting (w.members v).renewal)) (places v) in
-      subst IsUse found.2 (in_range s y.moment y.uses token found.0.used (accepted_is s y token refused found.0 found.1) place low)
+      let validator_id = subst (IsBytes 16) (sym (renewed_validator_id (group v).setting (w.members v).renewal)) (ids v) in
+      subst IsUse found.2 (in_range s y.moment y.uses token found.0.used (accepted_is s y token refused found.0 found.1) validator_id low)
   use_by w _ at h u has = has_none u has
 
   gone_by : (w : check.World) (e : check.Event) → IsCallInRange e → ((v : ℕ) → IsMoment (w.members v).held.moment) → (u : Use) → Contains (check.withdrawn_by group w e) u → IsUse u
@@ -89,7 +89,7 @@ module _ (group : ℕ → Terms) (places : HasPlaces group) where
       let x = (w.members v).held in
       let y = raised_to x now in
       let low = greater x.moment now y.moment (moment-join x (state_of now [])) (h v) at.0 in
-      subst IsUse (sym (withdrawal_is (group v).setting.place y key exp refused u has)) (record { exp = at.2; key = at.1; place = places v; at = low })
+      subst IsUse (sym (withdrawal_is (group v).setting.validator_id y key exp refused u has)) (record { exp = at.2; key = at.1; validator_id = ids v; at = low })
   gone_by w _ at h u has = has_none u has
 
   made_in_range : (w : World) (e : Event) → IsEventInRange e → ((v : ℕ) → IsMoment (w.group.members v).held.moment) → (u : Use) → Contains (made_by group w e) u → IsUse u
@@ -112,5 +112,5 @@ module _ (group : ℕ → Terms) (places : HasPlaces group) where
       record { members = λ v. (h.group.members v).uses; pool = λ k q stands. (h.group.pool k q stands).uses; saves = λ k s stands. (h.group.saves k s stands).uses }
 
 pub answers_tell_all : AnswersTellAll
-answers_tell_all group events v j k answer summary parts s places at at_k is_summary made at_j is_answer taken =
-    answer_told (happen group start events).group v j k answer summary parts s (is_whole group events).sound (told_are_uses group places events at) at_k is_summary made at_j is_answer taken
+answers_tell_all group events v j k answer summary parts s ids at at_k is_summary made at_j is_answer taken =
+    answer_told (happen group start events).group v j k answer summary parts s (is_whole group events).sound (told_are_uses group ids events at) at_k is_summary made at_j is_answer taken

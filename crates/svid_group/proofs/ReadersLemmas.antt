@@ -79,11 +79,11 @@ both_none : (o : Option Saved) → None ≡ both o None
 both_none None = refl
 both_none (Some s) = refl
 
-saves_place : (saves : List Saved) (asides : List Aside) (k : ℕ) → slice_get (saves_of saves asides) k ≡ both (slice_get saves k) (slice_get asides k)
-saves_place [] asides k = refl
-saves_place (s ∷ saves) [] k = both_none (slice_get (s ∷ saves) k)
-saves_place (s ∷ saves) (a ∷ asides) zero = refl
-saves_place (s ∷ saves) (a ∷ asides) (suc k) = saves_place saves asides k
+saves_index : (saves : List Saved) (asides : List Aside) (k : ℕ) → slice_get (saves_of saves asides) k ≡ both (slice_get saves k) (slice_get asides k)
+saves_index [] asides k = refl
+saves_index (s ∷ saves) [] k = both_none (slice_get (s ∷ saves) k)
+saves_index (s ∷ saves) (a ∷ asides) zero = refl
+saves_index (s ∷ saves) (a ∷ asides) (suc k) = saves_index saves asides k
 
 both_there : (saves : List Saved) (asides : List Aside) (k : ℕ) (s : Saved) → length asides ≡ length saves → slice_get saves k ≡ Some s → slice_get asides k ≡ None → ⊥
 both_there [] asides k s same there none = none-some s there
@@ -216,7 +216,7 @@ module _ (group : ℕ → Terms) where
   simulates w (Call (Restart v k)) h = record {
     events = log.Restart v k ∷ [];
     leads = restart_readers w v k h.beside (slice_get w.group.saves k) (slice_get w.saved k) refl refl
-        ∙ ap (λ (o : Option log.Saved). log.restart (as_readers w) v o) (sym (saves_place w.group.saves w.saved k));
+        ∙ ap (λ (o : Option log.Saved). log.restart (as_readers w) v o) (sym (saves_index w.group.saves w.saved k));
     silent = λ key adds. (tt, tt);
   }
   simulates w (Call e) h =

@@ -40,9 +40,9 @@ module _ (group : ℕ → Terms) where
   refuses NoMemory w v now = one_read w v now true
 
 pub reads_are_events : ReadsAreEvents
-reads_are_events group w v now values m m_new x_new position uses room written r same is place lt at gone read =
+reads_are_events group w v now values m m_new x_new position uses room written r same is validator_id lt at gone read =
     let x = (w.group.members v).held in
-    let did = lemmas.reads_are_events (as_terms group) (as_readers w) v now values m m_new x x_new position uses room written r same is place lt at gone read in
+    let did = lemmas.reads_are_events (as_terms group) (as_readers w) v now values m m_new x x_new position uses room written r same is validator_id lt at gone read in
     let a = happen group w (arrival v values m x now position) in
     let came = arrives group w v values m x now position in
     let some : (n : ℕ) → as_readers (happen group a (reads_of v now n)) ≡ run group (run group (as_readers w) (calls.arrival v values m x now position)) (calls.reads_of v now n) =

@@ -21,7 +21,7 @@ use Rattle.svid_check.specs.Headline.{IsLiveUse, IsUsedTwice, report_of}
 use Rattle.svid_check.specs.Told.{record_of}
 use Rattle.svid_check.specs.World.{Member}
 use Rattle.svid_check.proofs.LawfulLemmas.{is_used, of_its_input}
-use Rattle.svid_group.specs.Told.{ReportsAreExact, ReportsAreWhole, TwoPlacesAreReported, group_after}
+use Rattle.svid_group.specs.Told.{ReportsAreExact, ReportsAreWhole, TwoValidatorsAreReported, group_after}
 use Rattle.svid_group.proofs.ToldLemmas.{records_are_told}
 
 -- the test of what is no withdrawal
@@ -90,14 +90,14 @@ listed_with (t ∷ ts) key has = elim (has_cases t.key (map (λ (r : Twice). r.k
   | inr later ↦ let found = listed_with ts key later in (found.0, has_later t ts found.0 found.1, found.2)
 ]
 
-pub two_places_are_reported : TwoPlacesAreReported
-two_places_are_reported group events v s other moment later uses others token again a b accepts accepts_also input places told_a told_b live_at =
+pub two_validators_are_reported : TwoValidatorsAreReported
+two_validators_are_reported group events v s other moment later uses others token again a b accepts accepts_also input ids told_a told_b live_at =
     let x = (group_after group events).members v in
     let told = records_are_told group events v in
     let same = of_its_input s other moment later uses others token again a b accepts accepts_also input in
     let one : IsLiveUse x.told a.key a = (told_a, live_at, refl, is_used s moment uses token a accepts) in
     let two : IsLiveUse x.told a.key b = (told_b, subst (λ n. x.told.greatest < n) same.1 live_at, sym same.0, is_used other later others again b accepts_also) in
-    let found = listed_with (report_of x) a.key ((report_is_exact x told a.key).1 (record { one = a; other = b; differ = λ e. places (ap (λ (u : Use). u.place) e); first = one; second = two })) in (
+    let found = listed_with (report_of x) a.key ((report_is_exact x told a.key).1 (record { one = a; other = b; differ = λ e. ids (ap (λ (u : Use). u.validator_id) e); first = one; second = two })) in (
       found.0,
       found.1,
       found.2,

@@ -55,11 +55,11 @@ module _ (group : ℕ → Terms) (v k : ℕ) (q : Posting) where
 
   -- posting k is q, and validator v was told no more than its maker
   record Under (w : World) : Type 0 where
-    place : slice_get w.group.pool k ≡ Some q
+    index : slice_get w.group.pool k ≡ Some q
     told : Within (w.group.members v)
 
   put_under : (w : World) (n : ℕ) (x : Member) (a : Aside) → Under w → (v ≡ n → Within x) → Under (put w n x a)
-  put_under w n x a h own = record { place = h.place; told = cond_both (v == n) x (w.group.members v) Within (λ e. own (eqb-true v n e)) (λ _. h.told) }
+  put_under w n x a h own = record { index = h.index; told = cond_both (v == n) x (w.group.members v) Within (λ e. own (eqb-true v n e)) (λ _. h.told) }
 
   read_under : (far : ℕ) (w : World) (n now : ℕ) (refused : Bool) (o : Option Use) → n ≢ v → Under w → Under (read_next far w n now refused o)
   read_under far w n now refused None d h = h
@@ -71,8 +71,8 @@ module _ (group : ℕ → Terms) (v k : ℕ) (q : Posting) where
   same_under w n a h = put_under w n (w.group.members n) a h (λ same. subst (λ i. Within (w.group.members i)) same h.told)
 
   one_under : (w : World) (e : Event) → TakesOnly v k e → Under w → Under (happens group w e)
-  one_under w (Call e) only h = record { place = (event_changes group w.group e).pool k q h.place; told = call_within w.group e only h.place h.told }
-  one_under w (Put u) only h = record { place = h.place; told = h.told }
+  one_under w (Call e) only h = record { index = (event_changes group w.group e).pool k q h.index; told = call_within w.group e only h.index h.told }
+  one_under w (Put u) only h = record { index = h.index; told = h.told }
   one_under w (Read n now refused) d h = read_under (check.far group n now) w n now refused (slice_get w.log (w.asides n).read) d h
   one_under w (Look n) only h = same_under w n (aside_of (log.looked (reader_at w n))) h
   one_under w (Anew n until_front until) d h =
@@ -91,8 +91,8 @@ pub sends_make_equal : SendsMakeEqual
 sends_make_equal group events takes v k q send told only taken =
     let before = happen group start events in
     let after = happen group before takes in
-    let under = all_under group v k q before takes only (record { place = send.0; told = told }) in
+    let under = all_under group v k q before takes only (record { index = send.0; told = told }) in
     let sound = (goes_on_whole group takes before (is_whole group events)).sound in
     same_uses (after.group.members v).told.uses q.was.told.uses (λ u.
     both_ways (holds (after.group.members v).told.uses u) (holds q.was.told.uses u) (under.told u)
-    (send_told after.group (after.group.members v) k q sound (sound.members v) (under.place, send.1) taken u))
+    (send_told after.group (after.group.members v) k q sound (sound.members v) (under.index, send.1) taken u))

@@ -16,7 +16,7 @@ use Rattle.svid_check.specs.World as check
 use Rattle.svid_check.specs.World.{Member, Posting, Restart, Saved, answer_at, setting_at, ticked}
 use Rattle.svid_check.proofs.AnswersLemmas.{accepted_is, answers_verdict, with_memory}
 use Rattle.svid_check.proofs.LawfulLemmas.{fresh, said_is_of_its_input}
-use Rattle.svid_check.proofs.PlacesLemmas.{put_own}
+use Rattle.svid_check.proofs.IndexesLemmas.{put_own}
 use Rattle.svid_check.proofs.RestartsLemmas.{restart_absorbs}
 use Rattle.svid_check.proofs.RunsLemmas.{told_now}
 use Rattle.svid_check.proofs.SendsLemmas.{send_told, told_is_held, told_refuses}

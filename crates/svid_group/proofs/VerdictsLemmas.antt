@@ -18,7 +18,7 @@ use Rattle.svid_check.specs.World as check
 use Rattle.svid_check.specs.World.{Member, Renew, Restart, Tick, answer_at, answer_by, check_answer, setting_at, ticked}
 use Rattle.svid_check.proofs.AgainLemmas.{accepted_are_judged_again}
 use Rattle.svid_check.proofs.LawfulLemmas.{of_its_input}
-use Rattle.svid_check.proofs.PlacesLemmas.{put_own}
+use Rattle.svid_check.proofs.IndexesLemmas.{put_own}
 use Rattle.svid_log.specs.Steps.{is_early}
 use Rattle.svid_group.specs.Told.{IsNoRestartOf}
 use Rattle.svid_group.specs.Verdicts.{ClaimsAreVerdicts, GoesOn, InputIsAcceptedOnce, JudgedAreVerdicts, RenewedAreVerdicts}
@@ -130,6 +130,6 @@ renewed_are_verdicts group w v at now renewal token refused a c is of accepts =
     (judged_are_verdicts group x v at now token refused a [] c is tt of accepts)
 
 pub input_is_accepted_once : InputIsAcceptedOnce
-input_is_accepted_once group before between v w now later c d a b s other moment then_moment uses others token again places one two input of_a of_b first second =
+input_is_accepted_once group before between v w now later c d a b s other moment then_moment uses others token again ids one two input of_a of_b first second =
     let same = of_its_input s other moment then_moment uses others token again a b one two input in
-    accepted_once group before between v w now later c d places first second (of_a.0 ∙ (same.0 ∙ sym of_b.0)) (of_a.1 ∙ (same.1 ∙ sym of_b.1))
+    accepted_once group before between v w now later c d ids first second (of_a.0 ∙ (same.0 ∙ sym of_b.0)) (of_a.1 ∙ (same.1 ∙ sym of_b.1))

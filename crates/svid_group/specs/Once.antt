@@ -5,7 +5,7 @@ use Rattle.svid_replay.specs.Sets.{holds}
 use Rattle.svid_replay.specs.Uses.{has_use_of, has_withdrawal_of}
 use Rattle.svid_check.specs.Runs.{Terms}
 use Rattle.svid_check.specs.World as check
-use Rattle.svid_log.specs.Once.{AllGone, HavePlaces, IsOwnClaim}
+use Rattle.svid_log.specs.Once.{AllGone, HaveIds, IsOwnClaim}
 use Rattle.svid_group.specs.World.{Accepts, Call, Event, Read, World, as_readers, as_terms, happen, happens, judges, start}
 
 -- once a validator accepts a claim, none accepts one with its key and its expiry: a group accepts a token at most once
@@ -13,14 +13,14 @@ abbrev pub AcceptedOnce : Type 0
 AcceptedOnce = (group : ℕ → Terms) (before between : List Event) (v w now later : ℕ) (c d : Use)
     → let a = happen group start before in
     let b = happen group (happens group a (Read v now false)) between in
-    HavePlaces (as_terms group) → Accepts group a v now c → Accepts group b w later d → c.key ≡ d.key → c.exp ≢ d.exp
+    HaveIds (as_terms group) → Accepts group a v now c → Accepts group b w later d → c.key ≡ d.key → c.exp ≢ d.exp
 
--- a place of the log is accepted once
-abbrev pub PlaceIsAcceptedOnce : Type 0
-PlaceIsAcceptedOnce = (group : ℕ → Terms) (before between : List Event) (v w now later : ℕ) (c d : Use)
+-- a validator ID of the log is accepted once
+abbrev pub PositionIsAcceptedOnce : Type 0
+PositionIsAcceptedOnce = (group : ℕ → Terms) (before between : List Event) (v w now later : ℕ) (c d : Use)
     → let a = happen group start before in
     let b = happen group (happens group a (Read v now false)) between in
-    HavePlaces (as_terms group) → Accepts group a v now c → Accepts group b w later d → (a.asides v).read ≢ (b.asides w).read
+    HaveIds (as_terms group) → Accepts group a v now c → Accepts group b w later d → (a.asides v).read ≢ (b.asides w).read
 
 -- of two accepted claims of a key, the one that stands first in the log has expired at the moment of the validator that accepts the other one
 abbrev pub LaterInLogIsPast : Type 0

@@ -32,7 +32,7 @@ refusal v now NoMemory = Read v now true ∷ []
 abbrev pub ReadsAreEvents : Type 0
 ReadsAreEvents = (group : ℕ → Terms) (w : World) (v now : ℕ) (values : List (List Use)) (m m_new : MemberState) (x_new : State) (position : ℕ) (uses : List Use) (room written : List Fate) (r : Reading)
     → let x = (w.group.members v).held in
-    w.log ≡ uses_of values → IsMember values m x (reader_at w v) → m.place ≡ (group v).setting.place
+    w.log ≡ uses_of values → IsMember values m x (reader_at w v) → m.validator_id ≡ (group v).setting.validator_id
     → m.passed < position → slice_get values (position - 1) ≡ Some uses → IsGapGone values m x now position
     → HasRead now (check.far group v now) position m x uses room r m_new x_new written
     → let a = happen group w (arrival v values m x now position) in

@@ -12,7 +12,7 @@ use Rattle.svid_replay.specs.Summary.{SummaryData}
 use Rattle.svid_replay.specs.Use.{IsUse}
 use Rattle.svid_replay.specs.Uses.{Uses, live}
 use Rattle.svid_check.specs.declared.accepted.Accepted.{Accepted}
-use Rattle.svid_check.specs.Headline.{HasPlaces, HasTaken, IsClash, IsEventInRange as IsCallInRange, IsLiveUse, IsRefusedBy, IsSend, IsUseOf, IsUsedTwice, IsWithin, TakesOnly as IsTakeOnly, WentAlong, report_of}
+use Rattle.svid_check.specs.Headline.{HasIds, HasTaken, IsClash, IsEventInRange as IsCallInRange, IsLiveUse, IsRefusedBy, IsSend, IsUseOf, IsUsedTwice, IsWithin, TakesOnly as IsTakeOnly, WentAlong, report_of}
 use Rattle.svid_check.specs.Lawful.{input_of}
 use Rattle.svid_check.specs.Lawful as verdicts
 use Rattle.svid_check.specs.Runs.{IsAnswered, Terms}
@@ -140,11 +140,11 @@ ReportsAreWhole = (group : ℕ → Terms) (events : List Event) (v : ℕ) (t : T
     → let x = (group_after group events).members v in
     Contains (report_of x) t → Contains t.uses u ↔ IsLiveUse x.told t.key u
 
--- one signing input that was accepted at two places is reported wherever both uses were told, until it expires
-abbrev pub TwoPlacesAreReported : Type 0
-TwoPlacesAreReported = (group : ℕ → Terms) (events : List Event) (v : ℕ) (s other : Setting) (moment later : ℕ) (uses others : Uses) (token again : List ℕ) (a b : Use)
+-- one signing input that was accepted at two validator IDs is reported wherever both uses were told, until it expires
+abbrev pub TwoValidatorsAreReported : Type 0
+TwoValidatorsAreReported = (group : ℕ → Terms) (events : List Event) (v : ℕ) (s other : Setting) (moment later : ℕ) (uses others : Uses) (token again : List ℕ) (a b : Use)
     → let x = (group_after group events).members v in
-    verdicts.Accepts s moment uses token a → verdicts.Accepts other later others again b → input_of token ≡ input_of again → a.place ≢ b.place
+    verdicts.Accepts s moment uses token a → verdicts.Accepts other later others again b → input_of token ≡ input_of again → a.validator_id ≢ b.validator_id
     → IsTrue (holds x.told.uses a) → IsTrue (holds x.told.uses b) → x.told.greatest < a.exp
     → (listed : Twice) × Contains (report_of x) listed × (listed.key ≡ a.key) × Contains listed.uses a × Contains listed.uses b
 
@@ -183,7 +183,7 @@ IsEventInRange _ = Unit {0}
 -- a validator that made a summary and took an answer to it whole was told all uses that the answerer had been told by then; or else some bucket of its own, when it made the summary, and of the answerer, when it answered, had two texts of one digest
 abbrev pub AnswersTellAll : Type 0
 AnswersTellAll = (group : ℕ → Terms) (events : List Event) (v j k : ℕ) (answer summary : Posting) (parts : List BatchData) (s : SummaryData)
-    → HasPlaces group → AllByRecursion IsEventInRange events
+    → HasIds group → AllByRecursion IsEventInRange events
     → let w = group_after group events in
     slice_get w.pool k ≡ Some summary → summary.content ≡ Summed s → Contains (w.members v).log (Made k)
     → slice_get w.pool j ≡ Some answer → answer.content ≡ Answered k parts → HasTaken (w.members v).log j answer

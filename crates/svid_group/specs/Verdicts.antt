@@ -10,7 +10,7 @@ use Rattle.svid_check.specs.Runs.{Terms}
 use Rattle.svid_check.specs.Setting.{Renewal, Setting, renewed}
 use Rattle.svid_check.specs.Verdict.{made_at, verdict}
 use Rattle.svid_check.specs.World.{Renew, Restart, Tick, answer_at, setting_at}
-use Rattle.svid_log.specs.Once.{HavePlaces}
+use Rattle.svid_log.specs.Once.{HaveIds}
 use Rattle.svid_group.specs.World.{Accepts, Anew, Call, Event, Read, World, as_terms, happen, happens, judges, start}
 
 -- a use has the key and the expiry of another
@@ -54,5 +54,5 @@ abbrev pub InputIsAcceptedOnce : Type 0
 InputIsAcceptedOnce = (group : ℕ → Terms) (before between : List Event) (v w now later : ℕ) (c d a b : Use) (s other : Setting) (moment then_moment : ℕ) (uses others : Uses) (token again : List ℕ)
     → let x = happen group start before in
     let y = happen group (happens group x (Read v now false)) between in
-    HavePlaces (as_terms group) → verdicts.Accepts s moment uses token a → verdicts.Accepts other then_moment others again b → input_of token ≡ input_of again
+    HaveIds (as_terms group) → verdicts.Accepts s moment uses token a → verdicts.Accepts other then_moment others again b → input_of token ≡ input_of again
     → IsClaimOf c a → IsClaimOf d b → Accepts group x v now c → Accepts group y w later d → ⊥

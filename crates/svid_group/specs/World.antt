@@ -120,7 +120,7 @@ saved_after w _ = w.saved
 module _ (group : ℕ → Terms) where
   -- what a validator has for good, as a reader of the log
   abbrev pub as_terms : ℕ → log.Terms
-  as_terms v = record { place = (group v).setting.place; ahead = (group v).ahead }
+  as_terms v = record { validator_id = (group v).setting.validator_id; ahead = (group v).ahead }
 
   -- what an event leaves
   abbrev pub happens : World → Event → World

@@ -1,16 +1,16 @@
 //! Laws of a group that reads a log, carried by functions that compute nothing.
 
 ghost use Rattle.svid_group.specs.History.{EveryKindHappens, OwnClaimIsAccepted};
-ghost use Rattle.svid_group.specs.Once.{AcceptedIsFirst, AcceptedIsHeld, AcceptedIsUnrefused, AcceptedOnce, LaterInLogIsPast, OneUseOfAKey, OnlyClaimIsAccepted, OwnIsAccepted, PlaceIsAcceptedOnce};
+ghost use Rattle.svid_group.specs.Once.{AcceptedIsFirst, AcceptedIsHeld, AcceptedIsUnrefused, AcceptedOnce, LaterInLogIsPast, OneUseOfAKey, OnlyClaimIsAccepted, OwnIsAccepted, PositionIsAcceptedOnce};
 ghost use Rattle.svid_group.specs.Reads.{ReadsAreEvents};
-ghost use Rattle.svid_group.specs.Told.{AcceptanceGoesAlong, AcceptedIsRefused, AnswersTellAll, ChainsTell, ChecksAreVerdicts, ClaimedIsRefused, EqualTellings, EventsLeaveLater, RecordsAreTold, ReportsAreExact, ReportsAreWhole, RestartsAbsorb, RestartsPutBack, SendsMakeEqual, SendsTellAll, ToldIsRefused, ToldWereMade, TwoPlacesAreReported, WithMemoryVerdicts, WithdrawnAreRefused};
+ghost use Rattle.svid_group.specs.Told.{AcceptanceGoesAlong, AcceptedIsRefused, AnswersTellAll, ChainsTell, ChecksAreVerdicts, ClaimedIsRefused, EqualTellings, EventsLeaveLater, RecordsAreTold, ReportsAreExact, ReportsAreWhole, RestartsAbsorb, RestartsPutBack, SendsMakeEqual, SendsTellAll, ToldIsRefused, ToldWereMade, TwoValidatorsAreReported, WithMemoryVerdicts, WithdrawnAreRefused};
 ghost use Rattle.svid_group.specs.Verdicts.{ClaimsAreVerdicts, InputIsAcceptedOnce, JudgedAreVerdicts, RenewedAreVerdicts};
 
 /// Whatever happens in a group, of all claims with one key and one expiry at most one is ever accepted, by one validator, once; and
 /// of two accepted claims of one key the first in the log has expired at the moment of the validator that accepts the other.
 pub fn groups_accept_once()
     ensures once { AcceptedOnce }
-    ensures place { PlaceIsAcceptedOnce }
+    ensures position { PositionIsAcceptedOnce }
     ensures later { LaterInLogIsPast }
 {}
 
@@ -65,11 +65,11 @@ pub fn told_tokens_are_refused()
 {}
 
 /// A report lists the keys of which two different uses were told that are live, with all of them, and no withdrawal; and one
-/// signing input that was accepted at two places is reported wherever both uses were told, until it expires.
+/// signing input that was accepted at two validator IDs is reported wherever both uses were told, until it expires.
 pub fn reports_are_exact()
     ensures exact { ReportsAreExact }
     ensures whole { ReportsAreWhole }
-    ensures places { TwoPlacesAreReported }
+    ensures validators { TwoValidatorsAreReported }
 {}
 
 /// A new record that absorbs all parts of a saved record is that record. A restart puts back that record, what had been told, and

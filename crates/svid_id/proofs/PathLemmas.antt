@@ -55,9 +55,9 @@ path_fault-step at slash s =
     let piece = before_first is_slash s in
     elim (cases_lt p (length s)) [
       | inl more ↦
-          let places : at + 1 + length piece + 1 ≡ at + (1 + p) + 1 = omega (arith, length-piece s) in
+          let offsets : at + 1 + length piece + 1 ≡ at + (1 + p) + 1 = omega (arith, length-piece s) in
           rw (slice_split_first is_slash s 0 more, drop_more s p 0 more)
-          (ap (λ (n : ℕ). option_or (segment_fault (at + 1) piece) (segments_fault n (slice_split is_slash (after_first is_slash s)))) places)
+          (ap (λ (n : ℕ). option_or (segment_fault (at + 1) piece) (segments_fault n (slice_split is_slash (after_first is_slash s)))) offsets)
       | inr done ↦
           let none : All (λ b. is_slash b ≡ false) s = λ k d h. fails_before_first is_slash s k d (omega arith) in
           rw (slice_split_none is_slash s none, drop_all p s done, take_all p s done) refl

@@ -15,7 +15,7 @@ pub record IsDomain (name : List ℕ) : Type 0 where
   pub not_long : length name ≤ 255
   pub bytes : AllPass is_domain_byte name
 
--- the first fault of a text as a trust domain name that begins at a place
+-- the first fault of a text as a trust domain name that begins at a offset
 abbrev pub domain_fault : ℕ → List ℕ → Option IdFault
 domain_fault at name =
     let good = prefix_len is_domain_byte name in

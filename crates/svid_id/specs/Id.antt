@@ -33,7 +33,7 @@ parts_of text =
     let rest = drop (length scheme) text in
     record { domain = before_first is_slash rest; path = drop (position_or_len is_slash rest) rest }
 
--- the first fault of a text as an ID, with places from its start
+-- the first fault of a text as an ID, with offsets from its start
 abbrev pub id_fault : List ℕ → Option IdFault
 id_fault text =
     let parts = parts_of text in

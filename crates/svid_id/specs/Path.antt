@@ -36,7 +36,7 @@ is_slash b = b == 47
 abbrev pub is_dots : List ℕ → Bool
 is_dots segment = bytes_eq segment (codes ".") || bytes_eq segment (codes "..")
 
--- the fault of a text as a segment that begins at a place
+-- the fault of a text as a segment that begins at a offset
 abbrev pub segment_fault : ℕ → List ℕ → Option IdFault
 segment_fault at segment =
     let good = prefix_len is_segment_byte segment in
@@ -45,13 +45,13 @@ segment_fault at segment =
     else if nat_lt good (length segment) then Some (PathByte (at + good))
     else None
 
--- the fault of the first faulty segment of a row that begins at a place, with one '/' between each two
+-- the fault of the first faulty segment of a row that begins at a offset, with one '/' between each two
 abbrev pub segments_fault : ℕ → List (List ℕ) → Option IdFault
 segments_fault at [] = None
 segments_fault at (segment ∷ segments) =
     option_or (segment_fault at segment) (segments_fault (at + length segment + 1) segments)
 
--- the first fault of a text as a path that begins at a place: with its '/', where it is not empty
+-- the first fault of a text as a path that begins at a offset: with its '/', where it is not empty
 abbrev pub path_fault : ℕ → List ℕ → Option IdFault
 path_fault at [] = None
 path_fault at (slash ∷ rest) = segments_fault (at + 1) (slice_split is_slash rest)

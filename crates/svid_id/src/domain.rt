@@ -51,16 +51,16 @@ pub fn is_domain_name(text: &[u8]) -> bool
     check_domain(text).is_ok()
 }
 
-// The length of the trust domain name that `text`, at `place` in the whole, begins with.
+// The length of the trust domain name that `text`, at `offset` in the whole, begins with.
 #[tactic(auto, using(crate::proofs::DomainLemmas::domain_runs))]
-pub(crate) fn domain_len(text: &[u8], place: usize) -> Result<usize, IdFault>
-    requires { place + length text.now < 2 ^ 64 }
+pub(crate) fn domain_len(text: &[u8], offset: usize) -> Result<usize, IdFault>
+    requires { offset + length text.now < 2 ^ 64 }
     ensures len { IfOk result (λ len. len ≡ position_or_len is_slash text.now) }
-    ensures fault { result_err result ≡ domain_fault place (before_first is_slash text.now) }
+    ensures fault { result_err result ≡ domain_fault offset (before_first is_slash text.now) }
 {
     let run = domain_run(text);
     if run < text.len() && text[run] != b'/' {
-        Err(IdFault::DomainByte(place + run))
+        Err(IdFault::DomainByte(offset + run))
     } else if run == 0 {
         Err(IdFault::DomainEmpty)
     } else if run > MAX_DOMAIN {

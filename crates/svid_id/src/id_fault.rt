@@ -7,7 +7,7 @@ use thiserror::Error;
 /// Why a text was refused as a SPIFFE ID or as a trust domain name.
 ///
 /// The variants stand in the order in which they are looked for, and the first that applies is
-/// answered. A place is a byte offset from 0 in the whole text.
+/// answered. A offset is a byte offset from 0 in the whole text.
 #[derive(Clone, Copy, Debug, PartialEq, Eq, Error)]
 pub enum IdFault {
     /// The text has more than 2,048 bytes.
@@ -19,19 +19,19 @@ pub enum IdFault {
     /// The trust domain name is empty.
     #[error("empty trust domain name")]
     DomainEmpty,
-    /// The first byte of the trust domain name that none may have, and its place.
+    /// The first byte of the trust domain name that none may have, and its offset.
     #[error("byte {0} may not stand in a trust domain name")]
     DomainByte(usize),
     /// The trust domain name has more than 255 bytes.
     #[error("trust domain name longer than 255 bytes")]
     DomainLong,
-    /// The segment at this place, right after its `/`, is empty.
+    /// The segment at this offset, right after its `/`, is empty.
     #[error("empty path segment at byte {0}")]
     SegmentEmpty(usize),
-    /// The segment that begins at this place is `.` or `..`.
+    /// The segment that begins at this offset is `.` or `..`.
     #[error("path segment at byte {0} is . or ..")]
     SegmentDots(usize),
-    /// The first byte of a segment that none may have, and its place.
+    /// The first byte of a segment that none may have, and its offset.
     #[error("byte {0} may not stand in a path segment")]
     PathByte(usize),
     /// No memory was left for a copy of the text, which has no other fault.

@@ -20,8 +20,8 @@ pub fn no_fault_means_id()
 /// A text has no fault as a trust domain name, wherever it stands, exactly if it is one. Want of
 /// memory is the fault of no name.
 pub fn no_fault_means_domain()
-    ensures exactly { (place : ℕ) (text : List ℕ)
-        → (domain_fault place text ≡ None) ↔ IsDomain text }
-    ensures no_memory { (place : ℕ) (text : List ℕ)
-        → domain_fault place text ≢ Some IdFault.OutOfMemory }
+    ensures exactly { (offset : ℕ) (text : List ℕ)
+        → (domain_fault offset text ≡ None) ↔ IsDomain text }
+    ensures no_memory { (offset : ℕ) (text : List ℕ)
+        → domain_fault offset text ≢ Some IdFault.OutOfMemory }
 {}

@@ -1,7 +1,7 @@
 //! SPIFFE IDs and trust domain names, after sections 2 and 2.1 to 2.3 of the SPIFFE-ID standard.
 //!
 //! [`SpiffeId::parse`] and [`TrustDomain::parse`] accept exactly the texts of the standard's rules.
-//! A text that is none is refused with its first fault, an [`IdFault`] with the place in the text.
+//! A text that is none is refused with its first fault, an [`IdFault`] with the offset in the text.
 //! Two choices of this crate are stricter than the standard: the scheme is read in small letters
 //! only, and an ID has at most 2,048 bytes.
 //!

@@ -28,31 +28,31 @@ fn is_dots(segment: &[u8]) -> bool
     segment == b".".as_slice() || segment == b"..".as_slice()
 }
 
-// The length of the segment that `text`, at `place` in the whole, begins with.
+// The length of the segment that `text`, at `offset` in the whole, begins with.
 #[tactic(auto, using(crate::proofs::PathLemmas::segment_runs))]
-fn segment_len(text: &[u8], place: usize) -> Result<usize, IdFault>
-    requires { place + length text.now < 2 ^ 64 }
+fn segment_len(text: &[u8], offset: usize) -> Result<usize, IdFault>
+    requires { offset + length text.now < 2 ^ 64 }
     ensures len { IfOk result (λ len. len ≡ position_or_len is_slash text.now) }
-    ensures fault { result_err result ≡ segment_fault place (before_first is_slash text.now) }
+    ensures fault { result_err result ≡ segment_fault offset (before_first is_slash text.now) }
 {
     let run = segment_run(text);
     if run < text.len() && text[run] != b'/' {
-        Err(IdFault::PathByte(place + run))
+        Err(IdFault::PathByte(offset + run))
     } else if run == 0 {
-        Err(IdFault::SegmentEmpty(place))
+        Err(IdFault::SegmentEmpty(offset))
     } else if is_dots(&text[..run]) {
-        Err(IdFault::SegmentDots(place))
+        Err(IdFault::SegmentDots(offset))
     } else {
         Ok(run)
     }
 }
 
-// Checks a path at `place` in the whole text, which is empty or begins with its `/`.
-pub(crate) fn check_path(path: &[u8], place: usize) -> Result<(), IdFault>
-    requires { place + length path.now < 2 ^ 64 }
-    ensures { result_err result ≡ path_fault place path.now }
+// Checks a path at `offset` in the whole text, which is empty or begins with its `/`.
+pub(crate) fn check_path(path: &[u8], offset: usize) -> Result<(), IdFault>
+    requires { offset + length path.now < 2 ^ 64 }
+    ensures { result_err result ≡ path_fault offset path.now }
 {
-    let mut at = place;
+    let mut at = offset;
     let mut rest = path;
     while let Some((_, text)) = rest.split_first() {
         let len = segment_len(text, at + 1)?;

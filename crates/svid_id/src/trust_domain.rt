@@ -38,7 +38,7 @@ impl TrustDomain {
     /// Reads a trust domain name from the bytes of its text.
     ///
     /// Of a text that is none, the first fault is answered: `DomainEmpty`, then `DomainByte` with
-    /// the place of the first byte that may not stand there, then `DomainLong`. Of one that is a
+    /// the offset of the first byte that may not stand there, then `DomainLong`. Of one that is a
     /// name, `OutOfMemory` alone.
     pub fn parse(alloc: Global, text: &[u8]) -> Result<TrustDomain, IdFault>
         ensures ok { IfOk result (λ _. IsDomain text.now) }

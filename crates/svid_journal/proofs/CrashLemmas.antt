@@ -39,7 +39,7 @@ later_stands title broken lost next tail rest number after high fits long is =
     let frame = frame_of title (number + 1) next in
     let back = frames_of title (number + 1 + 1) after in
     let cell = 4 + cells_of (length lost) in
-    let place : length broken ≡ 8 * cell = long ∙ length-frame_in 2 title number lost in (
+    let offset : length broken ≡ 8 * cell = long ∙ length-frame_in 2 title number lost in (
       cell,
       record {
         format = 2;
@@ -51,7 +51,7 @@ later_stands title broken lost next tail rest number after high fits long is =
         is_near = omega arith;
         fits = high;
         bears = fits;
-        stands = ap (drop (8 * cell)) is ∙ drop_at broken ((frame ++ back) ++ tail) (8 * cell) place ∙ append_assoc frame back tail;
+        stands = ap (drop (8 * cell)) is ∙ drop_at broken ((frame ++ back) ++ tail) (8 * cell) offset ∙ append_assoc frame back tail;
       },
     )
 

@@ -237,9 +237,9 @@ longer title payloads payload = ap length (frames_of-push title 1 payloads paylo
 
 -- a piece that is put behind what is done
 pub put_behind : (done piece rest old new : List ℕ) (at : ℕ) → at ≡ length done → old ≡ done ++ rest → new ≡ take at old ++ (piece ++ drop (at + length piece) old) → new ≡ (done ++ piece) ++ drop (length piece) rest
-put_behind done piece rest old new at place is put =
-    let front : take at old ≡ done = (λ i. take (place i) (is i)) ∙ take-append_seam done rest in
-    let back : drop (at + length piece) old ≡ drop (length piece) rest = (λ i. drop (place i + length piece) (is i)) ∙ drop-append-add done rest (length piece) in
+put_behind done piece rest old new at offset is put =
+    let front : take at old ≡ done = (λ i. take (offset i) (is i)) ∙ take-append_seam done rest in
+    let back : drop (at + length piece) old ≡ drop (length piece) rest = (λ i. drop (offset i + length piece) (is i)) ∙ drop-append-add done rest (length piece) in
     put ∙ (λ i. front i ++ (piece ++ back i)) ∙ sym (append_assoc done piece (drop (length piece) rest))
 
 -- a head, a payload and filler that are put one behind the other are a frame
@@ -247,7 +247,7 @@ pub frame_put : (v : ℕ) (title : List ℕ) (number : ℕ) (payload head filled
     → one ≡ take 0 room ++ (head ++ drop (0 + length head) room) → two ≡ take 32 one ++ (payload ++ drop (32 + length payload) one) → three ≡ take at two ++ (filled ++ drop (at + length filled) two)
     → three ≡ frame_in v title number payload ++ drop (frame_len (length payload)) room
 unfolding frame_in
-frame_put v title number payload head filled room one two three at heads fills_up place first second third =
+frame_put v title number payload head filled room one two three at heads fills_up offset first second third =
     let long : length head ≡ 32 = ap length heads ∙ length-head_of v title number payload in
     let gaps : length filled ≡ gap (length payload) = ap length fills_up ∙ length-replicate (gap (length payload)) 255 in
     let none : 0 + length head ≡ length head = omega arith in

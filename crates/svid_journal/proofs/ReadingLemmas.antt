@@ -63,7 +63,7 @@ ends_marked-push [] p = refl
 ends_marked-push (q ∷ []) p = refl
 ends_marked-push (q ∷ r ∷ ps) p = ends_marked-push (r ∷ ps) p
 
--- what stands at the place of a reader
+-- what stands at the offset of a reader
 pub behind_read : (r : Reader) (t : Title) (bytes : List ℕ) (payloads : List (List ℕ)) (rest : List ℕ) → HasRead r t bytes payloads rest → drop r.at bytes ≡ rest
 behind_read r t bytes payloads rest h = (λ i. drop (h.at i) (h.whole i)) ∙ drop_at (frames_of (bytes_of t) 1 payloads) rest (length (frames_of (bytes_of t) 1 payloads)) refl
 

@@ -17,7 +17,7 @@ pub record File : Type 0 where
 abbrev pub empty_file : File
 empty_file = record { seen = []; kept = []; whole = false; spoiled = false }
 
--- A write: from this place on there is what landed, the bytes themselves where it succeeded. Until a sync, a crash may leave anything from
+-- A write: from this offset on there is what landed, the bytes themselves where it succeeded. Until a sync, a crash may leave anything from
 -- there on
 abbrev pub written : ℕ → List ℕ → File → File
 written at landed f = record { seen = take at f.seen ++ (landed ++ drop (at + length landed) f.seen); kept = take at f.kept; whole = false; spoiled = f.spoiled }

@@ -55,8 +55,8 @@ pub data Event : Type 0 where
   Piece : (payload : List ℕ) (ok : Bool) (landed : List ℕ) → Event
   -- the record takes a payload, and it is written behind the journal that grows; where that fails, this landed
   Put : (payload : List ℕ) (ok : Bool) (landed : List ℕ) → Event
-  -- the journal that grows is made longer, from this place on; this landed
-  Grow : (place : ℕ) (landed : List ℕ) → Event
+  -- the journal that grows is made longer, from this offset on; this landed
+  Grow : (offset : ℕ) (landed : List ℕ) → Event
   -- the journal that grows is synced behind a frame
   Sync : (ok : Bool) → Event
   -- a crash, which leaves this

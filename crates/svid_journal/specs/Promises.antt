@@ -45,7 +45,7 @@ pub record IsClash (texts : List (List ℕ)) (title : List ℕ) (number : ℕ) (
   pub differs : sealed 2 title number payload ≢ text
   pub one_tag : tag_of (sealed 2 title number payload) ≡ tag_of text
 
--- each payload was appended to this file, at its place, or two texts have one tag
+-- each payload was appended to this file, at its offset, or two texts have one tag
 abbrev pub EachAppended : List (List ℕ) → List (List ℕ) → List ℕ → ℕ → List (List ℕ) → Type 0
 EachAppended texts others title number [] = Unit {0}
 EachAppended texts others title number (p ∷ payloads) = (Among texts (sealed 2 title number p) ⊎ IsClash (others ++ texts) title number p) × EachAppended texts others title (number + 1) payloads
@@ -79,7 +79,7 @@ IsNoStart Begin = Unit {0}
 IsNoStart (Answer ok) = Unit {0}
 IsNoStart (Piece payload ok landed) = Unit {0}
 IsNoStart (Put payload ok landed) = Unit {0}
-IsNoStart (Grow place landed) = Unit {0}
+IsNoStart (Grow offset landed) = Unit {0}
 IsNoStart (Sync ok) = Unit {0}
 IsNoStart (Crash left) = Unit {0}
 IsNoStart (Start oldest newest read) = ⊥
@@ -91,7 +91,7 @@ EndedAcknowledgesNothing = (t : Titles) (events : List Event) (w : World) → w.
 abbrev pub CrashesMayCome : Type 0
 CrashesMayCome = (t : Titles) (events : List Event) → IsOutcome (history t events fresh).disk (as_seen (history t events fresh).disk)
 
--- The premises can be met: a payload is appended and acknowledged, and a new journal and a snapshot that has it take the place of the old
+-- The premises can be met: a payload is appended and acknowledged, and a new journal and a snapshot that has it take the offset of the old
 -- journal.
 abbrev pub example : List Event
 example =

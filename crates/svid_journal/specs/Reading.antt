@@ -10,7 +10,7 @@ use Rattle.svid_journal.specs.declared.reader.Next.TheVariants.{Payload, End, Te
 use Rattle.svid_journal.specs.Titles.{bytes_of}
 use Rattle.svid_journal.specs.Frames.{frame_in, frame_of, frames_of, frame_len, IsFormat, IsPayload, BeginsWithNone, IsReading}
 
--- bytes that begin with a frame, of any format, that may stand so many cells of 8 bytes behind the place of the frame of this number: each
+-- bytes that begin with a frame, of any format, that may stand so many cells of 8 bytes behind the offset of the frame of this number: each
 -- frame between takes four cells at least
 pub record BeginsLater (title : List ℕ) (number cell : ℕ) (bytes : List ℕ) : Type 0 where
   pub format : ℕ

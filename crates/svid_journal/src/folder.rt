@@ -325,7 +325,7 @@ impl Folder {
         Ok(())
     }
 
-    /// Tells that the write of the frame failed. Nothing ends: the next frame goes to the same place.
+    /// Tells that the write of the frame failed. Nothing ends: the next frame goes to the same offset.
     pub fn unwritten(&mut self) -> Result<(), Fault>
         ensures ok { OnOk result ((landed_fault self.old ≡ None) × (self.new ≡ lost self.old)) }
         ensures err { IfErr result (λ e. (landed_fault self.old ≡ Some e) × (self.new ≡ self.old)) }

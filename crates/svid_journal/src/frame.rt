@@ -88,7 +88,7 @@ fn filler(count: usize) -> &'static [u8]
     FILLER.split_at(count).0
 }
 
-// Puts a piece at a place of a room.
+// Puts a piece at a offset of a room.
 pub(crate) fn put_at(room: &mut [u8], at: usize, piece: &[u8])
     requires { at + length piece.now ≤ length room.old }
     ensures put { room.new ≡ take at room.old ++ (piece.now ++ drop (at + length piece.now) room.old) }

@@ -1,7 +1,7 @@
 //! What holds of a folder over every history, as contracts of functions without a body.
 
 ghost use Rattle.svid_journal.specs.Titles.{TitlesDiffer};
-ghost use Rattle.svid_journal.specs.Payloads.{MessagesHaveNoPlace, PlacesAreReadBack};
+ghost use Rattle.svid_journal.specs.Payloads.{MessagesHaveNoPosition, PositionsAreReadBack};
 ghost use Rattle.svid_journal.specs.Promises.{AcknowledgedIsRead, CrashesMayCome, DamageIsSeen, EndedAcknowledgesNothing, ExampleIsAllowed, JournalsAreRead, NothingElseIsRead};
 
 /// Over every history of appends, switches, failures, crashes and starts: a use that was acknowledged is read at the next start,
@@ -22,9 +22,9 @@ pub fn titles_differ()
     ensures { TitlesDiffer }
 {}
 
-/// The place of a member in its log that is written in front of messages is read back, with the messages behind it; and no row of messages
+/// The position of a member in its log that is written in front of messages is read back, with the messages behind it; and no row of messages
 /// alone, which begins with `JSR`, is taken for one.
 pub fn payloads_are_read_back()
-    ensures places { PlacesAreReadBack }
-    ensures messages { MessagesHaveNoPlace }
+    ensures positions { PositionsAreReadBack }
+    ensures messages { MessagesHaveNoPosition }
 {}

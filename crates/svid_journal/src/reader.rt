@@ -7,7 +7,7 @@ use crate::frame::{
 };
 use crate::title::{File, Title};
 
-/// What stands at the place of a reader.
+/// What stands at the offset of a reader.
 #[derive(Clone, Copy, Debug, PartialEq, Eq)]
 pub enum Next<'a> {
     /// A frame with this payload. An empty one is a mark.
@@ -29,7 +29,7 @@ pub enum Next<'a> {
 pub struct Reader {
     /// How many frames were read.
     pub count: u64,
-    /// How many bytes they take: the place of the next one.
+    /// How many bytes they take: the offset of the next one.
     pub at: u64,
     /// Whether the last of them is a mark.
     pub marked: bool,

@@ -91,13 +91,13 @@ reading_none members read left none all up = rw (none, all) (record {
 
 -- one more member was read
 pub reading_more : (all : Members) (old new : List (String Global × Vec KeyData Global)) (left rest : List (String Global × Value))
-    → (name copy : String Global) (set : Value) (keys : Vec KeyData Global) (said : List ℕ) (place : ℕ)
-    → IsReading all old left → left ≡ (name, set) ∷ rest → said ≡ string_bytes name → place ≡ length old → string_bytes copy ≡ said
+    → (name copy : String Global) (set : Value) (keys : Vec KeyData Global) (said : List ℕ) (index : ℕ)
+    → IsReading all old left → left ≡ (name, set) ∷ rest → said ≡ string_bytes name → index ≡ length old → string_bytes copy ≡ said
     → new ≡ insert_entry string_cmp old copy keys → IsBundle said (view set)
     → keys.items ≡ filter_map (kept_key said) (unwrap_or (entries_in (view set)) [])
-    → ((ms : Members) → members_fault place (member said (view set) ms) ≡ members_fault (place + 1) ms)
+    → ((ms : Members) → members_fault index (member said (view set) ms) ≡ members_fault (index + 1) ms)
     → IsReading all new rest
-reading_more all old new left rest name copy set keys said place is before named at copied inserted good kept next =
+reading_more all old new left rest name copy set keys said index is before named at copied inserted good kept next =
     let spelled : string_bytes copy ≡ string_bytes name = copied ∙ named in
     let up : AreRising (names_of old ++ string_bytes copy ∷ names_of rest) = rw spelled (rw before at is.rising) in
     let placed : new ≡ old ++ (copy, keys) ∷ [] = inserted ∙ insert_last old copy keys (names_of rest) up in
@@ -113,10 +113,10 @@ reading_more all old new left rest name copy set keys said place is before named
 
 -- the fault of the next member is that of all
 pub fault_next : (all : Members) (old : List (String Global × Vec KeyData Global)) (left rest : List (String Global × Value))
-    → (name : String Global) (set : Value) (said : List ℕ) (place : ℕ) (fault : BundleFault)
-    → IsReading all old left → left ≡ (name, set) ∷ rest → said ≡ string_bytes name → place ≡ length old
-    → ((ms : Members) → IsRefusal (members_fault place (member said (view set) ms)) fault) → IsRefusal (members_fault 0 all) fault
-fault_next all old left rest name set said place fault is before named at refused =
+    → (name : String Global) (set : Value) (said : List ℕ) (index : ℕ) (fault : BundleFault)
+    → IsReading all old left → left ≡ (name, set) ∷ rest → said ≡ string_bytes name → index ≡ length old
+    → ((ms : Members) → IsRefusal (members_fault index (member said (view set) ms)) fault) → IsRefusal (members_fault 0 all) fault
+fault_next all old left rest name set said index fault is before named at refused =
     rw (is.fault, before, ← named, ← at) (refused (members_view rest))
 
 -- all members were read
@@ -183,8 +183,8 @@ bundles_in-members text ms found are = rw (found, no_fault 0 ms are) refl
 -- a text that is bundles is refused for want of memory alone
 pub memory_alone : (text : List ℕ) (fault : BundleFault) → IsRefusal (bundles_fault text) fault → IsBundles text → fault ≡ OutOfMemory
 memory_alone text NotObject refused is = absurd (whole text _ refused is)
-memory_alone text (Domain place) refused is = absurd (whole text _ refused is)
-memory_alone text (Keys place) refused is = absurd (whole text _ refused is)
+memory_alone text (Domain index) refused is = absurd (whole text _ refused is)
+memory_alone text (Keys index) refused is = absurd (whole text _ refused is)
 memory_alone text OutOfMemory refused is = refl
 
 -- a member that is a bundle, and the two ways of one that is none
@@ -197,19 +197,19 @@ BadDomain m = ¬ IsDomain m.name
 abbrev BadKeys : Named → Type 0
 BadKeys m = IsDomain m.name × (entries_in m.set ≡ None)
 
--- of members, of which the first stands at a place, the fault is that of the first bad one
+-- of members, of which the first stands at a index, the fault is that of the first bad one
 abbrev IsFirstOf : ℕ → Members → BundleFault → Type 0
 IsFirstOf at ms NotObject = ⊥
-IsFirstOf at ms (Domain place) = (before : ℕ) × (place ≡ at + before) × IsFirstBad Good BadDomain (members_list ms) before
-IsFirstOf at ms (Keys place) = (before : ℕ) × (place ≡ at + before) × IsFirstBad Good BadKeys (members_list ms) before
+IsFirstOf at ms (Domain index) = (before : ℕ) × (index ≡ at + before) × IsFirstBad Good BadDomain (members_list ms) before
+IsFirstOf at ms (Keys index) = (before : ℕ) × (index ≡ at + before) × IsFirstBad Good BadKeys (members_list ms) before
 IsFirstOf at ms OutOfMemory = ⊥
 
 first_of_rest : (at : ℕ) (name : List ℕ) (set : Data) (ms : Members) (fault : BundleFault) → IsBundle name set
     → IsFirstOf (at + 1) ms fault → IsFirstOf at (member name set ms) fault
 first_of_rest at name set ms NotObject good first = first
-first_of_rest at name set ms (Domain place) good first =
+first_of_rest at name set ms (Domain index) good first =
     (first.0 + 1, omega (arith, first.1), first_later Good BadDomain _ (members_list ms) first.0 good first.2)
-first_of_rest at name set ms (Keys place) good first =
+first_of_rest at name set ms (Keys index) good first =
     (first.0 + 1, omega (arith, first.1), first_later Good BadKeys _ (members_list ms) first.0 good first.2)
 first_of_rest at name set ms OutOfMemory good first = first
 
@@ -241,19 +241,19 @@ members_fault-first at (member name set ms) fault e =
 
 of_members : (text : List ℕ) (ms : Members) (fault : BundleFault) → members_in text ≡ Some ms → IsFirstOf 0 ms fault → IsFirstBundleFault text fault
 of_members text ms NotObject is first = absurd first
-of_members text ms (Domain place) is first =
-    let counted : first.0 ≡ place = omega (arith, first.1) in
+of_members text ms (Domain index) is first =
+    let counted : first.0 ≡ index = omega (arith, first.1) in
     (ms, is, subst (IsFirstBad Good BadDomain (members_list ms)) counted first.2)
-of_members text ms (Keys place) is first =
-    let counted : first.0 ≡ place = omega (arith, first.1) in
+of_members text ms (Keys index) is first =
+    let counted : first.0 ≡ index = omega (arith, first.1) in
     (ms, is, subst (IsFirstBad Good BadKeys (members_list ms)) counted first.2)
 of_members text ms OutOfMemory is first = absurd first
 
 of_found : (text : List ℕ) (found : Option Members) (fault : BundleFault) → members_in text ≡ found → object_fault found ≡ Some fault
     → IsFirstBundleFault text fault
 of_found text None NotObject is e = is
-of_found text None (Domain place) is e = absurd (cc)
-of_found text None (Keys place) is e = absurd (cc)
+of_found text None (Domain index) is e = absurd (cc)
+of_found text None (Keys index) is e = absurd (cc)
 of_found text None OutOfMemory is e = absurd (cc)
 of_found text (Some ms) fault is e = of_members text ms fault is (members_fault-first 0 ms fault e)
 
@@ -290,6 +290,6 @@ bad_keys at name set ms bad = rw (domain_fault-IsDomain 0 name bad.0, bad.1) ref
 -- and the first is the fault of bundles
 pub bundles_fault-from_first : (text : List ℕ) (fault : BundleFault) → IsFirstBundleFault text fault → bundles_fault text ≡ Some fault
 bundles_fault-from_first text NotObject is = rw is refl
-bundles_fault-from_first text (Domain place) is = rw is.1 (from_first BadDomain Domain bad_domain 0 place is.0 is.2 ∙ ap (λ n. Some (Domain n)) (omega arith))
-bundles_fault-from_first text (Keys place) is = rw is.1 (from_first BadKeys Keys bad_keys 0 place is.0 is.2 ∙ ap (λ n. Some (Keys n)) (omega arith))
+bundles_fault-from_first text (Domain index) is = rw is.1 (from_first BadDomain Domain bad_domain 0 index is.0 is.2 ∙ ap (λ n. Some (Domain n)) (omega arith))
+bundles_fault-from_first text (Keys index) is = rw is.1 (from_first BadKeys Keys bad_keys 0 index is.0 is.2 ∙ ap (λ n. Some (Keys n)) (omega arith))
 bundles_fault-from_first text OutOfMemory is = absurd is

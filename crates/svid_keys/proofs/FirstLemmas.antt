@@ -9,9 +9,9 @@ first_here Good Bad x row is_bad =
     record { before = []; one = x; after = row; whole = refl; counted = refl; good = All-nil Good; bad = is_bad }
 
 -- a good thing at the head is passed over
-pub first_later : {X : Type 0} (Good Bad : X → Type 0) (x : X) (row : List X) (place : ℕ) → Good x → IsFirstBad Good Bad row place
-    → IsFirstBad Good Bad (x ∷ row) (place + 1)
-first_later Good Bad x row place is_good is = record {
+pub first_later : {X : Type 0} (Good Bad : X → Type 0) (x : X) (row : List X) (index : ℕ) → Good x → IsFirstBad Good Bad row index
+    → IsFirstBad Good Bad (x ∷ row) (index + 1)
+first_later Good Bad x row index is_good is = record {
   before = x ∷ is.before;
   one = is.one;
   after = is.after;
@@ -21,13 +21,13 @@ first_later Good Bad x row place is_good is = record {
   bad = is.bad;
 }
 
-by_head : {X : Type 0} (Good Bad : X → Type 0) (x : X) (row : List X) (place : ℕ) (before : List X) (one : X) (after : List X)
-    → x ∷ row ≡ before ++ one ∷ after → length before ≡ place → All Good before → Bad one
-    → ((place ≡ 0) × Bad x) ⊎ ((next : ℕ) × (place ≡ next + 1) × Good x × IsFirstBad Good Bad row next)
-by_head Good Bad x row place [] one after whole counted good bad =
+by_head : {X : Type 0} (Good Bad : X → Type 0) (x : X) (row : List X) (index : ℕ) (before : List X) (one : X) (after : List X)
+    → x ∷ row ≡ before ++ one ∷ after → length before ≡ index → All Good before → Bad one
+    → ((index ≡ 0) × Bad x) ⊎ ((next : ℕ) × (index ≡ next + 1) × Good x × IsFirstBad Good Bad row next)
+by_head Good Bad x row index [] one after whole counted good bad =
     let is : one ≡ x = cc in
     inl (sym counted, subst Bad is bad)
-by_head Good Bad x row place (y ∷ before) one after whole counted good bad =
+by_head Good Bad x row index (y ∷ before) one after whole counted good bad =
     let is : y ≡ x = cc in
     let rest : row ≡ before ++ one ∷ after = cc in
     inr (
@@ -46,14 +46,14 @@ by_head Good Bad x row place (y ∷ before) one after whole counted good bad =
     )
 
 -- the first bad thing is at the head, or behind a good head
-pub first_or_later : {X : Type 0} (Good Bad : X → Type 0) (x : X) (row : List X) (place : ℕ) → IsFirstBad Good Bad (x ∷ row) place
-    → ((place ≡ 0) × Bad x) ⊎ ((next : ℕ) × (place ≡ next + 1) × Good x × IsFirstBad Good Bad row next)
-first_or_later Good Bad x row place is = by_head Good Bad x row place is.before is.one is.after is.whole is.counted is.good is.bad
+pub first_or_later : {X : Type 0} (Good Bad : X → Type 0) (x : X) (row : List X) (index : ℕ) → IsFirstBad Good Bad (x ∷ row) index
+    → ((index ≡ 0) × Bad x) ⊎ ((next : ℕ) × (index ≡ next + 1) × Good x × IsFirstBad Good Bad row next)
+first_or_later Good Bad x row index is = by_head Good Bad x row index is.before is.one is.after is.whole is.counted is.good is.bad
 
 none_in : {X : Type 0} (before : List X) (one : X) (after : List X) → [] ≡ before ++ one ∷ after → ⊥
 none_in [] one after whole = cc
 none_in (x ∷ before) one after whole = cc
 
 -- a row of nothing has none
-pub none_first : {X : Type 0} (Good Bad : X → Type 0) (place : ℕ) → IsFirstBad Good Bad [] place → ⊥
-none_first Good Bad place is = none_in is.before is.one is.after is.whole
+pub none_first : {X : Type 0} (Good Bad : X → Type 0) (index : ℕ) → IsFirstBad Good Bad [] index → ⊥
+none_first Good Bad index is = none_in is.before is.one is.after is.whole

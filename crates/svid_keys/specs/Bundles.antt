@@ -56,7 +56,7 @@ abbrev pub bundles_of : Members → List Bundle
 bundles_of no_members = []
 bundles_of (member name set ms) = bundle_of name (unwrap_or (entries_in set) []) ∷ bundles_of ms
 
--- the first fault of members, of which the first stands at a place
+-- the first fault of members, of which the first stands at a index
 abbrev pub members_fault : ℕ → Members → Option BundleFault
 members_fault at no_members = None
 members_fault at (member name set ms) =
@@ -74,17 +74,17 @@ abbrev pub members_list : Members → List Named
 members_list no_members = []
 members_list (member name set ms) = record { name = name; set = set } ∷ members_list ms
 
--- the members before a place are bundles, and the one at the place is bad in this way
+-- the members before a index are bundles, and the one at the index is bad in this way
 abbrev pub IsFirstBadMember : (Named → Type 0) → List ℕ → ℕ → Type 0
-IsFirstBadMember Bad text place = (ms : Members) × (members_in text ≡ Some ms)
-    × IsFirstBad (λ m. IsBundle m.name m.set) Bad (members_list ms) place
+IsFirstBadMember Bad text index = (ms : Members) × (members_in text ≡ Some ms)
+    × IsFirstBad (λ m. IsBundle m.name m.set) Bad (members_list ms) index
 
 -- the first fault of a text as bundles, by what stands before it: it is no object; the names before this one are bundles,
 -- and this one is no trust domain name; or it is one, and has no list of keys
 abbrev pub IsFirstBundleFault : List ℕ → BundleFault → Type 0
 IsFirstBundleFault text NotObject = members_in text ≡ None
-IsFirstBundleFault text (Domain place) = IsFirstBadMember (λ m. ¬ IsDomain m.name) text place
-IsFirstBundleFault text (Keys place) = IsFirstBadMember (λ m. IsDomain m.name × (entries_in m.set ≡ None)) text place
+IsFirstBundleFault text (Domain index) = IsFirstBadMember (λ m. ¬ IsDomain m.name) text index
+IsFirstBundleFault text (Keys index) = IsFirstBadMember (λ m. IsDomain m.name × (entries_in m.set ≡ None)) text index
 IsFirstBundleFault text OutOfMemory = ⊥
 
 -- the first fault of members that may not be there
@@ -103,8 +103,8 @@ bundles_in text = if is_none (bundles_fault text) then option_map bundles_of (me
 -- a refusal is the fault that was found, if memory did not run out
 abbrev pub IsRefusal : Option BundleFault → BundleFault → Type 0
 IsRefusal found NotObject = found ≡ Some NotObject
-IsRefusal found (Domain place) = found ≡ Some (Domain place)
-IsRefusal found (Keys place) = found ≡ Some (Keys place)
+IsRefusal found (Domain index) = found ≡ Some (Domain index)
+IsRefusal found (Keys index) = found ≡ Some (Keys index)
 IsRefusal found OutOfMemory = Unit {0}
 
 -- what contracts see of a trust domain beside its keys

@@ -40,7 +40,7 @@ impl Bundles {
     ///
     /// An entry of such a list that is no key for JWT-SVIDs is passed over, as are other members.
     /// Of a name that is written twice the last value stands. The first faulty name in rising
-    /// byte order is answered with its place: `Domain`, and then `Keys`.
+    /// byte order is answered with its index: `Domain`, and then `Keys`.
     pub fn read(alloc: Global, text: &[u8]) -> Result<Bundles, BundleFault>
         ensures accepted { OnOk result (IsBundles text.now) }
         ensures value { IfOk result (λ bundles. bundles_in text.now ≡ Some bundles) }
@@ -114,24 +114,24 @@ fn insert(
     Ok(())
 }
 
-// The keys of the bundle that a member is, which stands at `place` in the object.
+// The keys of the bundle that a member is, which stands at `index` in the object.
 fn read_bundle(
     alloc: Global,
-    place: usize,
+    index: usize,
     name: &str,
     set: &Value,
 ) -> Result<Vec<JwtKey>, BundleFault>
     ensures accepted { OnOk result (IsBundle name.now (view set.now)) }
     ensures value { IfOk result
         (λ keys. keys.items ≡ filter_map (kept_key name.now) (unwrap_or (entries_in (view set.now)) [])) }
-    ensures next { OnOk result ((ms : Members) → members_fault place (member name.now (view set.now) ms) ≡ members_fault (place + 1) ms) }
-    ensures fault { IfErr result (λ fault. (ms : Members) → IsRefusal (members_fault place (member name.now (view set.now) ms)) fault) }
+    ensures next { OnOk result ((ms : Members) → members_fault index (member name.now (view set.now) ms) ≡ members_fault (index + 1) ms) }
+    ensures fault { IfErr result (λ fault. (ms : Members) → IsRefusal (members_fault index (member name.now (view set.now) ms)) fault) }
 {
     if !is_domain_name(name.as_bytes()) {
-        return Err(BundleFault::Domain(place));
+        return Err(BundleFault::Domain(index));
     }
     let Some(entries) = entries_in(set) else {
-        return Err(BundleFault::Keys(place));
+        return Err(BundleFault::Keys(index));
     };
     Ok(read_keys(alloc, name, entries)?)
 }

@@ -43,7 +43,7 @@ numbered number before few is =
     omega (arith, no, few)
 
 of_input : {R : Type 0} (s : Sources R) (number : ℕ) (own : ToolFault) → number < 4 → IsRefused s own → IsOfInput number (earlier_fault own) → ⊥
-of_input s number (tool.Wire input message place reason) few why is = numbered number (length why.before) few (ap behind_three (sym why.why.0) ∙ is)
+of_input s number (tool.Wire input message offset reason) few why is = numbered number (length why.before) few (ap behind_three (sym why.why.0) ∙ is)
 of_input s number (tool.Read input) few why is = numbered number (length why.before) few (ap behind_three (sym why.why.0) ∙ is)
 of_input s number (tool.TooMuch input) few why is = numbered number (length why.before) few (ap behind_three (sym why.why.0) ∙ is)
 of_input s number tool.NotSummary few why is = is
@@ -130,7 +130,7 @@ checks_want inputs table_kept tokens_kept earlier_kept bundles table tokens earl
 }))))
 
 own_not_write : {R : Type 0} (s : Sources R) (own : ToolFault) → IsRefused s own → tool.Write ≡ earlier_fault own → ⊥
-own_not_write s (tool.Wire input message place reason) why is = cc
+own_not_write s (tool.Wire input message offset reason) why is = cc
 own_not_write s (tool.Read input) why is = cc
 own_not_write s (tool.TooMuch input) why is = cc
 own_not_write s tool.NotSummary why is = cc

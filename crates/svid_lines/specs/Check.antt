@@ -99,7 +99,7 @@ outcome_view made = record { accepted = made.accepted; kept = record_text made.v
 
 -- the setting of the checks, under these bundles and with a verifier that says this
 abbrev pub setting_under : CheckSetting → List Bundle → Says → Setting
-setting_under given bundles says = record { own = map string_bytes given.own.items; place = given.place; bundles = bundles; says = says; longest = given.longest }
+setting_under given bundles says = record { own = map string_bytes given.own.items; validator_id = given.validator_id; bundles = bundles; says = says; longest = given.longest }
 
 -- the setting of the checks: the verifier says yes to the questions of the table
 abbrev pub setting_for : CheckSetting → Read → Setting
@@ -183,7 +183,7 @@ behind_three number = min (number + 3) (2 ^ 64 - 1)
 
 -- the fault of earlier records, before which three more inputs stand
 abbrev pub earlier_fault : ToolFault → ToolFault
-earlier_fault (tool.Wire input message place reason) = tool.Wire (behind_three input) message place reason
+earlier_fault (tool.Wire input message offset reason) = tool.Wire (behind_three input) message offset reason
 earlier_fault (tool.Read input) = tool.Read (behind_three input)
 earlier_fault (tool.TooMuch input) = tool.TooMuch (behind_three input)
 earlier_fault given = given
@@ -247,7 +247,7 @@ IsCheckFault given inputs outputs fault = IsOneRefused inputs fault
 
 -- the fault is one of the input with this number
 abbrev pub IsOfInput : ℕ → ToolFault → Type 0
-IsOfInput number (tool.Wire input message place reason) = input ≡ number
+IsOfInput number (tool.Wire input message offset reason) = input ≡ number
 IsOfInput number (tool.Bundles fault) = 1 ≡ number
 IsOfInput number (tool.Table line) = 2 ≡ number
 IsOfInput number (tool.Read input) = input ≡ number

@@ -8,20 +8,20 @@ use Rattle.svid_wire.specs.Streams.{Taken, TookPart}
 use Rattle.svid_share.specs.declared.tool_fault.ToolFault.{ToolFault}
 use Rattle.svid_share.specs.declared.tool_fault.ToolFault.TheVariants as tool
 
--- a name with a place in round brackets
+-- a name with a offset in round brackets
 abbrev pub placed : List ℕ → ℕ → List ℕ
-placed name place = name ++ 40 ∷ [] ++ decimal place ++ 41 ∷ []
+placed name offset = name ++ 40 ∷ [] ++ decimal offset ++ 41 ∷ []
 
--- the name of a fault of a text, with its place where it has one; want of memory is none
+-- the name of a fault of a text, with its offset where it has one; want of memory is none
 abbrev pub fault_name : IdFault → List ℕ
 fault_name fault.TooLong = codes "TooLong"
 fault_name fault.Scheme = codes "Scheme"
 fault_name fault.DomainEmpty = codes "DomainEmpty"
-fault_name (fault.DomainByte place) = placed (codes "DomainByte") place
+fault_name (fault.DomainByte offset) = placed (codes "DomainByte") offset
 fault_name fault.DomainLong = codes "DomainLong"
-fault_name (fault.SegmentEmpty place) = placed (codes "SegmentEmpty") place
-fault_name (fault.SegmentDots place) = placed (codes "SegmentDots") place
-fault_name (fault.PathByte place) = placed (codes "PathByte") place
+fault_name (fault.SegmentEmpty offset) = placed (codes "SegmentEmpty") offset
+fault_name (fault.SegmentDots offset) = placed (codes "SegmentDots") offset
+fault_name (fault.PathByte offset) = placed (codes "PathByte") offset
 fault_name fault.OutOfMemory = []
 
 -- the line of a path: none where it is empty

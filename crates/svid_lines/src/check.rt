@@ -23,7 +23,7 @@ pub struct CheckSetting {
     /// The validator's own audiences.
     pub own: Vec<String>,
     /// What tells the validator from every other one.
-    pub place: [u8; 16],
+    pub validator_id: [u8; 16],
     /// The moment of the checks, in seconds; where the record's is greater, the tokens are judged at that.
     pub now: u64,
     /// How many seconds past `now`, or past the record's moment where that is greater, a token may expire; any
@@ -57,12 +57,12 @@ fn earlier_fault(fault: ToolFault) -> ToolFault
         ToolFault::Wire {
             input,
             message,
-            place,
+            offset,
             reason,
         } => ToolFault::Wire {
             input: input.saturating_add(3),
             message,
-            place,
+            offset,
             reason,
         },
         ToolFault::Read { input } => ToolFault::Read {
@@ -102,11 +102,11 @@ fn check_all(
 {
     let CheckSetting {
         own,
-        place,
+        validator_id,
         now,
         longest,
     } = given;
-    let mut validator = Validator::new(alloc, own, place, 0, bundles, table, begun, longest);
+    let mut validator = Validator::new(alloc, own, validator_id, 0, bundles, table, begun, longest);
     let (accepted, lines) = check_lines(alloc, &mut validator, now, tokens)?;
     Ok(Outcome {
         accepted,

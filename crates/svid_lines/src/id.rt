@@ -16,11 +16,11 @@ fn fault_name(alloc: Global, fault: IdFault) -> Result<String, AllocError>
         IdFault::TooLong => String::from_str(alloc, "TooLong"),
         IdFault::Scheme => String::from_str(alloc, "Scheme"),
         IdFault::DomainEmpty => String::from_str(alloc, "DomainEmpty"),
-        IdFault::DomainByte(place) => format!(in alloc; "DomainByte({place})"),
+        IdFault::DomainByte(offset) => format!(in alloc; "DomainByte({offset})"),
         IdFault::DomainLong => String::from_str(alloc, "DomainLong"),
-        IdFault::SegmentEmpty(place) => format!(in alloc; "SegmentEmpty({place})"),
-        IdFault::SegmentDots(place) => format!(in alloc; "SegmentDots({place})"),
-        IdFault::PathByte(place) => format!(in alloc; "PathByte({place})"),
+        IdFault::SegmentEmpty(offset) => format!(in alloc; "SegmentEmpty({offset})"),
+        IdFault::SegmentDots(offset) => format!(in alloc; "SegmentDots({offset})"),
+        IdFault::PathByte(offset) => format!(in alloc; "PathByte({offset})"),
         IdFault::OutOfMemory => Err(AllocError),
     }
 }

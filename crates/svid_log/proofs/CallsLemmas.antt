@@ -16,15 +16,15 @@ use Rattle.svid_log.specs.declared.reading.Reading.{Reading}
 use Rattle.svid_log.specs.declared.reading.Rest.{Rest}
 use Rattle.svid_log.specs.declared.reading.Rest.TheVariants.{Nothing, NoRoom, NoMemory}
 use Rattle.svid_log.specs.declared.rows.Standing.{Standing}
-use Rattle.svid_log.specs.Calls.{IsGapGone, IsMember, ReadsAreEvents, arrival, gap_end, gap_len, place_in, reads_of, refusal, uses_of}
+use Rattle.svid_log.specs.Calls.{IsGapGone, IsMember, ReadsAreEvents, arrival, gap_end, gap_len, index_in, reads_of, refusal, uses_of}
 use Rattle.svid_log.specs.Groups.{Accepts, Event, Miss, Read, Reader, Terms, World, far, happen, happens, is_gone, missed, put, read_next, reads}
 use Rattle.svid_log.specs.Members.{HasRead, IsRefused, Ledger, MemberState, accepts, advanced, after_all, after_one, answer_at, arrived, fates_of, rest_of, standing}
 use Rattle.svid_log.specs.Steps.{beside_after, decided, fate_at, fate_by, held_after, reached}
-use Rattle.svid_log.proofs.GroupsLemmas.{drop_place}
-use Rattle.svid_log.proofs.PlacesLemmas.{dropped_length, front_place, next_place, places_rise, taken_length, value_place, within_list}
+use Rattle.svid_log.proofs.GroupsLemmas.{drop_index}
+use Rattle.svid_log.proofs.IndexesLemmas.{dropped_length, front_index, next_index, indexes_rise, taken_length, value_index, within_list}
 use Rattle.svid_log.proofs.StepsLemmas.{held_stays, not_accepted_by}
 
--- uses stand in a log, one behind the other, from a place on
+-- uses stand in a log, one behind the other, from a validator ID on
 abbrev Stand : List Use → ℕ → List Use → Type 0
 Stand log n [] = Unit {0}
 Stand log n (c ∷ cs) = (slice_get log n ≡ Some c) × Stand log (n + 1) cs
@@ -45,10 +45,10 @@ stand_front log [] n (suc k) s = tt
 stand_front log (c ∷ cs) n (suc k) s = (s.0, stand_front log cs (n + 1) k s.1)
 
 -- the uses of a value that are left stand in the log of all values
-value_stands : (values : List (List Use)) (i begun : ℕ) (us : List Use) → slice_get values i ≡ Some us → Stand (uses_of values) (place_in values i begun) (drop begun us)
+value_stands : (values : List (List Use)) (i begun : ℕ) (us : List Use) → slice_get values i ≡ Some us → Stand (uses_of values) (index_in values i begun) (drop begun us)
 value_stands values i begun us e =
-    stand_from (uses_of values) (drop begun us) (place_in values i begun)
-    (λ k c is. ap (λ n. slice_get (uses_of values) n) (apart (length (uses_of (take i values))) begun k) ∙ value_place values i us (begun + k) c e (sym (drop_place begun us k) ∙ is))
+    stand_from (uses_of values) (drop begun us) (index_in values i begun)
+    (λ k c is. ap (λ n. slice_get (uses_of values) n) (apart (length (uses_of (take i values))) begun k) ∙ value_index values i us (begun + k) c e (sym (drop_index begun us k) ∙ is))
   where
     apart : (a b k : ℕ) → (a + b) + k ≡ a + (b + k)
     apart a b k = omega arith
@@ -99,14 +99,14 @@ record IsThere (values : List (List Use)) (m m_there : MemberState) (x : State) 
   member : IsMember values m_there x (a.members v)
   log : a.log ≡ w.log
   passed : m_there.passed ≡ position - 1
-  place : m_there.place ≡ m.place
+  validator_id : m_there.validator_id ≡ m.validator_id
   beside : m_there.beside ≡ m.beside
   ready : m_there.ready ≡ m.ready
 
 module _ (group : ℕ → Terms) (w : World) (v now : ℕ) (values : List (List Use)) (m : MemberState) (x : State) (position : ℕ) (uses : List Use) where
   abbrev there_if : Bool → MemberState
   there_if b =
-      if b then record { beside = m.beside; place = m.place; lasts = m.lasts; passed = position - 1; begun = 0; ready = m.ready; deaf = max m.deaf (gap_end m x now) }
+      if b then record { beside = m.beside; validator_id = m.validator_id; lasts = m.lasts; passed = position - 1; begun = 0; ready = m.ready; deaf = max m.deaf (gap_end m x now) }
       else m
 
   abbrev arrival_if : Bool → List Event
@@ -124,30 +124,30 @@ module _ (group : ℕ → Terms) (w : World) (v now : ℕ) (values : List (List 
   through : (a b c : ℕ) → a < b → b < c → a < c
   through a b c one other = omega arith
 
-  -- the place of a member in the log is in front of a later value
-  in_front : IsMember values m x (w.members v) → m.passed < position - 1 → slice_get values (position - 1) ≡ Some uses → place_in values m.passed m.begun ≤ place_in values (position - 1) 0
+  -- the validator ID of a member in the log is in front of a later value
+  in_front : IsMember values m x (w.members v) → m.passed < position - 1 → slice_get values (position - 1) ≡ Some uses → index_in values m.passed m.begun ≤ index_in values (position - 1) 0
   in_front is lt e =
       let us = get_or values m.passed uses in
       let at : slice_get values m.passed ≡ Some us = slice_get-get_or values m.passed uses (through m.passed (position - 1) (length values) lt (within_list values (position - 1) uses e)) in
       let one = within_value (length (uses_of (take m.passed values))) m.begun (length us) (is.begun us at) in
-      let two = next_place values m.passed us at in
-      let three = places_rise values (suc m.passed) (position - 1) (omega arith) in
+      let two = next_index values m.passed us at in
+      let three = indexes_rise values (suc m.passed) (position - 1) (omega arith) in
       omega arith
 
   there_by : (b : Bool) → nat_lt m.passed (position - 1) ≡ b → w.log ≡ uses_of values → IsMember values m x (w.members v) → m.passed < position → slice_get values (position - 1) ≡ Some uses → IsGapGone values m x now position
       → IsThere values m (there_if b) x position w (happen group w (arrival_if b)) v
-  there_by false e log is lt at gone = record { member = is; log = refl; passed = here_already m.passed position lt e; place = refl; beside = refl; ready = refl }
+  there_by false e log is lt at gone = record { member = is; log = refl; passed = here_already m.passed position lt e; validator_id = refl; beside = refl; ready = refl }
   there_by true e log is lt at gone =
       let r = w.members v in
       let ahead = ltb-true m.passed (position - 1) e in
       let y = missed r (gap_len values m position) (gap_end m x now) in
       let open_gap : is_gone (gap_end m x now) (gap_len values m position) (drop r.read w.log) ≡ true =
-      ap (λ n. is_gone (gap_end m x now) (gap_len values m position) (drop n w.log)) is.read ∙ (ap (λ log. is_gone (gap_end m x now) (gap_len values m position) (drop (place_in values m.passed m.begun) log)) log ∙ gone ahead) in
+      ap (λ n. is_gone (gap_end m x now) (gap_len values m position) (drop n w.log)) is.read ∙ (ap (λ log. is_gone (gap_end m x now) (gap_len values m position) (drop (index_in values m.passed m.begun) log)) log ∙ gone ahead) in
       let missing : happen group w (arrival_if true) ≡ put w v y = cond-true (is_gone (gap_end m x now) (gap_len values m position) (drop r.read w.log)) (put w v y) w open_gap in
       let there : IsMember values (there_if true) x y = record {
         held = is.held;
         beside = is.beside;
-        read = ap (λ n. n + gap_len values m position) is.read ∙ beyond (place_in values m.passed m.begun) (place_in values (position - 1) 0) (place_in values (position - 1) 0) (in_front is ahead at) (same_le (place_in values (position - 1) 0));
+        read = ap (λ n. n + gap_len values m position) is.read ∙ beyond (index_in values m.passed m.begun) (index_in values (position - 1) 0) (index_in values (position - 1) 0) (in_front is ahead at) (same_le (index_in values (position - 1) 0));
         ready = is.ready;
         deaf = ap (λ n. max n (gap_end m x now)) is.deaf;
         begun = λ us e. none_le (length us);
@@ -156,7 +156,7 @@ module _ (group : ℕ → Terms) (w : World) (v now : ℕ) (values : List (List 
         member = subst (λ (z : World). IsMember values (there_if true) x (z.members v)) (sym missing) (subst (IsMember values (there_if true) x) (sym (own_put group v now w y)) there);
         log = ap (λ (z : World). z.log) missing;
         passed = refl;
-        place = refl;
+        validator_id = refl;
         beside = refl;
         ready = refl;
       }
@@ -173,11 +173,11 @@ fate_in_row s now far l [] k c e = absurd (none-some c e)
 fate_in_row s now far l (d ∷ cs) zero c e = ap (λ u. Some (answer_at s now far l u)) (same_Some d c e)
 fate_in_row s now far l (d ∷ cs) (suc k) c e = fate_in_row s now far (after_one now far l d) cs k c e
 
-row_place : {A : Type 0} (cs : List A) (n k : ℕ) (c : A) → k < n → slice_get cs k ≡ Some c → slice_get (take n cs) k ≡ Some c
-row_place cs zero k c lt e = absurd (omega arith)
-row_place [] (suc n) k c lt e = absurd (none-some c e)
-row_place (d ∷ cs) (suc n) zero c lt e = e
-row_place (d ∷ cs) (suc n) (suc k) c lt e = row_place cs n k c (omega arith) e
+row_index : {A : Type 0} (cs : List A) (n k : ℕ) (c : A) → k < n → slice_get cs k ≡ Some c → slice_get (take n cs) k ≡ Some c
+row_index cs zero k c lt e = absurd (omega arith)
+row_index [] (suc n) k c lt e = absurd (none-some c e)
+row_index (d ∷ cs) (suc n) zero c lt e = e
+row_index (d ∷ cs) (suc n) (suc k) c lt e = row_index cs n k c (omega arith) e
 
 row_front : {A : Type 0} (cs : List A) (n k : ℕ) → k < n → take k (take n cs) ≡ take k cs
 row_front cs zero k lt = absurd (omega arith)
@@ -207,7 +207,7 @@ module _ (group : ℕ → Terms) (v now : ℕ) (values : List (List Use)) (there
     passed : there.passed ≡ position - 1
     begun : from ≡ there.begun
     held_beside : there.beside ≡ beside
-    place : there.place ≡ (group v).place
+    validator_id : there.validator_id ≡ (group v).validator_id
     at : slice_get values (position - 1) ≡ Some uses
     some : 0 < position
     few : count ≤ length (drop from uses)
@@ -224,11 +224,11 @@ module _ (group : ℕ → Terms) (v now : ℕ) (values : List (List Use)) (there
   abbrev ledger_behind : ℕ → Ledger
   ledger_behind k = after_all now (far group v now) first_ledger (take k left)
 
-  reader_place : Begins → (a.members v).read ≡ place_in values (position - 1) from
-  reader_place h = h.member.read ∙ (ap (λ n. place_in values n there.begun) h.passed ∙ ap (λ n. place_in values (position - 1) n) (sym h.begun))
+  reader_index : Begins → (a.members v).read ≡ index_in values (position - 1) from
+  reader_index h = h.member.read ∙ (ap (λ n. index_in values n there.begun) h.passed ∙ ap (λ n. index_in values (position - 1) n) (sym h.begun))
 
   stands : Begins → Stand a.log (a.members v).read left
-  stands h = subst (λ log. Stand log (a.members v).read left) (sym h.log) (subst (λ n. Stand (uses_of values) n left) (sym (reader_place h)) (value_stands values (position - 1) from uses h.at))
+  stands h = subst (λ log. Stand log (a.members v).read left) (sym h.log) (subst (λ n. Stand (uses_of values) n left) (sym (reader_index h)) (value_stands values (position - 1) from uses h.at))
 
   reads_on : Begins → (k : ℕ) → k ≤ length left → HasReadOn group v now (take k left) a (a.members v) (behind_reads k)
   reads_on h k le =
@@ -240,8 +240,8 @@ module _ (group : ℕ → Terms) (v now : ℕ) (values : List (List Use)) (there
   ledger_is : Begins → (k : ℕ) → k ≤ length left → ledger ((behind_reads k).members v) ≡ ledger_behind k
   ledger_is h k le = (reads_on h k le).ledger ∙ ap (λ l. after_all now (far group v now) l (take k left)) (same_ledger h)
 
-  read_is : Begins → (k : ℕ) → k ≤ length left → ((behind_reads k).members v).read ≡ place_in values (position - 1) from + k
-  read_is h k le = (reads_on h k le).read ∙ (ap (λ n. n + length (take k left)) (reader_place h) ∙ ap (λ n. place_in values (position - 1) from + n) (taken_length k left le))
+  read_is : Begins → (k : ℕ) → k ≤ length left → ((behind_reads k).members v).read ≡ index_in values (position - 1) from + k
+  read_is h k le = (reads_on h k le).read ∙ (ap (λ n. n + length (take k left)) (reader_index h) ∙ ap (λ n. index_in values (position - 1) from + n) (taken_length k left le))
 
   less : (k n : ℕ) → k < n → k ≤ n
   less k n lt = omega arith
@@ -253,7 +253,7 @@ module _ (group : ℕ → Terms) (v now : ℕ) (values : List (List Use)) (there
   next_is : Begins → (k : ℕ) (c : Use) → k ≤ length left → slice_get uses (from + k) ≡ Some c → slice_get (behind_reads k).log ((behind_reads k).members v).read ≡ Some c
   next_is h k c le e =
       ap (λ log. slice_get log ((behind_reads k).members v).read) ((reads_on h k le).log ∙ h.log)
-      ∙ (ap (λ n. slice_get (uses_of values) n) (read_is h k le ∙ apart (length (uses_of (take (position - 1) values))) from k) ∙ value_place values (position - 1) uses (from + k) c h.at e)
+      ∙ (ap (λ n. slice_get (uses_of values) n) (read_is h k le ∙ apart (length (uses_of (take (position - 1) values))) from k) ∙ value_index values (position - 1) uses (from + k) c h.at e)
 
   abbrev answer : ℕ → Use → Fate
   answer k c = answer_at (standing there position) now (far group v now) (ledger_behind k) c
@@ -270,16 +270,16 @@ module _ (group : ℕ → Terms) (v now : ℕ) (values : List (List Use)) (there
       let le : k ≤ length left = within k count (length left) lt h.few in
       let l = ledger_behind k in
       let says = accepted_says (fate_at l.held l.beside now (far group v now) c) (accepts (standing there position) (held_after l.held l.beside now (far group v now) c).moment c) (λ f. not_accepted_by _ _ _ _ _ _ f) is in
-      let parts = and_parts (nat_lt there.ready position && is_eq (bytes_cmp there.place c.place)) (not (nat_lt (held_after l.held l.beside now (far group v now) c).moment there.deaf)) says.1 in
-      let others = and_parts (nat_lt there.ready position) (is_eq (bytes_cmp there.place c.place)) parts.0 in
+      let parts = and_parts (nat_lt there.ready position && is_eq (bytes_cmp there.validator_id c.validator_id)) (not (nat_lt (held_after l.held l.beside now (far group v now) c).moment there.deaf)) says.1 in
+      let others = and_parts (nat_lt there.ready position) (is_eq (bytes_cmp there.validator_id c.validator_id)) parts.0 in
       let same = ledger_is h k le in
       let on = reads_on h k le in
       let fresh = ltb-true there.ready position others.0 in
-      let rise = places_rise values there.ready (position - 1) (up_to_last there.ready position fresh) in
+      let rise = indexes_rise values there.ready (position - 1) (up_to_last there.ready position fresh) in
       record {
         next = next_is h k c le e;
-        own = same_key there.place c.place others.1 ∙ h.place;
-        ready = subst (λ n. n ≤ ((behind_reads k).members v).read) (sym on.ready) (subst (λ n. (a.members v).ready ≤ n) (sym (read_is h k le)) (ready_before (a.members v).ready (place_in values there.ready 0) (length (uses_of (take (position - 1) values))) from k h.member.ready rise));
+        own = same_key there.validator_id c.validator_id others.1 ∙ h.validator_id;
+        ready = subst (λ n. n ≤ ((behind_reads k).members v).read) (sym on.ready) (subst (λ n. (a.members v).ready ≤ n) (sym (read_is h k le)) (ready_before (a.members v).ready (index_in values there.ready 0) (length (uses_of (take (position - 1) values))) from k h.member.ready rise));
         heard = subst (λ n. n ≤ (reached ((behind_reads k).members v).held now (far group v now) c).moment) (sym (on.deaf ∙ h.member.deaf))
             (subst (λ (l : Ledger). there.deaf ≤ (reached l.held now (far group v now) c).moment) (sym same)
             (subst (λ n. there.deaf ≤ n) (held_stays l.held l.beside now (far group v now) c) (ltb-false (held_after l.held l.beside now (far group v now) c).moment there.deaf (not-true (nat_lt (held_after l.held l.beside now (far group v now) c).moment there.deaf) parts.1))));
@@ -302,14 +302,14 @@ module _ (group : ℕ → Terms) (v now : ℕ) (values : List (List Use)) (there
       let l = ledger_behind k in
       let same = ledger_is h k le in
       let on = reads_on h k le in
-      let own : is_eq (bytes_cmp there.place c.place) ≡ true = subst (λ p. is_eq (bytes_cmp p c.place) ≡ true) (is.own ∙ sym h.place) (ap is_eq (tied_itself nat_list_cmp_total c.place)) in
+      let own : is_eq (bytes_cmp there.validator_id c.validator_id) ≡ true = subst (λ p. is_eq (bytes_cmp p c.validator_id) ≡ true) (is.own ∙ sym h.validator_id) (ap is_eq (tied_itself nat_list_cmp_total c.validator_id)) in
       let heard : there.deaf ≤ (held_after l.held l.beside now (far group v now) c).moment =
       subst (λ n. there.deaf ≤ n) (sym (held_stays l.held l.beside now (far group v now) c)) (subst (λ (l : Ledger). there.deaf ≤ (reached l.held now (far group v now) c).moment) same
       (subst (λ n. n ≤ (reached ((behind_reads k).members v).held now (far group v now) c).moment) (on.deaf ∙ h.member.deaf) is.heard)) in
       first_is_accepted (fate_at l.held l.beside now (far group v now) c) (accepts (standing there position) (held_after l.held l.beside now (far group v now) c).moment c)
       (subst (λ (l : Ledger). fate_at l.held l.beside now (far group v now) c ≡ First) same is.first)
-      (and_from (nat_lt there.ready position && is_eq (bytes_cmp there.place c.place)) (not (nat_lt (held_after l.held l.beside now (far group v now) c).moment there.deaf))
-      (and_from (nat_lt there.ready position) (is_eq (bytes_cmp there.place c.place)) (lt-ltb there.ready position fresh) own)
+      (and_from (nat_lt there.ready position && is_eq (bytes_cmp there.validator_id c.validator_id)) (not (nat_lt (held_after l.held l.beside now (far group v now) c).moment there.deaf))
+      (and_from (nat_lt there.ready position) (is_eq (bytes_cmp there.validator_id c.validator_id)) (lt-ltb there.ready position fresh) own)
       (not_past (held_after l.held l.beside now (far group v now) c).moment there.deaf heard))
     where
       within : (k c l : ℕ) → k < c → c ≤ l → k ≤ l
@@ -318,16 +318,16 @@ module _ (group : ℕ → Terms) (v now : ℕ) (values : List (List Use)) (there
   -- the member behind the uses that were read
   abbrev behind_if : Bool → Uses → MemberState
   behind_if b new =
-      if b then record { beside = new; place = there.place; lasts = there.lasts; passed = there.passed; begun = there.begun + count; ready = there.ready; deaf = there.deaf }
-      else record { beside = new; place = there.place; lasts = there.lasts; passed = position; begun = 0; ready = there.ready; deaf = there.deaf }
+      if b then record { beside = new; validator_id = there.validator_id; lasts = there.lasts; passed = there.passed; begun = there.begun + count; ready = there.ready; deaf = there.deaf }
+      else record { beside = new; validator_id = there.validator_id; lasts = there.lasts; passed = position; begun = 0; ready = there.ready; deaf = there.deaf }
 
-  behind_by : Begins → (b : Bool) → nat_lt count (length left) ≡ b → (x_new : State) (new : Uses) (z : Reader) → z.held ≡ x_new → z.beside ≡ new → z.read ≡ place_in values (position - 1) from + count → z.ready ≡ (a.members v).ready → z.deaf ≡ (a.members v).deaf
+  behind_by : Begins → (b : Bool) → nat_lt count (length left) ≡ b → (x_new : State) (new : Uses) (z : Reader) → z.held ≡ x_new → z.beside ≡ new → z.read ≡ index_in values (position - 1) from + count → z.ready ≡ (a.members v).ready → z.deaf ≡ (a.members v).deaf
       → IsMember values (behind_if b new) x_new z
   behind_by h true e x_new new z held beside read ready deaf = record {
     held = held;
     beside = beside;
-    read = read ∙ (ap (λ n. place_in values n from + count) (sym h.passed) ∙ (ap (λ n. place_in values there.passed n + count) h.begun ∙ apart (length (uses_of (take there.passed values))) there.begun count));
-    ready = subst (λ n. n ≤ place_in values there.ready 0) (sym ready) h.member.ready;
+    read = read ∙ (ap (λ n. index_in values n from + count) (sym h.passed) ∙ (ap (λ n. index_in values there.passed n + count) h.begun ∙ apart (length (uses_of (take there.passed values))) there.begun count));
+    ready = subst (λ n. n ≤ index_in values there.ready 0) (sym ready) h.member.ready;
     deaf = deaf ∙ h.member.deaf;
     begun = λ us is. let same : uses ≡ us = same_Some uses us (sym h.at ∙ (ap (λ n. slice_get values n) (sym h.passed) ∙ is)) in subst (λ xs. there.begun + count ≤ length xs) same (subst (λ n. n + count ≤ length uses) h.begun (in_value h));
   }
@@ -343,8 +343,8 @@ module _ (group : ℕ → Terms) (v now : ℕ) (values : List (List Use)) (there
         held = held;
         beside = beside;
         read = read ∙ (all_of (length (uses_of (take (position - 1) values))) from count (length left) (length uses) whole h.few (ltb-false count (length left) e)
-            ∙ (sym (next_place values (position - 1) uses h.at) ∙ ap (λ n. place_in values n 0) (last position h.some)));
-        ready = subst (λ n. n ≤ place_in values there.ready 0) (sym ready) h.member.ready;
+            ∙ (sym (next_index values (position - 1) uses h.at) ∙ ap (λ n. index_in values n 0) (last position h.some)));
+        ready = subst (λ n. n ≤ index_in values there.ready 0) (sym ready) h.member.ready;
         deaf = deaf ∙ h.member.deaf;
         begun = λ us is. none (length us);
       }
@@ -363,7 +363,7 @@ module _ (group : ℕ → Terms) (v now : ℕ) (values : List (List Use)) (there
       → (rest ≢ NoMemory → record { held = x_new; beside = new } ≡ ledger_behind count)
       → (rest ≡ NoMemory → IsRefused now (far group v now) (ledger_behind count) (slice_get left count) (record { held = x_new; beside = new }))
       → let z = (happen group (behind_reads count) (refusal v now rest)).members v in
-      (z.held ≡ x_new) × (z.beside ≡ new) × (z.read ≡ place_in values (position - 1) from + count) × (z.ready ≡ (a.members v).ready) × (z.deaf ≡ (a.members v).deaf)
+      (z.held ≡ x_new) × (z.beside ≡ new) × (z.read ≡ index_in values (position - 1) from + count) × (z.ready ≡ (a.members v).ready) × (z.deaf ≡ (a.members v).deaf)
   left_by h Nothing x_new new read refused =
       let same = ledger_is h count h.few ∙ sym (read (λ e. absurd (cc))) in
       let on = reads_on h count h.few in
@@ -376,21 +376,21 @@ module _ (group : ℕ → Terms) (v now : ℕ) (values : List (List Use)) (there
     where
       by_use : (o : Option Use) → slice_get left count ≡ o → IsRefused now (far group v now) (ledger_behind count) o (record { held = x_new; beside = new })
           → let z = (happen group (behind_reads count) (Read v now true ∷ [])).members v in
-          (z.held ≡ x_new) × (z.beside ≡ new) × (z.read ≡ place_in values (position - 1) from + count) × (z.ready ≡ (a.members v).ready) × (z.deaf ≡ (a.members v).deaf)
+          (z.held ≡ x_new) × (z.beside ≡ new) × (z.read ≡ index_in values (position - 1) from + count) × (z.ready ≡ (a.members v).ready) × (z.deaf ≡ (a.members v).deaf)
       by_use None e is = absurd is
       by_use (Some c) e is =
           let b = behind_reads count in
           let y = reads (far group v now) (b.members v) now true c in
           let on = reads_on h count h.few in
           let same = ledger_is h count h.few in
-          let event : happens group b (Read v now true) ≡ put b v y = ap (λ (o : Option Use). read_next (far group v now) b v now true o) (next_is h count c h.few (sym (drop_place from uses count) ∙ e)) in
+          let event : happens group b (Read v now true) ≡ put b v y = ap (λ (o : Option Use). read_next (far group v now) b v now true o) (next_is h count c h.few (sym (drop_index from uses count) ∙ e)) in
           let own : (happens group b (Read v now true)).members v ≡ y = ap (λ (w : World). w.members v) event ∙ own_put group v now b y in
           let held = ap (λ (l : Ledger). reached l.held now (far group v now) c) same ∙ sym is.0 in
           let beside = ap (λ (l : Ledger). live l.beside (reached l.held now (far group v now) c).moment) same ∙ sym is.1 in
           (ap (λ (r : Reader). r.held) own ∙ held, ap (λ (r : Reader). r.beside) own ∙ beside, ap (λ (r : Reader). r.read) own ∙ read_is h count h.few, ap (λ (r : Reader). r.ready) own ∙ on.ready, ap (λ (r : Reader). r.deaf) own ∙ on.deaf)
 
 pub reads_are_events : ReadsAreEvents
-reads_are_events group w v now values m m_new x x_new position uses room written r log is place lt at gone h =
+reads_are_events group w v now values m m_new x x_new position uses room written r log is validator_id lt at gone h =
     let far_now = far group v now in
     let there = arrived m (max x.moment now) position in
     let a = happen group w (arrival v values m x now position) in
@@ -401,7 +401,7 @@ reads_are_events group w v now values m m_new x x_new position uses room written
       passed = came.passed;
       begun = h.from;
       held_beside = came.beside;
-      place = came.place ∙ place;
+      validator_id = came.validator_id ∙ validator_id;
       at = at;
       some = above m.passed position lt;
       few = h.few;
@@ -412,8 +412,8 @@ reads_are_events group w v now values m m_new x x_new position uses room written
       λ k c few e.
           let written_is : slice_get written k ≡ Some (answer_at (standing there position) now far_now (after_all now far_now (record { held = x; beside = m.beside }) (take k (drop r.from uses))) c) =
           ap (λ fs. slice_get fs k) h.fates
-          ∙ front_place (fates_of (standing there position) now far_now (record { held = x; beside = m.beside }) (take r.count (drop r.from uses))) (drop r.count room) k _
-          (fate_in_row (standing there position) now far_now (record { held = x; beside = m.beside }) (take r.count (drop r.from uses)) k c (row_place (drop r.from uses) r.count k c few (drop_place r.from uses k ∙ e))
+          ∙ front_index (fates_of (standing there position) now far_now (record { held = x; beside = m.beside }) (take r.count (drop r.from uses))) (drop r.count room) k _
+          (fate_in_row (standing there position) now far_now (record { held = x; beside = m.beside }) (take r.count (drop r.from uses)) k c (row_index (drop r.from uses) r.count k c few (drop_index r.from uses k ∙ e))
           ∙ ap (λ us. Some (answer_at (standing there position) now far_now (after_all now far_now (record { held = x; beside = m.beside }) us) c)) (row_front (drop r.from uses) r.count k few)) in (
             λ accepted. accepts_then group v now values there x m.beside position uses a r.from r.count b k c few e (same_Some _ _ (sym written_is ∙ accepted)),
             λ fresh accepts_it. written_is ∙ ap (λ f. Some f) (accepted_then group v now values there x m.beside position uses a r.from r.count b k c few (subst (λ n. n < position) (sym came.ready) fresh) accepts_it),

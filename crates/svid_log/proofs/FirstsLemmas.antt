@@ -18,7 +18,7 @@ use Rattle.svid_log.specs.declared.fate.Fate.TheVariants.{Accepted, First, Expir
 use Rattle.svid_log.specs.Groups.{Anew, Event, Look, Reader, Miss, Put, Read, Restart, Save, Saved, Tell, Terms, World, begins, far, happen, happens, is_gone, judges, looked, reader_behind, missed, put, read_next, reads, restart, start, told}
 use Rattle.svid_log.specs.Once.{OneUseOfAKey, OnlyClaimIsAccepted, TellsNoUseOf}
 use Rattle.svid_log.specs.Steps.{fate_at, gains_by, is_early, reached}
-use Rattle.svid_log.proofs.GroupsLemmas.{Stands, later_place, none_of_key, not_live, own_is_accepted, place_cases}
+use Rattle.svid_log.proofs.GroupsLemmas.{Stands, later_index, none_of_key, not_live, own_is_accepted, index_cases}
 use Rattle.svid_log.proofs.StepsLemmas.{first_by, first_is_sound, held_is_used, same_use, withdrawal_by, withdrawal_is_sound}
 
 -- what a join holds is of one side or the other, and is live
@@ -52,7 +52,7 @@ new_from x c u h =
     ]
 
 module _ (key : List ℕ) where
-  -- a record has one use of the key at most beside withdrawals, and all its uses of the key stand in the log in front of a place
+  -- a record has one use of the key at most beside withdrawals, and all its uses of the key stand in the log in front of a validator ID
   record Quiet (log : List Use) (n : ℕ) (x : State) : Type 0 where
     one : (u v : Use) → IsTrue (holds x.uses u) → IsTrue (holds x.uses v) → u.key ≡ key → v.key ≡ key → u.withdrawn ≡ false → v.withdrawn ≡ false → u ≡ v
     from_log : (u : Use) → IsTrue (holds x.uses u) → u.key ≡ key → Stands log n u
@@ -71,7 +71,7 @@ module _ (key : List ℕ) where
   quiet_reached log n x now limit c q = quiet_within log n x (reached x now limit c) (λ u h same. reached_from x now limit c u h) q
 
   stands_on : (log : List Use) (n more : ℕ) (u : Use) → Stands log n u → Stands log (n + more) u
-  stands_on log n more u s = record { place = s.place; before = let b = s.before in omega arith; stands = s.stands; sound = s.sound }
+  stands_on log n more u s = record { position = s.position; before = let b = s.before in omega arith; stands = s.stands; sound = s.sound }
 
   quiet_on : (log : List Use) (n more : ℕ) (x : State) → Quiet log n x → Quiet log (n + more) x
   quiet_on log n more x q = record { one = q.one; from_log = λ u h same. stands_on log n more u (q.from_log u h same) }
@@ -94,7 +94,7 @@ module _ (key : List ℕ) where
       by_cases u v same other first second (inr a) (inr b) = q.one u v a b same other first second
 
       by_origin : (u : Use) → u.key ≡ key → (u ≡ c) ⊎ IsTrue (holds x.uses u) → Stands log (n + 1) u
-      by_origin u same (inl e) = record { place = n; before = omega arith; stands = next ∙ ap (λ v. Some v) (sym e); sound = subst (λ (v : Use). v.at < v.exp) (sym e) sound }
+      by_origin u same (inl e) = record { position = n; before = omega arith; stands = next ∙ ap (λ v. Some v) (sym e); sound = subst (λ (v : Use). v.at < v.exp) (sym e) sound }
       by_origin u same (inr h) = stands_on log n 1 u (q.from_log u h same)
 
   quiet_gains : (log : List Use) (n : ℕ) (fate : Fate) (x : State) (c : Use) → slice_get log n ≡ Some c
@@ -123,7 +123,7 @@ module _ (key : List ℕ) where
   quiet_later : (log : List Use) (u : Use) (n : ℕ) (x : State) → Quiet log n x → Quiet (log ++ u ∷ []) n x
   quiet_later log u n x q = record {
     one = q.one;
-    from_log = λ v h same. let s = q.from_log v h same in record { place = s.place; before = s.before; stands = later_place log u s.place v s.stands; sound = s.sound };
+    from_log = λ v h same. let s = q.from_log v h same in record { position = s.position; before = s.before; stands = later_index log u s.position v s.stands; sound = s.sound };
   }
 
   quiet_nothing : (log : List Use) (n moment : ℕ) → Quiet log n (state_of moment [])
@@ -160,7 +160,7 @@ module _ (key : List ℕ) where
     happens_quiet w (Look v) silent all = put_quiet w v (looked (w.members v)) (all.members v) all
     happens_quiet w (Save v) silent all = record {
       members = all.members;
-      saves = λ k s e. elim (place_cases w.saves (record { owner = v; was = w.members v }) k s e) [
+      saves = λ k s e. elim (index_cases w.saves (record { owner = v; was = w.members v }) k s e) [
         | inl old ↦ all.saves k s old
         | inr new ↦ subst (λ (x : Saved). IsQuiet w.log x.was) new (all.members v)
       ];
@@ -192,5 +192,5 @@ only_claim_is_accepted group events v now c silent o alone =
     own_is_accepted group events v now c o
     (none_of_key y.uses c.key (λ u h same.
     let s = ((is_quiet c.key group events silent).members v).from_log u (reached_from x.held now (far group v now) c u h) same in
-    not_live y.moment u.exp (reached_live x.held now (far group v now) c u h) (alone s.place u s.before s.stands s.sound same)))
+    not_live y.moment u.exp (reached_live x.held now (far group v now) c u h) (alone s.position u s.before s.stands s.sound same)))
     alone

@@ -10,15 +10,15 @@ use Rattle.svid_replay.specs.Buckets.{raised_to}
 use Rattle.svid_replay.specs.Uses.{Uses, has_use_of, has_withdrawal_of, live}
 use Rattle.svid_replay.proofs.UsesLemmas.{no_uses_hold_none}
 use Rattle.svid_log.specs.Groups.{Accepts, Anew, Event, Look, Reader, Miss, Put, Read, Restart, Save, Saved, Tell, Terms, World, begins, far, happen, happens, is_gone, judges, looked, reader_behind, missed, new_reader, put, read_next, reads, restart, start, told}
-use Rattle.svid_log.specs.Once.{AcceptedIsFirst, AcceptedIsHeld, AcceptedIsUnrefused, AcceptedOnce, HavePlaces, LaterInLogIsPast, OwnIsAccepted, PlaceIsAcceptedOnce}
+use Rattle.svid_log.specs.Once.{AcceptedIsFirst, AcceptedIsHeld, AcceptedIsUnrefused, AcceptedOnce, HaveIds, LaterInLogIsPast, OwnIsAccepted, PositionIsAcceptedOnce}
 use Rattle.svid_log.specs.Steps.{counts, gains_by, is_early, reached}
 use Rattle.svid_log.proofs.StepsLemmas.{Covers, counts_from, covered_is_past, covers_join, covers_live, covers_reached, covers_read, first_by, first_from, first_is_live, first_is_sound, joined_has, live_is_held, live_is_live, read_covers_own, read_from, unused_is_not_withdrawn, used_is_held}
 
--- a claim stands in the log in front of a place
+-- a claim stands in the log in front of a validator ID
 pub record Stands (log : List Use) (n : ℕ) (u : Use) : Type 0 where
-  pub place : ℕ
-  pub before : place < n
-  pub stands : slice_get log place ≡ Some u
+  pub position : ℕ
+  pub before : position < n
+  pub stands : slice_get log position ≡ Some u
   pub sound : u.at < u.exp
 
 -- a member has read a front of the log, and holds something of each claim in it until that expires, or accepts nothing until then; what stands beside its record is of that front
@@ -56,14 +56,14 @@ is_gone_says until (suc n) [] h = absurd (false≢true h)
 is_gone_says until (suc n) (u ∷ log) h =
     let both = and_parts (not (nat_lt until u.exp)) (is_gone until n log) h in
     let rest = is_gone_says until n log both.1 in
-    record { within = up n (length log) rest.within; each = λ j c lt e. at_place rest both.0 j c lt e }
+    record { within = up n (length log) rest.within; each = λ j c lt e. at_index rest both.0 j c lt e }
   where
     up : (k l : ℕ) → k ≤ l → suc k ≤ suc l
     up k l le = omega arith
 
-    at_place : IsGone until n log → not (nat_lt until u.exp) ≡ true → (j : ℕ) (c : Use) → j < suc n → slice_get (u ∷ log) j ≡ Some c → c.exp ≤ until
-    at_place rest past zero c lt e = ltb-false until c.exp (ap (λ (x : Use). nat_lt until x.exp) (sym (same_Some u c e)) ∙ not-true (nat_lt until u.exp) past)
-    at_place rest past (suc j) c lt e = rest.each j c (omega arith) e
+    at_index : IsGone until n log → not (nat_lt until u.exp) ≡ true → (j : ℕ) (c : Use) → j < suc n → slice_get (u ∷ log) j ≡ Some c → c.exp ≤ until
+    at_index rest past zero c lt e = ltb-false until c.exp (ap (λ (x : Use). nat_lt until x.exp) (sym (same_Some u c e)) ∙ not-true (nat_lt until u.exp) past)
+    at_index rest past (suc j) c lt e = rest.each j c (omega arith) e
 
 gone_is_read : (log : List Use) (x : Reader) (front until : ℕ) → is_gone until front log ≡ true → IsRead log (begins x (reader_behind front until))
 gone_is_read log x front until h =
@@ -74,14 +74,14 @@ gone_is_read log x front until h =
       from_log = λ u held. absurd (true≢false (sym held ∙ no_uses_hold_none u));
     }
 
--- places behind a front of a list
-pub drop_place : {A : Type 0} (n : ℕ) (xs : List A) (k : ℕ) → slice_get (drop n xs) k ≡ slice_get xs (n + k)
-drop_place zero xs k = ap (λ i. slice_get xs i) (none k)
+-- validator IDs behind a front of a list
+pub drop_index : {A : Type 0} (n : ℕ) (xs : List A) (k : ℕ) → slice_get (drop n xs) k ≡ slice_get xs (n + k)
+drop_index zero xs k = ap (λ i. slice_get xs i) (none k)
   where
     none : (i : ℕ) → i ≡ 0 + i
     none i = omega arith
-drop_place (suc n) [] k = refl
-drop_place (suc n) (x ∷ xs) k = drop_place n xs k ∙ ap (λ i. slice_get (x ∷ xs) i) (up n k)
+drop_index (suc n) [] k = refl
+drop_index (suc n) (x ∷ xs) k = drop_index n xs k ∙ ap (λ i. slice_get (x ∷ xs) i) (up n k)
   where
     up : (i j : ℕ) → suc (i + j) ≡ suc i + j
     up i j = omega arith
@@ -99,8 +99,8 @@ missed_is_read log x more until h r =
     let gone = is_gone_says until more (drop x.read log) h in
     record {
       within = drop_within x.read more log r.within gone.within;
-      covered = λ j c lt e sound. by_place gone j c e sound lt (cases_lt j x.read);
-      from_log = λ u held. let s = r.from_log u held in record { place = s.place; before = before_more s.place x.read more s.before; stands = s.stands; sound = s.sound };
+      covered = λ j c lt e sound. by_index gone j c e sound lt (cases_lt j x.read);
+      from_log = λ u held. let s = r.from_log u held in record { position = s.position; before = before_more s.position x.read more s.before; stands = s.stands; sound = s.sound };
     }
   where
     before_more : (p a b : ℕ) → p < a → p < a + b
@@ -122,27 +122,27 @@ missed_is_read log x more until h r =
     raised c (inl k) = inl k
     raised c (inr le) = inr (up_to c.exp x.deaf until le)
 
-    by_place : IsGone until more (drop x.read log) → (j : ℕ) (c : Use) → slice_get log j ≡ Some c → c.at < c.exp → j < x.read + more → (j < x.read) ⊎ (x.read ≤ j) → Covers x.held x.beside c ⊎ (c.exp ≤ max x.deaf until)
-    by_place gone j c e sound lt (inl early) = raised c (r.covered j c early e sound)
-    by_place gone j c e sound lt (inr ge) =
-        inr (up_to_other c.exp x.deaf until (gone.each (j - x.read) c (not_read j x.read more lt ge) (drop_place x.read log (j - x.read) ∙ (ap (λ i. slice_get log i) (back j x.read ge) ∙ e))))
+    by_index : IsGone until more (drop x.read log) → (j : ℕ) (c : Use) → slice_get log j ≡ Some c → c.at < c.exp → j < x.read + more → (j < x.read) ⊎ (x.read ≤ j) → Covers x.held x.beside c ⊎ (c.exp ≤ max x.deaf until)
+    by_index gone j c e sound lt (inl early) = raised c (r.covered j c early e sound)
+    by_index gone j c e sound lt (inr ge) =
+        inr (up_to_other c.exp x.deaf until (gone.each (j - x.read) c (not_read j x.read more lt ge) (drop_index x.read log (j - x.read) ∙ (ap (λ i. slice_get log i) (back j x.read ge) ∙ e))))
 
--- places of a list that grows at its end
-early_place : {A : Type 0} (xs : List A) (y : A) (k : ℕ) → k < length xs → slice_get (xs ++ y ∷ []) k ≡ slice_get xs k
-early_place [] y k lt = absurd (omega arith)
-early_place (z ∷ xs) y zero lt = refl
-early_place (z ∷ xs) y (suc k) lt = early_place xs y k (omega arith)
+-- validator IDs of a list that grows at its end
+early_index : {A : Type 0} (xs : List A) (y : A) (k : ℕ) → k < length xs → slice_get (xs ++ y ∷ []) k ≡ slice_get xs k
+early_index [] y k lt = absurd (omega arith)
+early_index (z ∷ xs) y zero lt = refl
+early_index (z ∷ xs) y (suc k) lt = early_index xs y k (omega arith)
 
-pub later_place : {A : Type 0} (xs : List A) (y : A) (k : ℕ) (x : A) → slice_get xs k ≡ Some x → slice_get (xs ++ y ∷ []) k ≡ Some x
-later_place [] y k x e = absurd (none-some x e)
-later_place (z ∷ xs) y zero x e = e
-later_place (z ∷ xs) y (suc k) x e = later_place xs y k x e
+pub later_index : {A : Type 0} (xs : List A) (y : A) (k : ℕ) (x : A) → slice_get xs k ≡ Some x → slice_get (xs ++ y ∷ []) k ≡ Some x
+later_index [] y k x e = absurd (none-some x e)
+later_index (z ∷ xs) y zero x e = e
+later_index (z ∷ xs) y (suc k) x e = later_index xs y k x e
 
-pub place_cases : {A : Type 0} (xs : List A) (y : A) (k : ℕ) (x : A) → slice_get (xs ++ y ∷ []) k ≡ Some x → (slice_get xs k ≡ Some x) ⊎ (y ≡ x)
-place_cases [] y zero x e = inr (same_Some y x e)
-place_cases [] y (suc k) x e = absurd (none-some x e)
-place_cases (z ∷ xs) y zero x e = inl e
-place_cases (z ∷ xs) y (suc k) x e = place_cases xs y k x e
+pub index_cases : {A : Type 0} (xs : List A) (y : A) (k : ℕ) (x : A) → slice_get (xs ++ y ∷ []) k ≡ Some x → (slice_get xs k ≡ Some x) ⊎ (y ≡ x)
+index_cases [] y zero x e = inr (same_Some y x e)
+index_cases [] y (suc k) x e = absurd (none-some x e)
+index_cases (z ∷ xs) y zero x e = inl e
+index_cases (z ∷ xs) y (suc k) x e = index_cases xs y k x e
 
 length_grows : {A : Type 0} (xs : List A) (y : A) (n : ℕ) → n ≤ length xs → n ≤ length (xs ++ y ∷ [])
 length_grows [] y n le = omega arith
@@ -153,8 +153,8 @@ length_grows (x ∷ xs) y (suc n) le = let more = length_grows xs y n (omega ari
 put_is_read : (log : List Use) (u : Use) (x : Reader) → IsRead log x → IsRead (log ++ u ∷ []) x
 put_is_read log u x r = record {
   within = length_grows log u x.read r.within;
-  covered = λ j c lt e sound. r.covered j c lt (sym (early_place log u j (below j lt r.within)) ∙ e) sound;
-  from_log = λ v h. let s = r.from_log v h in record { place = s.place; before = s.before; stands = later_place log u s.place v s.stands; sound = s.sound };
+  covered = λ j c lt e sound. r.covered j c lt (sym (early_index log u j (below j lt r.within)) ∙ e) sound;
+  from_log = λ v h. let s = r.from_log v h in record { position = s.position; before = s.before; stands = later_index log u s.position v s.stands; sound = s.sound };
 }
   where
     below : (j : ℕ) → j < x.read → x.read ≤ length log → j < length log
@@ -185,20 +185,20 @@ reads_is_read log far x now true c next r = record {
 }
 reads_is_read log far x now false c next r = record {
   within = let inside = slice_get_within log x.read c next in omega arith;
-  covered = λ j d lt e sound. by_place j d lt e sound (cases_lt j x.read);
+  covered = λ j d lt e sound. by_index j d lt e sound (cases_lt j x.read);
   from_log = λ u h. by_origin u (read_from x.held x.beside now far c u h);
 }
   where
-    by_place : (j : ℕ) (d : Use) → j < x.read + 1 → slice_get log j ≡ Some d → d.at < d.exp → (j < x.read) ⊎ (x.read ≤ j) → Covers (reads far x now false c).held (reads far x now false c).beside d ⊎ (d.exp ≤ x.deaf)
-    by_place j d lt e sound (inl old) = either x.held (reads far x now false c).held x.beside (reads far x now false c).beside d x.deaf (covers_read x.held x.beside now far c d) (r.covered j d old e sound)
-    by_place j d lt e sound (inr ge) =
+    by_index : (j : ℕ) (d : Use) → j < x.read + 1 → slice_get log j ≡ Some d → d.at < d.exp → (j < x.read) ⊎ (x.read ≤ j) → Covers (reads far x now false c).held (reads far x now false c).beside d ⊎ (d.exp ≤ x.deaf)
+    by_index j d lt e sound (inl old) = either x.held (reads far x now false c).held x.beside (reads far x now false c).beside d x.deaf (covers_read x.held x.beside now far c d) (r.covered j d old e sound)
+    by_index j d lt e sound (inr ge) =
         let same : j ≡ x.read = omega arith in
         let is = same_Some c d (sym next ∙ (ap (λ i. slice_get log i) (sym same) ∙ e)) in
         inl (subst (Covers (reads far x now false c).held (reads far x now false c).beside) is (read_covers_own x.held x.beside now far c (subst (λ (u : Use). u.at < u.exp) (sym is) sound)))
 
     by_origin : (u : Use) → IsTrue (holds x.beside u) ⊎ ((u ≡ c) × (c.at < c.exp)) → Stands log (x.read + 1) u
-    by_origin u (inl h) = let s = r.from_log u h in record { place = s.place; before = let b = s.before in omega arith; stands = s.stands; sound = s.sound }
-    by_origin u (inr e) = record { place = x.read; before = omega arith; stands = next ∙ ap (λ v. Some v) (sym e.0); sound = subst (λ (v : Use). v.at < v.exp) (sym e.0) e.1 }
+    by_origin u (inl h) = let s = r.from_log u h in record { position = s.position; before = let b = s.before in omega arith; stands = s.stands; sound = s.sound }
+    by_origin u (inr e) = record { position = x.read; before = omega arith; stands = next ∙ ap (λ v. Some v) (sym e.0); sound = subst (λ (v : Use). v.at < v.exp) (sym e.0) e.1 }
 
 -- each member of a group has read a front of the log, and so had each that was saved
 pub record Sound (w : World) : Type 0 where
@@ -236,7 +236,7 @@ restart_grows : (w : World) (v : ℕ) (o : Option Saved) → Grows w (restart w 
 restart_grows w v None = λ j c e. e
 restart_grows w v (Some s) = cond_both (s.owner == v) (put w v (begins (w.members v) s.was)) w (Grows w) (λ _ j c e. e) (λ _ j c e. e)
 
--- a place of the log is behind a member, in all its lives
+-- a validator ID of the log is behind a member, in all its lives
 abbrev Past : ℕ → Reader → Type 0
 Past p x = p < max x.read x.ready
 
@@ -283,7 +283,7 @@ module _ (group : ℕ → Terms) where
   happens_sound w (Look v) s = put_sound w v (looked (w.members v)) (looked_is_read w.log (w.members v) (s.members v)) s
   happens_sound w (Save v) s = record {
     members = s.members;
-    saves = λ k was e. elim (place_cases w.saves (record { owner = v; was = w.members v }) k was e) [
+    saves = λ k was e. elim (index_cases w.saves (record { owner = v; was = w.members v }) k was e) [
       | inl old ↦ s.saves k was old
       | inr new ↦ subst (λ (x : Saved). IsRead w.log x.was) new (s.members v)
     ];
@@ -304,7 +304,7 @@ module _ (group : ℕ → Terms) where
   is_sound events = happen_sound events start start_sound
 
   happens_grows : (w : World) (event : Event) → Grows w (happens group w event)
-  happens_grows w (Put u) = λ j c e. later_place w.log u j c e
+  happens_grows w (Put u) = λ j c e. later_index w.log u j c e
   happens_grows w (Read v now refused) = read_grows (far group v now) w v now refused (slice_get w.log (w.members v).read)
   happens_grows w (Tell v b) = λ j c e. e
   happens_grows w (Look v) = λ j c e. e
@@ -414,19 +414,19 @@ module _ (group : ℕ → Terms) (before between : List Event) (v w now later : 
     earlier_is_past group one_world other_world v w now later c d one two sound_first sound_then grows_then same,
   )
 
-  place_once : HavePlaces group → Accepts group one_world v now c → Accepts group other_world w later d → (one_world.members v).read ≢ (other_world.members w).read
-  place_once places one two e =
+  position_once : HaveIds group → Accepts group one_world v now c → Accepts group other_world w later d → (one_world.members v).read ≢ (other_world.members w).read
+  position_once ids one two e =
       let is = same_Some c d (sym (grows_then (one_world.members v).read c one.next) ∙ (ap (λ i. slice_get other_world.log i) e ∙ two.next)) in
-      let who = places v w (sym one.own ∙ (ap (λ (u : Use). u.place) is ∙ two.own)) in
+      let who = ids v w (sym one.own ∙ (ap (λ (u : Use). u.validator_id) is ∙ two.own)) in
       let past = happen_past group (one_world.members v).read v between (happens group one_world (Read v now false)) (accepted_past group one_world v now c one) in
       let past_it = subst (λ i. Past (one_world.members v).read (other_world.members i)) who past in
       past_itself (one_world.members v).read (other_world.members w).read (other_world.members w).ready past_it two.ready e
 
-  once : HavePlaces group → Accepts group one_world v now c → Accepts group other_world w later d → c.key ≡ d.key → c.exp ≢ d.exp
-  once places one two same exp =
+  once : HaveIds group → Accepts group one_world v now c → Accepts group other_world w later d → c.key ≡ d.key → c.exp ≢ d.exp
+  once ids one two same exp =
       let order = later_in_log one two same in
       elim (cases_order (one_world.members v).read (other_world.members w).read) [
-        | inl e ↦ place_once places one two e
+        | inl e ↦ position_once ids one two e
         | inr (inl lt) ↦ not_past (judges group other_world w later d).moment d.exp c.exp (first_is_live (other_world.members w).held (other_world.members w).beside later (far group w later) d two.first) (sym exp) (order.0 lt)
         | inr (inr gt) ↦ not_past (judges group one_world v now c).moment c.exp d.exp (first_is_live (one_world.members v).held (one_world.members v).beside now (far group v now) c one.first) exp (order.1 gt)
       ]
@@ -434,11 +434,11 @@ module _ (group : ℕ → Terms) (before between : List Event) (v w now later : 
 pub later_in_log_is_past : LaterInLogIsPast
 later_in_log_is_past group before between v w now later c d one two same = later_in_log group before between v w now later c d one two same
 
-pub place_is_accepted_once : PlaceIsAcceptedOnce
-place_is_accepted_once group before between v w now later c d places one two = place_once group before between v w now later c d places one two
+pub position_is_accepted_once : PositionIsAcceptedOnce
+position_is_accepted_once group before between v w now later c d ids one two = position_once group before between v w now later c d ids one two
 
 pub accepted_once : AcceptedOnce
-accepted_once group before between v w now later c d places one two same = once group before between v w now later c d places one two same
+accepted_once group before between v w now later c d ids one two same = once group before between v w now later c d ids one two same
 
 -- an accepted claim is a use of the record
 pub accepted_is_held : AcceptedIsHeld
@@ -470,7 +470,7 @@ own_is_accepted group events v now c o unused alone =
           (none_of_key (live x.beside y.moment) c.key (λ u h same.
           let r = (is_sound group events).members v in
           let s = r.from_log u (live_is_held x.beside y.moment u h) in
-          not_live y.moment u.exp (live_is_live x.beside y.moment u h) (alone s.place u s.before s.stands s.sound same)));
+          not_live y.moment u.exp (live_is_live x.beside y.moment u h) (alone s.position u s.before s.stands s.sound same)));
     }
 
 pub accepted_is_unrefused : AcceptedIsUnrefused

@@ -2,7 +2,7 @@ pub mod SavesLemmas
 pub mod CallsLemmas
 pub mod FirstsLemmas
 pub mod GroupsLemmas
-pub mod PlacesLemmas
+pub mod IndexesLemmas
 pub mod RowsLemmas
 pub mod StepsLemmas
 pub mod ValuesLemmas

@@ -20,7 +20,7 @@ use Rattle.svid_wire.specs.declared.message.Message.{Message}
 use Rattle.svid_wire.specs.declared.message.Message.TheVariants.{Batch}
 use Rattle.svid_wire.specs.declared.version.Version.TheVariants.{Two}
 use Rattle.svid_wire.proofs.MessagesLemmas.{written_is}
-use Rattle.svid_log.specs.Calls.{IsMember, place_in}
+use Rattle.svid_log.specs.Calls.{IsMember, index_in}
 use Rattle.svid_log.specs.Groups.{Reader, begins, looked}
 use Rattle.svid_log.specs.Members.{MemberState}
 use Rattle.svid_log.specs.Saves.{LooksAreEvents, NewAreEvents, RestartsAreEvents, SavesPutBack, alone, put_all, saved_of}
@@ -121,17 +121,17 @@ restarts_are_events values m x was before ready sound is read earlier = record {
   held = is.held;
   beside = is.beside ∙ sym (put_back m.beside sound);
   read = is.read;
-  ready = both_before before.read before.ready (place_in values ready 0) read earlier;
+  ready = both_before before.read before.ready (index_in values ready 0) read earlier;
   deaf = is.deaf;
   begun = is.begun;
 }
 
 pub new_are_events : NewAreEvents
-new_are_events values place lasts passed ready deaf before read earlier = record {
+new_are_events values validator_id lasts passed ready deaf before read earlier = record {
   held = refl;
   beside = refl;
   read = refl;
-  ready = both_before before.read before.ready (place_in values ready 0) read earlier;
+  ready = both_before before.read before.ready (index_in values ready 0) read earlier;
   deaf = refl;
   begun = λ us e. none (length us);
 }

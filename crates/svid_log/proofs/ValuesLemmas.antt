@@ -167,7 +167,7 @@ read_end value rest feed uses result r none is =
       tt,
       inl (
         r.messages,
-        subst (λ bytes. StopsAt bytes [] r.messages (record { place = length (b ∷ x); reason = Truncated })) (sym whole)
+        subst (λ bytes. StopsAt bytes [] r.messages (record { offset = length (b ∷ x); reason = Truncated })) (sym whole)
             (ended (Some (b ∷ x)) [] r.messages r.front (subst (λ h. Appended r.front [] r.messages h) e r.came, subst IsHeld e r.unfinished)),
       ),
     )

@@ -1,4 +1,4 @@
--- What a member does that reads the values of a log by their places, as events of a group that reads the uses of these values.
+-- What a member does that reads the values of a log by their validator IDs, as events of a group that reads the uses of these values.
 use Rattle.std.specs.Prelude.{◌≡◌, ℕ, zero, suc, ◌+◌, ◌-◌, ◌<◌, ◌≤◌, max, true, false, nat_lt, List, [], ◌∷◌, length, take, drop, slice_get, Some, flat_map, if◌then◌else◌}
 use Rattle.svid_replay.specs.declared.token_use.Use.{Use}
 use Rattle.svid_replay.specs.Records.{State}
@@ -16,21 +16,21 @@ abbrev pub uses_of : List (List Use) → List Use
 uses_of values = flat_map (λ us. us) values
 
 -- how many uses stand in front of this one of the value behind so many
-abbrev pub place_in : List (List Use) → (passed begun : ℕ) → ℕ
-place_in values passed begun = length (uses_of (take passed values)) + begun
+abbrev pub index_in : List (List Use) → (passed begun : ℕ) → ℕ
+index_in values passed begun = length (uses_of (take passed values)) + begun
 
 -- A member that read these values, with its record, is a reader of the log of their uses: that has read as many, and its earlier lives no more than it knows.
 pub record IsMember (values : List (List Use)) (m : MemberState) (x : State) (r : Reader) : Type 0 where
   pub held : r.held ≡ x
   pub beside : r.beside ≡ m.beside
-  pub read : r.read ≡ place_in values m.passed m.begun
-  pub ready : r.ready ≤ place_in values m.ready 0
+  pub read : r.read ≡ index_in values m.passed m.begun
+  pub ready : r.ready ≤ index_in values m.ready 0
   pub deaf : r.deaf ≡ m.deaf
   pub begun : (us : List Use) → slice_get values m.passed ≡ Some us → m.begun ≤ length us
 
 -- how many uses a member misses that reads this value, and until when it accepts nothing then
 abbrev pub gap_len : List (List Use) → MemberState → (position : ℕ) → ℕ
-gap_len values m position = place_in values (position - 1) 0 - place_in values m.passed m.begun
+gap_len values m position = index_in values (position - 1) 0 - index_in values m.passed m.begun
 
 abbrev pub gap_end : MemberState → State → (now : ℕ) → ℕ
 gap_end m x now = horizon (max x.moment now) m.lasts
@@ -38,7 +38,7 @@ gap_end m x now = horizon (max x.moment now) m.lasts
 -- the premise of a gap: what is missed there has expired by then
 abbrev pub IsGapGone : List (List Use) → MemberState → State → (now position : ℕ) → Type 0
 IsGapGone values m x now position =
-    m.passed < position - 1 → is_gone (gap_end m x now) (gap_len values m position) (drop (place_in values m.passed m.begun) (uses_of values)) ≡ true
+    m.passed < position - 1 → is_gone (gap_end m x now) (gap_len values m position) (drop (index_in values m.passed m.begun) (uses_of values)) ≡ true
 
 -- the events by which a member comes to a value
 abbrev pub arrival : ℕ → List (List Use) → MemberState → State → (now position : ℕ) → List Event
@@ -58,7 +58,7 @@ refusal v now NoMemory = Read v now true ∷ []
 -- What a call does that reads a value is what these events do; and each use that the call accepts is accepted by the group's definition there. Where the value is none that an earlier life may have read, that is exact.
 abbrev pub ReadsAreEvents : Type 0
 ReadsAreEvents = (group : ℕ → Terms) (w : World) (v now : ℕ) (values : List (List Use)) (m m_new : MemberState) (x x_new : State) (position : ℕ) (uses : List Use) (room written : List Fate) (r : Reading)
-    → w.log ≡ uses_of values → IsMember values m x (w.members v) → m.place ≡ (group v).place
+    → w.log ≡ uses_of values → IsMember values m x (w.members v) → m.validator_id ≡ (group v).validator_id
     → m.passed < position → slice_get values (position - 1) ≡ Some uses → IsGapGone values m x now position
     → HasRead now (far group v now) position m x uses room r m_new x_new written
     → let a = happen group w (arrival v values m x now position) in

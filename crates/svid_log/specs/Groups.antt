@@ -6,9 +6,9 @@ use Rattle.svid_replay.specs.Uses.{Uses, live, no_uses}
 use Rattle.svid_log.specs.declared.fate.Fate.TheVariants.{First}
 use Rattle.svid_log.specs.Steps.{beside_after, fate_at, held_after, horizon, reached}
 
--- what a member has for good: its place, and how many seconds the times of others may lie ahead of its own
+-- what a member has for good: its validator ID, and how many seconds the times of others may lie ahead of its own
 pub record Terms : Type 0 where
-  pub place : List ℕ
+  pub validator_id : List ℕ
   pub ahead : ℕ
 
 -- A reader of the log: its record, the uses beside it, how many uses of the log it has read, how many its earlier lives may
@@ -137,7 +137,7 @@ module _ (group : ℕ → Terms) where
   -- have read it, what it missed has expired, and it is the first claim of its token.
   pub record Accepts (w : World) (v now : ℕ) (c : Use) : Type 0 where
     pub next : slice_get w.log (w.members v).read ≡ Some c
-    pub own : c.place ≡ (group v).place
+    pub own : c.validator_id ≡ (group v).validator_id
     pub ready : (w.members v).ready ≤ (w.members v).read
     pub heard : (w.members v).deaf ≤ (judges w v now c).moment
     pub first : fate_at (w.members v).held (w.members v).beside now (far v now) c ≡ First

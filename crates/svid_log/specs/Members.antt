@@ -1,4 +1,4 @@
--- A member reads the values of a log, each a row of uses, by their places in the log.
+-- A member reads the values of a log, each a row of uses, by their validator IDs in the log.
 use Rattle.std.specs.Prelude.{◌≡◌, ◌≢◌, ℕ, ◌+◌, ◌-◌, ◌<◌, ◌≤◌, max, Bool, not, nat_lt, ◌&&◌, List, [], ◌∷◌, ◌++◌, length, take, drop, slice_get, Option, Some, None, refl, if◌then◌else◌}
 use Rattle.std.specs.Coded.{Coded, code_by, coded×, coded_list, coded_ℕ}
 use Rattle.std.specs.Ordering.{is_eq}
@@ -31,7 +31,7 @@ after_all now far l (c ∷ cs) = after_all now far (after_one now far l c) cs
 
 -- a member accepts a first claim at a moment: it is its own, no earlier life may have read it, and what the member missed has expired
 abbrev pub accepts : Standing → ℕ → Use → Bool
-accepts s moment c = s.fresh && is_eq (bytes_cmp s.place c.place) && not (nat_lt moment s.deaf)
+accepts s moment c = s.fresh && is_eq (bytes_cmp s.validator_id c.validator_id) && not (nat_lt moment s.deaf)
 
 -- what a member answers of the next use
 abbrev pub answer_at : Standing → ℕ → ℕ → Ledger → Use → Fate
@@ -47,12 +47,12 @@ abbrev pub IsRefused : ℕ → ℕ → Ledger → Option Use → Ledger → Type
 IsRefused now far l None after = ⊥
 IsRefused now far l (Some c) after = (after.held ≡ reached l.held now far c) × (after.beside ≡ live l.beside (reached l.held now far c).moment)
 
--- A member: the uses beside its record; its place; how many seconds past any moment a use expires at most that it does not
+-- A member: the uses beside its record; its validator ID; how many seconds past any moment a use expires at most that it does not
 -- know of; the number of the last value that it has read whole, how many uses of the next one it has read, the number of the
 -- last value that its earlier lives may have read; and the moment before which it accepts nothing.
 pub record MemberState : Type 0 where
   pub beside : Uses
-  pub place : List ℕ
+  pub validator_id : List ℕ
   pub lasts : ℕ
   pub passed : ℕ
   pub begun : ℕ
@@ -63,8 +63,8 @@ pub record MemberState : Type 0 where
 abbrev pub member_code : Coded MemberState
 member_code =
     code_by (Uses × (List ℕ × (ℕ × (ℕ × (ℕ × (ℕ × ℕ)))))) (coded× uses_code (coded× (coded_list coded_ℕ) (coded× coded_ℕ (coded× coded_ℕ (coded× coded_ℕ (coded× coded_ℕ coded_ℕ))))))
-    (λ m. (m.beside, (m.place, (m.lasts, (m.passed, (m.begun, (m.ready, m.deaf)))))))
-    (λ p. record { beside = p.0; place = p.1.0; lasts = p.1.1.0; passed = p.1.1.1.0; begun = p.1.1.1.1.0; ready = p.1.1.1.1.1.0; deaf = p.1.1.1.1.1.1 }) (λ _. refl)
+    (λ m. (m.beside, (m.validator_id, (m.lasts, (m.passed, (m.begun, (m.ready, m.deaf)))))))
+    (λ p. record { beside = p.0; validator_id = p.1.0; lasts = p.1.1.0; passed = p.1.1.1.0; begun = p.1.1.1.1.0; ready = p.1.1.1.1.1.0; deaf = p.1.1.1.1.1.1 }) (λ _. refl)
 
 -- how a value follows on the last one that was read whole
 abbrev pub order_of : (passed position : ℕ) → Order
@@ -73,18 +73,18 @@ order_of passed position = if nat_lt passed position then (if nat_lt passed (pos
 -- a member in front of a value: where values are missing, it accepts nothing until all that it does not know of has expired
 abbrev pub arrived : MemberState → (moment position : ℕ) → MemberState
 arrived m moment position =
-    if nat_lt m.passed (position - 1) then record { beside = m.beside; place = m.place; lasts = m.lasts; passed = position - 1; begun = 0; ready = m.ready; deaf = max m.deaf (horizon moment m.lasts) }
+    if nat_lt m.passed (position - 1) then record { beside = m.beside; validator_id = m.validator_id; lasts = m.lasts; passed = position - 1; begun = 0; ready = m.ready; deaf = max m.deaf (horizon moment m.lasts) }
     else m
 
 -- what decides its acceptances there
 abbrev pub standing : MemberState → ℕ → Standing
-standing m position = record { place = m.place; fresh = nat_lt m.ready position; deaf = m.deaf }
+standing m position = record { validator_id = m.validator_id; fresh = nat_lt m.ready position; deaf = m.deaf }
 
 -- a member that has read so many of the uses that were left of a value, and has these uses beside its record
 abbrev pub advanced : MemberState → (position count left : ℕ) → Uses → MemberState
 advanced m position count left beside =
-    if nat_lt count left then record { beside = beside; place = m.place; lasts = m.lasts; passed = m.passed; begun = m.begun + count; ready = m.ready; deaf = m.deaf }
-    else record { beside = beside; place = m.place; lasts = m.lasts; passed = position; begun = 0; ready = m.ready; deaf = m.deaf }
+    if nat_lt count left then record { beside = beside; validator_id = m.validator_id; lasts = m.lasts; passed = m.passed; begun = m.begun + count; ready = m.ready; deaf = m.deaf }
+    else record { beside = beside; validator_id = m.validator_id; lasts = m.lasts; passed = position; begun = 0; ready = m.ready; deaf = m.deaf }
 
 -- what is left of a value, by how many of the uses that were left were read, and for how many there was room
 abbrev pub rest_of : (count left room : ℕ) → Rest

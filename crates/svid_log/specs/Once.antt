@@ -8,13 +8,13 @@ use Rattle.svid_replay.specs.Uses.{has_use_of, has_withdrawal_of}
 use Rattle.svid_log.specs.Groups.{Accepts, Event, Read, Tell, Terms, World, far, happen, happens, judges, start}
 use Rattle.svid_log.specs.Steps.{is_early}
 
--- members have different places
-abbrev pub HavePlaces : (ℕ → Terms) → Type 0
-HavePlaces group = (v w : ℕ) → (group v).place ≡ (group w).place → v ≡ w
+-- members have different validator IDs
+abbrev pub HaveIds : (ℕ → Terms) → Type 0
+HaveIds group = (v w : ℕ) → (group v).validator_id ≡ (group w).validator_id → v ≡ w
 
--- the uses of a key in front of a place of the log have expired by a moment
-abbrev pub AllGone : List Use → (place : ℕ) (key : List ℕ) (moment : ℕ) → Type 0
-AllGone log place key moment = (j : ℕ) (d : Use) → j < place → slice_get log j ≡ Some d → d.at < d.exp → d.key ≡ key → d.exp ≤ moment
+-- the uses of a key in front of a validator ID of the log have expired by a moment
+abbrev pub AllGone : List Use → (index : ℕ) (key : List ℕ) (moment : ℕ) → Type 0
+AllGone log index key moment = (j : ℕ) (d : Use) → j < index → slice_get log j ≡ Some d → d.at < d.exp → d.key ≡ key → d.exp ≤ moment
 
 -- whatever happened, an accepted claim is live at its member's moment, and all uses of its key in front of it in the log have expired
 abbrev pub AcceptedIsFirst : Type 0
@@ -32,19 +32,19 @@ LaterInLogIsPast = (group : ℕ → Terms) (before between : List Event) (v w no
     → ((a.members v).read < (b.members w).read → c.exp ≤ (judges group b w later d).moment)
     × ((b.members w).read < (a.members v).read → d.exp ≤ (judges group a v now c).moment)
 
--- a place of the log is accepted once
-abbrev pub PlaceIsAcceptedOnce : Type 0
-PlaceIsAcceptedOnce = (group : ℕ → Terms) (before between : List Event) (v w now later : ℕ) (c d : Use)
+-- a validator ID of the log is accepted once
+abbrev pub PositionIsAcceptedOnce : Type 0
+PositionIsAcceptedOnce = (group : ℕ → Terms) (before between : List Event) (v w now later : ℕ) (c d : Use)
     → let a = happen group start before in
     let b = happen group (happens group a (Read v now false)) between in
-    HavePlaces group → Accepts group a v now c → Accepts group b w later d → (a.members v).read ≢ (b.members w).read
+    HaveIds group → Accepts group a v now c → Accepts group b w later d → (a.members v).read ≢ (b.members w).read
 
 -- once a member accepts a claim, no member accepts one with its key and its expiry: a group accepts a token at most once
 abbrev pub AcceptedOnce : Type 0
 AcceptedOnce = (group : ℕ → Terms) (before between : List Event) (v w now later : ℕ) (c d : Use)
     → let a = happen group start before in
     let b = happen group (happens group a (Read v now false)) between in
-    HavePlaces group → Accepts group a v now c → Accepts group b w later d → c.key ≡ d.key → c.exp ≢ d.exp
+    HaveIds group → Accepts group a v now c → Accepts group b w later d → c.key ≡ d.key → c.exp ≢ d.exp
 
 -- an accepted claim is a use of the record
 abbrev pub AcceptedIsHeld : Type 0
@@ -60,7 +60,7 @@ AcceptedIsUnrefused = (group : ℕ → Terms) (w : World) (v now : ℕ) (c : Use
 -- the next use of the log is a claim that member v made in this life, it missed nothing that lives, and the claim is neither early nor expired
 pub record IsOwnClaim (group : ℕ → Terms) (w : World) (v now : ℕ) (c : Use) : Type 0 where
   pub next : slice_get w.log (w.members v).read ≡ Some c
-  pub own : c.place ≡ (group v).place
+  pub own : c.validator_id ≡ (group v).validator_id
   pub ready : (w.members v).ready ≤ (w.members v).read
   pub heard : (w.members v).deaf ≤ (judges group w v now c).moment
   pub claims : c.withdrawn ≡ false

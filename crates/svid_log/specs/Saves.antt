@@ -8,7 +8,7 @@ use Rattle.svid_replay.specs.Sets.{rising}
 use Rattle.svid_replay.specs.Uses.{Uses, live, no_uses}
 use Rattle.svid_wire.specs.BatchText.{batch_text}
 use Rattle.svid_log.specs.declared.mark.Mark.{Mark}
-use Rattle.svid_log.specs.Calls.{IsMember, place_in}
+use Rattle.svid_log.specs.Calls.{IsMember, index_in}
 use Rattle.svid_log.specs.Groups.{Reader, begins, looked, reader_behind}
 use Rattle.svid_log.specs.Members.{MemberState}
 use Rattle.svid_log.specs.Steps.{AreSound, put_beside}
@@ -32,8 +32,8 @@ abbrev pub mark_of : MemberState → Mark
 mark_of m = record { passed = m.passed; begun = m.begun; deaf = m.deaf }
 
 -- the member that goes on from there, with these uses beside its record, where an earlier life may have read so many values
-abbrev pub restored : (place : List ℕ) (lasts : ℕ) → Mark → (ready : ℕ) → List Use → MemberState
-restored place lasts mark ready beside = record { beside = put_all no_uses beside; place = place; lasts = lasts; passed = mark.passed; begun = mark.begun; ready = ready; deaf = mark.deaf }
+abbrev pub restored : (validator_id : List ℕ) (lasts : ℕ) → Mark → (ready : ℕ) → List Use → MemberState
+restored validator_id lasts mark ready beside = record { beside = put_all no_uses beside; validator_id = validator_id; lasts = lasts; passed = mark.passed; begun = mark.begun; ready = ready; deaf = mark.deaf }
 
 -- what is saved of a member's uses are batches, and their text is a value whose uses give them back
 abbrev pub SavesPutBack : Type 0
@@ -43,17 +43,17 @@ SavesPutBack = (s : Uses) → AreSound s
 -- a member that is restored begins again as it was, in the words of a group
 abbrev pub RestartsAreEvents : Type 0
 RestartsAreEvents = (values : List (List Use)) (m : MemberState) (x : State) (was before : Reader) (ready : ℕ)
-    → AreSound m.beside → IsMember values m x was → before.read ≤ place_in values ready 0 → before.ready ≤ place_in values ready 0
-    → IsMember values (restored m.place m.lasts (mark_of m) ready (uses_in (saved_of m.beside))) x (begins before was)
+    → AreSound m.beside → IsMember values m x was → before.read ≤ index_in values ready 0 → before.ready ≤ index_in values ready 0
+    → IsMember values (restored m.validator_id m.lasts (mark_of m) ready (uses_in (saved_of m.beside))) x (begins before was)
 
 -- and a new one begins anew
 abbrev pub NewAreEvents : Type 0
-NewAreEvents = (values : List (List Use)) (place : List ℕ) (lasts passed ready deaf : ℕ) (before : Reader)
-    → before.read ≤ place_in values ready 0 → before.ready ≤ place_in values ready 0
-    → IsMember values (record { beside = no_uses; place = place; lasts = lasts; passed = passed; begun = 0; ready = ready; deaf = deaf }) (state_of 0 []) (begins before (reader_behind (place_in values passed 0) deaf))
+NewAreEvents = (values : List (List Use)) (validator_id : List ℕ) (lasts passed ready deaf : ℕ) (before : Reader)
+    → before.read ≤ index_in values ready 0 → before.ready ≤ index_in values ready 0
+    → IsMember values (record { beside = no_uses; validator_id = validator_id; lasts = lasts; passed = passed; begun = 0; ready = ready; deaf = deaf }) (state_of 0 []) (begins before (reader_behind (index_in values passed 0) deaf))
 
 -- to ask for a key is to look
 abbrev pub LooksAreEvents : Type 0
 LooksAreEvents = (values : List (List Use)) (m : MemberState) (x : State) (r : Reader)
     → IsMember values m x r
-    → IsMember values (record { beside = live m.beside x.moment; place = m.place; lasts = m.lasts; passed = m.passed; begun = m.begun; ready = m.ready; deaf = m.deaf }) x (looked r)
+    → IsMember values (record { beside = live m.beside x.moment; validator_id = m.validator_id; lasts = m.lasts; passed = m.passed; begun = m.begun; ready = m.ready; deaf = m.deaf }) x (looked r)

@@ -1,7 +1,7 @@
 //! Laws of a group that reads one log, carried by functions that compute nothing.
 
 ghost use Rattle.svid_log.specs.Calls.{ReadsAreEvents};
-ghost use Rattle.svid_log.specs.Once.{AcceptedIsFirst, AcceptedIsHeld, AcceptedIsUnrefused, AcceptedOnce, LaterInLogIsPast, OneUseOfAKey, OnlyClaimIsAccepted, OwnIsAccepted, PlaceIsAcceptedOnce};
+ghost use Rattle.svid_log.specs.Once.{AcceptedIsFirst, AcceptedIsHeld, AcceptedIsUnrefused, AcceptedOnce, LaterInLogIsPast, OneUseOfAKey, OnlyClaimIsAccepted, OwnIsAccepted, PositionIsAcceptedOnce};
 ghost use Rattle.svid_log.specs.Saves.{LooksAreEvents, NewAreEvents, RestartsAreEvents, SavesPutBack};
 ghost use Rattle.svid_log.specs.Values.{ValuesAreRead, ValuesHaveOneReading};
 
@@ -9,7 +9,7 @@ ghost use Rattle.svid_log.specs.Values.{ValuesAreRead, ValuesHaveOneReading};
 /// of two accepted claims of one key the first in the log has expired at the moment of the member that accepts the other.
 pub fn groups_accept_once()
     ensures once { AcceptedOnce }
-    ensures place { PlaceIsAcceptedOnce }
+    ensures position { PositionIsAcceptedOnce }
     ensures later { LaterInLogIsPast }
 {}
 

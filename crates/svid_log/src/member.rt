@@ -18,7 +18,7 @@ use svid_replay::{Batch, Record, Use, UseStore};
 #[derive(Drop)]
 pub struct Member<S: UseStore> {
     claims: Claims<S>,
-    place: [u8; 16],
+    validator_id: [u8; 16],
     lasts: u64,
     passed: u64,
     begun: usize,
@@ -33,7 +33,7 @@ impl<S: UseStore> Model for Member<S> {
 
     ghost coded = { member_code };
 
-    ghost view = { λ m. record { beside = m.claims; place = m.place; lasts = m.lasts; passed = m.passed; begun = m.begun; ready = m.ready; deaf = m.deaf } };
+    ghost view = { λ m. record { beside = m.claims; validator_id = m.validator_id; lasts = m.lasts; passed = m.passed; begun = m.begun; ready = m.ready; deaf = m.deaf } };
 }
 
 // The uses of a value behind those that were read.
@@ -49,7 +49,7 @@ fn behind(uses: &[Use], begun: usize) -> &[Use]
 impl<S: UseStore> Member<S> {
     /// A member that begins to read a log, with an empty store for the uses beside its record.
     ///
-    /// `place` is its validator's, and no other member's. `passed` is the number of the last value in front of the first one that
+    /// `validator_id` is its validator's, and no other member's. `passed` is the number of the last value in front of the first one that
     /// the log still has: 0 where it has all. `ready` is the number of the last value that an earlier life of the member may have
     /// read, so that of the last one in the log when it begins: of these values it accepts nothing. Before the moment `deaf`, in
     /// seconds, it accepts nothing either: by then all uses of the values up to `passed` have expired. Behind a gap in the log it
@@ -57,18 +57,18 @@ impl<S: UseStore> Member<S> {
     /// new member, with the same record.
     pub fn new(
         store: S,
-        place: [u8; 16],
+        validator_id: [u8; 16],
         lasts: u64,
         passed: u64,
         ready: u64,
         deaf: u64,
     ) -> Member<S>
         requires { S.content store ≡ no_uses }
-        ensures { result ≡ record { beside = no_uses; place = place; lasts = lasts; passed = passed; begun = 0; ready = ready; deaf = deaf } }
+        ensures { result ≡ record { beside = no_uses; validator_id = validator_id; lasts = lasts; passed = passed; begun = 0; ready = ready; deaf = deaf } }
     {
         Member {
             claims: Claims::new(store),
-            place,
+            validator_id,
             lasts,
             passed,
             begun: 0,
@@ -105,7 +105,7 @@ impl<S: UseStore> Member<S> {
     /// Lets the member accept claims though it missed uses of the log that may still live. A token whose claim it missed may then
     /// be accepted twice.
     pub fn go_on(&mut self)
-        ensures { self.new ≡ record { beside = self.old.beside; place = self.old.place; lasts = self.old.lasts; passed = self.old.passed; begun = self.old.begun; ready = self.old.ready; deaf = 0 } }
+        ensures { self.new ≡ record { beside = self.old.beside; validator_id = self.old.validator_id; lasts = self.old.lasts; passed = self.old.passed; begun = self.old.begun; ready = self.old.ready; deaf = 0 } }
     {
         self.deaf = 0;
     }
@@ -113,7 +113,7 @@ impl<S: UseStore> Member<S> {
     /// Whether a use beside the record has this key and is live at a moment, in seconds. Those that have expired by then go.
     pub fn has(&mut self, moment: u64, key: &[u8; 32]) -> bool
         ensures has { result ≡ has_use_of (live self.old.beside moment) key.now }
-        ensures left { self.new ≡ record { beside = live self.old.beside moment; place = self.old.place; lasts = self.old.lasts; passed = self.old.passed; begun = self.old.begun; ready = self.old.ready; deaf = self.old.deaf } }
+        ensures left { self.new ≡ record { beside = live self.old.beside moment; validator_id = self.old.validator_id; lasts = self.old.lasts; passed = self.old.passed; begun = self.old.begun; ready = self.old.ready; deaf = self.old.deaf } }
     {
         self.claims.has(moment, key)
     }
@@ -135,7 +135,7 @@ impl<S: UseStore> Member<S> {
         ensures { result ≡ standing self.now position }
     {
         Standing {
-            place: self.place,
+            validator_id: self.validator_id,
             fresh: position > self.ready,
             deaf: self.deaf,
         }
@@ -208,19 +208,19 @@ impl<S: UseStore + Drop> Member<S> {
     /// one. The others are as in [`Member::new`].
     pub fn restore(
         store: S,
-        place: [u8; 16],
+        validator_id: [u8; 16],
         lasts: u64,
         mark: Mark,
         ready: u64,
         beside: &[Use],
     ) -> Result<Member<S>, AllocError>
         requires { S.content store ≡ no_uses }
-        ensures { IfOk result (λ member. member ≡ restored place lasts mark ready beside.now) }
+        ensures { IfOk result (λ member. member ≡ restored validator_id lasts mark ready beside.now) }
     {
         let claims = Claims::restore(store, beside)?;
         Ok(Member {
             claims,
-            place,
+            validator_id,
             lasts,
             passed: mark.passed,
             begun: mark.begun,

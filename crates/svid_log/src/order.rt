@@ -1,7 +1,7 @@
 ghost use Rattle.std.specs.Prelude.{◌≡◌};
 ghost use Rattle.svid_log.specs.Members.{order_of};
 
-/// How the place of a value in the log follows on what a member has read.
+/// How the validator ID of a value in the log follows on what a member has read.
 #[derive(Clone, Copy, Debug, PartialEq, Eq)]
 pub enum Order {
     /// The value was read before.

@@ -8,8 +8,8 @@ use svid_replay::{Record, Use, UseStore};
 /// What decides whether a member accepts the first claims of a value.
 #[derive(Clone, Copy)]
 pub(crate) struct Standing {
-    /// The member's place.
-    pub place: [u8; 16],
+    /// The member's validator ID.
+    pub validator_id: [u8; 16],
     /// Whether the value lies behind all that earlier lives of the member may have read.
     pub fresh: bool,
     /// The moment before which the member accepts nothing.
@@ -20,7 +20,9 @@ pub(crate) struct Standing {
 fn accepts(standing: &Standing, moment: u64, used: &Use) -> bool
     ensures { result ≡ accepts standing.now moment used.now }
 {
-    standing.fresh && standing.place.cmp(&used.place).is_eq() && standing.deaf <= moment
+    standing.fresh
+        && standing.validator_id.cmp(&used.validator_id).is_eq()
+        && standing.deaf <= moment
 }
 
 impl<S: UseStore> Claims<S> {

@@ -11,12 +11,12 @@ const OWN: [u8; 16] = [0x11; 16];
 
 const OTHER: [u8; 16] = [0x22; 16];
 
-// A claim of a key at a place, made at a time, of a token that expires at 200.
-fn claim(key: u8, place: [u8; 16], at: u64) -> Use {
+// A claim of a key at a validator ID, made at a time, of a token that expires at 200.
+fn claim(key: u8, validator_id: [u8; 16], at: u64) -> Use {
     Use {
         exp: 200,
         key: [key; 32],
-        place,
+        validator_id,
         at,
         withdrawn: false,
     }
@@ -38,10 +38,10 @@ fn reads_as(
     let mut held = Record::new(RunUses::new(alloc));
     let mut member = member(alloc, ready);
     for (now, position, key, own, at, exp, fate) in rows.iter().copied() {
-        let place = if own { OWN } else { OTHER };
+        let validator_id = if own { OWN } else { OTHER };
         let used = Use {
             exp,
-            ..claim(key, place, at)
+            ..claim(key, validator_id, at)
         };
         let mut fates = [Fate::Expired];
         let _ = member.read(&mut held, now, 30, position, &[used], &mut fates);

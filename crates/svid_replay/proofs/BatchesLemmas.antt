@@ -51,7 +51,7 @@ finds_flaw m us i d before f within seen found = record {
   bad = get_or us i d;
   rest = drop (suc i) us;
   parts = sym (take-append-drop i us) ∙ ap (λ r. take i us ++ r) (drop-cons us i d within);
-  place = length-take-le i us (omega arith);
+  counted = length-take-le i us (omega arith);
   good = seen.good;
   flawed = subst (λ (o : Option Use). flaw m o (get_or us i d) ≡ Some f) seen.last found;
 }

@@ -29,14 +29,14 @@ use Rattle.svid_replay.proofs.UsesLemmas.{holds-uses_in, same_uses, less_exp, ri
 
 pub key_first_total : IsTotalOrder key_first_cmp
 key_first_total =
-    then_total (on_total (λ (k : KeyFirst). k.key) nat_list_cmp_total) (then_total (on_total (λ (k : KeyFirst). k.withdrawn) bool_cmp_total) (then_total (on_total (λ (k : KeyFirst). k.exp) nat_cmp_total) (then_total (on_total (λ (k : KeyFirst). k.place) nat_list_cmp_total) (on_total (λ (k : KeyFirst). k.at) nat_cmp_total))))
+    then_total (on_total (λ (k : KeyFirst). k.key) nat_list_cmp_total) (then_total (on_total (λ (k : KeyFirst). k.withdrawn) bool_cmp_total) (then_total (on_total (λ (k : KeyFirst). k.exp) nat_cmp_total) (then_total (on_total (λ (k : KeyFirst). k.validator_id) nat_list_cmp_total) (on_total (λ (k : KeyFirst). k.at) nat_cmp_total))))
 
 -- the fields of a use with its key first, and the use of such fields
 abbrev row : KeyFirst → List ℕ × (Bool × (ℕ × (List ℕ × ℕ)))
-row k = (k.key, (k.withdrawn, (k.exp, (k.place, k.at))))
+row k = (k.key, (k.withdrawn, (k.exp, (k.validator_id, k.at))))
 
 abbrev use_of : List ℕ × (Bool × (ℕ × (List ℕ × ℕ))) → Use
-use_of p = record { exp = p.1.1.0; key = p.0; place = p.1.1.1.0; at = p.1.1.1.1; withdrawn = p.1.0 }
+use_of p = record { exp = p.1.1.0; key = p.0; validator_id = p.1.1.1.0; at = p.1.1.1.1; withdrawn = p.1.0 }
 
 key_first_exact : (u v : Use) → key_first_cmp (key_first u) (key_first v) ≡ Equal → u ≡ v
 key_first_exact u v h =
@@ -65,13 +65,13 @@ uses_gained us vs u gained = same_uses (uses_in vs) (with (uses_in us) u) (λ q.
     holds-uses_in vs q ∙ gained q ∙ or_from_cond (eq_by_cmp use_cmp u q) (has_use us q)
     ∙ (λ i. (eq_by_cmp_equiv use_total).symm u q i || sym (holds-uses_in us q) i) ∙ sym (holds-with use_total use_exact (uses_in us) u q))
 
-pub indexed_gained : (us vs : List Use) (ks js : List KeyFirst) (u : Use) → IsIndexed us ks → IsRising vs → IsStrictlySortedBy key_first_cmp js → length u.place ≡ 16 → Changes us u true vs → ChangesByKey ks u true js → IsIndexed vs js
+pub indexed_gained : (us vs : List Use) (ks js : List KeyFirst) (u : Use) → IsIndexed us ks → IsRising vs → IsStrictlySortedBy key_first_cmp js → length u.validator_id ≡ 16 → Changes us u true vs → ChangesByKey ks u true js → IsIndexed vs js
 indexed_gained us vs ks js u is up by_key wide gained gained_first = record {
   rising = up;
   by_key = by_key;
   same = λ q. gained_first (key_first q) ∙ (λ i. cond (key_first_same u q i) true (is.same q i)) ∙ sym (gained q);
-  wide = λ q held. elim (eq_by_cmp use_cmp u q) as (λ b. eq_by_cmp use_cmp u q ≡ b → cond b true (has_use us q) ≡ true → length q.place ≡ 16) [
-    | true ↦ λ e _. subst (λ (w : Use). length w.place ≡ 16) (use_exact u q (equal _ e)) wide
+  wide = λ q held. elim (eq_by_cmp use_cmp u q) as (λ b. eq_by_cmp use_cmp u q ≡ b → cond b true (has_use us q) ≡ true → length q.validator_id ≡ 16) [
+    | true ↦ λ e _. subst (λ (w : Use). length w.validator_id ≡ 16) (use_exact u q (equal _ e)) wide
     | false ↦ λ e was. is.wide q was
   ] refl (sym (gained q) ∙ held);
 }
@@ -213,7 +213,7 @@ all_pass (u ∷ us) = ap (λ vs. u ∷ vs) (all_pass us)
 
 -- a look by key
 abbrev pub least_of : Bool → List ℕ → KeyFirst
-least_of withdrawn key = record { key = key; withdrawn = withdrawn; exp = 0; place = replicate 16 0; at = 0 }
+least_of withdrawn key = record { key = key; withdrawn = withdrawn; exp = 0; validator_id = replicate 16 0; at = 0 }
 
 -- a withdrawal is there where one is sought
 abbrev Fits : Bool → Bool → Type 0
@@ -274,14 +274,14 @@ same_rows : (key other : List ℕ) → other ≡ key → slice_cmp nat_cmp key o
 same_rows key other is = ap (slice_cmp nat_cmp key) is ∙ tied_itself nat_list_cmp_total key
 
 -- nothing that is sought is below the least
-least_le : (s : Bool) (key : List ℕ) (k : KeyFirst) → k.key ≡ key → Fits s k.withdrawn → length k.place ≡ 16 → is_gt (key_first_cmp (least_of s key) k) ≡ false
+least_le : (s : Bool) (key : List ℕ) (k : KeyFirst) → k.key ≡ key → Fits s k.withdrawn → length k.validator_id ≡ 16 → is_gt (key_first_cmp (least_of s key) k) ≡ false
 least_le s key k is fits wide =
-    gt_then (slice_cmp nat_cmp key k.key) _ (ap is_gt (same_rows key k.key is)) (gt_then (bool_cmp s k.withdrawn) _ (kind_le s k.withdrawn fits) (gt_then (nat_cmp 0 k.exp) _ (zero_le k.exp) (gt_then (slice_cmp nat_cmp (replicate 16 0) k.place) _ (zeros_le 16 k.place wide) (zero_le k.at))))
+    gt_then (slice_cmp nat_cmp key k.key) _ (ap is_gt (same_rows key k.key is)) (gt_then (bool_cmp s k.withdrawn) _ (kind_le s k.withdrawn fits) (gt_then (nat_cmp 0 k.exp) _ (zero_le k.exp) (gt_then (slice_cmp nat_cmp (replicate 16 0) k.validator_id) _ (zeros_le 16 k.validator_id wide) (zero_le k.at))))
 
 -- what has the key and is not below the least is of the kind that is sought
 above_least : (s : Bool) (key : List ℕ) (k : KeyFirst) → k.key ≡ key → is_gt (key_first_cmp (least_of s key) k) ≡ false → Fits s k.withdrawn
 above_least s key k is low =
-    kind_above s k.withdrawn (not_gt_then (bool_cmp s k.withdrawn) _ (subst (λ o. is_gt (ordering_then o (ordering_then (bool_cmp s k.withdrawn) (ordering_then (nat_cmp 0 k.exp) (ordering_then (slice_cmp nat_cmp (replicate 16 0) k.place) (nat_cmp 0 k.at))))) ≡ false) (same_rows key k.key is) low))
+    kind_above s k.withdrawn (not_gt_then (bool_cmp s k.withdrawn) _ (subst (λ o. is_gt (ordering_then o (ordering_then (bool_cmp s k.withdrawn) (ordering_then (nat_cmp 0 k.exp) (ordering_then (slice_cmp nat_cmp (replicate 16 0) k.validator_id) (nat_cmp 0 k.at))))) ≡ false) (same_rows key k.key is) low))
 
 equal_of : (o : Ordering) → is_gt o ≡ false → is_gt (ordering_reverse o) ≡ false → o ≡ Equal
 equal_of Less p q = absurd (true≢false q)

@@ -29,7 +29,7 @@ use Rattle.svid_replay.proofs.KeysLemmas.{left_is_all, live_left, tell_live, tel
 use Rattle.svid_replay.proofs.MergeLemmas.{first_alike, merge, merge_has, merge_length, merge_rises, below_all, by_rank}
 use Rattle.std.proofs.lemmas.Cmp.{tied_itself}
 use Rattle.std.specs.Ordering.{is_lt}
-use Rattle.svid_replay.specs.Runs.{least_from, least_of, new_among, HasBits, IsRun, IsRuns, mask_of, place_of}
+use Rattle.svid_replay.specs.Runs.{least_from, least_of, new_among, HasBits, IsRun, IsRuns, mask_of, index_of}
 use Rattle.svid_replay.specs.Twice.{has_key}
 use Rattle.svid_replay.specs.Sets.{rising, with, with_all}
 use Rattle.svid_replay.specs.Uses.{Uses, count, live, next_above}
@@ -376,7 +376,7 @@ bits_kept (x ∷ ws) (suc at) (suc j) m n w is e = bits_kept ws at j m n w is e
 
 pub bits_in_others : (key_filter : List ℕ) (at m w : ℕ) (other : List ℕ) → w ≡ get_or key_filter at w → HasBits key_filter other → HasBits (set key_filter at (bit_or w m)) other
 bits_in_others key_filter at m w other is e =
-    subst (λ count. bit_and (get_or (set key_filter at (bit_or w m)) (place_of count other) 0) (mask_of other) ≡ mask_of other) (sym (length-set key_filter at (bit_or w m))) (bits_kept key_filter at (place_of (length key_filter) other) m (mask_of other) w is e)
+    subst (λ count. bit_and (get_or (set key_filter at (bit_or w m)) (index_of count other) 0) (mask_of other) ≡ mask_of other) (sym (length-set key_filter at (bit_or w m))) (bits_kept key_filter at (index_of (length key_filter) other) m (mask_of other) w is e)
 
 pub known_more : (key_filter now : List ℕ) (us : List Use) (i : ℕ) (d : Use) → AllByRecursion (λ v. HasBits key_filter v.key) (take i us) → ((other : List ℕ) → HasBits key_filter other → HasBits now other) → HasBits now (get_or us i d).key → i < length us → AllByRecursion (λ v. HasBits now v.key) (take (i + 1) us)
 known_more key_filter now us i d known others added within =
@@ -426,9 +426,9 @@ keys_merged items told others told' start start' keyed keyed' keys keys' expired
       subst (TellUses merged) (sym f) (subst (λ ks. TellUses ks (merge use_cmp told told')) (sym e) (tell_merged (left_of expired_by keys) (left_of expired_by' keys') told told' (run_tells items told start keyed keys expired_by key_filter is view (first_true keyed keyed' both)) (run_tells others told' start' keyed' keys' expired_by' key_filter' is' view' (first_true keyed' keyed (and-comm keyed' keyed ∙ both)))));
 }
 
--- a use in a place, among uses of which the same holds
-pub known_insert : (key_filter : List ℕ) (us : List Use) (place : ℕ) (new : Use) → HasBits key_filter new.key → AllByRecursion (λ u. HasBits key_filter u.key) us → AllByRecursion (λ u. HasBits key_filter u.key) (take place us ++ new ∷ drop place us)
-known_insert key_filter us place new here known = each_append _ (take place us) (new ∷ drop place us) (each_take _ place us known) (here, each_drop _ place us known)
+-- a use in a index, among uses of which the same holds
+pub known_insert : (key_filter : List ℕ) (us : List Use) (index : ℕ) (new : Use) → HasBits key_filter new.key → AllByRecursion (λ u. HasBits key_filter u.key) us → AllByRecursion (λ u. HasBits key_filter u.key) (take index us ++ new ∷ drop index us)
+known_insert key_filter us index new here known = each_append _ (take index us) (new ∷ drop index us) (each_take _ index us known) (here, each_drop _ index us known)
 
 -- many uses at once
 greater_differs : (u v : Use) → use_cmp u v ≡ Less → eq_by_cmp use_cmp v u ≡ false

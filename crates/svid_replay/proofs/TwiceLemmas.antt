@@ -57,7 +57,7 @@ same_ties Equal = refl
 same_ties Greater = refl
 
 used_by : List ℕ → Use
-used_by key = record { exp = 0; key = key; place = []; at = 0; withdrawn = false }
+used_by key = record { exp = 0; key = key; validator_id = []; at = 0; withdrawn = false }
 
 ties-has_key : (key : List ℕ) (u : Use) → ties (λ x y. is_lt (bytes_cmp x.key y.key)) (used_by key) u ≡ has_key key u
 unfolding used_by

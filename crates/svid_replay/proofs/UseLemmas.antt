@@ -14,13 +14,13 @@ use Rattle.svid_replay.specs.declared.token_use.Use.{Use}
 use Rattle.svid_replay.specs.Use.{IsBytes, IsUse, front_text, text_of, use_cmp, bytes_cmp, OrderIsTextOrder}
 
 -- a use whose fields have their types' ranges, by index, is within them
-pub use_of_fields : (u : Use) → u.exp < 2 ^ 64 → length u.key ≡ 32 → ((i : ℕ) → get_or u.key i 0 < 256) → length u.place ≡ 16 → ((i : ℕ) → get_or u.place i 0 < 256) → u.at < 2 ^ 64 → IsUse u
-use_of_fields u exp long_key key long_place place at =
+pub use_of_fields : (u : Use) → u.exp < 2 ^ 64 → length u.key ≡ 32 → ((i : ℕ) → get_or u.key i 0 < 256) → length u.validator_id ≡ 16 → ((i : ℕ) → get_or u.validator_id i 0 < 256) → u.at < 2 ^ 64 → IsUse u
+use_of_fields u exp long_key key long_validator_id validator_id at =
     let bytes = λ (n : ℕ) (bs : List ℕ) (long : length bs ≡ n) (each : (i : ℕ) → get_or bs i 0 < 256). let found : IsBytes n bs = record { size = long; each = All-from_get_or (λ b. b < 256) bs 0 (λ i _. each i) } in found in
-    record { exp = exp; key = bytes 32 u.key long_key key; place = bytes 16 u.place long_place place; at = at }
+    record { exp = exp; key = bytes 32 u.key long_key key; validator_id = bytes 16 u.validator_id long_validator_id validator_id; at = at }
 
 -- five pieces put one behind the other fill a text of 65 bytes
-pub pieces_fill : (t1 t2 t3 t4 t5 a b c d : List ℕ) (k : ℕ) (u : Use) → a ≡ to_be_bytes w64 u.exp → b ≡ u.key → c ≡ u.place → d ≡ to_be_bytes w64 u.at → k ≡ from_bool u.withdrawn → length b ≡ 32 → length c ≡ 16 → take (0 + length a) t1 ≡ a → take (8 + length b) t2 ≡ take 8 t1 ++ b → take (40 + length c) t3 ≡ take 40 t2 ++ c → take (56 + length d) t4 ≡ take 56 t3 ++ d → take 65 t5 ≡ take 64 t4 ++ k ∷ [] → length t5 ≡ 65 → t5 ≡ text_of u
+pub pieces_fill : (t1 t2 t3 t4 t5 a b c d : List ℕ) (k : ℕ) (u : Use) → a ≡ to_be_bytes w64 u.exp → b ≡ u.key → c ≡ u.validator_id → d ≡ to_be_bytes w64 u.at → k ≡ from_bool u.withdrawn → length b ≡ 32 → length c ≡ 16 → take (0 + length a) t1 ≡ a → take (8 + length b) t2 ≡ take 8 t1 ++ b → take (40 + length c) t3 ≡ take 40 t2 ++ c → take (56 + length d) t4 ≡ take 56 t3 ++ d → take 65 t5 ≡ take 64 t4 ++ k ∷ [] → length t5 ≡ 65 → t5 ≡ text_of u
 unfolding text_of front_text
 pieces_fill t1 t2 t3 t4 t5 a b c d k u ea eb ec ed ek lb lc p1 p2 p3 p4 p5 l5 =
     let e1 : take 8 t1 ≡ a = subst (λ (n : ℕ). take (0 + n) t1 ≡ a) (ap length ea) p1 in
@@ -99,14 +99,14 @@ unfolding text_of front_text
 order_is_text_order u v a b =
     let exps = to_be_bytes w64 u.exp in
     let others = to_be_bytes w64 v.exp in
-    sym (bytes_cmp-parts exps others u.key v.key u.place v.place (to_be_bytes w64 u.at) (to_be_bytes w64 v.at) (from_bool u.withdrawn ∷ []) (from_bool v.withdrawn ∷ []) refl (a.key.size ∙ sym b.key.size) (a.place.size ∙ sym b.place.size) refl
-    ∙ sym (ap (λ (o : Ordering). ordering_then o (ordering_then (bytes_cmp u.key v.key) (ordering_then (bytes_cmp u.place v.place) (ordering_then (nat_cmp u.at v.at) (bool_cmp u.withdrawn v.withdrawn))))) (nat_cmp-to_be_bytes u.exp v.exp a.exp b.exp)
-    ∙ ap (λ (o : Ordering). ordering_then (bytes_cmp exps others) (ordering_then (bytes_cmp u.key v.key) (ordering_then (bytes_cmp u.place v.place) (ordering_then o (bool_cmp u.withdrawn v.withdrawn))))) (nat_cmp-to_be_bytes u.at v.at a.at b.at)
-    ∙ ap (λ (o : Ordering). ordering_then (bytes_cmp exps others) (ordering_then (bytes_cmp u.key v.key) (ordering_then (bytes_cmp u.place v.place) (ordering_then (bytes_cmp (to_be_bytes w64 u.at) (to_be_bytes w64 v.at)) o)))) (bool_cmp-bytes u.withdrawn v.withdrawn)))
+    sym (bytes_cmp-parts exps others u.key v.key u.validator_id v.validator_id (to_be_bytes w64 u.at) (to_be_bytes w64 v.at) (from_bool u.withdrawn ∷ []) (from_bool v.withdrawn ∷ []) refl (a.key.size ∙ sym b.key.size) (a.validator_id.size ∙ sym b.validator_id.size) refl
+    ∙ sym (ap (λ (o : Ordering). ordering_then o (ordering_then (bytes_cmp u.key v.key) (ordering_then (bytes_cmp u.validator_id v.validator_id) (ordering_then (nat_cmp u.at v.at) (bool_cmp u.withdrawn v.withdrawn))))) (nat_cmp-to_be_bytes u.exp v.exp a.exp b.exp)
+    ∙ ap (λ (o : Ordering). ordering_then (bytes_cmp exps others) (ordering_then (bytes_cmp u.key v.key) (ordering_then (bytes_cmp u.validator_id v.validator_id) (ordering_then o (bool_cmp u.withdrawn v.withdrawn))))) (nat_cmp-to_be_bytes u.at v.at a.at b.at)
+    ∙ ap (λ (o : Ordering). ordering_then (bytes_cmp exps others) (ordering_then (bytes_cmp u.key v.key) (ordering_then (bytes_cmp u.validator_id v.validator_id) (ordering_then (bytes_cmp (to_be_bytes w64 u.at) (to_be_bytes w64 v.at)) o)))) (bool_cmp-bytes u.withdrawn v.withdrawn)))
 
 pub use_total : IsTotalOrder use_cmp
 use_total =
-    then_total (on_total (λ (u : Use). u.exp) nat_cmp_total) (then_total (on_total (λ (u : Use). u.key) nat_list_cmp_total) (then_total (on_total (λ (u : Use). u.place) nat_list_cmp_total) (then_total (on_total (λ (u : Use). u.at) nat_cmp_total) (on_total (λ (u : Use). u.withdrawn) bool_cmp_total))))
+    then_total (on_total (λ (u : Use). u.exp) nat_cmp_total) (then_total (on_total (λ (u : Use). u.key) nat_list_cmp_total) (then_total (on_total (λ (u : Use). u.validator_id) nat_list_cmp_total) (then_total (on_total (λ (u : Use). u.at) nat_cmp_total) (on_total (λ (u : Use). u.withdrawn) bool_cmp_total))))
 
 pub both_equal : (a b : Ordering) → ordering_then a b ≡ Equal → (a ≡ Equal) × (b ≡ Equal)
 both_equal Less b e = cc
@@ -124,11 +124,11 @@ pub use_exact : IsAntisymmetric use_cmp
 use_exact u v e =
     let one = both_equal (nat_cmp u.exp v.exp) _ e in
     let two = both_equal (bytes_cmp u.key v.key) _ one.1 in
-    let three = both_equal (bytes_cmp u.place v.place) _ two.1 in
+    let three = both_equal (bytes_cmp u.validator_id v.validator_id) _ two.1 in
     let exp = nat_cmp-IsAntisymmetric u.exp v.exp one.0 in
     let key = slice_cmp-IsAntisymmetric nat_cmp-IsAntisymmetric u.key v.key two.0 in
-    let place = slice_cmp-IsAntisymmetric nat_cmp-IsAntisymmetric u.place v.place three.0 in
+    let validator_id = slice_cmp-IsAntisymmetric nat_cmp-IsAntisymmetric u.validator_id v.validator_id three.0 in
     let four = both_equal (nat_cmp u.at v.at) _ three.1 in
     let at = nat_cmp-IsAntisymmetric u.at v.at four.0 in
     let withdrawn = exact_kinds u.withdrawn v.withdrawn four.1 in
-    λ i. record { exp = exp i; key = key i; place = place i; at = at i; withdrawn = withdrawn i }
+    λ i. record { exp = exp i; key = key i; validator_id = validator_id i; at = at i; withdrawn = withdrawn i }

@@ -145,13 +145,13 @@ greater u v e = use_total.antisymm v u ∙ ap ordering_reverse e
 sorted_from_rising : (us : List Use) → IsRising us → IsSorted use_cmp us
 sorted_from_rising us up = λ k d low h. ap is_lt (use_total.antisymm (get_or us (k + 1) d) (get_or us k d) ∙ ap ordering_reverse (Less-from_sorted use_cmp us k (k + 1) d up (omega arith) h))
 
--- the place that a search for a use has found, where it has not found the use
-pub record IsPlace (us : List Use) (new : Use) (i : ℕ) : Type 0 where
+-- the index that a search for a use has found, where it has not found the use
+pub record IsIndex (us : List Use) (new : Use) (i : ℕ) : Type 0 where
   pub bound : i ≤ length us
   pub point : IsPartitionPoint (λ u. use_cmp u new ≡ Less) (λ u. use_cmp u new ≡ Greater) us i
 
-pub place_from_search : (us : List Use) (new : Use) (i : ℕ) → IsRising us → i ≤ length us → (IsNonDecreasingBy (λ y. ordering_index (use_cmp y new)) us → IsPartitionPoint (λ u. use_cmp u new ≡ Less) (λ u. use_cmp u new ≡ Greater) us i) → IsPlace us new i
-place_from_search us new i up bound point = record { bound = bound; point = point (searchable_from_sorted use_total (λ u. u) us new (sorted_from_rising us up)) }
+pub index_from_search : (us : List Use) (new : Use) (i : ℕ) → IsRising us → i ≤ length us → (IsNonDecreasingBy (λ y. ordering_index (use_cmp y new)) us → IsPartitionPoint (λ u. use_cmp u new ≡ Less) (λ u. use_cmp u new ≡ Greater) us i) → IsIndex us new i
+index_from_search us new i up bound point = record { bound = bound; point = point (searchable_from_sorted use_total (λ u. u) us new (sorted_from_rising us up)) }
 
 -- a use that a search has found is held
 pub found_is_held : (us : List Use) (new : Use) (i : ℕ) → i < length us → ((d : Use) → use_cmp (get_or us i d) new ≡ Equal) → holds (uses_in us) new ≡ true
@@ -159,11 +159,11 @@ found_is_held us new i within at =
     let tied = eq_by_cmp use_cmp new in
     holds-uses_in us new ∙ any_in tied us (get_or us i new) (Contains-get_or us i new within) (ap is_eq (use_total.antisymm new (get_or us i new) ∙ ap ordering_reverse (at new)))
 
-pub place_rises : (us : List Use) (new : Use) (i : ℕ) → IsRising us → IsPlace us new i → IsRising (insert us i new)
-place_rises us new i up is = rising_insert us i new up (each_before _ us i is.point.0) (each_weaker _ _ (λ u e. greater u new e) (drop i us) (each_behind _ us i is.point.1))
+pub index_rises : (us : List Use) (new : Use) (i : ℕ) → IsRising us → IsIndex us new i → IsRising (insert us i new)
+index_rises us new i up is = rising_insert us i new up (each_before _ us i is.point.0) (each_weaker _ _ (λ u e. greater u new e) (drop i us) (each_behind _ us i is.point.1))
 
-pub place_is_free : (us : List Use) (new : Use) (i : ℕ) → IsPlace us new i → holds (uses_in us) new ≡ false
-place_is_free us new i is =
+pub index_is_free : (us : List Use) (new : Use) (i : ℕ) → IsIndex us new i → holds (uses_in us) new ≡ false
+index_is_free us new i is =
     let tied = eq_by_cmp use_cmp new in
     holds-uses_in us new ∙ ap (list_any tied) (sym (take-append-drop i us)) ∙ list_any-append tied (take i us) (drop i us)
     ∙ ap (λ b. b || list_any tied (drop i us)) (any_none tied (take i us) (each_weaker (λ u. use_cmp u new ≡ Less) _ (λ u e. ap is_eq (use_total.antisymm new u ∙ ap ordering_reverse e)) (take i us) (each_before _ us i is.point.0)))
@@ -171,7 +171,7 @@ place_is_free us new i is =
 
 -- tests that a front of rising uses alone passes
 pub less_exp : (u v : Use) → use_cmp u v ≡ Less → u.exp ≤ v.exp
-less_exp u v less = by_ranked (u.exp < v.exp) (u.exp ≡ v.exp) (v.exp < u.exp) (nat_cmp u.exp v.exp) (ranked u.exp v.exp (nat_cmp u.exp v.exp) refl) (λ _ h. omega arith) (λ _ h. omega arith) (λ e h. absurd (subst T (ap is_lt (sym less ∙ ap (λ (r : Ordering). ordering_then r (ordering_then (slice_cmp nat_cmp u.key v.key) (ordering_then (slice_cmp nat_cmp u.place v.place) (ordering_then (nat_cmp u.at v.at) (bool_cmp u.withdrawn v.withdrawn))))) e)) tt))
+less_exp u v less = by_ranked (u.exp < v.exp) (u.exp ≡ v.exp) (v.exp < u.exp) (nat_cmp u.exp v.exp) (ranked u.exp v.exp (nat_cmp u.exp v.exp) refl) (λ _ h. omega arith) (λ _ h. omega arith) (λ e h. absurd (subst T (ap is_lt (sym less ∙ ap (λ (r : Ordering). ordering_then r (ordering_then (slice_cmp nat_cmp u.key v.key) (ordering_then (slice_cmp nat_cmp u.validator_id v.validator_id) (ordering_then (nat_cmp u.at v.at) (bool_cmp u.withdrawn v.withdrawn))))) e)) tt))
 
 not_before : (last u v : Use) → use_cmp u v ≡ Less → not (is_lt (use_cmp last v)) ≡ true → (r : Ordering) → use_cmp last u ≡ r → not (is_lt r) ≡ true
 not_before last u v less e Less r = absurd (false≢true (ap (λ o. not (is_lt o)) (sym (use_total.trans last u v r less)) ∙ e))
@@ -184,9 +184,9 @@ expired_parted moment us up = parted_by use_cmp (λ u. not (nat_lt moment u.exp)
 pub not_after_parted : (last : Use) (us : List Use) → IsRising us → IsPartitionedBy (λ u. not (is_after (Some last) u)) us
 not_after_parted last us up = parted_by use_cmp (λ u. not (is_after (Some last) u)) (λ u v less e. not_before last u v less e (use_cmp last u) refl) us up
 
--- the uses in front of a place are those that are not greater, if the one in front of it is not and the one there is
-pub place_is : (last : Use) (us : List Use) (i : ℕ) (d e : Use) → IsRising us → i ≤ length us → (0 < i → is_after (Some last) (get_or us (i - 1) d) ≡ false) → (i < length us → is_after (Some last) (get_or us i e) ≡ true) → i ≡ prefix_len (λ u. not (is_after (Some last) u)) us
-place_is last us i d e up bound front rest =
+-- the uses in front of a index are those that are not greater, if the one in front of it is not and the one there is
+pub index_is : (last : Use) (us : List Use) (i : ℕ) (d e : Use) → IsRising us → i ≤ length us → (0 < i → is_after (Some last) (get_or us (i - 1) d) ≡ false) → (i < length us → is_after (Some last) (get_or us i e) ≡ true) → i ≡ prefix_len (λ u. not (is_after (Some last) u)) us
+index_is last us i d e up bound front rest =
     let p = λ (u : Use). not (is_after (Some last) u) in
     sym (prefix_len_is p us i last bound (λ k low. not_after_parted last us up k (i - 1) last (omega (arith, low)) (omega (arith, low, bound)) (ap p (get_or_default us (i - 1) last d (omega (arith, low, bound))) ∙ ap not (front (omega (arith, low))))) (λ low. ap p (get_or_default us i last e low) ∙ ap not (rest low)))
 

@@ -223,7 +223,7 @@ pub goes_on : (can : List Use → Type 0) → ((w : List Use) → can w) → (s 
 goes_on can every s None t h = record { on = λ f. tt; keeps = tt; rests = λ f. tt }
 goes_on can every s (Some u) t h = record { on = λ f. (every t, tt, omega (arith, ap length h)); keeps = every t; rests = λ f. tt }
 
--- where nothing stands at a place, nothing stands behind it
+-- where nothing stands at a index, nothing stands behind it
 pub none_at : (us at_hand : List Use) (n : ℕ) (r : Option (Bor Use)) → at_hand ≡ us → is_some r ≡ nat_lt n (length at_hand) → option_copied r ≡ None → drop n us ≡ []
 none_at us at_hand n None same is none =
     let past : length us ≤ n = grind (arith, nat_tests, is, ap length same) in

@@ -46,7 +46,7 @@ pub record IsFirstFlaw (moment : ℕ) (uses : List Use) (index : ℕ) (found : F
   pub bad : Use
   pub rest : List Use
   pub parts : uses ≡ front ++ bad ∷ rest
-  pub place : length front ≡ index
+  pub counted : length front ≡ index
   pub good : AllGood moment None front
   pub flawed : flaw moment (last_of None front) bad ≡ Some found
 

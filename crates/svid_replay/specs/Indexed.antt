@@ -9,13 +9,13 @@ use Rattle.svid_replay.specs.declared.key_first.KeyFirst.{KeyFirst}
 use Rattle.svid_replay.specs.Twice.{has_key, withdraws}
 use Rattle.svid_replay.specs.Use.{IsRising, use_cmp}
 
--- the order by key: by key, then withdrawals behind uses, by exp, by place, by at
+-- the order by key: by key, then withdrawals behind uses, by exp, by validator ID, by at
 abbrev pub key_first_cmp : KeyFirst → KeyFirst → Ordering
-key_first_cmp j k = ordering_then (slice_cmp nat_cmp j.key k.key) (ordering_then (bool_cmp j.withdrawn k.withdrawn) (ordering_then (nat_cmp j.exp k.exp) (ordering_then (slice_cmp nat_cmp j.place k.place) (nat_cmp j.at k.at))))
+key_first_cmp j k = ordering_then (slice_cmp nat_cmp j.key k.key) (ordering_then (bool_cmp j.withdrawn k.withdrawn) (ordering_then (nat_cmp j.exp k.exp) (ordering_then (slice_cmp nat_cmp j.validator_id k.validator_id) (nat_cmp j.at k.at))))
 
 -- a use with its key first, and then its kind
 abbrev pub key_first : Use → KeyFirst
-key_first u = record { key = u.key; withdrawn = u.withdrawn; exp = u.exp; place = u.place; at = u.at }
+key_first u = record { key = u.key; withdrawn = u.withdrawn; exp = u.exp; validator_id = u.validator_id; at = u.at }
 
 -- what a look by key is for: a use of the key, or a withdrawal of it
 abbrev pub is_sought : Bool → List ℕ → Use → Bool
@@ -30,12 +30,12 @@ has_use us u = list_any (eq_by_cmp use_cmp u) us
 abbrev pub has_key_first : List KeyFirst → KeyFirst → Bool
 has_key_first ks k = list_any (eq_by_cmp key_first_cmp k) ks
 
--- two lists, in order by use and by key, that have the same uses, each with a place of 16 bytes
+-- two lists, in order by use and by key, that have the same uses, each with a validator ID of 16 bytes
 pub record IsIndexed (us : List Use) (ks : List KeyFirst) : Type 0 where
   pub rising : IsRising us
   pub by_key : IsStrictlySortedBy key_first_cmp ks
   pub same : (u : Use) → has_key_first ks (key_first u) ≡ has_use us u
-  pub wide : (u : Use) → has_use us u ≡ true → length u.place ≡ 16
+  pub wide : (u : Use) → has_use us u ≡ true → length u.validator_id ≡ 16
 
 -- the least of rising uses, where it expires at the moment or before it
 abbrev pub first_expired : ℕ → List Use → Option Use

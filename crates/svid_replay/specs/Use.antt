@@ -15,20 +15,20 @@ pub record IsBytes (count : ℕ) (bytes : List ℕ) : Type 0 where
 pub record IsUse (u : Use) : Type 0 where
   pub exp : u.exp < 2 ^ 64
   pub key : IsBytes 32 u.key
-  pub place : IsBytes 16 u.place
+  pub validator_id : IsBytes 16 u.validator_id
   pub at : u.at < 2 ^ 64
 
--- the first 64 bytes of a use: exp, key, place, at, each number with its greatest byte first
+-- the first 64 bytes of a use: exp, key, validator ID, at, each number with its greatest byte first
 unfoldable pub front_text : Use → List ℕ
-front_text u = to_be_bytes w64 u.exp ++ u.key ++ u.place ++ to_be_bytes w64 u.at
+front_text u = to_be_bytes w64 u.exp ++ u.key ++ u.validator_id ++ to_be_bytes w64 u.at
 
 -- the 65 bytes of a use: its first 64, and then 1 for a withdrawal or else 0
 unfoldable pub text_of : Use → List ℕ
 text_of u = front_text u ++ from_bool u.withdrawn ∷ []
 
--- the order of uses: by exp, then by key, by place, by at, and then a withdrawal behind a use
+-- the order of uses: by exp, then by key, by validator ID, by at, and then a withdrawal behind a use
 abbrev pub use_cmp : Use → Use → Ordering
-use_cmp u v = ordering_then (nat_cmp u.exp v.exp) (ordering_then (slice_cmp nat_cmp u.key v.key) (ordering_then (slice_cmp nat_cmp u.place v.place) (ordering_then (nat_cmp u.at v.at) (bool_cmp u.withdrawn v.withdrawn))))
+use_cmp u v = ordering_then (nat_cmp u.exp v.exp) (ordering_then (slice_cmp nat_cmp u.key v.key) (ordering_then (slice_cmp nat_cmp u.validator_id v.validator_id) (ordering_then (nat_cmp u.at v.at) (bool_cmp u.withdrawn v.withdrawn))))
 
 -- byte rows in the order of a dictionary
 abbrev pub bytes_cmp : List ℕ → List ℕ → Ordering

@@ -17,7 +17,7 @@ Uses = Set use_cmp
 -- a use is stored as the tuple of its fields
 abbrev pub use_code : Coded Use
 use_code =
-    code_by (ℕ × (List ℕ × (List ℕ × (ℕ × Bool)))) (coded× coded_ℕ (coded× (coded_list coded_ℕ) (coded× (coded_list coded_ℕ) (coded× coded_ℕ coded_bool)))) (λ u. (u.exp, (u.key, (u.place, (u.at, u.withdrawn))))) (λ p. record { exp = p.0; key = p.1.0; place = p.1.1.0; at = p.1.1.1.0; withdrawn = p.1.1.1.1 }) (λ _. refl)
+    code_by (ℕ × (List ℕ × (List ℕ × (ℕ × Bool)))) (coded× coded_ℕ (coded× (coded_list coded_ℕ) (coded× (coded_list coded_ℕ) (coded× coded_ℕ coded_bool)))) (λ u. (u.exp, (u.key, (u.validator_id, (u.at, u.withdrawn))))) (λ p. record { exp = p.0; key = p.1.0; validator_id = p.1.1.0; at = p.1.1.1.0; withdrawn = p.1.1.1.1 }) (λ _. refl)
 
 -- a set is stored as the list of its uses
 abbrev pub uses_code : Coded Uses

@@ -2,7 +2,7 @@
 ghost use Rattle.std.specs.Prelude.{◌≡◌, ◌<◌, ◌≤◌, ℕ, List, false, length, take, IfOk};
 ghost use Rattle.std.specs.Int.{from_be_bytes, w64};
 ghost use Rattle.std.specs.List.{AllByRecursion};
-ghost use Rattle.svid_replay.specs.Runs.{HasBits, mask_of, place_of};
+ghost use Rattle.svid_replay.specs.Runs.{HasBits, mask_of, index_of};
 
 use crate::Use;
 use crate::runs::FRONT;
@@ -30,9 +30,9 @@ fn mask(key: &[u8; 32]) -> u64
 }
 
 #[inline]
-fn place(key: &[u8; 32], count: usize) -> usize
+fn index(key: &[u8; 32], count: usize) -> usize
     requires { 0 < count }
-    ensures value { result ≡ place_of count key.now }
+    ensures value { result ≡ index_of count key.now }
     ensures bound { result < count }
 {
     (number(key) % count as u64) as usize
@@ -45,7 +45,7 @@ pub(crate) fn add(key_filter: &mut [u64], key: &[u8; 32])
     ensures added { HasBits key_filter.new key.now }
     ensures others { (other : List ℕ) → HasBits key_filter.old other → HasBits key_filter.new other }
 {
-    let at = place(key, key_filter.len());
+    let at = index(key, key_filter.len());
     key_filter[at] |= mask(key);
 }
 
@@ -61,14 +61,14 @@ pub(crate) fn add_all(key_filter: &mut [u64], uses: &[Use])
     }
 }
 
-/// A filter of no key, with place for so many.
+/// A filter of no key, with index for so many.
 pub(crate) fn no_keys(alloc: Global, count: usize) -> Result<Vec<u64>, AllocError>
     ensures { IfOk result (λ key_filter. 0 < length key_filter.items) }
 {
     vec![in alloc; 0u64; count / 5 + 1]
 }
 
-/// A filter of the keys of some uses, with place for so many as a run has before it is closed.
+/// A filter of the keys of some uses, with index for so many as a run has before it is closed.
 pub(crate) fn filter_of(alloc: Global, uses: &[Use]) -> Result<Vec<u64>, AllocError>
     ensures some { IfOk result (λ key_filter. 0 < length key_filter.items) }
     ensures known { IfOk result (λ key_filter. AllByRecursion (λ u. HasBits key_filter.items u.key) uses.now) }
@@ -95,5 +95,5 @@ pub(crate) fn may_have(key_filter: &[u64], key: &[u8; 32]) -> bool
     ensures { result ≡ false → HasBits key_filter.now key.now → ⊥ }
 {
     let mask = mask(key);
-    key_filter[place(key, key_filter.len())] & mask == mask
+    key_filter[index(key, key_filter.len())] & mask == mask
 }

@@ -97,7 +97,7 @@ fn has_from(by_key: &BTreeSet<KeyFirst>, key: &[u8; 32], withdrawn: bool) -> boo
         key: *key,
         withdrawn,
         exp: 0,
-        place: [0; 16],
+        validator_id: [0; 16],
         at: 0,
     };
     match by_key

@@ -12,7 +12,7 @@ pub(crate) struct KeyFirst {
     pub(crate) key: [u8; 32],
     pub(crate) withdrawn: bool,
     pub(crate) exp: u64,
-    pub(crate) place: [u8; 16],
+    pub(crate) validator_id: [u8; 16],
     pub(crate) at: u64,
 }
 
@@ -23,7 +23,7 @@ impl KeyFirst {
         let Use {
             exp,
             key,
-            place,
+            validator_id,
             at,
             withdrawn,
         } = used;
@@ -31,7 +31,7 @@ impl KeyFirst {
             key,
             withdrawn,
             exp,
-            place,
+            validator_id,
             at,
         }
     }

@@ -46,8 +46,8 @@ fn has_left(keys: &[Expiry], kind: &KeyKind, expired_by: Option<u64>) -> bool
     requires { AreKeys keys.now }
     ensures { result ≡ list_any (is_held kind.now expired_by) keys.now }
 {
-    let place = keys.partition_point(|expiry| expiry.is_in_front_of(kind, expired_by));
-    match keys[place..].first() {
+    let index = keys.partition_point(|expiry| expiry.is_in_front_of(kind, expired_by));
+    match keys[index..].first() {
         None => false,
         Some(found) => found.has_kind(kind),
     }

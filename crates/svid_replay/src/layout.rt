@@ -13,7 +13,7 @@ pub(crate) const EXP_START: usize = 0;
 
 pub(crate) const KEY_START: usize = 8;
 
-pub(crate) const PLACE_START: usize = 40;
+pub(crate) const VALIDATOR_ID_START: usize = 40;
 
 pub(crate) const AT_START: usize = 56;
 

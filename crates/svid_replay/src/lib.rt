@@ -1,7 +1,7 @@
 //! The record of used and withdrawn tokens that validators share: uses, the batches that carry them,
 //! stores, and the record itself.
 //!
-//! A [`Use`] says that a token, told by its key, was accepted or withdrawn at a place and a time, and
+//! A [`Use`] says that a token, told by its key, was accepted or withdrawn at a validator ID and a time, and
 //! when it expires. A [`Record`] is a moment and the set of the uses that were made by then and expire later,
 //! kept in a [`UseStore`]. Whatever happens to it is a join: the greater moment, and of the uses of
 //! both sides those that expire after it. So records may be merged in any order, any number of times,
@@ -20,8 +20,8 @@
 //! ```rust
 //! use svid_replay::{Batch, Record, SortedUses, Use};
 //!
-//! let first = Use { exp: 101, key: [0x11; 32], place: [0x22; 16], at: 99, withdrawn: false };
-//! let second = Use { place: [0x33; 16], at: 100, ..first };
+//! let first = Use { exp: 101, key: [0x11; 32], validator_id: [0x22; 16], at: 99, withdrawn: false };
+//! let second = Use { validator_id: [0x33; 16], at: 100, ..first };
 //! let mut uses = Vec::new(alloc);
 //! uses.push(first)?;
 //! uses.push(second)?;

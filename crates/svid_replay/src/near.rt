@@ -5,14 +5,14 @@ ghost use Rattle.std.specs.Prelude.{◌≡◌, length};
 /// where little lies between. Whatever stands here, it finds the same.
 #[derive(Clone, Copy, Debug)]
 pub struct Near {
-    pub(crate) places: [u16; 8],
+    pub(crate) indexes: [u16; 8],
 }
 
 impl Near {
     /// Of no look yet.
     pub fn new() -> Near
-        ensures { length result.places ≡ 8 }
+        ensures { length result.indexes ≡ 8 }
     {
-        Near { places: [0; 8] }
+        Near { indexes: [0; 8] }
     }
 }

@@ -12,7 +12,7 @@ use std::marker::Model;
 const NO_USE: Use = Use {
     exp: 0,
     key: [0; 32],
-    place: [0; 16],
+    validator_id: [0; 16],
     at: 0,
     withdrawn: false,
 };

@@ -159,7 +159,7 @@ impl Run {
         }
     }
 
-    // The first use, or what comes next behind one, which is mostly near a place.
+    // The first use, or what comes next behind one, which is mostly near a index.
     pub(crate) fn next_near(&self, after: &Option<Use>, near: &mut u16) -> Option<&Use>
         ensures { option_copied result ≡ next_above (uses_in self.now) after.now }
     {

@@ -78,7 +78,7 @@ fn lesser<'a>(one: Option<&'a Use>, other: Option<&'a Use>) -> Option<&'a Use>
     }
 }
 
-// The least of what comes next in each run, where that is mostly near a place. The last place does for all runs that are
+// The least of what comes next in each run, where that is mostly near a index. The last index does for all runs that are
 // left.
 pub(crate) fn least_near(runs: &[Run], after: &Option<Use>, near: &mut Near) -> Option<Use>
     ensures { result ≡ least_from after.now runs.now None }
@@ -86,7 +86,7 @@ pub(crate) fn least_near(runs: &[Run], after: &Option<Use>, near: &mut Near) -> 
     let mut least = None;
     let mut at = 0;
     for run in runs {
-        least = lesser(least, run.next_near(after, &mut near.places[at]));
+        least = lesser(least, run.next_near(after, &mut near.indexes[at]));
         at = (at + 1).min(7);
     }
     least.copied()

@@ -35,7 +35,7 @@ impl Model for SortedUses {
     ghost invariant = { λ s. IsRising s.uses.items };
 }
 
-// Puts a use among those behind a place, which rise.
+// Puts a use among those behind a index, which rise.
 pub(crate) fn insert_use(uses: &mut Vec<Use>, start: usize, new: Use) -> Result<(), AllocError>
     requires bound { start ≤ length uses.old.items }
     requires rising { IsRising (drop start uses.old.items) }
@@ -48,8 +48,8 @@ pub(crate) fn insert_use(uses: &mut Vec<Use>, start: usize, new: Use) -> Result<
 {
     match uses[start..].binary_search(&new) {
         Ok(_) => Ok(()),
-        Err(place) => {
-            uses.insert(start + place, new)?;
+        Err(index) => {
+            uses.insert(start + index, new)?;
             Ok(())
         }
     }
@@ -83,16 +83,16 @@ fn count_up_to(uses: &[Use], last: &Use) -> usize
     uses.partition_point(|used| !last.cmp(used).is_lt())
 }
 
-// Whether the uses in front of a place are those that are not greater than the last.
-fn is_place(uses: &[Use], place: usize, last: &Use) -> bool
+// Whether the uses in front of a index are those that are not greater than the last.
+fn is_index(uses: &[Use], index: usize, last: &Use) -> bool
     requires { IsRising uses.now }
-    ensures value { IsTrue result → place ≡ prefix_len (λ u. not (is_after (Some last.now) u)) uses.now }
-    ensures bound { IsTrue result → place ≤ length uses.now }
+    ensures value { IsTrue result → index ≡ prefix_len (λ u. not (is_after (Some last.now) u)) uses.now }
+    ensures bound { IsTrue result → index ≤ length uses.now }
 {
-    if place > uses.len() || (place > 0 && last.cmp(&uses[place - 1]).is_lt()) {
+    if index > uses.len() || (index > 0 && last.cmp(&uses[index - 1]).is_lt()) {
         return false;
     }
-    place == uses.len() || last.cmp(&uses[place]).is_lt()
+    index == uses.len() || last.cmp(&uses[index]).is_lt()
 }
 
 // How many are not greater than the last, where it is mostly so many, or one more.
@@ -101,17 +101,17 @@ fn count_near(uses: &[Use], last: &Use, near: usize) -> usize
     ensures value { result ≡ prefix_len (λ u. not (is_after (Some last.now) u)) uses.now }
     ensures bound { result ≤ length uses.now }
 {
-    if is_place(uses, near, last) {
+    if is_index(uses, near, last) {
         return near;
     }
     let next = near.wrapping_add(1);
-    if is_place(uses, next, last) {
+    if is_index(uses, next, last) {
         return next;
     }
     count_up_to(uses, last)
 }
 
-// Those of the uses that are greater than the one given, where they mostly begin near a place, or all.
+// Those of the uses that are greater than the one given, where they mostly begin near a index, or all.
 fn rest_near<'a>(uses: &'a [Use], after: &Option<Use>, near: &mut u16) -> &'a [Use]
     requires { IsRising uses.now }
     ensures { result.now ≡ filter (is_after after.now) uses.now }
@@ -119,9 +119,9 @@ fn rest_near<'a>(uses: &'a [Use], after: &Option<Use>, near: &mut u16) -> &'a [U
     let Some(last) = after else {
         return uses;
     };
-    let place = count_near(uses, last, *near as usize);
-    *near = u16::try_from(place).unwrap_or(0);
-    &uses[place..]
+    let index = count_near(uses, last, *near as usize);
+    *near = u16::try_from(index).unwrap_or(0);
+    &uses[index..]
 }
 
 pub(crate) fn first_near<'a>(

@@ -1,7 +1,7 @@
 ghost use Rattle.std.specs.Prelude.{◌≡◌, ◌+◌, ◌≤◌, ◌++◌, length, take, nat_lt};
 ghost use Rattle.svid_replay.specs.Use.{text_of, IsUse};
 
-use crate::layout::{AT_START, EXP_START, KEY_START, KIND_START, PLACE_START, USE_LEN};
+use crate::layout::{AT_START, EXP_START, KEY_START, KIND_START, USE_LEN, VALIDATOR_ID_START};
 
 /// One use of a token, which a validator accepted once; or that it was withdrawn. Uses are ordered as
 /// their texts are.
@@ -11,8 +11,8 @@ pub struct Use {
     pub exp: u64,
     /// The key of the token. Uses of one key are taken for uses of one token.
     pub key: [u8; 32],
-    /// The place where it was used or withdrawn. Validators are told apart by their places.
-    pub place: [u8; 16],
+    /// The validator ID where it was used or withdrawn. Validators are told apart by their validator IDs.
+    pub validator_id: [u8; 16],
     /// When it was used or withdrawn, in seconds.
     pub at: u64,
     /// Whether the token was withdrawn there, and not used.
@@ -35,7 +35,7 @@ impl Use {
         self.exp > moment
     }
 
-    /// The 65 bytes of this use: `exp`, `key`, `place` and `at`, each number with its greatest byte
+    /// The 65 bytes of this use: `exp`, `key`, `validator_id` and `at`, each number with its greatest byte
     /// first, and then 1 for a withdrawal or else 0.
     pub fn text(&self) -> [u8; USE_LEN]
         ensures { result ≡ text_of self.now }
@@ -43,14 +43,14 @@ impl Use {
         let Use {
             exp,
             key,
-            place,
+            validator_id,
             at,
             withdrawn,
         } = *self;
         let mut text = [0; USE_LEN];
         put_piece(&mut text, EXP_START, &exp.to_be_bytes());
         put_piece(&mut text, KEY_START, &key);
-        put_piece(&mut text, PLACE_START, &place);
+        put_piece(&mut text, VALIDATOR_ID_START, &validator_id);
         put_piece(&mut text, AT_START, &at.to_be_bytes());
         put_piece(&mut text, KIND_START, &[u8::from(withdrawn)]);
         text

@@ -148,7 +148,20 @@ fn check_call(out: &mut Out<'_>, values: &mut Values, words: &[&str]) -> Result<
         answer => return answer,
     }
     match svid_script_log::call(out, env, validators, logs, words) {
-        Err(Stop::NoCall) => svid_script_engines::call(out, env, trust, words),
+        Err(Stop::NoCall) => engine_call(out, env, trust, words),
+        answer => answer,
+    }
+}
+
+// The calls on engines over lines, and on documents.
+fn engine_call(
+    out: &mut Out<'_>,
+    env: &mut Env,
+    trust: &Trust,
+    words: &[&str],
+) -> Result<(), Stop> {
+    match svid_script_engines::call(out, env, trust, words) {
+        Err(Stop::NoCall) => svid_script_documents::call(out, env, words),
         answer => answer,
     }
 }

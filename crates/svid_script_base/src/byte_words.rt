@@ -4,7 +4,7 @@ use crate::use_words::span;
 use crate::words::number;
 use hex::FromHexError;
 
-// The bytes of a span, which has the place of the first and how many there are, as far as there are any.
+// The bytes of a span, which has the offset of the first and how many there are, as far as there are any.
 fn within(bytes: &[u8], span: (u64, u64)) -> &[u8] {
     let (first, count) = span;
     let (_, rest) = bytes.split_at(bytes.len().min(first as usize));

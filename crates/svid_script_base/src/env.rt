@@ -13,7 +13,7 @@ pub struct Pushed {
     pub before: Vec<u8>,
 }
 
-/// Which call of which stream of a line fails: the `nth` call of the stream with this place in the
+/// Which call of which stream of a line fails: the `nth` call of the stream with this index in the
 /// line, both counted from 1.
 #[derive(Clone, Copy)]
 pub struct Failing {

@@ -122,7 +122,7 @@ pub fn say_use(out: &mut Out<'_>, used: &Use) -> Result<(), Stop> {
     write!(out, "= {exp}/")?;
     short_digits(out, &used.key)?;
     write!(out, "/")?;
-    short_digits(out, &used.place)?;
+    short_digits(out, &used.validator_id)?;
     writeln!(out, "/{at}{mark}")?;
     Ok(())
 }
@@ -139,7 +139,7 @@ pub fn say_use_if_any(out: &mut Out<'_>, used: Option<Use>) -> Result<(), Stop> 
 pub fn hash_use(hasher: &mut Sha256, used: &Use) {
     hasher.update(used.exp.to_be_bytes());
     hasher.update(used.key);
-    hasher.update(used.place);
+    hasher.update(used.validator_id);
     hasher.update(used.at.to_be_bytes());
     hasher.update([u8::from(used.withdrawn)]);
 }

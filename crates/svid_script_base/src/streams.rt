@@ -9,7 +9,7 @@ use crate::words::{number_if_any, step, word};
 use std::io::Write;
 use svid_wire::Source;
 
-// Which call of the stream with this place in the line fails.
+// Which call of the stream with this index in the line fails.
 fn told(failing: Option<Failing>, stream: u64) -> Option<u64> {
     match failing {
         Some(failing) if failing.stream == stream => Some(failing.nth),
@@ -17,10 +17,10 @@ fn told(failing: Option<Failing>, stream: u64) -> Option<u64> {
     }
 }
 
-/// Takes a source out for a call, and has it begin. It is the one with this place in the line, from 1.
-pub fn take_source(env: &mut Env, name: &str, place: u64) -> Result<PieceSource, Stop> {
+/// Takes a source out for a call, and has it begin. It is the one with this index in the line, from 1.
+pub fn take_source(env: &mut Env, name: &str, index: u64) -> Result<PieceSource, Stop> {
     let mut source = env.sources.take(name)?;
-    source.begin(told(env.get, place));
+    source.begin(told(env.get, index));
     Ok(source)
 }
 
@@ -32,10 +32,10 @@ pub fn put_source(env: &mut Env, name: &str, source: PieceSource) -> Result<(), 
     env.sources.put(name, source)
 }
 
-/// Takes sources out for a call, and has them begin. The first has this place in the line.
-pub fn take_sources(env: &mut Env, names: &[&str], place: u64) -> Result<Vec<PieceSource>, Stop> {
+/// Takes sources out for a call, and has them begin. The first has this index in the line.
+pub fn take_sources(env: &mut Env, names: &[&str], index: u64) -> Result<Vec<PieceSource>, Stop> {
     let mut sources = Vec::with_capacity(env.alloc, names.len())?;
-    let mut next = place;
+    let mut next = index;
     for name in names {
         sources.push(take_source(env, name, next)?)?;
         next = next.saturating_add(1);
@@ -51,10 +51,10 @@ pub fn put_sources(env: &mut Env, names: &[&str], sources: Vec<PieceSource>) -> 
     Ok(())
 }
 
-/// Takes a sink out for a call, and has it begin. It is the one with this place in the line, from 1.
-pub fn take_sink(env: &mut Env, name: &str, place: u64) -> Result<PieceSink, Stop> {
+/// Takes a sink out for a call, and has it begin. It is the one with this index in the line, from 1.
+pub fn take_sink(env: &mut Env, name: &str, index: u64) -> Result<PieceSink, Stop> {
     let mut sink = env.sinks.take(name)?;
-    sink.begin(told(env.put, place));
+    sink.begin(told(env.put, index));
     Ok(sink)
 }
 

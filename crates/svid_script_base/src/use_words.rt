@@ -1,7 +1,7 @@
 ghost use Rattle.std.specs.Prelude.{◌≡◌};
 
 use crate::stop::Stop;
-use crate::words::{key, number, place};
+use crate::words::{id16, key, number};
 use std::alloc::Global;
 use svid_replay::Use;
 
@@ -25,7 +25,7 @@ pub fn span(word: &str) -> Result<(u64, u64), Stop> {
 fn uses_in(word: &str) -> Result<(Use, u64), Stop> {
     let (exp, rest) = cut(word)?;
     let (key_word, rest) = cut(rest)?;
-    let (place_word, rest) = cut(rest)?;
+    let (validator_word, rest) = cut(rest)?;
     let (at, withdrawn) = match rest.split_once('/') {
         Some((at, kind)) => (at, kind == "withdrawn"),
         None => (rest, false),
@@ -34,7 +34,7 @@ fn uses_in(word: &str) -> Result<(Use, u64), Stop> {
     let used = Use {
         exp: number(exp)?,
         key: key(key_word)?,
-        place: place(place_word)?,
+        validator_id: id16(validator_word)?,
         at: first,
         withdrawn,
     };

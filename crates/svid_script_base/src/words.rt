@@ -14,12 +14,12 @@ pub fn words_of(alloc: Global, line: &str) -> Result<Vec<&str>, Stop> {
     Ok(words)
 }
 
-/// The word at a place, or an empty one.
+/// The word at a index, or an empty one.
 pub fn word<'a>(words: &[&'a str], at: usize) -> &'a str {
     words.get(at).copied().unwrap_or("")
 }
 
-/// The words from a place on.
+/// The words from a index on.
 pub fn from<'a>(words: &'a [&'a str], at: usize) -> &'a [&'a str] {
     words.split_at(at.min(words.len())).1
 }
@@ -64,12 +64,12 @@ pub fn key(word: &str) -> Result<[u8; 32], Stop> {
     <[u8; 32] as FromHex>::from_hex(word).map_err(|_| Stop::Script("no key"))
 }
 
-/// A place: 32 hexadecimal digits, or two that stand for 16 equal bytes.
-pub fn place(word: &str) -> Result<[u8; 16], Stop> {
+/// A validator ID: 32 hexadecimal digits, or two that stand for 16 equal bytes.
+pub fn id16(word: &str) -> Result<[u8; 16], Stop> {
     if word.len() == 2 {
         return Ok([byte(word)?; 16]);
     }
-    <[u8; 16] as FromHex>::from_hex(word).map_err(|_| Stop::Script("no place"))
+    <[u8; 16] as FromHex>::from_hex(word).map_err(|_| Stop::Script("no validator ID"))
 }
 
 /// The text that bytes are.

@@ -10,7 +10,7 @@ use svid_script_base::out::Out;
 use svid_script_base::over_any;
 use svid_script_base::say::{say_number, say_uses};
 use svid_script_base::stop::Stop;
-use svid_script_base::words::{from, number, number_if_any, place, text, texts, word};
+use svid_script_base::words::{from, id16, number, number_if_any, text, texts, word};
 use svid_script_records::records::{parts, report};
 use svid_script_tokens::Trust;
 
@@ -19,7 +19,7 @@ use svid_script_tokens::Trust;
 struct Setting {
     alloc: Global,
     own: Vec<String>,
-    place: [u8; 16],
+    validator_id: [u8; 16],
     ahead: u64,
     bundles: Bundles,
     verifier: AnyVerifier,
@@ -30,13 +30,22 @@ fn with_record<S: UseStore>(setting: Setting, record: Record<S>) -> Validator<An
     let Setting {
         alloc,
         own,
-        place,
+        validator_id,
         ahead,
         bundles,
         verifier,
         longest,
     } = setting;
-    Validator::new(alloc, own, place, ahead, bundles, verifier, record, longest)
+    Validator::new(
+        alloc,
+        own,
+        validator_id,
+        ahead,
+        bundles,
+        verifier,
+        record,
+        longest,
+    )
 }
 
 fn make(setting: Setting, record: AnyRecord) -> AnyValidator {
@@ -79,7 +88,7 @@ fn record_for(env: &mut Env, word: &str) -> Result<AnyRecord, Stop> {
     }
 }
 
-/// `validator NAME KIND PLACE AHEAD BUNDLES VERIFIER LONGEST AUDIENCES..`
+/// `validator NAME KIND ID AHEAD BUNDLES VERIFIER LONGEST AUDIENCES..`
 pub fn validator(
     env: &mut Env,
     trust: &mut Trust,
@@ -87,7 +96,7 @@ pub fn validator(
     words: &[&str],
 ) -> Result<(), Stop> {
     let alloc = env.alloc;
-    let place = place(word(words, 3))?;
+    let validator_id = id16(word(words, 3))?;
     let ahead = number(word(words, 4))?;
     let longest = number_if_any(word(words, 7))?;
     let own = texts(env, from(words, 8))?;
@@ -99,7 +108,7 @@ pub fn validator(
     let setting = Setting {
         alloc,
         own,
-        place,
+        validator_id,
         ahead,
         bundles: trust.bundles.take(word(words, 5))?,
         verifier,

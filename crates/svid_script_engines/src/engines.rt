@@ -11,7 +11,7 @@ use svid_script_base::stop::Stop;
 use svid_script_base::streams::{
     put_sink, put_source, put_sources, take_sink, take_source, take_sources,
 };
-use svid_script_base::words::{from, number, number_if_any, place, texts, word};
+use svid_script_base::words::{from, id16, number, number_if_any, texts, word};
 use svid_script_streams::tool_refused;
 use svid_script_tokens::{Trust, token_refused};
 use svid_share::ToolFault;
@@ -132,13 +132,13 @@ fn put_streams(
 fn check_setting(env: &Env, words: &[&str]) -> Result<CheckSetting, Stop> {
     Ok(CheckSetting {
         own: texts(env, from(words, 10))?,
-        place: place(word(words, 3))?,
+        validator_id: id16(word(words, 3))?,
         now: number(word(words, 2))?,
         longest: number_if_any(word(words, 4))?,
     })
 }
 
-/// `run_check SINK NOW PLACE LONGEST BUNDLES TABLE TOKENS EARLIER KEPT AUDIENCES..`
+/// `run_check SINK NOW ID LONGEST BUNDLES TABLE TOKENS EARLIER KEPT AUDIENCES..`
 pub fn check(out: &mut Out<'_>, env: &mut Env, words: &[&str]) -> Result<(), Stop> {
     let given = check_setting(env, words)?;
     let names = earlier_names(env.alloc, word(words, 8))?;

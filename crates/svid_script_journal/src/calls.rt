@@ -20,7 +20,7 @@ fn file_call(
         "reader.show" => readers::show(out, values, words),
         "reader.next" => readers::next(out, env, values, words),
         "read" => readers::read(out, env, words),
-        "log_place.split" => payloads::split(out, env, words),
+        "log_position.split" => payloads::split(out, env, words),
         _ => Err(Stop::NoCall),
     }
 }
@@ -51,7 +51,7 @@ pub fn call(
     match word(words, 0) {
         "folder.put" => return folders::put(out, env, values, words),
         "folder.piece" => return folders::piece(out, env, values, words),
-        "log_place" => return payloads::text(out, env, words),
+        "log_position" => return payloads::text(out, env, words),
         _ => {}
     }
     match step_call(out, values, words) {

@@ -7,7 +7,7 @@ use svid_script_base::env::Env;
 use svid_script_base::out::Out;
 use svid_script_base::say::{say_bytes, say_fault, say_none, say_ok};
 use svid_script_base::stop::Stop;
-use svid_script_base::words::{number, place, word};
+use svid_script_base::words::{id16, number, word};
 
 // Prints that a call went well, or its fault.
 fn done(out: &mut Out<'_>, answer: Result<(), Fault>) -> Result<(), Stop> {
@@ -134,7 +134,7 @@ fn framed(
     }
 }
 
-/// `folder.put NAME FRAME ROOM PLACE PAYLOAD`
+/// `folder.put NAME FRAME ROOM ID PAYLOAD`
 pub(crate) fn put(
     out: &mut Out<'_>,
     env: &mut Env,
@@ -146,11 +146,11 @@ pub(crate) fn put(
     let mut room = room_of(env, number(word(words, 3))?)?;
     let payload = bytes(env, word(words, 5))?;
     let folder = folders.folders.get_mut(word(words, 1))?;
-    let answer = folder.put(&mut room, place(word(words, 4))?, &payload);
+    let answer = folder.put(&mut room, id16(word(words, 4))?, &payload);
     framed(out, env, frame, room, answer)
 }
 
-/// `folder.piece NAME FRAME ROOM PLACE PAYLOAD`
+/// `folder.piece NAME FRAME ROOM ID PAYLOAD`
 pub(crate) fn piece(
     out: &mut Out<'_>,
     env: &mut Env,
@@ -162,6 +162,6 @@ pub(crate) fn piece(
     let mut room = room_of(env, number(word(words, 3))?)?;
     let payload = bytes(env, word(words, 5))?;
     let folder = folders.folders.get_mut(word(words, 1))?;
-    let answer = folder.piece(&mut room, place(word(words, 4))?, &payload);
+    let answer = folder.piece(&mut room, id16(word(words, 4))?, &payload);
     framed(out, env, frame, room, answer)
 }

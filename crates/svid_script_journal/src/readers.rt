@@ -35,7 +35,7 @@ pub(crate) fn show(out: &mut Out<'_>, folders: &Folders, words: &[&str]) -> Resu
     Ok(writeln!(out, "= {count} {at} {marked}")?)
 }
 
-// Prints what stands at a place of a file.
+// Prints what stands at a offset of a file.
 fn say_next(out: &mut Out<'_>, next: Next<'_>, at: u64) -> Result<(), Stop> {
     match next {
         Next::Payload(payload) => say_bytes(out, payload)?,
@@ -48,7 +48,7 @@ fn say_next(out: &mut Out<'_>, next: Next<'_>, at: u64) -> Result<(), Stop> {
     Ok(())
 }
 
-/// `reader.next NAME FILE PLACE BYTES`
+/// `reader.next NAME FILE ID BYTES`
 pub(crate) fn next(
     out: &mut Out<'_>,
     env: &Env,
@@ -63,7 +63,7 @@ pub(crate) fn next(
     say_next(out, next, at)
 }
 
-/// `read FILE PLACE BYTES`
+/// `read FILE ID BYTES`
 pub(crate) fn read(out: &mut Out<'_>, env: &Env, words: &[&str]) -> Result<(), Stop> {
     let title = title_of(word(words, 1), word(words, 2))?;
     let file = bytes(env, word(words, 3))?;

@@ -3,7 +3,7 @@ use svid_journal::{File, MOST_PAYLOAD, Title, frame_len};
 use svid_script_base::out::Out;
 use svid_script_base::say::say_number;
 use svid_script_base::stop::Stop;
-use svid_script_base::words::{number, place, text_of, word};
+use svid_script_base::words::{id16, number, text_of, word};
 
 // The file of a word: the number of a journal, or `snapshot`.
 fn file(word: &str) -> Result<File, Stop> {
@@ -17,11 +17,11 @@ fn file(word: &str) -> Result<File, Stop> {
 pub(crate) fn title_of(file_word: &str, folder: &str) -> Result<Title, Stop> {
     Ok(Title {
         file: file(file_word)?,
-        folder: place(folder)?,
+        folder: id16(folder)?,
     })
 }
 
-/// `title FILE PLACE`
+/// `title FILE ID`
 pub(crate) fn title(out: &mut Out<'_>, words: &[&str]) -> Result<(), Stop> {
     let title = title_of(word(words, 1), word(words, 2))?;
     let kind = text_of(title.kind())?;

@@ -10,7 +10,7 @@ use svid_script_base::out::Out;
 use svid_script_base::over_any;
 use svid_script_base::say::{say_batches, say_bool};
 use svid_script_base::stop::Stop;
-use svid_script_base::words::{key, number, place, word};
+use svid_script_base::words::{id16, key, number, word};
 use svid_script_checks::{AnyValidator, AnyVerifier, Validators};
 
 // How long a use lives in the log, and what earlier lives may have read: `LASTS READY`.
@@ -40,27 +40,27 @@ fn keep(env: &Env, logs: &mut Logs, name: &str, member: Member<RunUses>) -> Resu
     logs.members.put(name, Reader::new(env.alloc, member))
 }
 
-/// `member NAME PLACE LASTS READY PASSED DEAF`
+/// `member NAME ID LASTS READY PASSED DEAF`
 pub fn new(env: &Env, logs: &mut Logs, words: &[&str]) -> Result<(), Stop> {
-    let place = place(word(words, 2))?;
+    let validator_id = id16(word(words, 2))?;
     let Terms { lasts, ready } = terms_in(words)?;
     let passed = number(word(words, 5))?;
     let deaf = number(word(words, 6))?;
     logs.members.make_room(word(words, 1))?;
     let store = RunUses::new(env.alloc);
-    let made = Member::new(store, place, lasts, passed, ready, deaf);
+    let made = Member::new(store, validator_id, lasts, passed, ready, deaf);
     keep(env, logs, word(words, 1), made)
 }
 
-/// `member.restore NAME PLACE LASTS READY PASSED BEGUN DEAF USES`
+/// `member.restore NAME ID LASTS READY PASSED BEGUN DEAF USES`
 pub fn restore(env: &Env, logs: &mut Logs, words: &[&str]) -> Result<(), Stop> {
-    let place = place(word(words, 2))?;
+    let validator_id = id16(word(words, 2))?;
     let Terms { lasts, ready } = terms_in(words)?;
     let mark = mark_in(words)?;
     let uses = uses_at(env.alloc, logs, words, 8)?;
     logs.members.make_room(word(words, 1))?;
     let store = RunUses::new(env.alloc);
-    let made = Member::restore(store, place, lasts, mark, ready, &uses)?;
+    let made = Member::restore(store, validator_id, lasts, mark, ready, &uses)?;
     keep(env, logs, word(words, 1), made)
 }
 

@@ -26,7 +26,7 @@ fn room_of(alloc: Global, word: &str) -> Result<Vec<Fate>, Stop> {
     Ok([Fate::Expired].repeat(alloc, room as usize)?)
 }
 
-// The words from a place on are `POSITION ROOM USES`.
+// The words from a index on are `POSITION ROOM USES`.
 fn asked_in(alloc: Global, logs: &Logs, words: &[&str], at: usize) -> Result<Asked, Stop> {
     let words = from(words, at);
     Ok(Asked {

@@ -1,4 +1,6 @@
-use crate::{batches, feeds, messages, records, stores, summaries, tried_streams, uses};
+use crate::{
+    batched, batches, buckets, feeds, messages, records, stores, summaries, tried_streams, uses,
+};
 use svid_script_base::env::Env;
 use svid_script_base::out::Out;
 use svid_script_base::stop::Stop;
@@ -11,11 +13,15 @@ fn use_call(out: &mut Out<'_>, env: &mut Env, words: &[&str]) -> Result<(), Stop
         "use.text" => uses::text(out, words),
         "room" => uses::room(out, env, words),
         "use_list" => uses::list(out, env, words),
+        "batches_of" => batched::batched(out, env, words),
+        "write_batches" => batched::written(out, env, words),
         "batch" => batches::batch(out, env, words),
         "batch.good" => batches::good(env, words),
         "batch.show" => batches::show(out, env, words),
         "store" => stores::store(env, words),
         "store.insert_all" => stores::insert_all(out, env, words),
+        "bucket.digest" => buckets::digest(out, env, words),
+        "bucket.answer" => buckets::answer(out, env, words),
         name if name.starts_with("store.") => stores::call(out, env, words),
         _ => record_call(out, env, words),
     }

@@ -1,7 +1,9 @@
 //! The test driver's calls on uses, batches, stores, records, summaries and messages.
 #![tactic(auto)]
 
+mod batched;
 mod batches;
+mod buckets;
 mod calls;
 mod feeds;
 mod messages;

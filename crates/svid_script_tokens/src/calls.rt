@@ -1,5 +1,5 @@
 use crate::trust::Trust;
-use crate::{bearer, ids, keys, tokens};
+use crate::{bearer, ids, keys, patterns, tokens};
 use svid_script_base::env::Env;
 use svid_script_base::out::Out;
 use svid_script_base::stop::Stop;
@@ -20,12 +20,14 @@ fn key_call(out: &mut Out<'_>, env: &Env, trust: &mut Trust, words: &[&str]) -> 
     }
 }
 
-// The calls on IDs.
+// The calls on IDs and patterns of them.
 fn id_call(out: &mut Out<'_>, env: &Env, words: &[&str]) -> Result<(), Stop> {
     match word(words, 0) {
         "id" => ids::id(out, env, words),
         "id.clone" => ids::clone_id(out, env, words),
         "id.compare" => ids::compare_ids(out, env, words),
+        "id.allows" => patterns::allows(out, env, words),
+        "id.pattern" => patterns::pattern(out, env, words),
         "domain" => ids::domain(out, env, words),
         "domain.clone" => ids::clone_domain(out, env, words),
         "domain.compare" => ids::compare_domains(out, env, words),

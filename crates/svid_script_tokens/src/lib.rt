@@ -1,10 +1,11 @@
-//! The test driver's calls on SPIFFE IDs, bearer tokens, tokens, keys and trust bundles.
+//! The test driver's calls on SPIFFE IDs and patterns of them, bearer tokens, tokens, keys and trust bundles.
 #![tactic(auto)]
 
 mod bearer;
 mod calls;
 mod ids;
 pub mod keys;
+mod patterns;
 mod refusing;
 pub mod tokens;
 mod trust;

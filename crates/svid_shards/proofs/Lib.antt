@@ -1,1 +1,2 @@
+pub mod BucketsLemmas
 pub mod ShardsLemmas

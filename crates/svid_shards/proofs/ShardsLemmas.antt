@@ -179,7 +179,7 @@ count_new s (u ∷ us) up new =
     let one : count (with s u) ≡ count s + 1 = count-with s u ∙ ap (λ b. cond b (count s) (count s + 1)) new.0 in
     omega (arith, one, count_new (with s u) us up.1 (still_new s u us up.0 new.1))
 
-rising_none : rising (uses_in []) ≡ []
+pub rising_none : rising (uses_in []) ≡ []
 unfolding IsStrictlySortedBy
 rising_none = rising-uses_in [] tt
 
@@ -327,8 +327,8 @@ pub store_at : {S : Type 0} (f : S → Uses) (stores : List S) (i : ℕ) (x : S)
 store_at f stores i x within at = ap f at ∙ sym (mapped_at f stores i x no_uses within)
 
 pub store_put : {S : Type 0} (f : S → Uses) (stores : List S) (i : ℕ) (x y : S) (new : Use) → i < length stores → i ≡ bucket_of new → x ≡ get_or stores i x → f y ≡ with (f x) new → IsPut (map f stores) new (map f (set stores i y))
-store_put f stores i x y new within place at is =
-    map-set f stores i y ∙ ap (set (map f stores) i) (is ∙ ap (λ s. with s new) (store_at f stores i x within at)) ∙ ap (λ k. set (map f stores) k (with (shard (map f stores) k) new)) place
+store_put f stores i x y new within index at is =
+    map-set f stores i y ∙ ap (set (map f stores) i) (is ∙ ap (λ s. with s new) (store_at f stores i x within at)) ∙ ap (λ k. set (map f stores) k (with (shard (map f stores) k) new)) index
 
 pub store_same : {S : Type 0} (f : S → Uses) (stores : List S) (i : ℕ) (x y : S) → x ≡ get_or stores i x → f y ≡ f x → map f (set stores i y) ≡ map f stores
 store_same f stores i x y at same = map-set_same f stores i y x (same ∙ ap f at)
@@ -405,7 +405,7 @@ keys_apart (x ∷ xs) (y ∷ ys) low = less_by_key x y xs ys low
 
 less_is_earlier : (u v : Use) → bucket_of u < bucket_of v → is_lt (use_cmp v u) ≡ nat_lt v.exp u.exp
 less_is_earlier u v low =
-    let rest = λ (o : Ordering). ordering_then o (ordering_then (slice_cmp nat_cmp v.place u.place) (ordering_then (nat_cmp v.at u.at) (bool_cmp v.withdrawn u.withdrawn))) in
+    let rest = λ (o : Ordering). ordering_then o (ordering_then (slice_cmp nat_cmp v.validator_id u.validator_id) (ordering_then (nat_cmp v.at u.at) (bool_cmp v.withdrawn u.withdrawn))) in
     let all = λ (o : Ordering). is_lt (ordering_then o (rest (slice_cmp nat_cmp v.key u.key))) in
     by_ranked (v.exp < u.exp) (v.exp ≡ u.exp) (u.exp < v.exp) (nat_cmp v.exp u.exp) (ranked v.exp u.exp (nat_cmp v.exp u.exp) refl)
     (λ e h. let is : nat_lt v.exp u.exp ≡ true = grind (arith, nat_tests) in ap all e ∙ sym is)
@@ -438,7 +438,7 @@ heads_are ss after apart long = record {
 }
 
 -- a shard is a bucket of the whole set
-shard_is_bucket : (ss : List Uses) → AreApart ss → (b : ℕ) → shard ss b ≡ bucket b (all_in ss)
+pub shard_is_bucket : (ss : List Uses) → AreApart ss → (b : ℕ) → shard ss b ≡ bucket b (all_in ss)
 shard_is_bucket ss apart b = same_uses (shard ss b) (bucket b (all_in ss)) (λ u.
     let whole = holds (all_in ss) u in
     elim (nat_eq (bucket_of u) b) as (λ t. nat_eq (bucket_of u) b ≡ t → holds (shard ss b) u ≡ holds (bucket b (all_in ss)) u) [
@@ -501,7 +501,7 @@ heads_fall u least (h ∷ heads) (suc i) beaten at greater later =
 -- of two uses the one that expires later is greater
 later_is_greater : (u v : Use) → u.exp < v.exp → is_lt (use_cmp u v) ≡ true
 later_is_greater u v low = by_ranked (u.exp < v.exp) (u.exp ≡ v.exp) (v.exp < u.exp) (nat_cmp u.exp v.exp) (ranked u.exp v.exp (nat_cmp u.exp v.exp) refl)
-    (λ e h. ap (λ o. is_lt (ordering_then o (ordering_then (slice_cmp nat_cmp u.key v.key) (ordering_then (slice_cmp nat_cmp u.place v.place) (ordering_then (nat_cmp u.at v.at) (bool_cmp u.withdrawn v.withdrawn)))))) e)
+    (λ e h. ap (λ o. is_lt (ordering_then o (ordering_then (slice_cmp nat_cmp u.key v.key) (ordering_then (slice_cmp nat_cmp u.validator_id v.validator_id) (ordering_then (nat_cmp u.at v.at) (bool_cmp u.withdrawn v.withdrawn)))))) e)
     (λ e h. absurd (omega (arith, h, low)))
     (λ e h. absurd (omega (arith, h, low)))
 

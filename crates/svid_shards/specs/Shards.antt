@@ -53,7 +53,7 @@ is_before None other = false
 is_before (Some a) None = true
 is_before (Some a) (Some b) = nat_lt a b
 
--- of 256 heads each is of the shard whose number is its place
+-- of 256 heads each is of the shard whose number is its index
 pub record AreHeads (heads : List (Option Use)) : Type 0 where
   pub long : length heads ≡ 256
   pub each : (i : ℕ) (u : Use) → slice_index_or heads i None ≡ Some u → bucket_of u ≡ i

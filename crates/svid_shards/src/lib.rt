@@ -1,5 +1,8 @@
 //! A store of very many uses, no call of which takes long: [`ShardedUses`].
 //!
+//! Each of its stores is a bucket of a summary, so a summary can be made, and answered, one bucket a call: each call looks
+//! into one store alone ([`laws`]).
+//!
 //! ```rust
 //! use svid_replay::{Record, Use};
 //! use svid_shards::ShardedUses;
@@ -8,7 +11,12 @@
 //! ```
 #![tactic(auto)]
 
+mod bucket_answer;
+mod bucket_digest;
+pub mod laws;
 mod sharded_uses;
 mod shards;
+mod store_walk;
 
+pub use bucket_digest::BucketDigest;
 pub use sharded_uses::ShardedUses;

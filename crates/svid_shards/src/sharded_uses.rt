@@ -1,15 +1,19 @@
 ghost use Rattle.std.specs.Prelude.{◌≡◌, replicate, true, IfOk};
 ghost use Rattle.svid_replay.specs.Batches.{last_of};
+ghost use Rattle.svid_replay.specs.Buckets.{bucket};
 ghost use Rattle.svid_replay.specs.Uses.{no_uses};
 ghost use Rattle.svid_replay.specs.Walks.{IsAhead, next_few};
+ghost use Rattle.svid_shards.specs.Buckets.{answer_at, digest_at};
 
+use crate::bucket_answer::{agrees, live_of};
+use crate::bucket_digest::{BucketDigest, digest_of};
 use crate::shards::{
     ROUND, SHARDS, TENDED, compact_some, drop_all_expired, insert_into, next_after, next_ahead,
     shard_holds, shard_of, tidy_some,
 };
 use std::alloc::{AllocError, Global};
 use std::marker::Model;
-use svid_replay::{Ahead, Raised, Room, RunUses, Use, UseStore};
+use svid_replay::{Ahead, Raised, Room, RunUses, Summary, Use, UseStore};
 
 /// A set of uses in 256 stores, by the first byte of a key. A call that asks for a key or puts in a use has to do
 /// with one of them, so its longest call is that of a store with a 256th of the uses.
@@ -69,6 +73,45 @@ impl ShardedUses<RunUses> {
             next_compacted: 0,
             untidied: 0,
         })
+    }
+}
+
+impl<S: UseStore> ShardedUses<S> {
+    // The store of a bucket, which has the uses whose keys begin with this byte.
+    fn bucket(&self, byte: u8) -> &S
+        ensures { S.content result.now ≡ bucket byte self.now }
+    {
+        &self.shards[byte as usize]
+    }
+
+    /// The digest of a bucket at a moment, in seconds: of those of its uses that expire later, as the summary of a record
+    /// of that moment has it. And how many uses these are.
+    ///
+    /// Takes no memory, and looks into one of the stores.
+    pub fn bucket_digest(&self, byte: u8, moment: u64) -> BucketDigest
+        ensures { result ≡ digest_at byte moment self.now }
+    {
+        digest_of(self.bucket(byte), moment)
+    }
+
+    /// The uses with which a bucket answers a summary, rising: all of its uses that expire after the summary's moment, or
+    /// none where their digest is the one that the summary has. The set stays as it is.
+    ///
+    /// Looks into one of the stores, at each use at most twice. Where memory is refused nothing is answered.
+    pub fn bucket_answer(
+        &self,
+        alloc: Global,
+        byte: u8,
+        summary: &Summary,
+    ) -> Result<Vec<Use>, AllocError>
+        ensures { IfOk result (λ uses. uses.items ≡ answer_at summary.now self.now byte) }
+    {
+        let moment = summary.moment();
+        let own = self.bucket_digest(byte, moment);
+        if agrees(summary, byte, &own.digest) {
+            return Ok(Vec::new(alloc));
+        }
+        live_of(alloc, self.bucket(byte), moment)
     }
 }
 

@@ -55,7 +55,7 @@ pub(crate) fn insert_into<S: UseStore>(shards: &mut Vec<S>, new: Use) -> Result<
     requires { length shards.old.items ≡ 256 }
     ensures ok { OnOk result (IsPut (map S.content shards.old.items) new (map S.content shards.new.items)) }
     ensures more { IfOk result (λ more. (more ≤ 1) × (total_of (map S.content shards.old.items) + more ≡ total_of (map S.content shards.new.items))) }
-    ensures place { bucket_of new < 256 }
+    ensures index { bucket_of new < 256 }
     ensures err { OnErr result (map S.content shards.new.items ≡ map S.content shards.old.items) }
     ensures held { IsTrue (holds (shard (map S.content shards.old.items) (bucket_of new)) new) → IsOk result }
 {
@@ -85,8 +85,8 @@ pub(crate) fn compact_some<S: UseStore>(shards: &mut Vec<S>, from: u8)
     ensures { map S.content shards.new.items ≡ map S.content shards.old.items }
 {
     for i in 0..TENDED {
-        let place = from.wrapping_add(i) as usize;
-        let store = &mut shards[place];
+        let index = from.wrapping_add(i) as usize;
+        let store = &mut shards[index];
         store.compact();
     }
 }
@@ -97,8 +97,8 @@ pub(crate) fn tidy_some<S: UseStore>(shards: &mut Vec<S>, from: u8)
     ensures { map S.content shards.new.items ≡ map S.content shards.old.items }
 {
     for i in 0..TENDED {
-        let place = from.wrapping_add(i) as usize;
-        let store = &mut shards[place];
+        let index = from.wrapping_add(i) as usize;
+        let store = &mut shards[index];
         store.tidy();
     }
 }
@@ -234,9 +234,9 @@ pub(crate) fn next_ahead<S: UseStore>(shards: &[S], ahead: &mut Ahead, room: &mu
         if !room.push(used) {
             return;
         }
-        let place = shard_of(&used.key);
-        let then = shards[place].next_near(Some(used), &mut ahead.near[place]);
+        let index = shard_of(&used.key);
+        let then = shards[index].next_near(Some(used), &mut ahead.near[index]);
         ahead.after = Some(used);
-        ahead.heads[place] = exp_if_any(then);
+        ahead.heads[index] = exp_if_any(then);
     }
 }

@@ -44,7 +44,7 @@ pub refused_as_any : (number : ℕ) (input : Drawn) (own : ℕ) (fault : ToolFau
 refused_as_any number input own fault same why = by fault (subst (λ n. IsInputFault n input fault) same why)
   where
     by : (fault : ToolFault) → IsInputFault number input fault → IsSummaryFault number input fault
-    by (tool.Wire told message place reason) why = why
+    by (tool.Wire told message offset reason) why = why
     by (tool.Read told) why = why
     by (tool.TooMuch told) why = why
     by tool.OutOfMemory why = why

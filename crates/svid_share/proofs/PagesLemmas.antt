@@ -109,32 +109,32 @@ item_stops line xs i d told stops a b c before mid piece within is so_far part =
 
 -- the next uses, so many
 
--- from a place on, a list is what stands there, and then the rest
-at_place : (us : List Use) (i : ℕ) (d : Use) → i < length us → drop i us ≡ get_or us i d ∷ drop (i + 1) us
-at_place us i d within = rw (add-one, drop-cons us i d within)
+-- from a index on, a list is what stands there, and then the rest
+at_index : (us : List Use) (i : ℕ) (d : Use) → i < length us → drop i us ≡ get_or us i d ∷ drop (i + 1) us
+at_index us i d within = rw (add-one, drop-cons us i d within)
 
--- what a walk gives is the use at the place
+-- what a walk gives is the use at the index
 pub next_there : (us left next : List Use) (u : Use) (i : ℕ) → left ≡ drop i us → left ≡ u ∷ next → (take (i + 1) us ≡ take i us ++ u ∷ []) × (next ≡ drop (i + 1) us)
 next_there us left next u i is given =
     let here : drop i us ≡ u ∷ next = sym is ∙ given in
     let within : i < length us = omega (arith, ap length here, length-drop i us) in
-    let both : get_or us i u ∷ drop (i + 1) us ≡ u ∷ next = sym (at_place us i u within) ∙ here in
+    let both : get_or us i u ∷ drop (i + 1) us ≡ u ∷ next = sym (at_index us i u within) ∙ here in
     ((rw (add-one, take-suc us i u within)) ∙ ap (λ (v : Use). take i us ++ v ∷ []) (ap (λ vs. get_or vs 0 u) both), sym (ap (drop 1) both))
 
 pub next_passes : (us left next : List Use) (u : Use) (i : ℕ) {K : Type 0} (told : K → Option (List ℕ)) (stops : K → ℕ) (a b c : K) (before mid piece now : List ℕ) → piece ≡ text_of u → left ≡ drop i us → left ≡ u ∷ next → Passes (taken told stops a b) before (next_texts us i) mid → Passes (taken told stops b c) mid piece now → Passes (taken told stops a c) before (next_texts us (i + 1)) now
-next_passes us left next u i told stops a b c before mid piece now is place given so_far then =
-    subst (λ vs. Passes (taken told stops a c) before (flat_map text_of vs) now) (sym (next_there us left next u i place given).0)
+next_passes us left next u i told stops a b c before mid piece now is index given so_far then =
+    subst (λ vs. Passes (taken told stops a c) before (flat_map text_of vs) now) (sym (next_there us left next u i index given).0)
     (list_passes text_of (take i us) u told stops a b c before mid piece now is so_far then)
 
 pub next_stops : (us left next : List Use) (u : Use) (i count : ℕ) {K : Type 0} (told : K → Option (List ℕ)) (stops : K → ℕ) (a b c : K) (before mid piece : List ℕ) → i < count → piece ≡ text_of u → left ≡ drop i us → left ≡ u ∷ next → Passes (taken told stops a b) before (next_texts us i) mid → TookPart (taken told stops b c) (mid ++ piece) → TookPart (taken told stops a c) (before ++ next_texts us count)
-next_stops us left next u i count told stops a b c before mid piece within is place given so_far part =
+next_stops us left next u i count told stops a b c before mid piece within is index given so_far part =
     let some : count ≡ i + suc (count - i - 1) = omega (arith, within) in
     list_stops text_of (take count us) (take i us) (take (count - i - 1) next) u told stops a b c before mid piece
-    (ap (λ n. take n us) some ∙ take-add i (suc (count - i - 1)) us ∙ ap (λ vs. take i us ++ take (suc (count - i - 1)) vs) (sym place ∙ given)) is so_far part
+    (ap (λ n. take n us) some ∙ take-add i (suc (count - i - 1)) us ∙ ap (λ vs. take i us ++ take (suc (count - i - 1)) vs) (sym index ∙ given)) is so_far part
 
 -- there is a next use while there are so many
 pub next_is_there : (us left : List Use) (i count : ℕ) → i < count → count ≤ length us → left ≡ drop i us → left ≡ [] → ⊥
-next_is_there us left i count within there place none = omega (arith, within, there, length-drop i us, ap length place, ap length none)
+next_is_there us left i count within there index none = omega (arith, within, there, length-drop i us, ap length index, ap length none)
 
 -- the text of the batch of the next uses
 pub next_batch_text : (moment : ℕ) (us : List Use) (count : ℕ) (head : List ℕ) → count ≤ length us → head ≡ head_text Two moment count → batch_text (next_batch moment us count) ≡ head ++ next_texts us count

@@ -142,7 +142,7 @@ module _ (a b c : Option (List ℕ)) (first before after : ℕ) where
   -- a piece came that went wrong
   pub broken : (old : Reader) (told : List Message) (given fits count : ℕ) (room piece : List ℕ) (came : List Message) (why : WireFault) → HasCome so_far old told → Consumes b c (take given room) → after ≡ before
       → piece ≡ take fits room → fits ≡ min given old.still → length piece ≡ fits → 0 < given → count ≡ length came → IsPushFault old.feed [] came piece why
-      → IsInputFault old.number now (wire_fault_at why.reason old.number (old.whole + count + 1) why.place)
+      → IsInputFault old.number now (wire_fault_at why.reason old.number (old.whole + count + 1) why.offset)
   broken old told given fits count room piece came why h took unstopped is least long more many wrong = go (rw h.holds at wrong)
     where
       le : fits ≤ given
@@ -152,7 +152,7 @@ module _ (a b c : Option (List ℕ)) (first before after : ℕ) where
       few = omega arith
 
       Fault : Type 0
-      Fault = IsInputFault old.number now (wire_fault_at why.reason old.number (old.whole + count + 1) why.place)
+      Fault = IsInputFault old.number now (wire_fault_at why.reason old.number (old.whole + count + 1) why.offset)
 
       wants : WantsMemory now
       wants = record {
@@ -164,17 +164,17 @@ module _ (a b c : Option (List ℕ)) (first before after : ℕ) where
         within = omega (arith, length-append h.bytes piece, h.few, few);
       }
 
-      named : (number_of : ℕ) (reason : Reason) (place : ℕ) → reason ≢ wire.Truncated → HasBadField now number_of place reason → IsInputFault old.number now (wire_fault_at reason old.number number_of place)
-      named number_of wire.OutOfMemory place not bad = wants
-      named number_of wire.Truncated place not bad = absurd (not refl)
-      named number_of reason place not bad = (refl, bad)
+      named : (number_of : ℕ) (reason : Reason) (offset : ℕ) → reason ≢ wire.Truncated → HasBadField now number_of offset reason → IsInputFault old.number now (wire_fault_at reason old.number number_of offset)
+      named number_of wire.OutOfMemory offset not bad = wants
+      named number_of wire.Truncated offset not bad = absurd (not refl)
+      named number_of reason offset not bad = (refl, bad)
 
       go : StopsIn (h.rest ++ piece) [] came why → Fault
       go p = by p.why
         where
           by : IsFieldRefusal p.rest why → Fault
           by (inr memory) = rw memory wants
-          by (inl field) = named (old.whole + count + 1) why.reason why.place field.1 (record {
+          by (inl field) = named (old.whole + count + 1) why.reason why.offset field.1 (record {
             bytes = h.bytes ++ piece;
             others = drop fits (take given room);
             given = given_on h.bytes room piece given fits h.given took le is;
@@ -237,13 +237,13 @@ ended input reader told h end good = record { bytes = h.bytes; read = read_to_en
     no_rest (x ∷ rest) is = absurd cc
 
 -- it ends within a message
-pub ended_within : (input : Drawn) (reader : Reader) (told : List Message) (number : ℕ) (why : WireFault) → HasCome input reader told → IsAtEnd input.left_after → end_of reader.feed ≡ Err why → IsInputFault number input (wire_fault_at why.reason number (reader.whole + 1) why.place)
+pub ended_within : (input : Drawn) (reader : Reader) (told : List Message) (number : ℕ) (why : WireFault) → HasCome input reader told → IsAtEnd input.left_after → end_of reader.feed ≡ Err why → IsInputFault number input (wire_fault_at why.reason number (reader.whole + 1) why.offset)
 ended_within input reader told number why h end bad = go h.rest refl (rw h.holds at bad)
   where
-    go : (rest : List ℕ) → h.rest ≡ rest → end_of (Some rest) ≡ Err why → IsInputFault number input (wire_fault_at why.reason number (reader.whole + 1) why.place)
+    go : (rest : List ℕ) → h.rest ≡ rest → end_of (Some rest) ≡ Err why → IsInputFault number input (wire_fault_at why.reason number (reader.whole + 1) why.offset)
     go [] same is = absurd cc
     go (x ∷ rest) same is =
-        let cut : why ≡ record { place = length (x ∷ rest); reason = wire.Truncated } = cc in
+        let cut : why ≡ record { offset = length (x ∷ rest); reason = wire.Truncated } = cc in
         rw cut (
           refl,
           record {

@@ -41,7 +41,7 @@ IsSummaryFault number input given = IsInputFault number input given
 
 -- the fault of inputs before which one more stands: the number is one greater, held at 2^64-1
 abbrev pub behind_one : ToolFault → ToolFault
-behind_one (tool.Wire input message place reason) = tool.Wire (raised input) message place reason
+behind_one (tool.Wire input message offset reason) = tool.Wire (raised input) message offset reason
 behind_one (tool.Read input) = tool.Read (raised input)
 behind_one (tool.TooMuch input) = tool.TooMuch (raised input)
 behind_one given = given

@@ -44,14 +44,14 @@ reason_name wire.Failed = codes "Failed"
 -- the text of bundles that are refused
 abbrev pub bundles_text : BundleFault → List ℕ
 bundles_text bundles.NotObject = codes "svid: bundles: NotObject"
-bundles_text (bundles.Domain place) = codes "svid: bundles: Domain(" ++ decimal place ++ codes ")"
-bundles_text (bundles.Keys place) = codes "svid: bundles: Keys(" ++ decimal place ++ codes ")"
+bundles_text (bundles.Domain index) = codes "svid: bundles: Domain(" ++ decimal index ++ codes ")"
+bundles_text (bundles.Keys index) = codes "svid: bundles: Keys(" ++ decimal index ++ codes ")"
 bundles_text bundles.OutOfMemory = codes "svid: out of memory"
 
 -- the text of a fault, as the program prints it on standard error
 abbrev pub fault_text : ToolFault → List ℕ
-fault_text (tool.Wire input message place reason) =
-    codes "svid: input " ++ decimal input ++ codes " message " ++ decimal message ++ codes " place " ++ decimal place ++ codes ": " ++ reason_name reason
+fault_text (tool.Wire input message offset reason) =
+    codes "svid: input " ++ decimal input ++ codes " message " ++ decimal message ++ codes " place " ++ decimal offset ++ codes ": " ++ reason_name reason
 fault_text tool.NotSummary = codes "svid: not one summary"
 fault_text (tool.Bundles fault) = bundles_text fault
 fault_text (tool.Table line) = codes "svid: table: line " ++ decimal line

@@ -30,10 +30,10 @@ pub record IsUnread (number : ℕ) (input : Drawn) (fault : ToolFault) : Type 0 
   pub due : IsReadFault input most_bytes why
   pub is : fault ≡ read_fault_of number why
 
--- the fault of bytes that are refused: want of memory has no place
+-- the fault of bytes that are refused: want of memory has no offset
 abbrev pub wire_fault_at : Reason → ℕ → ℕ → ℕ → ToolFault
-wire_fault_at wire.OutOfMemory input message place = fault.OutOfMemory
-wire_fault_at reason input message place = fault.Wire input message place reason
+wire_fault_at wire.OutOfMemory input message offset = fault.OutOfMemory
+wire_fault_at reason input message offset = fault.Wire input message offset reason
 
 -- the input was read to its end, and its bytes are these messages, one after the other
 pub record IsWhole (input : Drawn) (messages : List Message) : Type 0 where
@@ -48,8 +48,8 @@ pub record IsGoodSoFar (bytes : List ℕ) (messages : List Message) (rest : List
   pub unfinished : IsUnfinished rest
 
 -- behind some messages among the first bytes of the input, at most as many as it may have, a field is bad: for this
--- reason, at this place of the message with this number
-pub record HasBadField (input : Drawn) (message place : ℕ) (reason : Reason) : Type 0 where
+-- reason, at this offset of the message with this number
+pub record HasBadField (input : Drawn) (message offset : ℕ) (reason : Reason) : Type 0 where
   pub bytes : List ℕ
   pub others : List ℕ
   pub given : Gave input (bytes ++ others)
@@ -59,10 +59,10 @@ pub record HasBadField (input : Drawn) (message place : ℕ) (reason : Reason) :
   pub rest : List ℕ
   pub splits : Splits bytes messages rest
   pub number : message ≡ length messages + 1
-  pub why : IsFieldFault rest (record { place = place; reason = reason })
+  pub why : IsFieldFault rest (record { offset = offset; reason = reason })
 
--- the input was read to its end, and ends within the message with this number, at this place of it
-pub record EndsWithin (input : Drawn) (message place : ℕ) : Type 0 where
+-- the input was read to its end, and ends within the message with this number, at this offset of it
+pub record EndsWithin (input : Drawn) (message offset : ℕ) : Type 0 where
   pub bytes : List ℕ
   pub read : IsRead input most_bytes bytes
   pub messages : List Message
@@ -70,12 +70,12 @@ pub record EndsWithin (input : Drawn) (message place : ℕ) : Type 0 where
   pub good : IsGoodSoFar bytes messages rest
   pub number : message ≡ length messages + 1
   pub some : 0 < length rest
-  pub at : place ≡ length rest
+  pub at : offset ≡ length rest
 
 -- what is wrong with the message of this number, for this reason: where the input ends within it, and else a field
 abbrev pub IsBroken : Drawn → ℕ → ℕ → Reason → Type 0
-IsBroken input message place wire.Truncated = EndsWithin input message place
-IsBroken input message place reason = HasBadField input message place reason
+IsBroken input message offset wire.Truncated = EndsWithin input message offset
+IsBroken input message offset reason = HasBadField input message offset reason
 
 -- the input stopped, and nothing is wrong with the bytes that it gave before, at most as many as it may have
 pub record StopsWithin (input : Drawn) : Type 0 where
@@ -112,7 +112,7 @@ pub record WantsMemory (input : Drawn) : Type 0 where
 -- why the input with this number, which is to be messages, was refused: something is wrong with its bytes, it could not
 -- be read to its end and nothing is wrong with what came, or memory was refused for what came
 abbrev pub IsInputFault : ℕ → Drawn → ToolFault → Type 0
-IsInputFault number input (fault.Wire told message place reason) = (told ≡ number) × IsBroken input message place reason
+IsInputFault number input (fault.Wire told message offset reason) = (told ≡ number) × IsBroken input message offset reason
 IsInputFault number input (fault.Read told) = (told ≡ number) × StopsWithin input
 IsInputFault number input (fault.TooMuch told) = (told ≡ number) × IsTooLong input
 IsInputFault number input fault.OutOfMemory = WantsMemory input

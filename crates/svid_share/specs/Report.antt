@@ -16,9 +16,9 @@ use Rattle.svid_replay.specs.declared.twice.Twice.{Twice}
 abbrev pub mark : Bool → List ℕ
 mark withdrawn = if withdrawn then codes " withdrawn" else []
 
--- a use in a report: exp, key, place and at, with one blank between, and the mark of a withdrawal
+-- a use in a report: exp, key, offset and at, with one blank between, and the mark of a withdrawal
 abbrev pub use_line : Use → List ℕ
-use_line u = decimal u.exp ++ 32 ∷ [] ++ encode_lower u.key ++ 32 ∷ [] ++ encode_lower u.place ++ 32 ∷ [] ++ decimal u.at ++ mark u.withdrawn ++ 10 ∷ []
+use_line u = decimal u.exp ++ 32 ∷ [] ++ encode_lower u.key ++ 32 ∷ [] ++ encode_lower u.validator_id ++ 32 ∷ [] ++ decimal u.at ++ mark u.withdrawn ++ 10 ∷ []
 
 -- a line that gives a number its name
 abbrev pub number_line : List ℕ → ℕ → List ℕ

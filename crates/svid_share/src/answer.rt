@@ -51,12 +51,12 @@ fn behind_one(fault: ToolFault) -> ToolFault
         ToolFault::Wire {
             input,
             message,
-            place,
+            offset,
             reason,
         } => ToolFault::Wire {
             input: input.saturating_add(1),
             message,
-            place,
+            offset,
             reason,
         },
         ToolFault::Read { input } => ToolFault::Read {

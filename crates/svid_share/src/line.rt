@@ -109,7 +109,7 @@ pub(crate) fn use_line(used: &Use) -> Line
     line.push(b" ");
     line.push_hex(&used.key);
     line.push(b" ");
-    line.push_hex(&used.place);
+    line.push_hex(&used.validator_id);
     line.push(b" ");
     line.push_number(used.at);
     line.push(mark(used.withdrawn).as_bytes());

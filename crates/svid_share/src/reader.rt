@@ -26,14 +26,14 @@ pub struct Reader {
 
 // (no `From`: a fault of the program has the number of the input)
 fn wire_fault(fault: WireFault, input: usize, message: usize) -> ToolFault
-    ensures { result ≡ wire_fault_at fault.reason input message fault.place }
+    ensures { result ≡ wire_fault_at fault.reason input message fault.offset }
 {
     match fault.reason {
         Reason::OutOfMemory => ToolFault::OutOfMemory,
         reason => ToolFault::Wire {
             input,
             message,
-            place: fault.place,
+            offset: fault.offset,
             reason,
         },
     }

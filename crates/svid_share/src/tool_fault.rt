@@ -11,14 +11,14 @@ use svid_wire::Reason;
 /// Why an engine gave up. Inputs and messages are numbered from 1.
 #[derive(Clone, Copy, Debug, PartialEq, Eq)]
 pub enum ToolFault {
-    /// The bytes of an input are no message from this place of this message on.
+    /// The bytes of an input are no message from this offset of this message on.
     Wire {
         /// The number of the input.
         input: usize,
         /// The number of whole messages of that input before the fault, plus one.
         message: usize,
-        /// The place in that message.
-        place: usize,
+        /// The offset in that message.
+        offset: usize,
         /// What is wrong there.
         reason: Reason,
     },
@@ -89,22 +89,22 @@ impl fmt::Display for ToolFault {
             ToolFault::Wire {
                 input,
                 message,
-                place,
+                offset,
                 reason,
             } => {
                 let reason = reason_name(reason);
                 write!(
                     f,
-                    "svid: input {input} message {message} place {place}: {reason}"
+                    "svid: input {input} message {message} place {offset}: {reason}"
                 )
             }
             ToolFault::NotSummary => f.write_str("svid: not one summary"),
             ToolFault::Bundles(BundleFault::NotObject) => f.write_str("svid: bundles: NotObject"),
-            ToolFault::Bundles(BundleFault::Domain(place)) => {
-                write!(f, "svid: bundles: Domain({place})")
+            ToolFault::Bundles(BundleFault::Domain(index)) => {
+                write!(f, "svid: bundles: Domain({index})")
             }
-            ToolFault::Bundles(BundleFault::Keys(place)) => {
-                write!(f, "svid: bundles: Keys({place})")
+            ToolFault::Bundles(BundleFault::Keys(index)) => {
+                write!(f, "svid: bundles: Keys({index})")
             }
             ToolFault::Table(line) => write!(f, "svid: table: line {line}"),
             ToolFault::Read { input } => write!(f, "svid: cannot read input {input}"),

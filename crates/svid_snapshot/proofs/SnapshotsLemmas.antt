@@ -13,10 +13,10 @@ use Rattle.svid_wire.specs.BatchText.{batch_text}
 use Rattle.svid_wire.specs.Messages.{Written, written_text}
 use Rattle.svid_wire.specs.Messages.Written.{batch_in, summary}
 use Rattle.svid_wire.specs.declared.version.Version.TheVariants.{One, Two}
-use Rattle.svid_journal.specs.Payloads.{BeginsWithNoPlace}
-use Rattle.svid_journal.proofs.PayloadsLemmas.{messages_have_no_place, none_in_few}
+use Rattle.svid_journal.specs.Payloads.{BeginsWithNoPosition}
+use Rattle.svid_journal.proofs.PayloadsLemmas.{messages_have_no_position, none_in_few}
 use Rattle.svid_check.proofs.LaterLemmas.{saves_lose_nothing}
-use Rattle.svid_snapshot.specs.Snapshots.{MessagesBearNoPlace, PiecesAreAllowed, SeesIn}
+use Rattle.svid_snapshot.specs.Snapshots.{MessagesBearNoPosition, PiecesAreAllowed, SeesIn}
 
 -- a use of what batches were joined to was there before, or is seen in one of their texts
 seen : (has : List ℕ → Bool) (u : Use) (sees : SeesIn has u) (r : State) (bs : List BatchData) → IsTrue (holds (join_all r bs).uses u) → IsTrue (holds r.uses u) ⊎ (list_any has (map batch_text bs) ≡ true)
@@ -49,9 +49,9 @@ begins (batch_in One b) behind = refl
 begins (batch_in Two b) behind = refl
 begins (summary s) behind = refl
 
-no_place_in : (written : List Written) (bytes : List ℕ) → bytes ≡ flat_map written_text written ++ [] → BeginsWithNoPlace bytes
-no_place_in [] bytes parts = none_in_few bytes (omega (arith, ap length parts))
-no_place_in (w ∷ ws) bytes parts = messages_have_no_place bytes (ap (take 3) (parts ∙ append_assoc (written_text w) (flat_map written_text ws) []) ∙ begins w (flat_map written_text ws ++ []))
+no_position_in : (written : List Written) (bytes : List ℕ) → bytes ≡ flat_map written_text written ++ [] → BeginsWithNoPosition bytes
+no_position_in [] bytes parts = none_in_few bytes (omega (arith, ap length parts))
+no_position_in (w ∷ ws) bytes parts = messages_have_no_position bytes (ap (take 3) (parts ∙ append_assoc (written_text w) (flat_map written_text ws) []) ∙ begins w (flat_map written_text ws ++ []))
 
-pub messages_bear_no_place : MessagesBearNoPlace
-messages_bear_no_place bytes messages splits = no_place_in splits.written bytes splits.parts
+pub messages_bear_no_position : MessagesBearNoPosition
+messages_bear_no_position bytes messages splits = no_position_in splits.written bytes splits.parts

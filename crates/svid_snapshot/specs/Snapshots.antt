@@ -11,7 +11,7 @@ use Rattle.svid_wire.specs.declared.message.Message.{Message}
 use Rattle.svid_check.specs.Saves.{IsSaved}
 use Rattle.svid_journal.specs.History.{IsAllowed, Titles, World}
 use Rattle.svid_journal.specs.History.Event.{Piece}
-use Rattle.svid_journal.specs.Payloads.{BeginsWithNoPlace}
+use Rattle.svid_journal.specs.Payloads.{BeginsWithNoPosition}
 
 -- a test of payloads sees a use in the text of each batch that has it
 abbrev pub SeesIn : (List ℕ → Bool) → Use → Type 0
@@ -24,6 +24,6 @@ PiecesAreAllowed =
     (has : List ℕ → Bool) (t : Titles) (w : World) (u : Use) (a z : State) (front : List (List ℕ)) (batches : List BatchData) → SeesIn has u → (list_any has w.noted ≡ true → IsTrue (holds a.uses u)) → IsSaved a None batches z → z.moment < u.exp
     → w.parts ≡ front ++ map batch_text batches → (ok : Bool) (landed : List ℕ) → IsAllowed has t w (Piece [] ok landed)
 
--- no row of messages begins with the place of a member in its log
-abbrev pub MessagesBearNoPlace : Type 0
-MessagesBearNoPlace = (bytes : List ℕ) (messages : List Message) → Splits bytes messages [] → BeginsWithNoPlace bytes
+-- no row of messages begins with the position of a member in its log
+abbrev pub MessagesBearNoPosition : Type 0
+MessagesBearNoPosition = (bytes : List ℕ) (messages : List Message) → Splits bytes messages [] → BeginsWithNoPosition bytes

@@ -72,7 +72,7 @@ fn tells_what_stands_in_a_file(rt: HostRuntime) -> Result<(), Fail> {
     Ok(())
 }
 
-// A room in front of a place, and from there on.
+// A room in front of a offset, and from there on.
 fn parted(room: &[u8], at: usize) -> (&[u8], &[u8]) {
     room.split_at(room.len().min(at))
 }
@@ -148,17 +148,23 @@ fn makes_a_snapshot_and_removes_old_journals(rt: HostRuntime) -> Result<(), Fail
 }
 
 #[test]
-fn splits_the_place_off_a_payload(rt: HostRuntime) -> Result<(), Fail> {
-    let place = LogPlace {
+fn splits_the_position_off_a_payload(rt: HostRuntime) -> Result<(), Fail> {
+    let position = LogPosition {
         passed: 1,
         begun: 258,
         deaf: 65536,
     };
     let text = b"JSL\x01\0\0\0\0\0\0\0\x01\0\0\0\0\0\0\x01\x02\0\0\0\0\0\x01\0\0JSR";
-    assert_eq!(rt; place.text().as_slice(), &text[..28]);
-    assert_eq!(rt; LogPlace::split(text), Some((place, b"JSR".as_slice())));
-    assert_eq!(rt; LogPlace::split(&text[..28]), Some((place, b"".as_slice())));
-    assert_eq!(rt; LogPlace::split(&text[..27]), None);
-    assert_eq!(rt; LogPlace::split(&text[28..]), None);
+    assert_eq!(rt; position.text().as_slice(), &text[..28]);
+    assert_eq!(rt;
+        LogPosition::split(text),
+        Some((position, b"JSR".as_slice()))
+    );
+    assert_eq!(rt;
+        LogPosition::split(&text[..28]),
+        Some((position, b"".as_slice()))
+    );
+    assert_eq!(rt; LogPosition::split(&text[..27]), None);
+    assert_eq!(rt; LogPosition::split(&text[28..]), None);
     Ok(())
 }

@@ -1,12 +1,14 @@
 use crate::form::Form;
 use clap::{Arg, ArgAction};
-use std::alloc::Global;
+use std::alloc::{AllocError, Global};
 
 /// An argument of a command.
 pub struct Argument {
     /// Its name, without the two dashes.
     pub name: &'static str,
-    /// What help calls its value.
+    /// An earlier name, which help does not have.
+    pub alias: Option<&'static str>,
+    /// What help calls its value, where it has one.
     pub value: &'static str,
     pub form: Form,
     pub required: bool,
@@ -15,17 +17,21 @@ pub struct Argument {
 
 impl Argument {
     /// The argument as clap has it.
-    pub fn to_clap<'a>(&self, alloc: Global) -> Arg<'a> {
-        let arg = Arg::new(alloc, self.name)
+    pub fn to_clap<'a>(&self, alloc: Global) -> Result<Arg<'a>, AllocError> {
+        let mut arg = Arg::new(alloc, self.name)
             .value_name(self.value)
             .required(self.required)
             .help(self.help);
-        match self.form {
+        if let Some(alias) = self.alias {
+            arg = arg.alias(alias)?;
+        }
+        Ok(match self.form {
             Form::Word => arg,
             Form::Words(least) => arg.num_args(least..).action(ArgAction::Append),
             Form::Named => arg.long(self.name),
             Form::Repeated => arg.long(self.name).action(ArgAction::Append),
             Form::Number => arg.long(self.name).value_parser(clap::value_parser!(u64)),
-        }
+            Form::Flag => arg.long(self.name).action(ArgAction::SetTrue),
+        })
     }
 }

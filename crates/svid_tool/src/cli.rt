@@ -1,14 +1,17 @@
 //! The command line: which command is asked for, and what it reads.
 
 use crate::commands::command;
-use crate::failure::Failure;
-use crate::input::Input;
+use crate::failure::{Failure, tool_input};
+use crate::input::{Input, Stream};
 use crate::kept::Kept;
+use crate::refusals::{JSON, LINES};
+use crate::sentence::Words;
 use crate::words::{bytes_of_text, words};
 use clap::error::ErrorKind;
 use clap::{ArgMatches, Error};
 use hex::FromHex;
 use std::alloc::Global;
+use std::env::Env;
 use std::fs::File;
 use std::io::{BufWriter, Write};
 use std::{io, str};
@@ -19,12 +22,12 @@ use svid_wire::Counted;
 // A mistake on the command line is told on standard error, and a call for help on standard output.
 fn usage(rt: &HostRuntime, error: &Error) -> Result<u8, Failure> {
     if error.kind() == ErrorKind::OutOfMemory {
-        return Err(Failure::Tool(ToolFault::OutOfMemory));
+        return Err(Failure::from(ToolFault::OutOfMemory));
     }
     match error.print(rt) {
         Ok(()) if error.use_stderr() => Ok(2),
         Ok(()) => Ok(0),
-        Err(_) => Err(Failure::Tool(ToolFault::Write)),
+        Err(_) => Err(Failure::from(ToolFault::Write)),
     }
 }
 
@@ -47,7 +50,7 @@ fn open<'a>(rt: &'a HostRuntime, name: &str) -> Result<Input<'a>, Failure> {
         Err(_) => None,
     };
     match file {
-        Some(file) => Ok(Input::File(rt, file)),
+        Some(file) => Ok(Input::new(rt, Stream::File(file))),
         None => Err(Failure::CannotOpen(bytes)),
     }
 }
@@ -61,18 +64,18 @@ fn open_kept<'a>(rt: &'a HostRuntime, name: &str) -> Result<Kept<'a>, Failure> {
     match Kept::open(rt, path) {
         Ok(kept) => Ok(kept),
         Err(error) if error.kind() == io::ErrorKind::OutOfMemory => {
-            Err(Failure::Tool(ToolFault::OutOfMemory))
+            Err(Failure::from(ToolFault::OutOfMemory))
         }
         Err(_) => Err(Failure::CannotOpen(bytes)),
     }
 }
 
-// The place that a word is: 32 hexadecimal digits.
-fn place_of(alloc: Global, word: &str) -> Result<[u8; 16], Failure> {
+// The validator ID that a word is: 32 hexadecimal digits.
+fn validator_id_of(alloc: Global, word: &str) -> Result<[u8; 16], Failure> {
     let digits = bytes_of_text(alloc, word)?;
     match <[u8; 16]>::from_hex(digits.as_slice()) {
-        Ok(place) => Ok(place),
-        Err(_) => Err(Failure::BadPlace),
+        Ok(validator_id) => Ok(validator_id),
+        Err(_) => Err(Failure::BadValidatorId),
     }
 }
 
@@ -87,20 +90,36 @@ fn audiences(alloc: Global, words: &[&str]) -> Result<Vec<String>, Failure> {
     Ok(own)
 }
 
+fn standard_input(rt: &HostRuntime) -> Input<'_> {
+    Input::new(rt, Stream::Stdin(rt.stdin()))
+}
+
+// Why an engine gave up that read these inputs, of which the first has that number.
+fn failure_of(fault: ToolFault, inputs: &[Input<'_>], number: usize) -> Failure {
+    let first = match tool_input(fault).checked_sub(number) {
+        Some(index) => match inputs.get(index) {
+            Some(input) => input.first(),
+            None => None,
+        },
+        None => None,
+    };
+    Failure::Tool { fault, first }
+}
+
 // The files of these names in their order.
-fn open_each<'a>(rt: &'a HostRuntime, names: &[&str]) -> Result<Vec<Counted<Input<'a>>>, Failure> {
+fn open_each<'a>(rt: &'a HostRuntime, names: &[&str]) -> Result<Vec<Input<'a>>, Failure> {
     let mut inputs = Vec::new(rt.alloc());
     for name in names {
-        inputs.push(Counted::new(open(rt, name)?))?;
+        inputs.push(open(rt, name)?)?;
     }
     Ok(inputs)
 }
 
 // The files of these names in their order, or standard input where there is none.
-fn open_all<'a>(rt: &'a HostRuntime, names: &[&str]) -> Result<Vec<Counted<Input<'a>>>, Failure> {
+fn open_all<'a>(rt: &'a HostRuntime, names: &[&str]) -> Result<Vec<Input<'a>>, Failure> {
     let mut inputs = open_each(rt, names)?;
     if names.is_empty() {
-        inputs.push(Counted::new(Input::Stdin(rt, rt.stdin())))?;
+        inputs.push(standard_input(rt))?;
     }
     Ok(inputs)
 }
@@ -115,16 +134,20 @@ fn report(rt: &HostRuntime, matches: &ArgMatches<'_>) -> Result<u8, Failure> {
     let now = matches.get_one::<u64>("now");
     let mut inputs = open_all(rt, matches.get_strs("file").unwrap_or(&[]))?;
     let mut out = Counted::new(io::writer(rt));
-    run_report(rt.alloc(), inputs.as_mut_slice(), now, &mut out)?;
-    Ok(0)
+    match run_report(rt.alloc(), inputs.as_mut_slice(), now, &mut out) {
+        Ok(()) => Ok(0),
+        Err(fault) => Err(failure_of(fault, inputs.as_slice(), 1)),
+    }
 }
 
 fn merge(rt: &HostRuntime, matches: &ArgMatches<'_>) -> Result<u8, Failure> {
     let now = matches.get_one::<u64>("now");
     let mut inputs = open_all(rt, matches.get_strs("file").unwrap_or(&[]))?;
     let mut out = Counted::new(io::writer(rt));
-    run_merge(rt.alloc(), inputs.as_mut_slice(), now, &mut out)?;
-    Ok(0)
+    match run_merge(rt.alloc(), inputs.as_mut_slice(), now, &mut out) {
+        Ok(()) => Ok(0),
+        Err(fault) => Err(failure_of(fault, inputs.as_slice(), 1)),
+    }
 }
 
 fn summary(rt: &HostRuntime, matches: &ArgMatches<'_>) -> Result<u8, Failure> {
@@ -132,43 +155,65 @@ fn summary(rt: &HostRuntime, matches: &ArgMatches<'_>) -> Result<u8, Failure> {
     // (a summary is put digest by digest)
     let mut writer = match BufWriter::new(rt.alloc(), io::writer(rt)) {
         Ok(writer) => writer,
-        Err(_) => return Err(Failure::Tool(ToolFault::OutOfMemory)),
+        Err(_) => return Err(Failure::from(ToolFault::OutOfMemory)),
     };
-    run_summary(
-        rt.alloc(),
-        inputs.as_mut_slice(),
-        &mut Counted::new(&mut writer),
-    )?;
+    let mut out = Counted::new(&mut writer);
+    if let Err(fault) = run_summary(rt.alloc(), inputs.as_mut_slice(), &mut out) {
+        return Err(failure_of(fault, inputs.as_slice(), 1));
+    }
     match writer.flush() {
         Ok(()) => Ok(0),
-        Err(_) => Err(Failure::Tool(ToolFault::Write)),
+        Err(_) => Err(Failure::from(ToolFault::Write)),
     }
 }
 
 fn answer(rt: &HostRuntime, matches: &ArgMatches<'_>) -> Result<u8, Failure> {
-    let mut asked = Counted::new(open(rt, matches.get_str("summary").unwrap_or(""))?);
+    let mut asked = open(rt, matches.get_str("summary").unwrap_or(""))?;
     let mut inputs = open_all(rt, matches.get_strs("file").unwrap_or(&[]))?;
     let mut out = Counted::new(io::writer(rt));
-    run_answer(rt.alloc(), &mut asked, inputs.as_mut_slice(), &mut out)?;
-    Ok(0)
+    match run_answer(rt.alloc(), &mut asked, inputs.as_mut_slice(), &mut out) {
+        Ok(()) => Ok(0),
+        Err(fault) if tool_input(fault) == 1 => Err(Failure::Tool {
+            fault,
+            first: asked.first(),
+        }),
+        Err(fault) => Err(failure_of(fault, inputs.as_slice(), 2)),
+    }
 }
 
 fn candidates(rt: &HostRuntime, matches: &ArgMatches<'_>) -> Result<u8, Failure> {
-    let mut bundles = Counted::new(open(rt, matches.get_str("bundles").unwrap_or(""))?);
-    let mut tokens = Counted::new(Input::Stdin(rt, rt.stdin()));
+    let mut bundles = open(rt, matches.get_str("bundles").unwrap_or(""))?;
+    let mut tokens = standard_input(rt);
     let mut out = Counted::new(io::writer(rt));
     let accepted = run_candidates(rt.alloc(), &mut bundles, &mut tokens, &mut out)?;
     Ok(status_of(accepted))
 }
 
+fn refusals(rt: &HostRuntime, matches: &ArgMatches<'_>) -> Result<u8, Failure> {
+    let lines: &[&str] = if matches.get_flag("json") {
+        &JSON
+    } else {
+        &LINES
+    };
+    let mut text = Vec::new(rt.alloc());
+    for line in lines {
+        text.extend_from_slice(line.as_bytes())?;
+        text.push(b'\n')?;
+    }
+    match io::writer(rt).write_all(&text) {
+        Ok(()) => Ok(0),
+        Err(_) => Err(Failure::from(ToolFault::Write)),
+    }
+}
+
 fn check_setting(rt: &HostRuntime, matches: &ArgMatches<'_>) -> Result<CheckSetting, Failure> {
-    let place = place_of(rt.alloc(), matches.get_str("place").unwrap_or(""))?;
+    let validator_id = validator_id_of(rt.alloc(), matches.get_str("validator-id").unwrap_or(""))?;
     let own = audiences(rt.alloc(), matches.get_strs("audience").unwrap_or(&[]))?;
     let now = matches.get_one::<u64>("now").unwrap_or(0);
     let longest = matches.get_one::<u64>("longest");
     Ok(CheckSetting {
         own,
-        place,
+        validator_id,
         now,
         longest,
     })
@@ -176,9 +221,9 @@ fn check_setting(rt: &HostRuntime, matches: &ArgMatches<'_>) -> Result<CheckSett
 
 fn check(rt: &HostRuntime, matches: &ArgMatches<'_>) -> Result<u8, Failure> {
     let given = check_setting(rt, matches)?;
-    let mut bundles = Counted::new(open(rt, matches.get_str("bundles").unwrap_or(""))?);
-    let mut table = Counted::new(open(rt, matches.get_str("table").unwrap_or(""))?);
-    let mut tokens = Counted::new(Input::Stdin(rt, rt.stdin()));
+    let mut bundles = open(rt, matches.get_str("bundles").unwrap_or(""))?;
+    let mut table = open(rt, matches.get_str("table").unwrap_or(""))?;
+    let mut tokens = standard_input(rt);
     let mut earlier = open_each(rt, matches.get_strs("record").unwrap_or(&[]))?;
     let mut kept = match matches.get_str("out") {
         Some(name) => Some(open_kept(rt, name)?),
@@ -201,7 +246,7 @@ fn check(rt: &HostRuntime, matches: &ArgMatches<'_>) -> Result<u8, Failure> {
             if let Some(kept) = &mut kept {
                 kept.discard();
             }
-            Err(Failure::Tool(fault))
+            Err(failure_of(fault, earlier.as_slice(), 4))
         }
     }
 }
@@ -215,16 +260,113 @@ fn dispatch(rt: &HostRuntime, matches: &ArgMatches<'_>) -> Result<u8, Failure> {
         Some(("summary", inner)) => summary(rt, inner),
         Some(("answer", inner)) => answer(rt, inner),
         Some(("candidates", inner)) => candidates(rt, inner),
+        Some(("refusals", inner)) => refusals(rt, inner),
         _ => Ok(2),
     }
 }
 
+// The file with this number of those that were named, of which the first has the other one.
+fn named<'a>(names: Option<&[&'a str]>, number: usize, first: usize) -> Option<&'a str> {
+    let index = number.checked_sub(first)?;
+    names?.get(index).copied()
+}
+
+// The name of the file that is the input with this number, or `None` where that is standard input.
+fn name_of_input<'a>(matches: &ArgMatches<'a>, number: usize) -> Option<&'a str> {
+    let (command, inner) = matches.subcommand()?;
+    match (command, number) {
+        ("check" | "candidates", 1) => inner.get_str("bundles"),
+        ("check", 2) => inner.get_str("table"),
+        ("check", _) => named(inner.get_strs("record"), number, 4),
+        ("answer", 1) => inner.get_str("summary"),
+        ("answer", _) => named(inner.get_strs("file"), number, 2),
+        _ => named(inner.get_strs("file"), number, 1),
+    }
+}
+
+// What the input with this number is called: a file by its name, unless memory is refused for that.
+fn input_text(alloc: Global, matches: &ArgMatches<'_>, number: usize) -> Option<String> {
+    let name = name_of_input(matches, number).unwrap_or("standard input");
+    String::from_utf8(bytes_of_text(alloc, name).ok()?).ok()
+}
+
+// Writes the line of a failure on standard error, and what it says in words where that is asked for. (there is nowhere
+// left to tell that standard error can't be written)
+fn tell(rt: &HostRuntime, failure: &Failure, is_explained: bool, input: Option<&str>) {
+    let words = if is_explained {
+        Some(Words {
+            sentence: failure.sentence(),
+            input: input.unwrap_or("An input"),
+        })
+    } else {
+        None
+    };
+    let _ = failure.tell(words, &mut rt.stderr());
+}
+
+// The exit status of a failure before a command begins, after it is told.
+fn failed(rt: &HostRuntime, failure: Failure, is_explained: bool) -> u8 {
+    tell(rt, &failure, is_explained, None);
+    failure.status()
+}
+
+// The exit status of the command, after which its failure is told.
+fn answered(rt: &HostRuntime, matches: &ArgMatches<'_>, is_explained: bool) -> u8 {
+    match dispatch(rt, matches) {
+        Ok(status) => status,
+        Err(failure) => {
+            let input = if is_explained {
+                input_text(rt.alloc(), matches, failure.input())
+            } else {
+                None
+            };
+            let input = input.as_ref().map(|text| text.as_str());
+            tell(rt, &failure, is_explained, input);
+            failure.status()
+        }
+    }
+}
+
+// Whether the environment asks for words: SVID_EXPLAIN is 1.
+fn is_asked_by<R: Env>(rt: &R) -> bool {
+    let mut room = [0; 1];
+    match rt.var("SVID_EXPLAIN", &mut room) {
+        Ok(1) => room[0] == b'1',
+        _ => false,
+    }
+}
+
+// Whether the command line asks for them. (it is looked through here and not by clap, which answers no matches beside
+// a call for help that can't be written)
+fn is_asked_in(words: &[String]) -> bool {
+    for word in words {
+        match word.as_str() {
+            "--" => return false,
+            "--explain" => return true,
+            _ => {}
+        }
+    }
+    false
+}
+
 /// Runs the command that the words of the command line ask for, and answers the exit status.
-pub fn run(rt: &HostRuntime) -> Result<u8, Failure> {
+pub fn run(rt: &HostRuntime) -> u8 {
     let alloc = rt.alloc();
-    let words = words(rt, alloc)?;
-    match command(alloc)?.try_get_matches_from(words.as_slice()) {
-        Ok(matches) => dispatch(rt, &matches),
-        Err(error) => usage(rt, &error),
+    let is_asked = is_asked_by(rt);
+    let words = match words(rt, alloc) {
+        Ok(words) => words,
+        Err(error) => return failed(rt, Failure::from(error), is_asked),
+    };
+    let is_asked = is_asked || is_asked_in(words.as_slice());
+    let command = match command(alloc) {
+        Ok(command) => command,
+        Err(error) => return failed(rt, Failure::from(error), is_asked),
+    };
+    match command.try_get_matches_from(words.as_slice()) {
+        Ok(matches) => answered(rt, &matches, is_asked),
+        Err(error) => match usage(rt, &error) {
+            Ok(status) => status,
+            Err(failure) => failed(rt, failure, is_asked),
+        },
     }
 }

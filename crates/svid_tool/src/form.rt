@@ -10,4 +10,6 @@ pub enum Form {
     Repeated,
     /// As `--name N`, a number.
     Number,
+    /// As `--name`, without a value.
+    Flag,
 }

@@ -1,16 +1,29 @@
+//! What the program reads.
+ghost use Rattle.std.specs.Prelude.{◌≡◌, None, take};
 ghost use Rattle.std.specs.Io.{ReadsAtMost};
+ghost use Rattle.svid_tool.specs.Input.{first_after};
 
 use std::fs::File;
 use std::io::{ErrorKind, Read, Stdin};
 use std::time::Duration;
 use std::{io, thread};
+use svid_wire::{Source, Stopped};
 
-/// What the program reads: standard input, or a file. Where it has no bytes yet and would not wait for them,
-/// since it is non-blocking, the program looks again a hundred times a second.
+/// Where bytes come from: standard input, or a file.
 #[derive(Drop)]
-pub enum Input<'a> {
-    Stdin(&'a HostRuntime, Stdin),
-    File(&'a HostRuntime, File),
+pub enum Stream {
+    Stdin(Stdin),
+    File(File),
+}
+
+/// What the program reads. Where it has no bytes yet and would not wait for them, since it is non-blocking, the
+/// program looks again a hundred times a second.
+#[derive(Drop)]
+pub struct Input<'a> {
+    rt: &'a HostRuntime,
+    stream: Stream,
+    first: Option<u8>,
+    faults: u64,
 }
 
 // Waits for a source that is not ready, or passes on what it answered.
@@ -28,11 +41,65 @@ fn wait_for<R: Read>(rt: &HostRuntime, from: &mut R, room: &mut [u8]) -> io::Res
     Err(io::Error::from(ErrorKind::WouldBlock))
 }
 
-impl<'a> Read for Input<'a> {
-    fn read(&mut self, room: &mut [u8]) -> io::Result<usize> {
-        match self {
-            Input::Stdin(rt, stdin) => wait_for(rt, stdin, room),
-            Input::File(rt, file) => wait_for(rt, file, room),
+// The first byte of an input, when these bytes came behind those of which it was the first.
+fn first_after(first: Option<u8>, piece: &[u8]) -> Option<u8>
+    ensures { result ≡ first_after first piece.now }
+{
+    match first {
+        Some(byte) => Some(byte),
+        None => piece.first().copied(),
+    }
+}
+
+impl<'a> Input<'a> {
+    /// Of which nothing is read yet.
+    pub fn new(rt: &'a HostRuntime, stream: Stream) -> Input<'a> {
+        Input {
+            rt,
+            stream,
+            first: None,
+            faults: 0,
         }
+    }
+
+    /// The first byte, once one is read.
+    pub fn first(&self) -> Option<u8>
+        ensures { result ≡ self.now.first }
+    {
+        self.first
+    }
+
+    fn read(&mut self, room: &mut [u8]) -> io::Result<usize>
+        ensures bound { ReadsAtMost result room.new }
+        ensures faults { self.new.faults ≡ self.old.faults }
+        ensures first { self.new.first ≡ self.old.first }
+    {
+        match &mut self.stream {
+            Stream::Stdin(stdin) => wait_for(self.rt, stdin, room),
+            Stream::File(file) => wait_for(self.rt, file, room),
+        }
+    }
+}
+
+impl<'a> Source for Input<'a> {
+    ghost left = { λ _. None };
+
+    ghost stops = { λ i. i.faults };
+
+    fn get(&mut self, room: &mut [u8]) -> Result<usize, Stopped> {
+        match self.read(room) {
+            Ok(given) => {
+                self.first = first_after(self.first, &room[..given]);
+                Ok(given)
+            }
+            Err(_) => {
+                self.faults = self.faults.saturating_add(1);
+                Err(Stopped)
+            }
+        }
+    }
+
+    fn faults(&self) -> u64 {
+        self.faults
     }
 }

@@ -9,19 +9,13 @@ mod failure;
 mod form;
 mod input;
 mod kept;
+mod refusals;
+mod sentence;
 mod subcommand;
 mod words;
 
 use std::process::ExitCode;
 
 fn main(rt: HostRuntime) -> ExitCode {
-    let status = match cli::run(&rt) {
-        Ok(status) => status,
-        Err(failure) => {
-            // (there is nowhere left to tell that standard error can't be written)
-            let _ = failure.tell(&rt);
-            failure.status()
-        }
-    };
-    ExitCode::from(status)
+    ExitCode::from(cli::run(&rt))
 }

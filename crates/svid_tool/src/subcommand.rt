@@ -17,7 +17,7 @@ impl Subcommand {
             .about(self.about)
             .after_help(self.after_help);
         for argument in self.arguments {
-            command = command.arg(argument.to_clap(alloc))?;
+            command = command.arg(argument.to_clap(alloc)?)?;
         }
         Ok(command)
     }

@@ -32,7 +32,7 @@ pub data Found : Type 0 where
   cut : Found
 
 abbrev pub fault_at : ℕ → Reason → Found
-fault_at place reason = fault (record { place = place; reason = reason })
+fault_at offset reason = fault (record { offset = offset; reason = reason })
 
 -- looks at the first n bytes, where there are as many, and at those behind them
 unfoldable pub at_field : ℕ → List ℕ → (List ℕ → List ℕ → Found) → Found
@@ -54,7 +54,7 @@ at_short n x next h =
 
 -- the use of these four pieces and this kind
 unfoldable pub use_of_pieces : List ℕ → List ℕ → List ℕ → List ℕ → Bool → Use
-use_of_pieces e k p a w = record { exp = from_be_bytes w64 e; key = k; place = p; at = from_be_bytes w64 a; withdrawn = w }
+use_of_pieces e k p a w = record { exp = from_be_bytes w64 e; key = k; validator_id = p; at = from_be_bytes w64 a; withdrawn = w }
 
 -- the use of this kind whose first 64 bytes these are
 unfoldable pub front_of : List ℕ → Bool → Use
@@ -67,14 +67,14 @@ front_of-append e k p a w le lk lp =
     let three : length (e ++ k ++ p) ≡ 56 = omega (arith, length-append e k, length-append (e ++ k) p) in
     let exp : take 8 (e ++ k ++ p ++ a) ≡ e = ap (take 8) (append_assoc (e ++ k) p a ∙ append_assoc e k (p ++ a)) ∙ take_at e (k ++ (p ++ a)) 8 le in
     let key : take 32 (drop 8 (e ++ k ++ p ++ a)) ≡ k = ap (λ x. take 32 (drop 8 x)) (append_assoc (e ++ k) p a ∙ append_assoc e k (p ++ a)) ∙ ap (take 32) (drop_at e (k ++ (p ++ a)) 8 le) ∙ take_at k (p ++ a) 32 lk in
-    let place : take 16 (drop 40 (e ++ k ++ p ++ a)) ≡ p = ap (λ x. take 16 (drop 40 x)) (append_assoc (e ++ k) p a) ∙ ap (take 16) (drop_at (e ++ k) (p ++ a) 40 two) ∙ take_at p a 16 lp in
+    let validator_id : take 16 (drop 40 (e ++ k ++ p ++ a)) ≡ p = ap (λ x. take 16 (drop 40 x)) (append_assoc (e ++ k) p a) ∙ ap (take 16) (drop_at (e ++ k) (p ++ a) 40 two) ∙ take_at p a 16 lp in
     let at : drop 56 (e ++ k ++ p ++ a) ≡ a = drop_at (e ++ k ++ p) a 56 three in
-    rw (exp, key, place, at)
+    rw (exp, key, validator_id, at)
 
 front_of-front : (u : Use) → IsUse u → front_of (front_text u) u.withdrawn ≡ u
 unfolding front_text use_of_pieces
 front_of-front u h =
-    front_of-append (to_be_bytes w64 u.exp) u.key u.place (to_be_bytes w64 u.at) u.withdrawn refl h.key.size h.place.size
+    front_of-append (to_be_bytes w64 u.exp) u.key u.validator_id (to_be_bytes w64 u.at) u.withdrawn refl h.key.size h.validator_id.size
     ∙ ap (λ (n : ℕ). record u { exp = n; at = from_be_bytes w64 (to_be_bytes w64 u.at) }) (from_be_bytes-to_be_bytes_8 u.exp h.exp)
     ∙ ap (λ (n : ℕ). record u { at = n }) (from_be_bytes-to_be_bytes_8 u.at h.at)
 
@@ -90,7 +90,7 @@ length_pieces e k p a le lk lp la =
 length-front : (u : Use) → IsUse u → length (front_text u) ≡ 64
 unfolding front_text
 length-front u h =
-    length_pieces (to_be_bytes w64 u.exp) u.key u.place (to_be_bytes w64 u.at) refl h.key.size h.place.size refl
+    length_pieces (to_be_bytes w64 u.exp) u.key u.validator_id (to_be_bytes w64 u.at) refl h.key.size h.validator_id.size refl
 
 pub length-use_text : (v : Version) (u : Use) → IsUse u → length (use_text v u) ≡ use_len_of v
 length-use_text One u h = length-front u h
@@ -302,8 +302,8 @@ find_cut bytes (in_digests m ds part begun parts short) =
     let k = 255 - length ds in
     ap find_magic parts ∙ find_summary_digests m (suc k) ds part begun.moment_fits (omega (arith, begun.more)) begun.fields ∙ find_digests-short k m ds part short
 
-find_use_fault : (bytes : List ℕ) (place : ℕ) (f : Flaw) → IsUseFault bytes place f → find_magic bytes ≡ fault_at place (flaw_reason f)
-find_use_fault bytes place f h =
+find_use_fault : (bytes : List ℕ) (offset : ℕ) (f : Flaw) → IsUseFault bytes offset f → find_magic bytes ≡ fault_at offset (flaw_reason f)
+find_use_fault bytes offset f h =
     let v = h.version in
     let (k, e) = find_begun v h.moment h.count h.uses (use_text v h.bad ++ h.after) h.begun in
     ap find_magic h.parts ∙ e ∙ find_uses-next v k h.moment h.uses h.bad h.after (Some f) h.fields h.tells h.flawed ∙ ap (λ n. fault_at n (flaw_reason f)) (sym h.at)
@@ -326,9 +326,9 @@ unfolding use_in
 no_use_in front k long no_use no_withdrawal =
     ap (λ x. use_with (take 64 (front ++ k ∷ [])) (kind_of x)) (drop_at front (k ∷ []) 64 long) ∙ ap (use_with (take 64 (front ++ k ∷ []))) (no_kind_of k no_use no_withdrawal)
 
-find_use_kind_fault : (bytes : List ℕ) (place : ℕ) → IsUseKindFault bytes place → find_magic bytes ≡ fault_at place reason.UseKind
+find_use_kind_fault : (bytes : List ℕ) (offset : ℕ) → IsUseKindFault bytes offset → find_magic bytes ≡ fault_at offset reason.UseKind
 unfolding find_uses
-find_use_kind_fault bytes place h =
+find_use_kind_fault bytes offset h =
     let field = h.front ++ h.kind ∷ [] in
     let (k, e) = find_begun Two h.moment h.count h.uses (h.front ++ h.kind ∷ h.after) h.begun in
     ap find_magic h.parts ∙ e ∙ ap (find_uses Two (suc k) h.moment h.uses) (sym (append_assoc h.front (h.kind ∷ []) h.after))
@@ -369,18 +369,18 @@ find_count_fault bytes h =
     ∙ ap (λ b. if b then fault_at 13 reason.Count else find_uses v h.count h.moment [] h.after) many
 
 -- each fault is what is found
-finds_fault : (r : Reason) (bytes : List ℕ) (place : ℕ) → IsFaultFor r bytes place → first_message bytes ≡ fault_at place r
+finds_fault : (r : Reason) (bytes : List ℕ) (offset : ℕ) → IsFaultFor r bytes offset → first_message bytes ≡ fault_at offset r
 unfolding first_message
-finds_fault reason.Magic bytes place (at, long, bad) = ap (settled bytes) (find_magic_fault bytes long bad) ∙ ap (λ n. fault_at n reason.Magic) (sym at)
-finds_fault reason.Kind bytes place (at, h) = ap (settled bytes) (find_kind_fault bytes h) ∙ ap (λ n. fault_at n reason.Kind) (sym at)
-finds_fault reason.Count bytes place (at, h) = ap (settled bytes) (find_count_fault bytes h) ∙ ap (λ n. fault_at n reason.Count) (sym at)
-finds_fault reason.UseKind bytes place h = ap (settled bytes) (find_use_kind_fault bytes place h)
-finds_fault reason.UseExpired bytes place h = ap (settled bytes) (find_use_fault bytes place Expired h)
-finds_fault reason.UseFuture bytes place h = ap (settled bytes) (find_use_fault bytes place Future h)
-finds_fault reason.UseOrder bytes place h = ap (settled bytes) (find_use_fault bytes place Order h)
-finds_fault reason.Truncated bytes place (at, some, h) = ap (settled bytes) (find_cut bytes h) ∙ ap (λ n. fault_at n reason.Truncated) (sym at)
-finds_fault reason.OutOfMemory bytes place h = absurd h
-finds_fault reason.Failed bytes place h = absurd h
+finds_fault reason.Magic bytes offset (at, long, bad) = ap (settled bytes) (find_magic_fault bytes long bad) ∙ ap (λ n. fault_at n reason.Magic) (sym at)
+finds_fault reason.Kind bytes offset (at, h) = ap (settled bytes) (find_kind_fault bytes h) ∙ ap (λ n. fault_at n reason.Kind) (sym at)
+finds_fault reason.Count bytes offset (at, h) = ap (settled bytes) (find_count_fault bytes h) ∙ ap (λ n. fault_at n reason.Count) (sym at)
+finds_fault reason.UseKind bytes offset h = ap (settled bytes) (find_use_kind_fault bytes offset h)
+finds_fault reason.UseExpired bytes offset h = ap (settled bytes) (find_use_fault bytes offset Expired h)
+finds_fault reason.UseFuture bytes offset h = ap (settled bytes) (find_use_fault bytes offset Future h)
+finds_fault reason.UseOrder bytes offset h = ap (settled bytes) (find_use_fault bytes offset Order h)
+finds_fault reason.Truncated bytes offset (at, some, h) = ap (settled bytes) (find_cut bytes h) ∙ ap (λ n. fault_at n reason.Truncated) (sym at)
+finds_fault reason.OutOfMemory bytes offset h = absurd h
+finds_fault reason.Failed bytes offset h = absurd h
 
 -- a message is what is found, and the bytes behind it
 finds_message : (m : Written) (rest : List ℕ) → IsWritten m → first_message (written_text m ++ rest) ≡ message m rest
@@ -395,10 +395,10 @@ begins_one_message a b x y good_a good_b same =
 
 pub text_has_no_fault : TextHasNoFault
 text_has_no_fault m rest found good bad =
-    let e : message m rest ≡ fault found = sym (finds_message m rest good) ∙ finds_fault found.reason _ found.place bad in
+    let e : message m rest ≡ fault found = sym (finds_message m rest good) ∙ finds_fault found.reason _ found.offset bad in
     cc
 
 pub fault_is_unique : FaultIsUnique
 fault_is_unique bytes x y bad_x bad_y =
-    let e : fault x ≡ fault y = sym (finds_fault x.reason bytes x.place bad_x) ∙ finds_fault y.reason bytes y.place bad_y in
+    let e : fault x ≡ fault y = sym (finds_fault x.reason bytes x.offset bad_x) ∙ finds_fault y.reason bytes y.offset bad_y in
     cc

@@ -106,7 +106,7 @@ unfolding front_of use_of_pieces
 IsUse-front_of f w size h = record {
   exp = from_be_bytes-lt (take 8 f) (AreBytes-take 8 f h);
   key = IsBytes-part f 8 32 (omega arith) h;
-  place = IsBytes-part f 40 16 (omega arith) h;
+  validator_id = IsBytes-part f 40 16 (omega arith) h;
   at = from_be_bytes-lt (drop 56 f) (AreBytes-drop 56 f h);
 }
 
@@ -337,7 +337,7 @@ tells_end : (bytes : List ℕ) (found : Found) → 0 < length bytes → Tells by
 unfolding Tells
 tells_end bytes (message m rest) some (good, parts) = inl (record { message = m; rest = rest; good = good; parts = parts })
 tells_end bytes (fault found) some is = inr (found, is)
-tells_end bytes cut some is = inr (record { place = length bytes; reason = reason.Truncated }, (refl, some, is))
+tells_end bytes cut some is = inr (record { offset = length bytes; reason = reason.Truncated }, (refl, some, is))
 
 pub begins_or_faults : BeginsOrFaults
 unfolding AreBytes

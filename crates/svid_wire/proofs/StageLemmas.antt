@@ -28,10 +28,10 @@ last_of-None (u ∷ us) =
     ap (slice_get (u ∷ us)) last ∙ sym (last_of-read None u us)
 
 -- the reason of a use's fault names what is wrong with it
-pub IsFieldFault-use : (bytes : List ℕ) (place : ℕ) (f : Flaw) → IsUseFault bytes place f → IsFieldFault bytes (record { place = place; reason = flaw_reason f })
-IsFieldFault-use bytes place Expired h = (h, λ e. cc)
-IsFieldFault-use bytes place Future h = (h, λ e. cc)
-IsFieldFault-use bytes place Order h = (h, λ e. cc)
+pub IsFieldFault-use : (bytes : List ℕ) (offset : ℕ) (f : Flaw) → IsUseFault bytes offset f → IsFieldFault bytes (record { offset = offset; reason = flaw_reason f })
+IsFieldFault-use bytes offset Expired h = (h, λ e. cc)
+IsFieldFault-use bytes offset Future h = (h, λ e. cc)
+IsFieldFault-use bytes offset Order h = (h, λ e. cc)
 
 -- a count that is too great
 pub IsCountFault-last : (v : Version) (m c : ℕ) (field : List ℕ) → moment_and_count_text m c ≡ field → m < 2 ^ 64 → c < 2 ^ 32 → most_of v < c → IsCountFault (magic_of v ++ batch_kind ∷ [] ++ field)

@@ -14,8 +14,8 @@ use Rattle.svid_wire.specs.declared.wire_fault.WireFault.{WireFault}
 grown : (bytes front last more : List ℕ) → bytes ≡ front ++ last → bytes ++ more ≡ front ++ (last ++ more)
 grown bytes front last more parts = ap (λ x. x ++ more) parts ∙ append_assoc front last more
 
-IsUseFault-append : (bytes more : List ℕ) (place : ℕ) (f : Flaw) → IsUseFault bytes place f → IsUseFault (bytes ++ more) place f
-IsUseFault-append bytes more place f h = record {
+IsUseFault-append : (bytes more : List ℕ) (offset : ℕ) (f : Flaw) → IsUseFault bytes offset f → IsUseFault (bytes ++ more) offset f
+IsUseFault-append bytes more offset f h = record {
   version = h.version;
   moment = h.moment;
   count = h.count;
@@ -30,8 +30,8 @@ IsUseFault-append bytes more place f h = record {
   parts = grown bytes (head_text h.version h.moment h.count) _ more h.parts ∙ ap (λ x. head_text h.version h.moment h.count ++ x) (append_assoc (flat_map (use_text h.version) h.uses) _ more ∙ ap (λ x. flat_map (use_text h.version) h.uses ++ x) (append_assoc (use_text h.version h.bad) h.after more));
 }
 
-IsUseKindFault-append : (bytes more : List ℕ) (place : ℕ) → IsUseKindFault bytes place → IsUseKindFault (bytes ++ more) place
-IsUseKindFault-append bytes more place h = record {
+IsUseKindFault-append : (bytes more : List ℕ) (offset : ℕ) → IsUseKindFault bytes offset → IsUseKindFault (bytes ++ more) offset
+IsUseKindFault-append bytes more offset h = record {
   moment = h.moment;
   count = h.count;
   uses = h.uses;
@@ -68,22 +68,22 @@ IsCountFault-append bytes more h = record {
   parts = grown bytes (head_text h.version h.moment h.count) _ more h.parts;
 }
 
-IsFaultFor-append : (r : Reason) (bytes more : List ℕ) (place : ℕ) → IsFaultFor r bytes place → r ≢ reason.Truncated → IsFaultFor r (bytes ++ more) place
-IsFaultFor-append reason.Magic bytes more place (at, long, bad) _ =
+IsFaultFor-append : (r : Reason) (bytes more : List ℕ) (offset : ℕ) → IsFaultFor r bytes offset → r ≢ reason.Truncated → IsFaultFor r (bytes ++ more) offset
+IsFaultFor-append reason.Magic bytes more offset (at, long, bad) _ =
     (at, omega (arith, length-append bytes more), λ v. subst (λ (x : List ℕ). x ≢ magic_of v) (sym (take-append-le 4 bytes more long)) (bad v))
-IsFaultFor-append reason.Kind bytes more place (at, h) _ = (at, IsKindFault-append bytes more h)
-IsFaultFor-append reason.Count bytes more place (at, h) _ = (at, IsCountFault-append bytes more h)
-IsFaultFor-append reason.UseKind bytes more place h _ = IsUseKindFault-append bytes more place h
-IsFaultFor-append reason.UseExpired bytes more place h _ = IsUseFault-append bytes more place _ h
-IsFaultFor-append reason.UseFuture bytes more place h _ = IsUseFault-append bytes more place _ h
-IsFaultFor-append reason.UseOrder bytes more place h _ = IsUseFault-append bytes more place _ h
-IsFaultFor-append reason.Truncated bytes more place h ne = absurd (ne refl)
-IsFaultFor-append reason.OutOfMemory bytes more place h _ = h
-IsFaultFor-append reason.Failed bytes more place h _ = h
+IsFaultFor-append reason.Kind bytes more offset (at, h) _ = (at, IsKindFault-append bytes more h)
+IsFaultFor-append reason.Count bytes more offset (at, h) _ = (at, IsCountFault-append bytes more h)
+IsFaultFor-append reason.UseKind bytes more offset h _ = IsUseKindFault-append bytes more offset h
+IsFaultFor-append reason.UseExpired bytes more offset h _ = IsUseFault-append bytes more offset _ h
+IsFaultFor-append reason.UseFuture bytes more offset h _ = IsUseFault-append bytes more offset _ h
+IsFaultFor-append reason.UseOrder bytes more offset h _ = IsUseFault-append bytes more offset _ h
+IsFaultFor-append reason.Truncated bytes more offset h ne = absurd (ne refl)
+IsFaultFor-append reason.OutOfMemory bytes more offset h _ = h
+IsFaultFor-append reason.Failed bytes more offset h _ = h
 
 -- a bad field stays bad when bytes follow
 pub IsFieldFault-append : (bytes more : List ℕ) (fault : WireFault) → IsFieldFault bytes fault → IsFieldFault (bytes ++ more) fault
-IsFieldFault-append bytes more fault (h, early) = (IsFaultFor-append fault.reason bytes more fault.place h early, early)
+IsFieldFault-append bytes more fault (h, early) = (IsFaultFor-append fault.reason bytes more fault.offset h early, early)
 
 -- what is refused stays refused when bytes follow
 pub IsFieldRefusal-append : (bytes front more : List ℕ) (fault : WireFault) → bytes ≡ front ++ more → IsFieldRefusal front fault → IsFieldRefusal bytes fault

@@ -8,7 +8,7 @@ use Rattle.svid_wire.specs.declared.wire_fault.WireFault.{WireFault}
 
 -- what a feed answers that refused bytes before
 abbrev pub failed : WireFault
-failed = record { place = 0; reason = Failed }
+failed = record { offset = 0; reason = Failed }
 
 -- bytes that a feed may hold: each whole field is good, and another one is to come
 pub record IsHeld (bytes : List ℕ) : Type 0 where
@@ -35,7 +35,7 @@ held_len (Some bytes) = length bytes
 abbrev pub end_of : Option (List ℕ) → Result Unit WireFault
 end_of None = Err failed
 end_of (Some []) = Ok tt
-end_of (Some (b ∷ bytes)) = Err (record { place = length (b ∷ bytes); reason = Truncated })
+end_of (Some (b ∷ bytes)) = Err (record { offset = length (b ∷ bytes); reason = Truncated })
 
 -- two pushes are one of both pieces together
 abbrev pub PushesJoin : Type 0

@@ -31,7 +31,7 @@ pub record AreBegun (moment : ℕ) (digests : List (List ℕ)) : Type 0 where
   pub fields : AllByRecursion (IsBytes 32) digests
 
 -- something is wrong with the use behind the good ones
-pub record IsUseFault (bytes : List ℕ) (place : ℕ) (found : Flaw) : Type 0 where
+pub record IsUseFault (bytes : List ℕ) (offset : ℕ) (found : Flaw) : Type 0 where
   pub version : Version
   pub moment : ℕ
   pub count : ℕ
@@ -43,10 +43,10 @@ pub record IsUseFault (bytes : List ℕ) (place : ℕ) (found : Flaw) : Type 0 w
   pub fields : IsUse bad
   pub tells : CanTell version bad
   pub flawed : flaw moment (last_of None uses) bad ≡ Some found
-  pub at : place ≡ 17 + use_len_of version * length uses
+  pub at : offset ≡ 17 + use_len_of version * length uses
 
 -- in version 2 the last byte of a use behind the good ones is neither 0 nor 1
-pub record IsUseKindFault (bytes : List ℕ) (place : ℕ) : Type 0 where
+pub record IsUseKindFault (bytes : List ℕ) (offset : ℕ) : Type 0 where
   pub moment : ℕ
   pub count : ℕ
   pub uses : List Use
@@ -58,7 +58,7 @@ pub record IsUseKindFault (bytes : List ℕ) (place : ℕ) : Type 0 where
   pub size : length front ≡ 64
   pub no_use : kind ≢ 0
   pub no_withdrawal : kind ≢ 1
-  pub at : place ≡ 17 + 65 * length uses
+  pub at : offset ≡ 17 + 65 * length uses
 
 -- a summary can stand in this version
 abbrev pub HasSummaries : Version → Type 0
@@ -94,24 +94,24 @@ pub data IsUnfinished (bytes : List ℕ) : Type 0 where
   in_moment : (part : List ℕ) → bytes ≡ magic_of Two ++ summary_kind ∷ part → length part < 8 → IsUnfinished bytes
   in_digests : (moment : ℕ) (digests : List (List ℕ)) (part : List ℕ) → AreBegun moment digests → bytes ≡ summary_head moment ++ (flat_map digest_text digests ++ part) → length part < 32 → IsUnfinished bytes
 
--- The first field that lies whole in the bytes and is bad begins at this place, and is bad for this reason; or no
+-- The first field that lies whole in the bytes and is bad begins at this offset, and is bad for this reason; or no
 -- such field is bad, and the bytes, of which there are so many, end before a message does. Want of memory and an
 -- earlier refusal are no faults of bytes.
 abbrev pub IsFaultFor : Reason → List ℕ → ℕ → Type 0
-IsFaultFor reason.Magic bytes place = (place ≡ 0) × (4 ≤ length bytes) × ((v : Version) → take 4 bytes ≢ magic_of v)
-IsFaultFor reason.Kind bytes place = (place ≡ 4) × IsKindFault bytes
-IsFaultFor reason.Count bytes place = (place ≡ 13) × IsCountFault bytes
-IsFaultFor reason.UseKind bytes place = IsUseKindFault bytes place
-IsFaultFor reason.UseExpired bytes place = IsUseFault bytes place Expired
-IsFaultFor reason.UseFuture bytes place = IsUseFault bytes place Future
-IsFaultFor reason.UseOrder bytes place = IsUseFault bytes place Order
-IsFaultFor reason.Truncated bytes place = (place ≡ length bytes) × (0 < length bytes) × IsUnfinished bytes
-IsFaultFor reason.OutOfMemory bytes place = ⊥
-IsFaultFor reason.Failed bytes place = ⊥
+IsFaultFor reason.Magic bytes offset = (offset ≡ 0) × (4 ≤ length bytes) × ((v : Version) → take 4 bytes ≢ magic_of v)
+IsFaultFor reason.Kind bytes offset = (offset ≡ 4) × IsKindFault bytes
+IsFaultFor reason.Count bytes offset = (offset ≡ 13) × IsCountFault bytes
+IsFaultFor reason.UseKind bytes offset = IsUseKindFault bytes offset
+IsFaultFor reason.UseExpired bytes offset = IsUseFault bytes offset Expired
+IsFaultFor reason.UseFuture bytes offset = IsUseFault bytes offset Future
+IsFaultFor reason.UseOrder bytes offset = IsUseFault bytes offset Order
+IsFaultFor reason.Truncated bytes offset = (offset ≡ length bytes) × (0 < length bytes) × IsUnfinished bytes
+IsFaultFor reason.OutOfMemory bytes offset = ⊥
+IsFaultFor reason.Failed bytes offset = ⊥
 
--- such a place and reason, together
+-- such a offset and reason, together
 abbrev pub IsFault : List ℕ → WireFault → Type 0
-IsFault bytes fault = IsFaultFor fault.reason bytes fault.place
+IsFault bytes fault = IsFaultFor fault.reason bytes fault.offset
 
 -- a bad field, however many bytes follow it
 abbrev pub IsFieldFault : List ℕ → WireFault → Type 0
@@ -125,7 +125,7 @@ flaw_reason Order = reason.UseOrder
 
 -- want of memory
 abbrev pub no_memory : WireFault
-no_memory = record { place = 0; reason = reason.OutOfMemory }
+no_memory = record { offset = 0; reason = reason.OutOfMemory }
 
 -- what a reader may refuse such bytes for, whatever follows them: a bad field, or want of memory
 abbrev pub IsFieldRefusal : List ℕ → WireFault → Type 0

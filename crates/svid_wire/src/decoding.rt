@@ -105,7 +105,7 @@ pub(crate) fn take_piece(
 
 /// Reads bytes that are the texts of messages, one after the other, and appends the messages to `out`.
 ///
-/// Refused with the fault of the first text that is bad, its place counted from that text's first
+/// Refused with the fault of the first text that is bad, its offset counted from that text's first
 /// byte: `Truncated` only where the bytes end within it, with the number of its bytes. The messages
 /// before it are appended; for want of memory, the first of them. `out` only grows. Each message takes
 /// about 8 KiB of it, a batch too, for a message has room for a summary.

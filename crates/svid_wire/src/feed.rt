@@ -8,7 +8,7 @@ use std::alloc::Global;
 use std::marker::Model;
 
 const FAILED: WireFault = WireFault {
-    place: 0,
+    offset: 0,
     reason: Reason::Failed,
 };
 
@@ -47,9 +47,9 @@ impl Feed {
 
     /// Takes the next piece, and appends to `out` each message that it makes whole.
     ///
-    /// Refused with the first field that is bad, by the push that makes it whole, and the place where it
+    /// Refused with the first field that is bad, by the push that makes it whole, and the offset where it
     /// begins, counted from the first byte of its message; or for want of memory. The messages before it
-    /// are appended. From then on nothing is held, and each push answers `Failed` at place 0 and appends
+    /// are appended. From then on nothing is held, and each push answers `Failed` at offset 0 and appends
     /// nothing. `out` only grows. Each message takes about 8 KiB of it, a batch too, for a message has
     /// room for a summary.
     pub fn push(&mut self, piece: &[u8], out: &mut Vec<Message>) -> Result<(), WireFault>
@@ -68,7 +68,7 @@ impl Feed {
     /// Says that no more bytes come. Takes no memory.
     ///
     /// Refused where a message is not whole, with `Truncated` and the number of its bytes that came; and
-    /// with `Failed` at place 0 after a refusal.
+    /// with `Failed` at offset 0 after a refusal.
     pub fn finish(self) -> Result<(), WireFault>
         ensures { result ≡ end_of self }
     {
@@ -76,8 +76,8 @@ impl Feed {
             None => Err(FAILED),
             Some(state) => match state.len() {
                 0 => Ok(()),
-                place => Err(WireFault {
-                    place,
+                offset => Err(WireFault {
+                    offset,
                     reason: Reason::Truncated,
                 }),
             },

@@ -43,11 +43,11 @@ pub(crate) fn use_of_kind(front: &[u8], withdrawn: bool) -> Use
 {
     let (exp, rest) = front.split_at(8);
     let (key, rest) = rest.split_at(32);
-    let (place, at) = rest.split_at(16);
+    let (validator_id, at) = rest.split_at(16);
     Use {
         exp: u64_of(exp),
         key: array_of(key),
-        place: array_of(place),
+        validator_id: array_of(validator_id),
         at: u64_of(at),
         withdrawn,
     }

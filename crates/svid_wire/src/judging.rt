@@ -11,7 +11,7 @@ ghost use Rattle.svid_wire.specs.Stage.{IsStage, Judges, Reaches, field_len, sta
 
 use crate::field::{digest_of, moment_and_count_of, moment_of};
 use crate::layout::{
-    BATCH_KIND, COUNT_PLACE, DIGEST_LEN, DIGESTS, HEAD_LEN, KIND_PLACE, SUMMARY_KIND,
+    BATCH_KIND, COUNT_OFFSET, DIGEST_LEN, DIGESTS, HEAD_LEN, KIND_OFFSET, SUMMARY_KIND,
 };
 use crate::stage::{Progress, Stage};
 use crate::version::Version;
@@ -36,7 +36,7 @@ fn judge_magic(field: &[u8]) -> Result<Progress, WireFault>
     match Version::of(field) {
         Some(version) => Ok(Progress::More(Stage::Kind(version))),
         None => Err(WireFault {
-            place: 0,
+            offset: 0,
             reason: Reason::Magic,
         }),
     }
@@ -50,7 +50,7 @@ fn judge_kind(version: Version, field: &[u8]) -> Result<Progress, WireFault>
         (_, BATCH_KIND) => Ok(Progress::More(Stage::MomentAndCount(version))),
         (Version::Two, SUMMARY_KIND) => Ok(Progress::More(Stage::Moment)),
         _ => Err(WireFault {
-            place: KIND_PLACE,
+            offset: KIND_OFFSET,
             reason: Reason::Kind,
         }),
     }
@@ -88,7 +88,7 @@ fn judge_moment_and_count(
     let (moment, count) = moment_and_count_of(field);
     if count as usize > version.most_uses() {
         return Err(WireFault {
-            place: COUNT_PLACE,
+            offset: COUNT_OFFSET,
             reason: Reason::Count,
         });
     }
@@ -112,16 +112,16 @@ fn judge_use(
     requires whole { length field.now ≡ use_len_of version }
     ensures { Judges (head_text version moment count ++ flat_map (use_text version) uses.items ++ field.now) result }
 {
-    let place = HEAD_LEN + version.use_len() * uses.len();
+    let offset = HEAD_LEN + version.use_len() * uses.len();
     let Some(used) = version.use_of(field) else {
         return Err(WireFault {
-            place,
+            offset,
             reason: Reason::UseKind,
         });
     };
     if let Some(flaw) = flaw_of(moment, last_use(&uses), used) {
         return Err(WireFault {
-            place,
+            offset,
             reason: reason_of(flaw),
         });
     }

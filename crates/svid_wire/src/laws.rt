@@ -32,12 +32,12 @@ pub fn begins_or_faults()
     ensures { BeginsOrFaults }
 {}
 
-/// Bytes have at most one fault: one reason at one place.
+/// Bytes have at most one fault: one reason at one offset.
 pub fn fault_is_unique()
     ensures { FaultIsUnique }
 {}
 
-/// A bad field stays the fault, at its place, when bytes follow.
+/// A bad field stays the fault, at its offset, when bytes follow.
 pub fn field_fault_stays()
     ensures { FieldFaultStays }
 {}

@@ -37,10 +37,10 @@ pub(crate) const DIGESTS: usize = 256;
 pub(crate) const SUMMARY_HEAD_LEN: usize = 13;
 
 /// Where the kind stands.
-pub(crate) const KIND_PLACE: usize = 4;
+pub(crate) const KIND_OFFSET: usize = 4;
 
 /// Where the moment stands.
-pub(crate) const MOMENT_PLACE: usize = 5;
+pub(crate) const MOMENT_OFFSET: usize = 5;
 
 /// Where the number of uses stands.
-pub(crate) const COUNT_PLACE: usize = 13;
+pub(crate) const COUNT_OFFSET: usize = 13;

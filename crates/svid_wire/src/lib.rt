@@ -6,7 +6,7 @@
 //!
 //! A [`Message`] is a batch or a summary. [`write_batch`] and [`write_summary`] put the text of one. A
 //! [`Feed`] reads messages whose texts come in pieces, one after the other, or finds the first that is
-//! bad, with its fault and its place; [`read_all`] does so where all bytes are there. The grammar is a
+//! bad, with its fault and its offset; [`read_all`] does so where all bytes are there. The grammar is a
 //! definition of its own, in `specs/BatchText.antt`, `specs/SummaryText.antt`, `specs/Messages.antt`
 //! and `specs/WireFault.antt`; [`laws`] says that it leaves no doubt: bytes are
 //! in exactly one way the texts of some messages and a rest that begins with none, and such a rest,

@@ -7,11 +7,11 @@ use thiserror::Error;
 
 /// Why bytes begin with no message.
 #[derive(Clone, Copy, Debug, PartialEq, Eq, Error)]
-#[error("{reason:?} at place {place}")]
+#[error("{reason:?} at offset {offset}")]
 pub struct WireFault {
     /// Where the bad field begins, or where the bytes end too early, counted from the first byte of
     /// the message; 0 for `OutOfMemory` and `Failed`.
-    pub place: usize,
+    pub offset: usize,
     /// What is wrong there.
     pub reason: Reason,
 }
@@ -21,7 +21,7 @@ impl From<AllocError> for WireFault {
 
     fn from(_error: AllocError) -> WireFault {
         WireFault {
-            place: 0,
+            offset: 0,
             reason: Reason::OutOfMemory,
         }
     }

@@ -3,7 +3,9 @@ ghost use Rattle.svid_wire.specs.BatchText.{batch_text, head_text};
 ghost use Rattle.svid_wire.specs.Streams.{StoppedAfter, TookAll, taken};
 ghost use Rattle.svid_wire.specs.declared.version.Version.{Version};
 
-use crate::layout::{BATCH_KIND, COUNT_PLACE, HEAD_LEN, KIND_PLACE, MAGIC, MOMENT_PLACE, USE_LEN};
+use crate::layout::{
+    BATCH_KIND, COUNT_OFFSET, HEAD_LEN, KIND_OFFSET, MAGIC, MOMENT_OFFSET, USE_LEN,
+};
 use crate::{Sink, Stopped, WriteFault};
 use svid_replay::Batch;
 
@@ -30,10 +32,10 @@ pub fn batch_head(moment: u64, count: u32) -> [u8; HEAD_LEN]
     ensures { result ≡ head_text Version.Two moment count }
 {
     let mut head = [0; HEAD_LEN];
-    head[..KIND_PLACE].copy_from_slice(&MAGIC);
-    head[KIND_PLACE] = BATCH_KIND;
-    head[MOMENT_PLACE..COUNT_PLACE].copy_from_slice(&moment.to_be_bytes());
-    head[COUNT_PLACE..].copy_from_slice(&count.to_be_bytes());
+    head[..KIND_OFFSET].copy_from_slice(&MAGIC);
+    head[KIND_OFFSET] = BATCH_KIND;
+    head[MOMENT_OFFSET..COUNT_OFFSET].copy_from_slice(&moment.to_be_bytes());
+    head[COUNT_OFFSET..].copy_from_slice(&count.to_be_bytes());
     head
 }
 

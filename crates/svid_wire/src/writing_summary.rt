@@ -3,7 +3,9 @@ ghost use Rattle.svid_replay.specs.Summary.{IsSummary};
 ghost use Rattle.svid_wire.specs.Streams.{StoppedAfter, TookAll, taken};
 ghost use Rattle.svid_wire.specs.SummaryText.{summary_head, summary_text};
 
-use crate::layout::{DIGEST_LEN, KIND_PLACE, MAGIC, MOMENT_PLACE, SUMMARY_HEAD_LEN, SUMMARY_KIND};
+use crate::layout::{
+    DIGEST_LEN, KIND_OFFSET, MAGIC, MOMENT_OFFSET, SUMMARY_HEAD_LEN, SUMMARY_KIND,
+};
 use crate::{Sink, WriteFault, put_all};
 use svid_replay::Summary;
 
@@ -13,9 +15,9 @@ fn head_of(summary: &Summary) -> [u8; SUMMARY_HEAD_LEN]
     ensures summary { IsSummary summary.now }
 {
     let mut head = [0; SUMMARY_HEAD_LEN];
-    head[..KIND_PLACE].copy_from_slice(&MAGIC);
-    head[KIND_PLACE] = SUMMARY_KIND;
-    head[MOMENT_PLACE..].copy_from_slice(&summary.moment().to_be_bytes());
+    head[..KIND_OFFSET].copy_from_slice(&MAGIC);
+    head[KIND_OFFSET] = SUMMARY_KIND;
+    head[MOMENT_OFFSET..].copy_from_slice(&summary.moment().to_be_bytes());
     head
 }
 

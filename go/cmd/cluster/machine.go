@@ -17,15 +17,15 @@ import (
 	"syscall"
 	"time"
 
-	"svid.example/go/internal/broker"
-	"svid.example/go/internal/issuer"
+	"svid.example/go/v2/internal/broker"
+	"svid.example/go/v2/internal/issuer"
 )
 
 const (
 	domain   = "example.org"
 	audience = "ledger"
 	longest  = 3600 // seconds that a token lives at the most
-	patience = time.Minute
+	patience = 3 * time.Minute
 )
 
 // A cluster is all that runs, in one folder.
@@ -263,7 +263,7 @@ func (c *cluster) stopSidecars() {
 	}
 	for _, s := range c.sidecars {
 		if s.run != nil {
-			ended := time.AfterFunc(10*time.Second, func() { s.run.Process.Kill() })
+			ended := time.AfterFunc(patience, func() { s.run.Process.Kill() })
 			s.run.Wait()
 			ended.Stop()
 		}

@@ -15,8 +15,8 @@ import (
 
 	"github.com/nats-io/nats.go"
 
-	"svid.example/go/internal/broker"
-	"svid.example/go/svid"
+	"svid.example/go/v2/internal/broker"
+	"svid.example/go/v2/svid"
 )
 
 // How much the scenarios do.
@@ -170,7 +170,7 @@ func (s *sidecar) uses() ([]svid.Use, error) {
 	if err != nil {
 		return nil, err
 	}
-	_, uses, err := svid.Uses(messages)
+	uses, err := svid.Uses(messages)
 	return uses, err
 }
 
@@ -196,7 +196,7 @@ func (c *cluster) sameRecords() (uses []svid.Use, err error) {
 	if err != nil {
 		return nil, err
 	}
-	if _, uses, err = svid.Uses(record); err == nil {
+	if uses, err = svid.Uses(record); err == nil {
 		c.say("the records of all three are the same %d bytes, %.1f s later", len(record), time.Since(from).Seconds())
 	}
 	return uses, err

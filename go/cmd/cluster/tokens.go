@@ -12,7 +12,7 @@ import (
 	"sync"
 	"time"
 
-	"svid.example/go/svid"
+	"svid.example/go/v2/svid"
 )
 
 // A token is one that nobody has seen yet, with the key by which records name it.
@@ -71,7 +71,7 @@ func otherSignature(token string) (string, error) {
 // A verdict is a sidecar's answer to a token.
 type verdict struct {
 	accepted bool
-	reason   string // of a rejection
+	reason   string // of a refusal
 	doubtful bool   // the token was sent more than once, since an answer was no verdict
 }
 

@@ -9,15 +9,16 @@ import (
 
 	"github.com/nats-io/nats.go"
 
-	"svid.example/go/internal/group"
-	"svid.example/go/svid"
+	"svid.example/go/v2/carriers"
+	"svid.example/go/v2/carriers/jetstream"
+	"svid.example/go/v2/svid"
 )
 
 // A deaf sink takes nothing, so that a bucket can be made and filled without a record.
 type deaf struct{}
 
-func (deaf) Begin(group.Log)            {}
-func (deaf) Take([]group.Value) []error { return nil }
+func (deaf) Begin(carriers.Start)          {}
+func (deaf) Take([]carriers.Value) []error { return nil }
 
 // fill puts random uses into a group's bucket, each as a value of its own, as a sidecar does at a quiet time: of all
 // buckets that has most values.
@@ -33,7 +34,7 @@ func fill(f *flag.FlagSet, args []string) error {
 func fillBucket(urls, name string, n, replicas int) error {
 	ctx, cancel := context.WithTimeout(context.Background(), time.Minute)
 	defer cancel()
-	g, err := group.Join(ctx, group.Options{Servers: strings.Split(urls, ","), Name: name, TTL: (longest + 60) * time.Second, Replicas: replicas}, deaf{})
+	g, err := jetstream.Join(ctx, jetstream.Options{Servers: strings.Split(urls, ","), Name: name, TTL: (longest + 60) * time.Second, Replicas: replicas}, deaf{})
 	if err != nil {
 		return err
 	}
@@ -48,7 +49,11 @@ func fillBucket(urls, name string, n, replicas int) error {
 		return err
 	}
 	for i, u := range randomUses(make([]svid.Use, n)) {
-		if _, err := js.PublishAsync(fmt.Sprintf("$KV.%s.u.%v.%d", name, u.Place, i+1), u.Batch(), nats.StallWait(time.Minute)); err != nil {
+		message, err := u.Batch()
+		if err != nil {
+			return err
+		}
+		if _, err := js.PublishAsync(fmt.Sprintf("$KV.%s.u.%v.%d", name, u.ValidatorID, i+1), message, nats.StallWait(time.Minute)); err != nil {
 			return err
 		}
 	}

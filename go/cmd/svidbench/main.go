@@ -13,7 +13,6 @@ import (
 	"crypto/ecdsa"
 	"crypto/elliptic"
 	"crypto/rand"
-	"encoding/binary"
 	"encoding/json"
 	"flag"
 	"fmt"
@@ -25,8 +24,8 @@ import (
 	"sync"
 	"time"
 
-	"svid.example/go/internal/issuer"
-	"svid.example/go/svid"
+	"svid.example/go/v2/internal/issuer"
+	"svid.example/go/v2/svid"
 )
 
 const (
@@ -152,7 +151,7 @@ func randomUses(uses []svid.Use) []svid.Use {
 	for i := range uses {
 		u := &uses[i]
 		mustRead(u.Key[:])
-		u.At, u.Expires, u.Place = now, now+longest/2-uint64(u.Key[0]), svid.Place{1}
+		u.At, u.Expires, u.ValidatorID = now, now+longest/2-uint64(u.Key[0]), svid.ValidatorID{1}
 	}
 	sort.Slice(uses, func(i, k int) bool {
 		if uses[i].Expires != uses[k].Expires {
@@ -163,20 +162,14 @@ func randomUses(uses []svid.Use) []svid.Use {
 	return uses
 }
 
-// writeBatch writes rising uses of one moment as one batch.
+// writeBatch writes uses of one moment as batches.
 func writeBatch(w io.Writer, uses []svid.Use) error {
-	one := uses[0].Batch()
-	head := one[:17:17]
-	binary.BigEndian.PutUint32(head[13:], uint32(len(uses)))
-	if _, err := w.Write(head); err != nil {
+	batches, err := svid.Batches(uses)
+	if err != nil {
 		return err
 	}
-	for _, u := range uses {
-		if _, err := w.Write(u.Batch()[17:]); err != nil {
-			return err
-		}
-	}
-	return nil
+	_, err = w.Write(batches)
+	return err
 }
 
 func mustRead(b []byte) {

@@ -19,8 +19,8 @@ import (
 
 	"github.com/nats-io/nats.go"
 
-	"svid.example/go/internal/broker"
-	"svid.example/go/internal/issuer"
+	"svid.example/go/v2/internal/broker"
+	"svid.example/go/v2/internal/issuer"
 )
 
 const (

@@ -10,24 +10,24 @@ import (
 	"io"
 	"net"
 	"net/http"
-	"sort"
+	"strconv"
 	"strings"
 	"time"
 
-	"svid.example/go/internal/server"
-	"svid.example/go/svid"
+	"svid.example/go/v2/internal/server"
+	"svid.example/go/v2/svid"
 )
 
 // adminWait is how long the sidecar may take to answer on its admin socket.
 const adminWait = time.Minute
 
-// withdraw revokes a token at a running sidecar, and in its group.
+// withdraw withdraws a token at a running sidecar, and in its group.
 func withdraw(args []string, std stdio) int {
 	f := flag.NewFlagSet("svidd withdraw", flag.ContinueOnError)
 	f.SetOutput(std.err)
 	socket := f.String("admin", "", "unix socket `PATH` of the sidecar")
 	key := f.String("key", "", usages["key"])
-	var exp seconds
+	var exp moment
 	f.Var(&exp, "exp", usages["exp"])
 	if err := parse(f, &options{}, args); err != nil {
 		return fail(std, err)
@@ -84,19 +84,14 @@ func report(args []string, std stdio) int {
 	if err != nil {
 		return fail(std, err)
 	}
-	moment, uses, err := svid.Uses(messages)
+	text, err := svid.Report(messages)
+	if err == nil && *asJSON {
+		text, err = reportInJSON(text)
+	}
 	if err != nil {
 		return fail(std, err)
 	}
-	write := writeText
-	if *asJSON {
-		write = writeJSON
-	}
-	var out bytes.Buffer
-	if err := write(&out, moment, uses); err != nil {
-		return fail(std, err)
-	}
-	if _, err := out.WriteTo(std.out); err != nil {
+	if _, err := io.WriteString(std.out, text); err != nil {
 		return fail(std, err)
 	}
 	return exitYes
@@ -193,54 +188,14 @@ func askAt(network, address, method, path string, body []byte) ([]byte, error) {
 	return text, nil
 }
 
-// A double is a key that two or more uses have.
-type double struct {
-	Key   svid.TokenKey
-	Count int
-}
-
-// doubles finds them, by rising key. A withdrawal is no use here.
-func doubles(uses []svid.Use) []double {
-	counts := make(map[svid.TokenKey]int, len(uses))
-	for _, u := range uses {
-		if !u.Withdrawn {
-			counts[u.Key]++
-		}
-	}
-	var all []double
-	for key, count := range counts {
-		if count > 1 {
-			all = append(all, double{key, count})
-		}
-	}
-	sort.Slice(all, func(i, j int) bool { return bytes.Compare(all[i].Key[:], all[j].Key[:]) < 0 })
-	return all
-}
-
-func writeText(w io.Writer, moment uint64, uses []svid.Use) error {
-	fmt.Fprintf(w, "moment %d\nuses %d\n", moment, len(uses))
-	for _, u := range uses {
-		fmt.Fprintf(w, "%d %v %v %d", u.Expires, u.Key, u.Place, u.At)
-		if u.Withdrawn {
-			fmt.Fprint(w, " withdrawn")
-		}
-		fmt.Fprintln(w)
-	}
-	twice := doubles(uses)
-	fmt.Fprintf(w, "twice %d\n", len(twice))
-	for _, d := range twice {
-		fmt.Fprintf(w, "%v %d\n", d.Key, d.Count)
-	}
-	return nil
-}
-
-func writeJSON(w io.Writer, moment uint64, uses []svid.Use) error {
+// reportInJSON is what a report says, as one JSON object.
+func reportInJSON(text string) (string, error) {
 	type use struct {
-		Exp       uint64 `json:"exp"`
-		Key       string `json:"key"`
-		Place     string `json:"place"`
-		At        uint64 `json:"at"`
-		Withdrawn bool   `json:"withdrawn,omitempty"`
+		Exp         uint64 `json:"exp"`
+		Key         string `json:"key"`
+		ValidatorID string `json:"validator_id"`
+		At          uint64 `json:"at"`
+		Withdrawn   bool   `json:"withdrawn,omitempty"`
 	}
 	type twice struct {
 		Key  string `json:"key"`
@@ -250,12 +205,30 @@ func writeJSON(w io.Writer, moment uint64, uses []svid.Use) error {
 		Moment uint64  `json:"moment"`
 		Uses   []use   `json:"uses"`
 		Twice  []twice `json:"twice"`
-	}{moment, []use{}, []twice{}}
-	for _, u := range uses {
-		all.Uses = append(all.Uses, use{u.Expires, u.Key.String(), u.Place.String(), u.At, u.Withdrawn})
+	}{0, []use{}, []twice{}}
+	var fault error
+	number := func(text string) uint64 {
+		n, err := strconv.ParseUint(text, 10, 64)
+		if err != nil && fault == nil {
+			fault = fmt.Errorf("the report has no number where one is due: %w", err)
+		}
+		return n
 	}
-	for _, d := range doubles(uses) {
-		all.Twice = append(all.Twice, twice{d.Key.String(), d.Count})
+	for _, line := range strings.Split(text, "\n") {
+		switch words := strings.Fields(line); {
+		case len(words) == 2 && words[0] == "moment":
+			all.Moment = number(words[1])
+		case len(words) == 2 && (words[0] == "uses" || words[0] == "twice"):
+			// how many lines follow
+		case len(words) == 2:
+			all.Twice = append(all.Twice, twice{words[0], int(number(words[1]))})
+		case len(words) >= 4:
+			all.Uses = append(all.Uses, use{number(words[0]), words[1], words[2], number(words[3]), len(words) == 5})
+		}
 	}
-	return json.NewEncoder(w).Encode(all)
+	if fault != nil {
+		return "", fault
+	}
+	out, err := json.Marshal(all)
+	return string(out) + "\n", err
 }

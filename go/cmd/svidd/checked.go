@@ -3,9 +3,20 @@ package main
 import (
 	"context"
 	"encoding/json"
+	"errors"
 	"fmt"
+	"net"
+	"net/url"
+	"os"
+	"path/filepath"
+	"strings"
+	"sync"
+	"syscall"
+	"time"
 
-	"svid.example/go/internal/bundles"
+	"svid.example/go/v2/bundles"
+	"svid.example/go/v2/guard"
+	"svid.example/go/v2/journal"
 )
 
 // bundleProblems reads the trust bundles that are files, and says what is wrong with them. faults say which can't be used,
@@ -20,12 +31,14 @@ func (o *options) bundleProblems() (faults, warnings problems) {
 		if !s.IsRemote() {
 			files = append(files, s)
 		}
+		err := s.CheckAuthorities()
+		faults.wrong(err != nil, "--bundle-ca: the authorities of the server of %s can't be used: %v", s.Source, err)
 	}
 	read := 0
 	ctx, cancel := context.WithCancel(context.Background())
 	defer cancel()
 	_, err = bundles.Watch(ctx, files, func(domains map[string]json.RawMessage) error { read = len(domains); return nil }, bundles.Options{
-		Check: checkBundle, Unusable: o.unusable,
+		Check: guard.CheckBundle, Unusable: guard.Unusable(o.rsaBits),
 		Log: func(event string, fields ...any) {
 			sentence := fmt.Sprintf("the trust bundle can't be used: %v", unread(fields))
 			faults.wrong(event == "bundle not read", "%s", sentence)
@@ -35,4 +48,108 @@ func (o *options) bundleProblems() (faults, warnings problems) {
 	faults.wrong(err != nil, "%v", err)
 	faults.wrong(len(faults) == 0 && read == 0 && len(files) == len(specs), "%s has no file DOMAIN.json, so no token can be accepted", o.bundleFolder)
 	return faults, warnings
+}
+
+// folderProblems is what is wrong with the folders of the options: that of the record, and those of sockets.
+func (o *options) folderProblems() (faults problems) {
+	if o.state != "" {
+		err := stateFault(filepath.Clean(o.state))
+		faults.wrong(err != nil, "--state: %v", err)
+	}
+	for _, it := range [][2]string{{"listen", o.listen}, {"envoy", o.envoy}, {"metrics", o.metrics}, {"admin", "unix:" + o.admin}} {
+		path := strings.TrimPrefix(it[1], "unix:")
+		if path == it[1] || path == "" {
+			continue
+		}
+		err := usable(filepath.Dir(path))
+		if info, missing := os.Lstat(path); err == nil && missing == nil && info.Mode()&os.ModeSocket == 0 {
+			err = fmt.Errorf("%s is there, and is no socket: remove it, or give another path", path)
+		}
+		faults.wrong(err != nil, "--%s: %v", it[0], err)
+	}
+	return faults
+}
+
+// stateFault says why no sidecar can start with a state folder. A folder that is not there is made at the start.
+func stateFault(dir string) error {
+	info, err := os.Stat(dir)
+	switch {
+	case errors.Is(err, os.ErrNotExist):
+		return usable(filepath.Dir(dir))
+	case err != nil:
+		return err
+	case !info.IsDir():
+		return fmt.Errorf("%s is no folder", dir)
+	}
+	if err := usable(dir); err != nil {
+		return err
+	}
+	found, err := journal.Check(dir)
+	if err == nil {
+		err = found.Fault
+	}
+	return err
+}
+
+// usable says why this process can't make files in a folder.
+func usable(dir string) error {
+	if err := folderFault(dir); err != nil {
+		return err
+	}
+	const write, search = 2, 1 // W_OK, X_OK
+	if err := syscall.Access(dir, write|search); err != nil {
+		return fmt.Errorf("this user can't make files in %s: %w", dir, err)
+	}
+	return nil
+}
+
+// serverWait is how long --check-config waits for the servers of the group's log.
+const serverWait = 2 * time.Second
+
+// usualPorts are those of servers whose addresses name none.
+var usualPorts = map[string]string{"NATS": "4222", "Redis": "6379", "PostgreSQL": "5432"}
+
+// serverWarnings says which servers of the group's log can't be reached now. They may come later.
+func (o *options) serverWarnings() (warnings problems) {
+	addresses := o.servers()
+	kind, _ := o.carrierOf()
+	if kind == "" {
+		kind = "NATS"
+	}
+	if kind != "NATS" {
+		addresses = o.logs
+	}
+	faults := make([]error, len(addresses))
+	at := make([]string, len(addresses))
+	ctx, cancel := context.WithTimeout(context.Background(), serverWait)
+	defer cancel()
+	var all sync.WaitGroup
+	for i, address := range addresses {
+		if !strings.Contains(address, "://") {
+			address = "nats://" + address
+		}
+		u, err := url.Parse(address)
+		if err != nil || u.Hostname() == "" || strings.Contains(u.Host, ",") {
+			continue // such as a socket of PostgreSQL
+		}
+		port := u.Port()
+		if port == "" {
+			port = usualPorts[kind]
+		}
+		at[i] = net.JoinHostPort(u.Hostname(), port) // (without a password)
+		all.Add(1)
+		go func(i int) {
+			defer all.Done()
+			var dialer net.Dialer
+			c, err := dialer.DialContext(ctx, "tcp", at[i])
+			if faults[i] = err; err == nil {
+				c.Close()
+			}
+		}(i)
+	}
+	all.Wait()
+	for i, err := range faults {
+		warnings.wrong(err != nil, "nothing answers at %s, a server of the group's log: %v", at[i], err)
+	}
+	return warnings
 }

@@ -14,7 +14,7 @@ import (
 
 	"github.com/nats-io/nats.go"
 
-	"svid.example/go/internal/natstest"
+	"svid.example/go/v2/internal/natstest"
 )
 
 // What stands on the command line counts before the environment, and that before a file.
@@ -35,25 +35,26 @@ func TestTheCommandLineCountsFirst(t *testing.T) {
 	}
 }
 
-// A sidecar with a state folder has the folder's place, over restarts.
-func TestTheStateFolderHasThePlace(t *testing.T) {
+// A sidecar with a state folder has the folder's validator ID, over restarts.
+func TestTheStateFolderHasTheValidatorID(t *testing.T) {
+	t.Parallel()
 	state, admin := filepath.Join(t.TempDir(), "state"), filepath.Join(t.TempDir(), "admin.sock")
 	p := start(t, bundleOption(bundleFile(t, example)), "--state", state, "--admin", admin)
 	text, err := os.ReadFile(filepath.Join(state, "place"))
 	if err != nil {
 		t.Fatal(err)
 	}
-	place := strings.TrimSpace(string(text))
+	id := strings.TrimSpace(string(text))
 	p.want(token(t, "a", time.Minute), 200, "")
 	p.end()
 	p.start()
 	p.want(token(t, "b", time.Minute), 200, "")
 	for i, line := range p.events("serving") {
-		if line["place"] != place {
-			t.Errorf("start %d: the place is %v, and the folder has %s", i, line["place"], place)
+		if line["validator_id"] != id {
+			t.Errorf("start %d: the validator ID is %v, and the folder has %s", i, line["validator_id"], id)
 		}
 	}
-	if status, out, err := svidd(t, "", "report", "--admin", admin); status != 0 || strings.Count(out, " "+place+" ") != 2 {
+	if status, out, err := svidd(t, "", "report", "--admin", admin); status != 0 || strings.Count(out, " "+id+" ") != 2 {
 		t.Errorf("%d %q %q", status, out, err)
 	}
 	p.end()
@@ -61,6 +62,7 @@ func TestTheStateFolderHasThePlace(t *testing.T) {
 
 // The bucket keeps a claim for as long as any sidecar may accept its token: the longest life, by clocks that may both be off.
 func TestTheBucketKeepsClaimsAsLongAsTokensLive(t *testing.T) {
+	t.Parallel()
 	server := natstest.Start(t)
 	p := start(t, bundleOption(bundleFile(t, example)), "--replay", "strict", "--nats", server.URL, "--ahead", "20")
 	conn, err := nats.Connect(server.URL)

@@ -17,7 +17,8 @@ import (
 	"testing"
 	"time"
 
-	"svid.example/go/internal/natstest"
+	"svid.example/go/v2/internal/natstest"
+	"svid.example/go/v2/internal/patience"
 )
 
 // readYAML reads a file of deploy/ with Debian's python3-yaml.
@@ -42,6 +43,7 @@ func readYAML(t *testing.T, name string, into any) {
 
 // The sidecars of deploy/compose.yaml, by the very words of their command, over a NATS server that runs by those of its own.
 func TestComposeFile(t *testing.T) {
+	t.Parallel()
 	var compose struct {
 		Services map[string]struct {
 			Image   string
@@ -63,7 +65,7 @@ func TestComposeFile(t *testing.T) {
 		if of := strings.TrimPrefix(service.Network, "service:"); compose.Services[of].Image == "" || of == service.Network {
 			t.Errorf("%s has the network of %q", name, service.Network)
 		}
-		p := &process{t: t, address: freeAddress(t), log: &lines{}, client: &http.Client{Timeout: patience}}
+		p := &process{t: t, address: freeAddress(t), log: &lines{}, client: &http.Client{Timeout: patience.Long}}
 		for _, word := range service.Command {
 			p.args = append(p.args, strings.NewReplacer("/etc/svidd/bundle.json", bundle, "nats://nats:4222", server.URL,
 				"/run/svidd", t.TempDir()).Replace(word))
@@ -142,7 +144,7 @@ func TestSystemdUnit(t *testing.T) {
 	}
 	defer notified.Close()
 	t.Setenv("NOTIFY_SOCKET", filepath.Join(folder, "notify"))
-	p := &process{t: t, address: freeAddress(t), log: &lines{}, client: &http.Client{Timeout: patience}}
+	p := &process{t: t, address: freeAddress(t), log: &lines{}, client: &http.Client{Timeout: patience.Long}}
 	p.args = []string{"serve", "--config", options, "--listen", p.address}
 	t.Cleanup(p.kill)
 	p.start()
@@ -150,7 +152,7 @@ func TestSystemdUnit(t *testing.T) {
 	p.end()
 	for _, want := range []string{"READY=1", "STOPPING=1"} {
 		said := make([]byte, 100)
-		_ = notified.SetReadDeadline(time.Now().Add(patience))
+		_ = notified.SetReadDeadline(time.Now().Add(patience.Long))
 		if n, err := notified.Read(said); err != nil || string(said[:n]) != want {
 			t.Errorf("systemd hears %q, %v, and not %s\n%s", said[:n], err, want, p.log)
 		}
@@ -299,6 +301,7 @@ func (e *envoy) ServeHTTP(w http.ResponseWriter, r *http.Request) {
 
 // The calls of Envoy's filter ext_authz, by the settings of deploy/envoy.yaml.
 func TestEnvoyListener(t *testing.T) {
+	t.Parallel()
 	p := start(t, bundleOption(bundleFile(t, example)), "--state", filepath.Join(t.TempDir(), "state"))
 	service := http.HandlerFunc(func(w http.ResponseWriter, r *http.Request) {
 		body, _ := io.ReadAll(r.Body)
@@ -362,5 +365,19 @@ func TestEnvoyListener(t *testing.T) {
 	e.sidecar, e.timeout = deaf.Addr().String(), 200*time.Millisecond
 	if answer, _ := send("GET", "/", token(t, "deaf", time.Minute)); answer.StatusCode != 503 {
 		t.Errorf("a sidecar that does not answer: %d", answer.StatusCode)
+	}
+	// What the other setting would do, and that whoever sets it was told.
+	e.filter.FailureModeAllow = true
+	if answer, body := send("GET", "/", ""); answer.StatusCode != 200 || !strings.Contains(body, "of [spiffe://example.org/admin spiffe://example.org/root] for") {
+		t.Errorf("failure_mode_allow: %d %q", answer.StatusCode, body)
+	}
+	for _, name := range []string{"../../deploy/envoy.yaml", "../../deploy/envoy-grpc.yaml", "../../../docs/SIDECAR.md"} {
+		text, err := os.ReadFile(name)
+		if err != nil {
+			t.Fatal(err)
+		}
+		if !strings.Contains(string(text), "failure_mode_allow: true") {
+			t.Errorf("%s does not say what failure_mode_allow: true would do", name)
+		}
 	}
 }

@@ -16,9 +16,9 @@ import (
 
 	"github.com/nats-io/nats.go"
 
-	"svid.example/go/internal/broker"
-	"svid.example/go/internal/natstest"
-	"svid.example/go/svid"
+	"svid.example/go/v2/internal/broker"
+	"svid.example/go/v2/internal/natstest"
+	"svid.example/go/v2/svid"
 )
 
 // several starts n sidecars of a group.
@@ -26,6 +26,9 @@ func several(t *testing.T, n int, mode, urls string, more ...string) []*process 
 	t.Helper()
 	bundle := bundleOption(bundleFile(t, example))
 	all := make([]*process, n)
+	if mode == "strict" && !strings.Contains(strings.Join(more, " "), "--wait") {
+		more = append(more[:len(more):len(more)], "--wait", "15s") // (a busy machine may be slow)
+	}
 	for i := range all {
 		args := []string{bundle, "--replay", mode, "--nats", urls, "--log", "errors", "--admin", filepath.Join(t.TempDir(), "admin.sock")}
 		if mode == "once" {
@@ -99,6 +102,7 @@ func count(numbers []int32) string {
 
 // In mode strict each token that three sidecars get at once is accepted by exactly one.
 func TestStrictAcceptsOnceInTheWholeGroup(t *testing.T) {
+	t.Parallel()
 	const n = 1000
 	servers := natstest.Cluster(t, 3)
 	all := several(t, 3, "strict", strings.Join(broker.URLs(servers), ","), "--replicas", "3", "--wait", "10s")
@@ -107,20 +111,21 @@ func TestStrictAcceptsOnceInTheWholeGroup(t *testing.T) {
 		t.Errorf("accepted %s; unjudged %s", got, count(unjudged))
 	}
 	t.Logf("%d tokens to 3 sidecars at once: accepted %s, not judged %s", n, count(accepted), count(unjudged))
-	// Each sidecar has claimed by a place of its own, and the first claims are in all records.
-	places := map[string]bool{}
+	// Each sidecar has claimed by a validator ID of its own, and the first claims are in all records.
+	ids := map[string]bool{}
 	for _, line := range strings.Split(equalRecords(t, all), "\n") {
 		if words := strings.Fields(line); len(words) == 4 {
-			places[words[2]] = true
+			ids[words[2]] = true
 		}
 	}
-	if len(places) != len(all) {
-		t.Errorf("the uses are of %d places", len(places))
+	if len(ids) != len(all) {
+		t.Errorf("the uses are of %d validators", len(ids))
 	}
 }
 
 // In mode once a token may be accepted by each sidecar, and then every report says so.
 func TestOnceReportsWhatTwoAccepted(t *testing.T) {
+	t.Parallel()
 	const n = 500
 	server := natstest.Start(t)
 	all := several(t, 3, "once", server.URL)
@@ -175,6 +180,7 @@ func (p *process) option(name string) string {
 
 // A withdrawal reaches the group, also a sidecar that starts later.
 func TestAWithdrawalReachesTheGroup(t *testing.T) {
+	t.Parallel()
 	server := natstest.Start(t)
 	all := several(t, 2, "reuse", server.URL)
 	reused := token(t, "reused", time.Minute)
@@ -190,8 +196,9 @@ func TestAWithdrawalReachesTheGroup(t *testing.T) {
 
 // Without its broker a strict sidecar judges nothing; one of mode once goes on.
 func TestTheBrokerIsAway(t *testing.T) {
+	t.Parallel()
 	server := natstest.Start(t)
-	strict := several(t, 1, "strict", server.URL, "--wait", "300ms")[0]
+	strict := several(t, 1, "strict", server.URL, "--wait", "3s")[0]
 	once := several(t, 1, "once", server.URL)[0]
 	before := token(t, "before", time.Minute)
 	strict.want(before, 200, "")
@@ -215,11 +222,12 @@ func TestTheBrokerIsAway(t *testing.T) {
 
 // What others write to the bucket is put aside where it is no use of a token or too far ahead, and nobody is accepted by it.
 func TestAMemberThatLies(t *testing.T) {
+	t.Parallel()
 	server := natstest.Start(t)
 	p := several(t, 1, "strict", server.URL)[0]
 	kv := bucket(t, server.URL)
 	far := svid.Use{Key: svid.TokenKey{1}, Expires: ^uint64(0), At: ^uint64(0) - 1}
-	for name, value := range map[string][]byte{"u.far": far.Batch(), "u.garbage": make([]byte, 900_000), "u.empty": {}} {
+	for name, value := range map[string][]byte{"u.far": batchOf(far), "u.garbage": make([]byte, 900_000), "u.empty": {}} {
 		if _, err := kv.Put(name, value); err != nil {
 			t.Fatal(err)
 		}
@@ -229,7 +237,7 @@ func TestAMemberThatLies(t *testing.T) {
 	victim := token(t, "victim", time.Minute)
 	admin := p.option("--admin")
 	claim := svid.Use{Key: keyOf(t, victim), Expires: svid.Now() + 7200, At: svid.Now() + 3600}
-	if _, err := kv.Create("c.liar.1", claim.Batch()); err != nil {
+	if _, err := kv.Create("c.liar.1", batchOf(claim)); err != nil {
 		t.Fatal(err)
 	}
 	p.await("the claim aside", func() bool { return p.metric("svidd_messages_aside_total") == "3" })
@@ -291,6 +299,7 @@ func loseFirst(t *testing.T, p *process, url string) {
 // A sidecar that has missed values of the bucket accepts nothing until they must have expired, or an operator lets it go on. One
 // that has read them accepts tokens all the while.
 func TestValuesThatAreMissing(t *testing.T) {
+	t.Parallel()
 	server := natstest.Start(t)
 	first := several(t, 1, "strict", server.URL)[0]
 	lost := token(t, "lost", 30*time.Minute)
@@ -340,6 +349,7 @@ func TestValuesThatAreMissing(t *testing.T) {
 // A state folder is given to the record behind the bucket. What the bucket has lost it still has. And since it says that the bucket
 // had more, the sidecar accepts nothing until an operator lets it go on.
 func TestAStateFolderBesideABucket(t *testing.T) {
+	t.Parallel()
 	server := natstest.Start(t)
 	p := several(t, 1, "strict", server.URL, "--state", filepath.Join(t.TempDir(), "state"))[0]
 	one, two := token(t, "one", 30*time.Minute), token(t, "two", 30*time.Minute)
@@ -398,6 +408,7 @@ func (p *process) inBucket() string {
 
 // A gap outlives a kill, also where the bucket no longer shows it; and so does that an operator let the sidecar go on.
 func TestAGapOutlivesARestart(t *testing.T) {
+	t.Parallel()
 	server := natstest.Start(t)
 	first := several(t, 1, "strict", server.URL)[0]
 	first.want(token(t, "lost", 30*time.Minute), 200, "")
@@ -447,6 +458,7 @@ func TestAGapOutlivesARestart(t *testing.T) {
 
 // A bucket that was put back from an older copy lacks what was put into it since. Who has a state folder sees that.
 func TestABucketThatIsPutBack(t *testing.T) {
+	t.Parallel()
 	dir := filepath.Join(t.TempDir(), "nats")
 	if err := os.Mkdir(dir, 0o700); err != nil {
 		t.Fatal(err)
@@ -527,36 +539,40 @@ func keyOf(t *testing.T, token string) svid.TokenKey {
 
 // Whatever is killed, no token that was answered 200 is answered 200 again.
 func TestKilledAtRandomMoments(t *testing.T) {
+	t.Parallel()
 	rounds := 8
 	if testing.Short() {
 		rounds = 3
 	}
 	t.Run("once", func(t *testing.T) {
+		t.Parallel()
 		p := start(t, bundleOption(bundleFile(t, example)), "--state", filepath.Join(t.TempDir(), "state"), "--log", "errors")
 		killed(t, rounds, p, nil, nil)
 	})
 	t.Run("strict", func(t *testing.T) {
+		t.Parallel()
 		servers := natstest.Cluster(t, 3)
-		all := several(t, 2, "strict", strings.Join(broker.URLs(servers), ","), "--replicas", "3")
+		all := several(t, 2, "strict", strings.Join(broker.URLs(servers), ","), "--replicas", "3", "--wait", "2s")
 		killed(t, rounds, all[0], all[1:], servers)
 	})
 }
 
-// killed sends tokens to a sidecar, and to others at the same time, kills it at a random moment and one of the
-// brokers in every other round, starts them again, and sends all tokens again.
+// killed sends tokens to a sidecar, and to others at the same time, kills it behind a random number of them and one of
+// the brokers in every other round, starts them again, and sends all tokens again.
 func killed(t *testing.T, rounds int, p *process, others []*process, brokers []*broker.Server) {
 	total := 0
 	everyone := append([]*process{p}, others...)
 	for round := 0; round < rounds; round++ {
 		all := tokens(t, fmt.Sprint("round", round, "-"), 150)
 		var killing sync.WaitGroup
-		afterAWhile(&killing, func() { _ = p.run.Process.Kill() })
+		var begun int64
+		afterSome(&killing, &begun, func() { _ = p.run.Process.Kill() })
 		var away *broker.Server
 		if len(brokers) > 0 && round%2 == 1 {
 			away = brokers[rand.Intn(len(brokers))]
-			afterAWhile(&killing, away.Kill)
+			afterSome(&killing, &begun, away.Kill)
 		}
-		accepted, _ := storm(everyone, all, 8)
+		accepted, _ := stormCounted(everyone, all, 8, &begun)
 		killing.Wait()
 		p.kill()
 		if away != nil {
@@ -579,12 +595,14 @@ func killed(t *testing.T, rounds int, p *process, others []*process, brokers []*
 	t.Logf("killed %d times; %d tokens were answered 200 before, and none of them behind it", rounds, total)
 }
 
-// afterAWhile does something at a random moment soon.
-func afterAWhile(group *sync.WaitGroup, do func()) {
+// afterSome does something once a random number of tokens is on the way: 20 at the least, of which 8 may have no answer yet.
+func afterSome(group *sync.WaitGroup, begun *int64, do func()) {
 	group.Add(1)
 	go func() {
 		defer group.Done()
-		time.Sleep(time.Duration(rand.Intn(120)) * time.Millisecond)
+		for least := int64(20 + rand.Intn(100)); atomic.LoadInt64(begun) < least; {
+			time.Sleep(time.Millisecond)
+		}
 		do()
 	}()
 }

@@ -1,17 +1,17 @@
 package main
 
 import (
-	"context"
 	"flag"
 	"fmt"
 	"strings"
 	"time"
 
-	"svid.example/go/internal/carrier"
-	"svid.example/go/internal/carrier/postgres"
-	"svid.example/go/internal/carrier/redis"
-	"svid.example/go/internal/group"
-	"svid.example/go/internal/server"
+	"svid.example/go/v2/carriers"
+	"svid.example/go/v2/carriers/jetstream"
+	"svid.example/go/v2/carriers/postgres"
+	"svid.example/go/v2/carriers/redis"
+	"svid.example/go/v2/guard"
+	"svid.example/go/v2/internal/server"
 )
 
 // schemes are those of the addresses of a group's log, and what carries it.
@@ -44,7 +44,7 @@ func (o *options) logProblems(all *problems) {
 		return
 	}
 	all.wrong(server.Mode(o.replay) == server.Once, "--replay once wants a group over NATS, whose members repair their records by summaries: over %s use strict", kind)
-	all.wrong(o.files != group.Files{}, "--nats-ca, --nats-cert, --nats-key and --nats-creds are for NATS: name the files in the address of --group-log")
+	all.wrong(o.files != jetstream.Files{}, "--nats-ca, --nats-cert, --nats-key and --nats-creds are for NATS: name the files in the address of --group-log")
 	if store, err := o.store(kind); err != nil {
 		all.wrong(true, "--group-log: %v", err)
 	} else {
@@ -54,41 +54,27 @@ func (o *options) logProblems(all *problems) {
 
 // keep is how long the group's log keeps a value: a token lives for --longest by the clock of who accepts it, and that clock and
 // the one of who asks may both be off by --ahead.
-func (o *options) keep() time.Duration {
-	return time.Duration(o.longest.value+2*o.ahead.value) * time.Second
-}
+func (o *options) keep() time.Duration { return guard.Keep(o.longest.value, o.ahead.value) }
 
 // store is what keeps the group's log, where that is not NATS.
-func (o *options) store(kind string) (carrier.Store, error) {
+func (o *options) store(kind string) (carriers.Store, error) {
 	if kind == "Redis" {
 		return redis.New(redis.Options{URLs: o.logs, Name: o.group, Keep: o.keep(), Replicas: o.replicas})
 	}
 	return postgres.New(postgres.Options{URLs: o.logs, Name: o.group, Keep: o.keep(), Replicas: o.replicas})
 }
 
-// tie joins the group.
-func (s *sidecar) tie(ctx context.Context) (carrier.Group, error) {
-	if kind, _ := s.carrierOf(); kind == "Redis" || kind == "PostgreSQL" {
-		store, err := s.store(kind)
-		if err != nil {
-			return nil, err
-		}
-		return carrier.Join(ctx, store, carrier.Options{Keep: s.keep(), Log: s.said}, s.engine)
+// groupLog is the group's log, and nil where there is no group.
+func (o *options) groupLog() carriers.Log {
+	switch kind, _ := o.carrierOf(); {
+	case kind == "Redis":
+		return redis.Options{URLs: o.logs, Name: o.group, Replicas: o.replicas}
+	case kind == "PostgreSQL":
+		return postgres.Options{URLs: o.logs, Name: o.group, Replicas: o.replicas}
+	case o.isGrouped():
+		return jetstream.Options{Files: o.files, Servers: o.servers(), Name: o.group, Replicas: o.replicas}
 	}
-	connect, err := s.files.Connect()
-	if err != nil {
-		return nil, err
-	}
-	g, err := group.Join(ctx, group.Options{
-		Connect: connect, Servers: s.servers(), Name: s.options.group, Place: s.engine.Place, Replicas: s.replicas, TTL: s.keep(), Log: s.said,
-	}, s.engine)
-	if err != nil {
-		return nil, err
-	}
-	if s.replay != string(server.Strict) { // else each reads all values, and an answer would tell of a claim before its value is read: that burns the token
-		g.Summaries(s.summaries, s.engine.Summary, s.engine.Answer)
-	}
-	return g, nil
+	return nil
 }
 
 // schema prints what makes a group's log in PostgreSQL.
@@ -101,12 +87,12 @@ func schema(args []string, std stdio) int {
 	f.Var(&o.longest, "longest", usages["longest"])
 	f.Var(&o.ahead, "ahead", usages["ahead"])
 	f.StringVar(&role, "role", "", usages["role"])
-	if err := f.Parse(args); err != nil {
+	if err := parseWords(f, args); err != nil {
 		return fail(std, err)
 	}
 	var all problems
 	all.wrong(f.NArg() > 0, "schema takes no argument")
-	all.wrong(!carrier.ValidName(o.group), "--group %q can't name a group: use letters, digits, - and _", o.group)
+	all.wrong(!carriers.ValidName(o.group), "--group %q can't name a group: use letters, digits, - and _", o.group)
 	all.wrong(!o.longest.given || o.longest.value == 0 || o.longest.value > mostLongest, "--longest must be from 1 to %d seconds", uint64(mostLongest))
 	all.wrong(o.ahead.value > mostAhead, "--ahead must be at most %d seconds", uint64(mostAhead))
 	if len(all) > 0 {

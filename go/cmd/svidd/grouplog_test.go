@@ -10,8 +10,8 @@ import (
 	"testing"
 	"time"
 
-	"svid.example/go/internal/broker"
-	"svid.example/go/internal/natstest"
+	"svid.example/go/v2/internal/broker"
+	"svid.example/go/v2/internal/natstest"
 )
 
 // long lets a test send 10,000 tokens.
@@ -80,8 +80,11 @@ func many() int {
 
 // Whatever carries the log: each token that three sidecars get at once is accepted by exactly one, and all records are equal.
 func TestStrictOverEachLog(t *testing.T) {
+	t.Parallel()
 	for name, begin := range logServers {
+		begin := begin
 		t.Run(name, func(t *testing.T) {
+			t.Parallel()
 			_, url := begin(t)
 			all := members(t, 3, url, "--wait", "20s")
 			n := many()
@@ -102,10 +105,13 @@ func TestStrictOverEachLog(t *testing.T) {
 // The same while two sidecars and the server are killed, and the server is stopped as an administrator does: no token is accepted
 // twice, the records are equal behind it, and nothing says that values are missing.
 func TestKilledOverEachLog(t *testing.T) {
+	t.Parallel()
 	for name, begin := range logServers {
+		begin := begin
 		t.Run(name, func(t *testing.T) {
+			t.Parallel()
 			server, url := begin(t)
-			all := members(t, 3, url)
+			all := members(t, 3, url, "--wait", "20s")
 			n := many()
 			sent := tokens(t, "killed", n)
 			var begun int64
@@ -192,7 +198,7 @@ func TestOptionsOfTheLog(t *testing.T) {
 		{[]string{"--replay", "strict", "--group-log", "redis://h", "--replicas", "6"}, "from 1 to 5"},
 	} {
 		status, out, err := here("", append(good[:len(good):len(good)], row.args...)...)
-		said := out + err
+		said := out + withoutServers(err)
 		if row.want == "" && (status != 0 || said != "svidd: the options are good\n") || row.want != "" && (status != 2 || !strings.Contains(err, row.want)) {
 			t.Errorf("%q: %d %q, and %q is due", row.args, status, said, row.want)
 		}
@@ -208,6 +214,7 @@ func TestOptionsOfTheLog(t *testing.T) {
 
 // What schema prints makes a log that members with the rights of a role use, and whose values these can't change.
 func TestSchema(t *testing.T) {
+	t.Parallel()
 	server, url := logServers["PostgreSQL"](t)
 	postgres := server.(*broker.Postgres)
 	for _, args := range [][]string{{"schema"}, {"schema", "--longest", "0"}, {"schema", "--longest", "60", "--group", "a b"}, {"schema", "--longest", "60", "more"}} {

@@ -1,6 +1,7 @@
 package main
 
 import (
+	"bytes"
 	"fmt"
 	"net"
 	"os"
@@ -17,21 +18,32 @@ func hanging(t *testing.T, call string) []string {
 	t.Helper()
 	strace, err := exec.LookPath("strace")
 	if err != nil {
-		t.Skip("a disk that hangs is made by strace: apt-get install strace")
+		without(t, "a disk that hangs is made by strace: apt-get install strace")
 	}
 	words := []string{strace, "-f", "--quiet=all", "--seccomp-bpf", "--output=/dev/null", "--trace=" + call, "--inject=" + call + ":delay_enter=3600s"}
 	if out, err := exec.Command(words[0], append(words[1:len(words):len(words)], "true")...).CombinedOutput(); err != nil {
-		t.Skipf("strace can't trace here: %v %s", err, out)
+		without(t, "strace can't trace here: %v %s", err, out)
 	}
 	return append(words, os.Args[0])
+}
+
+// without skips a test for want of something. Where CI=true that is a failure: go test says nothing of what it skips.
+func without(t *testing.T, why string, values ...any) {
+	t.Helper()
+	if os.Getenv("CI") == "true" {
+		t.Fatalf(why, values...)
+	}
+	t.Skipf(why, values...)
 }
 
 // The disk hangs for good, at the first acceptance: every request is answered in time, and none with 200. /healthz, /readyz and
 // /metrics do not wait, and SIGTERM ends the process.
 func TestADiskThatHangs(t *testing.T) {
-	t.Setenv(asSvidd, "1")
+	t.Parallel()
 	state, admin := filepath.Join(t.TempDir(), "state"), filepath.Join(t.TempDir(), "admin.sock")
-	p := startBy(t, hanging(t, "fdatasync"), bundleOption(bundleFile(t, example)), "--state", state, "--admin", admin, "--wait", "300ms")
+	p := prepare(t, hanging(t, "fdatasync"), bundleOption(bundleFile(t, example)), "--state", state, "--admin", admin, "--wait", "300ms")
+	p.more = []string{asSvidd + "=1"}
+	p.start()
 	p.client.Timeout = 10 * time.Second
 	for i := 0; i < 3; i++ {
 		one := token(t, fmt.Sprint(i), time.Minute)
@@ -58,8 +70,9 @@ func TestADiskThatHangs(t *testing.T) {
 
 // A start that hangs ends by SIGTERM.
 func TestAStartThatHangs(t *testing.T) {
-	t.Setenv(asSvidd, "1")
+	t.Parallel()
 	p := prepare(t, hanging(t, "flock"), bundleOption(bundleFile(t, example)), "--state", filepath.Join(t.TempDir(), "state"))
+	p.more = []string{asSvidd + "=1"}
 	p.launch()
 	p.await("the lock", func() bool {
 		_, err := os.Stat(filepath.Join(p.option("--state"), "lock"))
@@ -68,7 +81,8 @@ func TestAStartThatHangs(t *testing.T) {
 	p.endHanging()
 }
 
-// endHanging ends svidd by SIGTERM. (strace, which runs it, goes on until the call of the system would return.)
+// endHanging ends svidd by SIGTERM. strace, which runs it, holds the thread whose call of the system hangs until that would return. So the
+// end is seen by all other threads: they are there as long as svidd runs.
 func (p *process) endHanging() {
 	p.t.Helper()
 	if err := p.signal(syscall.SIGTERM); err != nil {
@@ -76,12 +90,31 @@ func (p *process) endHanging() {
 	}
 	p.await("the end of svidd", func() bool {
 		pid, err := p.pid()
-		return err != nil || pid == 0
+		return err != nil || pid == 0 || threads(pid) <= 1
 	})
+}
+
+// threads is how many threads of a process have not ended.
+func threads(pid int) (n int) {
+	stats, err := filepath.Glob(fmt.Sprintf("/proc/%d/task/[0-9]*/stat", pid))
+	if err != nil {
+		return 0
+	}
+	for _, stat := range stats {
+		text, err := os.ReadFile(stat)
+		if err != nil {
+			continue // it has ended meanwhile
+		}
+		if state := text[bytes.LastIndexByte(text, ')')+2]; state != 'Z' && state != 'X' {
+			n++
+		}
+	}
+	return n
 }
 
 // A pipe in the place of a file is said at once, where svidd can't go on without that file.
 func TestAPipeInThePlaceOfAFile(t *testing.T) {
+	t.Parallel()
 	folder := t.TempDir()
 	pipe, state := filepath.Join(folder, "pipe"), filepath.Join(folder, "state")
 	if err := syscall.Mkfifo(pipe, 0o600); err != nil {
@@ -116,6 +149,7 @@ func TestAPipeInThePlaceOfAFile(t *testing.T) {
 // Nor is a pipe waited for, a socket or a folder, in the place of a file for the NATS servers: neither by --check-config, nor by
 // a start.
 func TestWhatIsNoRegularFileForNATS(t *testing.T) {
+	t.Parallel()
 	dir := t.TempDir()
 	in := func(name string) string { return filepath.Join(dir, name) }
 	if err := syscall.Mkfifo(in("pipe"), 0o600); err != nil {
@@ -148,6 +182,7 @@ func TestWhatIsNoRegularFileForNATS(t *testing.T) {
 
 // A pipe in the place of a bundle stops neither SIGTERM nor SIGHUP.
 func TestAPipeInThePlaceOfABundle(t *testing.T) {
+	t.Parallel()
 	good, folder := bundleFile(t, example), t.TempDir()
 	pipe := filepath.Join(folder, "example.com.json")
 	if err := syscall.Mkfifo(pipe, 0o600); err != nil {

@@ -6,11 +6,11 @@ import (
 	"encoding/json"
 	"fmt"
 	"io"
-	"net"
 	"net/http"
 	"os"
 	"os/exec"
 	"path/filepath"
+	"regexp"
 	"strconv"
 	"strings"
 	"sync"
@@ -18,29 +18,47 @@ import (
 	"testing"
 	"time"
 
-	"svid.example/go/internal/issuer"
+	"svid.example/go/v2/internal/broker"
+	"svid.example/go/v2/internal/issuer"
+	"svid.example/go/v2/internal/patience"
+	"svid.example/go/v2/svid"
 )
 
 // asSvidd, in the environment, lets the test's own binary be the program svidd.
 const asSvidd = "SVIDD_TEST_IS_SVIDD"
 
-// patience is how long anything that is awaited may take.
-const patience = 30 * time.Second
+// jumpedBy, in the environment, names a file that says how many seconds svidd's clock is ahead of this machine's. (Nothing else can
+// set the clock of one process.)
+const jumpedBy = "SVIDD_TEST_CLOCK"
+
+func aheadBy(file string) uint64 {
+	text, err := os.ReadFile(file)
+	if err != nil {
+		return 0
+	}
+	ahead, err := strconv.ParseUint(strings.TrimSpace(string(text)), 10, 64)
+	if err != nil {
+		panic(err)
+	}
+	return ahead
+}
 
 func TestMain(m *testing.M) {
 	if os.Getenv(asSvidd) != "" {
+		if name := os.Getenv(jumpedBy); name != "" {
+			clock = func() uint64 { return svid.Now() + aheadBy(name) }
+		}
 		os.Exit(run(os.Args[1:], stdio{os.Stdin, os.Stdout, os.Stderr}))
+	}
+	var err error
+	if example, err = issuer.New("example.org"); err != nil {
+		panic(err)
 	}
 	os.Exit(m.Run())
 }
 
-var example = func() *issuer.Issuer {
-	i, err := issuer.New("example.org")
-	if err != nil {
-		panic(err)
-	}
-	return i
-}()
+// example signs the tokens of the tests. A test's binary that is svidd has none: an RSA key takes it longer than its start.
+var example *issuer.Issuer
 
 // token is a new token for the audience ledger that lives for so long.
 func token(t testing.TB, id string, life time.Duration) string {
@@ -85,6 +103,7 @@ type process struct {
 	t       testing.TB
 	program []string // what runs svidd with its words behind: the test's own binary where empty
 	args    []string
+	more    []string // of its environment
 	address string
 	run     *exec.Cmd
 	log     *lines
@@ -128,21 +147,21 @@ func startBy(t testing.TB, program []string, args ...string) *process {
 func prepare(t testing.TB, program []string, args ...string) *process {
 	t.Helper()
 	p := &process{t: t, program: program, address: freeAddress(t), log: &lines{}, client: &http.Client{
-		Timeout: patience, Transport: &http.Transport{MaxIdleConnsPerHost: 64},
+		Timeout: patience.Long, Transport: &http.Transport{MaxIdleConnsPerHost: 64},
 	}}
 	p.args = append([]string{"serve", "--audience", "ledger", "--longest", "3600", "--listen", p.address}, args...)
 	t.Cleanup(p.kill)
 	return p
 }
 
+// freeAddress is one that the test's process holds, so that tests which run side by side get others.
 func freeAddress(t testing.TB) string {
 	t.Helper()
-	l, err := net.Listen("tcp", "127.0.0.1:0")
+	ports, err := broker.FreePorts(1)
 	if err != nil {
 		t.Fatal(err)
 	}
-	defer l.Close()
-	return l.Addr().String()
+	return fmt.Sprintf("127.0.0.1:%d", ports[0])
 }
 
 func command(args ...string) *exec.Cmd {
@@ -163,7 +182,9 @@ func (p *process) launch() {
 	if len(p.program) > 0 {
 		words := append(p.program[:len(p.program):len(p.program)], p.args...)
 		p.run = exec.Command(words[0], words[1:]...)
+		p.run.Env = os.Environ()
 	}
+	p.run.Env = append(p.run.Env, p.more...)
 	p.run.Stderr = p.log
 	if p.stderr != nil {
 		p.run.Stderr = p.stderr
@@ -176,9 +197,9 @@ func (p *process) launch() {
 // await waits until something is so.
 func (p *process) await(what string, is func() bool) {
 	p.t.Helper()
-	for end := time.Now().Add(patience); !is(); time.Sleep(5 * time.Millisecond) {
+	for end := time.Now().Add(patience.Long); !is(); time.Sleep(5 * time.Millisecond) {
 		if time.Now().After(end) {
-			p.t.Fatalf("waited %v for: %s\n%s", patience, what, p.log)
+			p.t.Fatalf("waited %v for: %s\n%s", patience.Long, what, p.log)
 		}
 	}
 }
@@ -323,11 +344,27 @@ func (p *process) events(name string) []map[string]any {
 			p.t.Errorf("a line of the log is no JSON object: %q", scanner.Text())
 			continue
 		}
+		p.wellFormed(line)
 		if line["event"] == name {
 			found = append(found, line)
 		}
 	}
 	return found
+}
+
+var logKey = regexp.MustCompile("^[a-z_]+$")
+
+// wellFormed wants a line of the log to have what each one has, and keys that need no quotes.
+func (p *process) wellFormed(line map[string]any) {
+	p.t.Helper()
+	if level := line["level"]; level != "error" && level != "info" && level != "debug" || line["time"] == nil || line["event"] == nil {
+		p.t.Errorf("a line of the log lacks something: %v", line)
+	}
+	for key := range line {
+		if !logKey.MatchString(key) {
+			p.t.Errorf("a line of the log has the key %q: %v", key, line)
+		}
+	}
 }
 
 // svidd runs a command to its end.

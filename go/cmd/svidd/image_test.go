@@ -21,6 +21,22 @@ const (
 	imageUser = 65532
 )
 
+// lockImage lets one test at a time write the folder of the image and build from it. The tests of pods are processes of their own.
+func lockImage(t *testing.T) (unlock func()) {
+	t.Helper()
+	if err := os.MkdirAll(filepath.Dir(imageContext), 0o755); err != nil {
+		t.Fatal(err)
+	}
+	lock, err := os.OpenFile(imageContext+".lock", os.O_CREATE|os.O_RDWR, 0o600)
+	if err != nil {
+		t.Fatal(err)
+	}
+	if err := syscall.Flock(int(lock.Fd()), syscall.LOCK_EX); err != nil {
+		t.Fatal(err)
+	}
+	return func() { lock.Close() }
+}
+
 // rootArchive runs go/build image under an umask, and returns the files of the image as an archive.
 func rootArchive(t *testing.T, umask string) []byte {
 	t.Helper()
@@ -81,6 +97,7 @@ type imageConfig struct {
 // The image is built by what go/deploy/Dockerfile says. It has the files that are due and no other, and
 // svidd works in it.
 func TestImage(t *testing.T) {
+	t.Parallel()
 	if testing.Short() {
 		t.Skip("it builds an image")
 	}
@@ -91,11 +108,13 @@ func TestImage(t *testing.T) {
 		}
 		return
 	}
+	unlock := lockImage(t)
 	if archive := rootArchive(t, "022"); !bytes.Equal(archive, rootArchive(t, "077")) {
 		t.Error("go/build image makes other bytes when it runs again")
 	}
 	b := buildah{t, t.TempDir()}
 	b.do("bud", "--isolation=chroot", "--format=docker", "--tag=svidd", imageContext)
+	unlock()
 
 	var image struct {
 		Docker struct{ Config imageConfig }

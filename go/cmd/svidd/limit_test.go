@@ -11,6 +11,8 @@ import (
 	"strings"
 	"testing"
 	"time"
+
+	"svid.example/go/v2/internal/patience"
 )
 
 // dial connects to svidd, and sends the beginning of a request.
@@ -21,7 +23,7 @@ func (p *process) dial(network, address, text string) net.Conn {
 		p.t.Fatal(err)
 	}
 	p.t.Cleanup(func() { c.Close() })
-	if err := c.SetDeadline(time.Now().Add(patience)); err != nil {
+	if err := c.SetDeadline(time.Now().Add(patience.Long)); err != nil {
 		p.t.Fatal(err)
 	}
 	if _, err := io.WriteString(c, text); err != nil {
@@ -44,15 +46,16 @@ func (p *process) answer(r *bufio.Reader) *http.Response {
 	return got
 }
 
-// A client that sends chunks of one byte, each with a long extension, is not read for long, on either address.
+// A client that sends chunks of one byte, each with a long extension, is not read for long, on each address.
 func TestEndlessChunkExtensions(t *testing.T) {
-	admin := filepath.Join(t.TempDir(), "admin.sock")
-	p := start(t, bundleOption(bundleFile(t, example)), "--replay", "reuse", "--admin", admin)
+	t.Parallel()
+	admin, metrics := filepath.Join(t.TempDir(), "admin.sock"), freeAddress(t)
+	p := start(t, bundleOption(bundleFile(t, example)), "--replay", "reuse", "--admin", admin, "--metrics", metrics)
 	const most = 64 << 20 // what the buffers of a connection hold is less
 	chunk := []byte("1;" + strings.Repeat("a", 4000) + "\r\nx\r\n")
 	for _, row := range [][3]string{
 		{"tcp", p.address, "GET /check"}, {"tcp", p.address, "GET /healthz"}, {"tcp", p.address, "GET /nothing"},
-		{"unix", admin, "POST /withdraw"}, {"unix", admin, "POST /reload"},
+		{"unix", admin, "POST /withdraw"}, {"unix", admin, "POST /reload"}, {"tcp", metrics, "GET /readyz"}, {"tcp", metrics, "GET /check"},
 	} {
 		c := p.dial(row[0], row[1], row[2]+" HTTP/1.1\r\nHost: a\r\nTransfer-Encoding: chunked\r\n\r\n")
 		sent := 0
@@ -100,6 +103,7 @@ func TestABodyIsNotWaitedFor(t *testing.T) {
 
 // Many requests over one connection are no long one, also if they come before the answers are read.
 func TestManyRequestsOfOneConnection(t *testing.T) {
+	t.Parallel()
 	p := start(t, bundleOption(bundleFile(t, example)), "--replay", "reuse", "--log", "errors")
 	request := "GET /check HTTP/1.1\r\nHost: a\r\nAuthorization: Bearer " + strings.Repeat("a", 60_000) + "\r\n\r\n"
 	const many = 3 * mostUnanswered / 60_000
@@ -115,6 +119,7 @@ func TestManyRequestsOfOneConnection(t *testing.T) {
 
 // A client that sends its headers slowly is cut off, on either address.
 func TestAClientThatSendsItsHeadersSlowly(t *testing.T) {
+	t.Parallel()
 	admin := filepath.Join(t.TempDir(), "admin.sock")
 	p := start(t, bundleOption(bundleFile(t, example)), "--replay", "reuse", "--admin", admin)
 	from := time.Now()
@@ -134,6 +139,7 @@ func TestAClientThatSendsItsHeadersSlowly(t *testing.T) {
 
 // The body of a request to the admin socket has a bound, and a file that is longer is not read.
 func TestALongBodyOfTheAdminSocket(t *testing.T) {
+	t.Parallel()
 	admin := filepath.Join(t.TempDir(), "admin.sock")
 	p := start(t, bundleOption(bundleFile(t, example)), "--replay", "reuse", "--admin", admin)
 	for pad, want := range map[int]int{100_000: 200, 140_000: 400} {

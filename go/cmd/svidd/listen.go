@@ -8,15 +8,24 @@ import (
 	"net/http"
 	"os"
 	"strings"
+	"sync"
 	"syscall"
 	"time"
 
-	"svid.example/go/internal/server"
+	"svid.example/go/v2/svidhttp"
 )
+
+// An answerer is a server of one listener.
+type answerer interface {
+	Serve(net.Listener) error // until Shutdown or Close: http.ErrServerClosed then
+	Shutdown(context.Context) error
+	Close() error
+}
 
 // A served is a listener with the server behind it.
 type served struct {
-	http     *http.Server
+	name     string // of the option that has its address
+	server   answerer
 	listener net.Listener
 }
 
@@ -26,24 +35,22 @@ const (
 	private = 0o177 // nothing for group and others
 )
 
-// listen binds the addresses, and begins to answer.
+// listen binds the addresses, and begins to answer. The first is that of --listen.
 func (s *sidecar) listen() ([]served, error) {
-	main, err := bind(s.options.listen, public)
-	if err != nil {
-		return nil, err
-	}
-	servers := []served{{s.server(s.engine.Handler()), bounded{main}}}
-	if s.admin != "" {
-		admin, err := bind("unix:"+s.admin, private)
+	var servers []served
+	for _, each := range s.addresses() {
+		l, err := bind(each.address, each.umask)
 		if err != nil {
-			main.Close()
+			for _, it := range servers {
+				it.listener.Close()
+			}
 			return nil, err
 		}
-		servers = append(servers, served{s.server(s.engine.Admin(s.reload)), bounded{admin}})
+		servers = append(servers, served{each.name, each.server, bounded{l}})
 	}
 	for _, each := range servers {
 		go func(it served) {
-			if err := it.http.Serve(it.listener); !errors.Is(err, http.ErrServerClosed) {
+			if err := it.server.Serve(it.listener); !errors.Is(err, http.ErrServerClosed) {
 				s.fail(err)
 			}
 		}(each)
@@ -51,22 +58,64 @@ func (s *sidecar) listen() ([]served, error) {
 	return servers, nil
 }
 
+// An answering address: where it is, and who may connect to it if it is a unix socket.
+type answering struct {
+	name    string
+	address string
+	umask   int
+	server  answerer
+}
+
+// addresses are those to answer on, in the order in which they end. So who asks for metrics or on the admin socket hears that
+// the first one drains.
+func (s *sidecar) addresses() []answering {
+	checks := s.guard.Handler()
+	if s.metrics != "" {
+		checks = s.guard.WithoutMetrics()
+	}
+	all := []answering{{"listen", s.options.listen, public, s.server(checks)}}
+	if s.envoy != "" {
+		all = append(all, answering{"envoy", s.envoy, public, newGRPC(s.guard.Envoy(), s.log.Standard("envoy"))})
+	}
+	if s.metrics != "" {
+		all = append(all, answering{"metrics", s.metrics, public, s.server(s.guard.Watched())})
+	}
+	if s.admin != "" {
+		all = append(all, answering{"admin", "unix:" + s.admin, private, s.server(s.guard.Admin(s.reload))})
+	}
+	return all
+}
+
 func (s *sidecar) server(handler http.Handler) *http.Server {
 	return &http.Server{
 		Handler: handler, ReadHeaderTimeout: headerWait, ReadTimeout: requestWait, WriteTimeout: requestWait,
-		IdleTimeout: idleWait, MaxHeaderBytes: server.MaxHeader, ErrorLog: s.log.Standard("http"),
+		IdleTimeout: idleWait, MaxHeaderBytes: svidhttp.MaxHeader, ErrorLog: s.log.Standard("http"),
 	}
 }
 
-// shutdown ends the servers, and lets requests that are under way end.
+// shutdown ends the servers, and lets requests that are under way end: first those that judge tokens, together.
 func (s *sidecar) shutdown(servers []served) {
 	ctx, cancel := context.WithTimeout(context.Background(), drainWait)
 	defer cancel()
-	for _, each := range servers {
-		if err := each.http.Shutdown(ctx); err != nil {
+	end := func(it served) {
+		if err := it.server.Shutdown(ctx); err != nil {
 			s.log.Error("shutdown", err)
-			each.http.Close()
+			it.server.Close()
 		}
+	}
+	var judging sync.WaitGroup
+	var others []served
+	for _, each := range servers {
+		if each.name != "listen" && each.name != "envoy" {
+			others = append(others, each)
+			continue
+		}
+		judging.Add(1)
+		go func(it served) { defer judging.Done(); end(it) }(each)
+	}
+	judging.Wait()
+	for _, each := range others {
+		end(each)
 	}
 }
 

@@ -9,6 +9,8 @@ import (
 	"syscall"
 	"testing"
 	"time"
+
+	"svid.example/go/v2/internal/patience"
 )
 
 // piped starts svidd serve with a pipe as standard error, and returns the end that nobody reads yet. The pipe takes one page.
@@ -46,8 +48,8 @@ func (p *process) exitsWith(status int) {
 		if got := p.run.ProcessState.ExitCode(); got != status {
 			p.t.Errorf("svidd ends with %d (%v), want %d\n%s", got, err, status, p.log)
 		}
-	case <-time.After(patience):
-		p.t.Errorf("svidd does not end within %v\n%s", patience, p.log)
+	case <-time.After(patience.Long):
+		p.t.Errorf("svidd does not end within %v\n%s", patience.Long, p.log)
 		killAll(p.run.Process.Pid)
 		<-ended
 	}
@@ -57,6 +59,7 @@ func (p *process) exitsWith(status int) {
 // Where nobody reads standard error, every request is answered. Lines that have no room are dropped and counted, the log says
 // so once it is read again, and it loses nothing more.
 func TestALogThatNobodyReads(t *testing.T) {
+	t.Parallel()
 	p, reader := piped(t, bundleOption(bundleFile(t, example)), "--state", filepath.Join(t.TempDir(), "state"))
 	p.client.Timeout = 5 * time.Second
 	var asked int
@@ -75,7 +78,7 @@ func TestALogThatNobodyReads(t *testing.T) {
 	before := p.metric("svidd_log_lines_dropped_total")
 
 	// What was kept comes in its order, then a line that counts what was not, and from there on each line.
-	if err := reader.SetReadDeadline(time.Now().Add(patience)); err != nil {
+	if err := reader.SetReadDeadline(time.Now().Add(patience.Long)); err != nil {
 		t.Fatal(err)
 	}
 	refused, dropped := 0, 0
@@ -114,6 +117,7 @@ func TestALogThatNobodyReads(t *testing.T) {
 
 // SIGTERM ends the process though nobody reads its log.
 func TestTheEndOfALogThatNobodyReads(t *testing.T) {
+	t.Parallel()
 	p, _ := piped(t, bundleOption(bundleFile(t, example)), "--replay", "reuse")
 	p.client.Timeout = 5 * time.Second
 	for i := 0; i < 500 && !t.Failed(); i++ {
@@ -127,6 +131,7 @@ func TestTheEndOfALogThatNobodyReads(t *testing.T) {
 
 // Where the reader of standard error is gone, the service goes on.
 func TestALogWhoseReaderIsGone(t *testing.T) {
+	t.Parallel()
 	p, reader := piped(t, bundleOption(bundleFile(t, example)), "--replay", "reuse")
 	reader.Close()
 	good := token(t, "good", time.Minute)

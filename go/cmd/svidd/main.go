@@ -1,9 +1,9 @@
-// Svidd is a sidecar that accepts and rejects SPIFFE JWT-SVIDs for a service.
+// Svidd is a sidecar that accepts and refuses SPIFFE JWT-SVIDs for a service.
 //
 //	svidd serve --audience ledger --bundle example.org=bundle.json --longest 3600 --state /var/lib/svidd
 //
 // answers GET /check with 200 for a bearer token that it accepts, and 401 for one
-// that it rejects, so that nginx (auth_request) or Envoy (ext_authz) can ask it.
+// that it refuses, so that nginx (auth_request) or Envoy (ext_authz) can ask it.
 // docs/SIDECAR.md says the rest.
 package main
 
@@ -14,30 +14,29 @@ import (
 	"io"
 	"os"
 	"runtime"
+	"sort"
 
-	"svid.example/go/svid"
+	"svid.example/go/v2/internal/version"
+	"svid.example/go/v2/svid"
 )
-
-// version is the sidecar's own.
-const version = "0.1.0"
 
 // The exit statuses, which are those of the program svid.
 const (
 	exitYes     = 0
-	exitRefused = 1 // a token was rejected, or the sidecar does not go on
+	exitRefused = 1 // a token was refused, or the sidecar does not go on
 	exitDamaged = 1 // a state folder is damaged
 	exitFailed  = 2 // usage, a file, the network or memory
 )
 
 const usage = `usage:
-  svidd serve    --audience NAME.. BUNDLES --longest SECONDS [option..]
-  svidd verify   --audience NAME.. BUNDLES [--longest SECONDS] < token
+  svidd serve    --audience NAME.. BUNDLES --longest TIME [option..]
+  svidd verify   --audience NAME.. BUNDLES [--longest TIME] < token
   svidd withdraw --admin SOCKET (- < token | --key HEX --exp SECONDS | TOKEN)
   svidd report   --admin SOCKET [--json]
   svidd resume   --admin SOCKET [--anyway]
   svidd ready    [--listen ADDRESS]
   svidd check-state DIR [--messages]
-  svidd schema   --longest SECONDS [--group NAME] [--role ROLE]
+  svidd schema   --longest TIME [--group NAME] [--role ROLE]
   svidd version
 
 BUNDLES: --workload-api unix:///run/spire/agent.sock, --bundle DOMAIN=FILE|https://.. or --bundles DIR
@@ -75,6 +74,14 @@ func run(args []string, std stdio) int {
 	}
 	command := commands[args[0]]
 	if command == nil {
+		names := make([]string, 0, len(commands))
+		for name := range commands {
+			names = append(names, name)
+		}
+		sort.Strings(names)
+		if near := nearest(args[0], names); near != "" {
+			return fail(std, fmt.Errorf("no command is named %q: did you mean %s?", args[0], near))
+		}
 		fmt.Fprintf(std.err, "svidd: no command is named %q\n%s", args[0], usage)
 		return exitFailed
 	}
@@ -83,7 +90,7 @@ func run(args []string, std stdio) int {
 
 func printVersion(args []string, std stdio) int {
 	v := svid.Version()
-	fmt.Fprintf(std.out, "svidd %s (libsvid %d.%d.%d, %s)\n", version, v/10000, v/100%100, v%100, runtime.Version())
+	fmt.Fprintf(std.out, "svidd %s (libsvid %d.%d.%d, %s)\n", version.Number, v/10000, v/100%100, v%100, runtime.Version())
 	return exitYes
 }
 

@@ -12,8 +12,8 @@ import (
 	"testing"
 	"time"
 
-	"svid.example/go/internal/natstest"
-	"svid.example/go/internal/server"
+	"svid.example/go/v2/internal/natstest"
+	"svid.example/go/v2/internal/server"
 )
 
 // BenchmarkModes sends new tokens to a sidecar within this process, 32 at a time, without the network.
@@ -23,7 +23,7 @@ func BenchmarkModes(b *testing.B) {
 			mode, _, kept := strings.Cut(name, " ")
 			o := options{
 				audiences: list{"ledger"}, bundles: list{"example.org=" + bundleFile(b, example)}, longest: seconds{7200, true}, ahead: seconds{30, true},
-				listen: freeAddress(b), replay: mode, group: "svid", replicas: 1, wait: 10 * time.Second, summaries: time.Hour,
+				listen: freeAddress(b), replay: mode, group: "svid", replicas: 1, wait: period(10 * time.Second), summaries: period(time.Hour),
 			}
 			if kept || mode == "once" {
 				o.state = filepath.Join(b.TempDir(), "state")
@@ -46,7 +46,7 @@ func BenchmarkModes(b *testing.B) {
 			for i := range tokens {
 				tokens[i] = token(b, fmt.Sprint(name, i), time.Hour)
 			}
-			handler := s.engine.Handler()
+			handler := s.guard.Handler()
 			next := int64(-1)
 			b.SetParallelism(32)
 			b.ReportAllocs()

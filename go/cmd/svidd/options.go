@@ -17,68 +17,36 @@ import (
 
 	"github.com/BurntSushi/toml"
 
-	"svid.example/go/internal/bundles"
-	"svid.example/go/internal/carrier"
-	"svid.example/go/internal/group"
-	"svid.example/go/internal/regular"
-	"svid.example/go/internal/server"
-	"svid.example/go/internal/workload"
-	"svid.example/go/svid"
+	"svid.example/go/v2/bundles"
+	"svid.example/go/v2/carriers"
+	"svid.example/go/v2/carriers/jetstream"
+	"svid.example/go/v2/internal/regular"
+	"svid.example/go/v2/internal/server"
+	"svid.example/go/v2/svid"
+	"svid.example/go/v2/workload"
 )
-
-// A list is an option that may be given more than once.
-type list []string
-
-func (l *list) String() string { return strings.Join(*l, ",") }
-
-func (l *list) Set(value string) error {
-	if value == "" {
-		return errors.New("is empty")
-	}
-	*l = append(*l, value)
-	return nil
-}
-
-// seconds is an option whose value is a whole number of seconds. It tells 0 from
-// not given.
-type seconds struct {
-	value uint64
-	given bool
-}
-
-func (s *seconds) String() string {
-	if !s.given {
-		return ""
-	}
-	return strconv.FormatUint(s.value, 10)
-}
-
-func (s *seconds) Set(text string) error {
-	value, err := strconv.ParseUint(text, 10, 64)
-	if err != nil {
-		return errors.New("is not a whole number of seconds")
-	}
-	*s = seconds{value, true}
-	return nil
-}
 
 // options are those of serve, and of verify, which has fewer.
 type options struct {
-	audiences, bundles list
-	bundleFolder       string
-	workload           string // the address of the Workload API
-	longest, ahead     seconds
-	rsaBits            int
+	audiences, bundles, allow list
+	bundleIDs, bundleCAs      list // of the servers of addresses: DOMAIN=ID, and DOMAIN=FILE
+	bundleFolder              string
+	workload                  string // the address of the Workload API
+	longest, ahead            seconds
+	rsaBits                   int
 
 	listen, admin string
+	metrics       string // "" where listen has /metrics too
+	envoy         string // "" where Envoy does not ask by gRPC
+	drain         period
 	replay        string
 	logs          list // addresses of the group's log
 	nats          list
-	files         group.Files // for the NATS servers
+	files         jetstream.Files // for the NATS servers
 	group         string
 	replicas      int
-	wait          time.Duration
-	summaries     time.Duration
+	wait          period
+	summaries     period
 	state         string
 	log           string
 	config        string
@@ -88,12 +56,17 @@ type options struct {
 const (
 	aheadDefault  = 30
 	listenDefault = "127.0.0.1:9901"
+
+	waitDefault      = 2 * time.Second
+	summariesDefault = 5 * time.Minute
 )
 
 // addCommon adds the options that serve and verify share.
 func (o *options) addCommon(f *flag.FlagSet) {
 	f.Var(&o.audiences, "audience", usages["audience"])
 	f.Var(&o.bundles, "bundle", usages["bundle"])
+	f.Var(&o.bundleIDs, "bundle-id", usages["bundle-id"])
+	f.Var(&o.bundleCAs, "bundle-ca", usages["bundle-ca"])
 	f.StringVar(&o.bundleFolder, "bundles", "", usages["bundles"])
 	f.StringVar(&o.workload, "workload-api", "", usages["workload-api"])
 	f.Var(&o.longest, "longest", usages["longest"])
@@ -101,10 +74,22 @@ func (o *options) addCommon(f *flag.FlagSet) {
 	f.StringVar(&o.config, "config", "", usages["config"])
 }
 
+// flags are those of serve.
+func (o *options) flags() *flag.FlagSet {
+	f := flag.NewFlagSet("svidd serve", flag.ContinueOnError)
+	o.addCommon(f)
+	o.addServe(f)
+	return f
+}
+
 func (o *options) addServe(f *flag.FlagSet) {
 	o.ahead = seconds{value: aheadDefault, given: true}
 	f.Var(&o.ahead, "ahead", usages["ahead"])
+	f.Var(&o.allow, "allow", usages["allow"])
 	f.StringVar(&o.listen, "listen", listenDefault, usages["listen"])
+	f.StringVar(&o.metrics, "metrics", "", usages["metrics"])
+	f.StringVar(&o.envoy, "envoy", "", usages["envoy"])
+	f.Var(&o.drain, "drain", usages["drain"])
 	f.StringVar(&o.admin, "admin", "", usages["admin"])
 	f.StringVar(&o.replay, "replay", string(server.Once), usages["replay"])
 	f.Var(&o.logs, "group-log", usages["group-log"])
@@ -115,8 +100,9 @@ func (o *options) addServe(f *flag.FlagSet) {
 	f.StringVar(&o.files.Creds, "nats-creds", "", usages["nats-creds"])
 	f.StringVar(&o.group, "group", "svid", usages["group"])
 	f.IntVar(&o.replicas, "replicas", 1, usages["replicas"])
-	f.DurationVar(&o.wait, "wait", 2*time.Second, usages["wait"])
-	f.DurationVar(&o.summaries, "summaries", 5*time.Minute, usages["summaries"])
+	o.wait, o.summaries = period(waitDefault), period(summariesDefault)
+	f.Var(&o.wait, "wait", usages["wait"])
+	f.Var(&o.summaries, "summaries", usages["summaries"])
 	f.StringVar(&o.state, "state", "", usages["state"])
 	f.StringVar(&o.log, "log", "decisions", usages["log"])
 	f.BoolVar(&o.check, "check-config", false, usages["check-config"])
@@ -125,7 +111,7 @@ func (o *options) addServe(f *flag.FlagSet) {
 // parse reads the options of the command line, then those that are not given there
 // from the environment (SVIDD_AUDIENCE, SVIDD_NATS, ..), then from the file of --config.
 func parse(f *flag.FlagSet, o *options, args []string) error {
-	if err := f.Parse(args); err != nil {
+	if err := parseWords(f, args); err != nil {
 		return err
 	}
 	given := make(map[string]bool)
@@ -178,13 +164,16 @@ func parseFile(f *flag.FlagSet, name string, given map[string]bool) error {
 			continue // verify has the same file as serve
 		}
 		if option == "config" || known == nil {
-			return fmt.Errorf("%s: no option is named %q", name, option)
+			return fmt.Errorf("%s: no option is named %q%s", name, option, meant(f, option))
 		}
 		values, isList := members[option].([]any)
 		if !isList {
 			values = []any{members[option]}
 		} else if _, ok := known.Value.(*list); !ok {
 			return fmt.Errorf("%s: %s has one value, not a list", name, option)
+		}
+		if option == "allow" && len(values) == 0 {
+			return fmt.Errorf("%s: allow is an empty list, by which all might call: say who may call, or leave it out to let all", name)
 		}
 		for _, v := range values {
 			text, err := plain(v)
@@ -266,7 +255,12 @@ func (o *options) commonProblems() (all problems) {
 	}
 	all.wrong(!o.hasBundles(), "--workload-api, --bundle or --bundles is missing: without trust bundles no token can be accepted")
 	if _, err := o.specs(); err != nil {
-		all.wrong(true, "--workload-api, --bundle, --bundles: %v", err)
+		all.wrong(true, "--workload-api, --bundle, --bundles, --bundle-id, --bundle-ca: %v", err)
+	}
+	for _, text := range o.bundleIDs {
+		_, id, _ := strings.Cut(text, "=")
+		err := svid.CheckPattern(id)
+		all.wrong(err != nil || strings.HasSuffix(id, "/*"), "--bundle-id: %q is no SPIFFE ID of a server: write DOMAIN=spiffe://DOMAIN/PATH", text)
 	}
 	if o.bundleFolder != "" {
 		all.wrong(folderFault(o.bundleFolder) != nil, "--bundles: %v. Give a folder that has the trust bundles, each DOMAIN.json", folderFault(o.bundleFolder))
@@ -293,6 +287,10 @@ func (o *options) problems() problems {
 	all := o.commonProblems()
 	wrong := all.wrong
 	wrong(!o.longest.given, "--longest is missing: the record keeps each used token until it expires, so a token that lives for years fills the memory. Give the longest life in seconds that your issuer grants, such as 3600")
+	for _, pattern := range o.allow {
+		err := svid.CheckPattern(pattern)
+		wrong(err != nil, "--allow: %v", err)
+	}
 	wrong(o.ahead.value > mostAhead, "--ahead must be at most %d seconds: so far a clock that is wrong can expire tokens", uint64(mostAhead))
 	switch server.Mode(o.replay) {
 	case server.Once:
@@ -303,8 +301,15 @@ func (o *options) problems() problems {
 	default:
 		wrong(true, "--replay %q is none of once, strict and reuse", o.replay)
 	}
-	wrong(!isAddress(o.listen), "--listen %q is no address: write HOST:PORT, such as %s, or unix:PATH", o.listen, listenDefault)
-	wrong(strings.HasPrefix(o.listen, "unix:") && len(o.listen) > len("unix:")+mostSocket, "--listen: the path of a unix socket has at most %d bytes", mostSocket)
+	addressProblems(&all, "listen", o.listen, listenDefault)
+	if o.metrics != "" {
+		addressProblems(&all, "metrics", o.metrics, "127.0.0.1:9902")
+		wrong(o.metrics == o.listen, "--metrics is the address of --listen: give it one of its own, or leave it out")
+	}
+	if o.envoy != "" {
+		addressProblems(&all, "envoy", o.envoy, "127.0.0.1:9903")
+		wrong(o.envoy == o.listen || o.envoy == o.metrics, "--envoy is the address of --listen or of --metrics: give it one of its own, since it answers gRPC alone")
+	}
 	wrong(len(o.admin) > mostSocket, "--admin: the path of a unix socket has at most %d bytes", mostSocket)
 	wrong(strings.HasPrefix(o.admin, "@"), "--admin %q is an abstract name, which every local process can reach: write a path", o.admin)
 	o.logProblems(&all)
@@ -314,12 +319,14 @@ func (o *options) problems() problems {
 			server = "nats://" + server
 		}
 		u, err := url.Parse(server)
-		good := err == nil && u.Host != ""
+		good := err == nil && u.Host != "" && u.Hostname() != ""
 		wrong(!good, "--nats: address %d is not like nats://HOST:PORT", i+1)
 		wrong(good && !natsSchemes[u.Scheme], "--nats: address %d must begin with nats://, tls://, ws:// or wss://", i+1)
+		wrong(good && !isPort(u.Port()), "--nats: address %d has a port that is none: write a number from 1 to 65535", i+1)
+		wrong(good && (strings.Trim(u.Path, "/") != "" || u.RawQuery != ""), "--nats: address %d ends behind its port: the group's bucket is --group", i+1)
 	}
-	wrong(!carrier.ValidName(o.group), "--group %q can't name a group: use letters, digits, - and _", o.group)
-	wrong(o.replicas < 1 || o.replicas > group.MostReplicas, "--replicas must be from 1 to %d: so many servers have each value", group.MostReplicas)
+	wrong(!carriers.ValidName(o.group), "--group %q can't name a group: use letters, digits, - and _", o.group)
+	wrong(o.replicas < 1 || o.replicas > jetstream.MostReplicas, "--replicas must be from 1 to %d: so many servers have each value", jetstream.MostReplicas)
 	if _, err := o.files.Connect(); err != nil {
 		wrong(true, "--nats-ca, --nats-cert, --nats-key, --nats-creds: %v", err)
 	}
@@ -327,21 +334,35 @@ func (o *options) problems() problems {
 	isURL := strings.Contains(o.log, "://") // which may hold a password
 	wrong(isURL, "--log is the level of lines: errors, decisions or all. The address of the group's log is --group-log")
 	wrong(!ok && !isURL, "--log %q is none of errors, decisions and all", o.log)
-	wrong(o.wait <= 0, "--wait must be greater than 0")
-	wrong(o.summaries <= 0, "--summaries must be greater than 0")
+	wrong(o.wait == 0, "--wait must be greater than 0")
+	wrong(o.summaries == 0, "--summaries must be greater than 0")
+	wrong(time.Duration(o.drain) > mostDrain, "--drain must be from 0s to %v", mostDrain)
 	return all
+}
+
+// addressProblems is what is wrong with an address to answer on.
+func addressProblems(all *problems, option, address, example string) {
+	all.wrong(!isAddress(address), "--%s %q is no address: write HOST:PORT, such as %s, or unix:PATH", option, address, example)
+	all.wrong(strings.HasPrefix(address, "unix:") && len(address) > len("unix:")+mostSocket, "--%s: the path of a unix socket has at most %d bytes", option, mostSocket)
 }
 
 const (
 	mostLongest = 100 * 365 * 24 * 3600 // 100 years; keeps sums of times far from any limit
 	mostAhead   = 24 * 3600
 	mostConfig  = 1 << 20 // bytes of a file of options
+	mostDrain   = time.Hour
 
 	mostSocket = 107 // bytes of the path of a unix socket, as Linux has it
 
 	leastRSABits = 2048 // as svid.KeyringOptions has it
 	mostRSABits  = 16384
 )
+
+// isPort says whether a text is the number of a port, or none is given.
+func isPort(text string) bool {
+	n, err := strconv.ParseUint(text, 10, 16)
+	return text == "" || err == nil && n > 0
+}
 
 var natsSchemes = map[string]bool{"nats": true, "tls": true, "ws": true, "wss": true}
 
@@ -384,7 +405,19 @@ func (o *options) specs() ([]bundles.Spec, error) {
 	if api == "" && len(o.bundles) == 0 && o.bundleFolder == "" {
 		api = os.Getenv(workload.EndpointSocket)
 	}
-	return bundles.ParseSpecs(o.bundles, o.bundleFolder, api)
+	var others []bundles.Spec
+	if api != "" {
+		address, err := workload.ParseAddress(api)
+		if err != nil {
+			return nil, fmt.Errorf("bundles: the address of the Workload API, %q: %w", api, err)
+		}
+		others = append(others, bundles.WorkloadAPI(api, address))
+	}
+	specs, err := bundles.ParseSpecs(o.bundles, o.bundleFolder, others...)
+	if err != nil {
+		return nil, err
+	}
+	return bundles.ParseEndpoints(specs, o.bundleIDs, o.bundleCAs)
 }
 
 // hasBundles says whether there is a source of trust bundles.

@@ -12,7 +12,8 @@ import (
 	"testing"
 	"time"
 
-	"svid.example/go/internal/workload"
+	"svid.example/go/v2/internal/patience"
+	"svid.example/go/v2/workload"
 )
 
 // here runs a command in this process, which takes less time than another one.
@@ -24,6 +25,7 @@ func here(stdin string, args ...string) (status int, out, err string) {
 
 // Each option of serve and verify has its sentence of lists/svidd.toml.
 func TestEachOptionHasItsUsage(t *testing.T) {
+	t.Parallel()
 	for _, add := range []func(*options, *flag.FlagSet){(*options).addCommon, (*options).addServe} {
 		f := flag.NewFlagSet("", flag.ContinueOnError)
 		add(&options{}, f)
@@ -37,6 +39,7 @@ func TestEachOptionHasItsUsage(t *testing.T) {
 
 // What would end serve, or leave it without work, is said before it starts.
 func TestOptionsThatServeCantRunWith(t *testing.T) {
+	t.Parallel()
 	folder, file := t.TempDir(), bundleFile(t, example)
 	good := []string{"serve", "--check-config", "--audience", "a", "--longest", "60", "--replay", "reuse", bundleOption(file)}
 	for _, row := range []struct {
@@ -65,6 +68,15 @@ func TestOptionsThatServeCantRunWith(t *testing.T) {
 		{"listen", ":9901", ""},
 		{"listen", "[::1]:0", ""},
 		{"listen", "localhost:http", ""},
+		{"metrics", "9902", "write HOST:PORT"},
+		{"metrics", "127.0.0.1:9901", "is the address of --listen"},
+		{"metrics", "unix:" + strings.Repeat("a", 108), "at most 107 bytes"},
+		{"metrics", "unix:@svidd", "or unix:PATH"},
+		{"metrics", "", ""},
+		{"metrics", ":9902", ""},
+		{"drain", "-1s", "is no time"},
+		{"drain", "61m", "from 0s to 1h"},
+		{"drain", "1h", ""},
 		{"admin", "", ""},
 		{"admin", "@svidd", "abstract name"},
 		{"admin", strings.Repeat("a", 108), "at most 107 bytes"},
@@ -88,6 +100,9 @@ func TestOptionsThatServeCantRunWith(t *testing.T) {
 	} {
 		status, out, err := here("", append(good[:len(good):len(good)], "--"+row.option, row.value)...)
 		said := out + err
+		if row.option == "nats" && row.want == "" {
+			said = out + withoutServers(err)
+		}
 		if row.want == "" && (status != 0 || said != "svidd: the options are good\n") {
 			t.Errorf("--%s %q: %d %q", row.option, row.value, status, said)
 		}
@@ -100,8 +115,17 @@ func TestOptionsThatServeCantRunWith(t *testing.T) {
 	}
 }
 
+// withoutServers is what is said beside the warnings of servers that do not answer: the names in the tests are of none.
+func withoutServers(said string) string {
+	for strings.HasPrefix(said, "svidd: warning: nothing answers at ") {
+		_, said, _ = strings.Cut(said, "\n")
+	}
+	return said
+}
+
 // --check-config reads the bundles that are files, and says what is wrong with each.
 func TestCheckConfigReadsTheBundles(t *testing.T) {
+	t.Parallel()
 	folder, empty := t.TempDir(), t.TempDir()
 	write := func(name, text string) string {
 		t.Helper()
@@ -198,6 +222,7 @@ func TestVerifyWithTheOptionsOfServe(t *testing.T) {
 
 // The token of withdraw may come from standard input, where no other process sees it.
 func TestWithdrawOfStandardInput(t *testing.T) {
+	t.Parallel()
 	admin := filepath.Join(t.TempDir(), "admin.sock")
 	p := start(t, bundleOption(bundleFile(t, example)), "--state", filepath.Join(t.TempDir(), "state"), "--admin", admin)
 	one := token(t, "one", time.Minute)
@@ -235,6 +260,7 @@ func TestWithdrawOfStandardInput(t *testing.T) {
 
 // Any process may connect to the socket of --listen, and only this user to that of --admin, whatever the umask is.
 func TestModesOfTheSockets(t *testing.T) {
+	t.Parallel()
 	bundle := bundleOption(bundleFile(t, example))
 	for _, umask := range []int{0, 0o077} {
 		folder := t.TempDir()
@@ -269,12 +295,12 @@ func TestReadyForSystemdBeforeTheBundlesAreRead(t *testing.T) {
 	defer notified.Close()
 	t.Setenv("NOTIFY_SOCKET", filepath.Join(folder, "notify"))
 	t.Setenv(workload.EndpointSocket, "unix://"+filepath.Join(folder, "agent.sock"))
-	p := &process{t: t, address: freeAddress(t), log: &lines{}, client: &http.Client{Timeout: patience}}
+	p := &process{t: t, address: freeAddress(t), log: &lines{}, client: &http.Client{Timeout: patience.Long}}
 	p.args = []string{"serve", "--audience", "a", "--longest", "60", "--replay", "reuse", "--listen", p.address}
 	t.Cleanup(p.kill)
 	p.launch()
 	said := make([]byte, 100)
-	_ = notified.SetReadDeadline(time.Now().Add(patience))
+	_ = notified.SetReadDeadline(time.Now().Add(patience.Long))
 	if n, err := notified.Read(said); err != nil || string(said[:n]) != "READY=1" {
 		t.Errorf("systemd hears %q, %v", said[:n], err)
 	}
@@ -286,6 +312,7 @@ func TestReadyForSystemdBeforeTheBundlesAreRead(t *testing.T) {
 
 // SIGTERM closes the address at once. While a request is under way, the admin socket says that svidd drains.
 func TestDrainingIsSaidOnTheAdminSocket(t *testing.T) {
+	t.Parallel()
 	admin := filepath.Join(t.TempDir(), "admin.sock")
 	p := start(t, bundleOption(bundleFile(t, example)), "--replay", "reuse", "--admin", admin)
 	slow, err := net.Dial("tcp", p.address)

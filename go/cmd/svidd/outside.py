@@ -3,7 +3,7 @@
 These are the libraries PyJWT, authlib and python-jose, and the command line tool jose.
 
 Usage: outside.py AUDIENCE EXP. Prints one JSON object: "bundle" is the bundle, "good" the tokens
-that must be accepted and "bad" those that must be rejected, each with who made it and the refusal
+that must be accepted and "bad" those that must be refused, each with who made it and the refusal
 that is due.
 """
 
@@ -21,7 +21,9 @@ from cryptography.hazmat.primitives.asymmetric import ec, rsa
 from cryptography.hazmat.primitives import hashes
 from jose import jws as jose_jws
 
+# lists:begin algorithms (written by tools/lists from lists/algorithms.toml)
 ALGORITHMS = ["RS256", "RS384", "RS512", "ES256", "ES384", "ES512", "PS256", "PS384", "PS512"]
+# lists:end
 CURVES = {"ES256": ec.SECP256R1(), "ES384": ec.SECP384R1(), "ES512": ec.SECP521R1()}
 DOMAIN = "example.org"
 

@@ -18,6 +18,7 @@ const python = "/usr/bin/python3"
 
 // Tokens that other people's libraries made, and a bundle as SPIRE prints one.
 func TestTokensOfOtherLibraries(t *testing.T) {
+	t.Parallel()
 	makers := exec.Command(python, "outside.py", "ledger", fmt.Sprint(time.Now().Add(10*time.Minute).Unix()))
 	var said bytes.Buffer
 	makers.Stderr = &said
@@ -53,11 +54,12 @@ func TestTokensOfOtherLibraries(t *testing.T) {
 	if len(made.Good) != 33 || len(made.Bad) != 9 {
 		t.Errorf("%d good tokens and %d bad ones", len(made.Good), len(made.Bad))
 	}
-	t.Logf("accepted %d tokens and rejected %d", len(made.Good), len(made.Bad))
+	t.Logf("accepted %d tokens and refused %d", len(made.Good), len(made.Bad))
 }
 
 // The site of deploy/nginx-site.conf, with nginx before a service that says who calls.
 func TestNginxSite(t *testing.T) {
+	t.Parallel()
 	p := start(t, bundleOption(bundleFile(t, example)), "--state", filepath.Join(t.TempDir(), "state"))
 	site, front, service := startNginx(t, p.address)
 	p.await("nginx", func() bool {

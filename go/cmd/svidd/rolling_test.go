@@ -13,8 +13,8 @@ import (
 
 	"github.com/nats-io/nats.go"
 
-	"svid.example/go/internal/broker"
-	"svid.example/go/internal/natstest"
+	"svid.example/go/v2/internal/broker"
+	"svid.example/go/v2/internal/natstest"
 )
 
 // Three NATS servers are restarted one behind the other, as for an upgrade, while sidecars accept tokens. Each token is accepted
@@ -34,7 +34,11 @@ func TestServersOfNATSAreRestarted(t *testing.T) {
 		}, "15s"},
 		"killed": {func(_ *testing.T, s *broker.Server) { s.Kill() }, "15s"},
 	} {
-		t.Run(name, func(t *testing.T) { rolling(t, row.wait, row.end) })
+		row := row
+		t.Run(name, func(t *testing.T) {
+			t.Parallel()
+			rolling(t, row.wait, row.end)
+		})
 	}
 }
 

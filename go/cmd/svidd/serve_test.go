@@ -1,7 +1,6 @@
 package main
 
 import (
-	"encoding/json"
 	"net/http"
 	"os"
 	"path/filepath"
@@ -10,13 +9,14 @@ import (
 	"testing"
 	"time"
 
-	"svid.example/go/internal/issuer"
-	"svid.example/go/internal/server"
-	"svid.example/go/svid"
+	"svid.example/go/v2/internal/issuer"
+	"svid.example/go/v2/internal/version"
+	"svid.example/go/v2/svid"
 )
 
 // One sidecar from its start to its end, as a user meets it.
 func TestServeOnce(t *testing.T) {
+	t.Parallel()
 	state, admin := filepath.Join(t.TempDir(), "state"), filepath.Join(t.TempDir(), "admin.sock")
 	bundle := bundleFile(t, example)
 	p := start(t, bundleOption(bundle), "--state", state, "--admin", admin)
@@ -36,7 +36,7 @@ func TestServeOnce(t *testing.T) {
 		t.Errorf("no token: %d", status)
 	}
 
-	// A token is revoked by itself, and by its key.
+	// A token is withdrawn by itself, and by its key.
 	second, third := token(t, "second", time.Minute), token(t, "third", time.Minute)
 	if status, out, err := svidd(t, "", "withdraw", "--admin", admin, second); status != 0 || !strings.HasPrefix(out, "withdrawn ") {
 		t.Errorf("withdraw: %d %q %q", status, out, err)
@@ -109,6 +109,7 @@ func TestServeOnce(t *testing.T) {
 }
 
 func TestReuseAcceptsUntilWithdrawn(t *testing.T) {
+	t.Parallel()
 	admin := filepath.Join(t.TempDir(), "admin.sock")
 	p := start(t, bundleOption(bundleFile(t, example)), "--replay", "reuse", "--admin", admin)
 	reused := token(t, "a", time.Minute)
@@ -138,6 +139,7 @@ func TestReuseAcceptsUntilWithdrawn(t *testing.T) {
 }
 
 func TestASecondProcessDoesNotShareAStateFolder(t *testing.T) {
+	t.Parallel()
 	state := filepath.Join(t.TempDir(), "state")
 	p := start(t, bundleOption(bundleFile(t, example)), "--state", state)
 	args := append([]string(nil), p.args...)
@@ -150,7 +152,8 @@ func TestASecondProcessDoesNotShareAStateFolder(t *testing.T) {
 
 // A record that can't be taken ends the start: without it, tokens that were used could be accepted.
 func TestAStateFolderThatCantBeTaken(t *testing.T) {
-	future := svid.Use{Key: svid.TokenKey{1}, Expires: svid.Now() + 7200, At: svid.Now() + 3600}.Batch()
+	t.Parallel()
+	future := batchOf(svid.Use{Key: svid.TokenKey{1}, Expires: svid.Now() + 7200, At: svid.Now() + 3600})
 	for _, row := range []struct {
 		name    string
 		content []byte
@@ -177,6 +180,7 @@ func TestAStateFolderThatCantBeTaken(t *testing.T) {
 }
 
 func TestWhatIsWrongWithTheOptionsIsSaidAtOnce(t *testing.T) {
+	t.Parallel()
 	status, _, err := svidd(t, "", "serve", "--check-config", "--replay", "twice", "--log", "loud")
 	if status != 2 {
 		t.Errorf("status %d", status)
@@ -245,6 +249,8 @@ func TestOptionsOfAFileAndOfTheEnvironment(t *testing.T) {
 		`{"longest": 60`:                "it is no JSON object",
 		`{"longest": 6.5}`:              "whole number",
 		`{"longest": [60]}`:             "longest has one value, not a list",
+		`{"allow": []}`:                 "allow is an empty list",
+		"allow = []":                    "allow is an empty list",
 		`{"audience": [null]}`:          "is neither text",
 		`{"audience": {"a": "b"}}`:      "is neither text",
 		"longest = 60.0":                "is neither text",
@@ -263,6 +269,7 @@ func TestOptionsOfAFileAndOfTheEnvironment(t *testing.T) {
 }
 
 func TestVerifyPrintsTheClaims(t *testing.T) {
+	t.Parallel()
 	bundle := bundleOption(bundleFile(t, example))
 	good := token(t, "a", time.Minute)
 	status, out, err := svidd(t, good+"\n", "verify", "--audience", "ledger", bundle)
@@ -289,7 +296,8 @@ func TestVerifyPrintsTheClaims(t *testing.T) {
 }
 
 func TestVersionAndUsage(t *testing.T) {
-	if status, out, _ := svidd(t, "", "version"); status != 0 || !strings.HasPrefix(out, "svidd ") {
+	t.Parallel()
+	if status, out, _ := svidd(t, "", "version"); status != 0 || !strings.HasPrefix(out, "svidd "+version.Number+" (libsvid ") {
 		t.Errorf("%d %q", status, out)
 	}
 	if status, _, err := svidd(t, "", "sing"); status != 2 || !strings.Contains(err, "usage:") {
@@ -302,6 +310,7 @@ func TestVersionAndUsage(t *testing.T) {
 
 // The socket of --listen may be a unix socket.
 func TestListenOnAUnixSocket(t *testing.T) {
+	t.Parallel()
 	socket := filepath.Join(t.TempDir(), "svidd.sock")
 	p := &process{t: t, log: &lines{}, client: &http.Client{}}
 	p.args = []string{"serve", "--audience", "a", "--longest", "60", "--replay", "reuse", bundleOption(bundleFile(t, example)), "--listen", "unix:" + socket}
@@ -320,8 +329,9 @@ func TestListenOnAUnixSocket(t *testing.T) {
 	}
 }
 
-// A token that is too long is rejected, and one that is far too long is not read to its end.
+// A token that is too long is refused, and one that is far too long is not read to its end.
 func TestATokenThatIsTooLong(t *testing.T) {
+	t.Parallel()
 	p := start(t, bundleOption(bundleFile(t, example)), "--replay", "reuse", "--log", "errors")
 	p.want(strings.Repeat("a", 65537), 401, "TooLong")
 	if status, _, _ := p.check(strings.Repeat("a", 200_000)); status != http.StatusRequestHeaderFieldsTooLarge {
@@ -332,6 +342,7 @@ func TestATokenThatIsTooLong(t *testing.T) {
 
 // An address that is taken is said at the start.
 func TestAnAddressThatIsTaken(t *testing.T) {
+	t.Parallel()
 	admin := filepath.Join(t.TempDir(), "admin.sock")
 	p := start(t, bundleOption(bundleFile(t, example)), "--replay", "reuse", "--admin", admin)
 	args := append([]string(nil), p.args...)
@@ -343,22 +354,4 @@ func TestAnAddressThatIsTaken(t *testing.T) {
 		t.Errorf("the same admin socket: %d %q", status, err)
 	}
 	p.want(token(t, "good", time.Minute), 200, "")
-}
-
-// Bundles that the engine does not take are an error for the watcher, which gives them again. They are no event.
-func TestBundlesThatTheEngineDoesNotTake(t *testing.T) {
-	var log lines
-	engine, err := server.NewEngine(server.Options{Mode: server.Reuse, Audiences: []string{"ledger"}, Longest: 60, Place: svid.Place{1}})
-	if err != nil {
-		t.Fatal(err)
-	}
-	s := &sidecar{engine: engine, log: server.NewLog(&log, server.All)}
-	domains := map[string]json.RawMessage{"example.org": example.JWKSet()}
-	if err := s.renew(domains); err != nil || strings.Count(log.String(), `"event":"bundles"`) != 1 {
-		t.Errorf("%v: %s", err, &log)
-	}
-	engine.Close()
-	if err := s.renew(domains); err != svid.ErrClosed || strings.Count(log.String(), "\n") != 1 {
-		t.Errorf("%v: %s", err, &log)
-	}
 }

@@ -6,8 +6,8 @@ import (
 	"fmt"
 	"path/filepath"
 
-	"svid.example/go/internal/journal"
-	"svid.example/go/svid"
+	"svid.example/go/v2/journal"
+	"svid.example/go/v2/svid"
 )
 
 // checkState says what a state folder holds, and where it is damaged. It changes nothing.
@@ -20,7 +20,7 @@ func checkState(args []string, std stdio) int {
 	}
 	dir := f.Arg(0)
 	if f.NArg() > 1 { // (options may stand behind the folder)
-		if err := f.Parse(f.Args()[1:]); err != nil {
+		if err := parseWords(f, f.Args()[1:]); err != nil {
 			return fail(std, err)
 		}
 	}
@@ -52,13 +52,13 @@ func checkState(args []string, std stdio) int {
 	return exitYes
 }
 
-// writeState writes a line for the place, one for the bucket if the folder says how far that was read, and one for each file. It tells whether one of them holds what is no message.
+// writeState writes a line for the validator ID, one for the bucket if the folder says how far that was read, and one for each file. It tells whether one of them holds what is no message.
 func writeState(std stdio, found *journal.Report) (damaged bool, err error) {
-	place := found.Place.String()
-	if !found.Placed {
-		place = "is missing"
+	id := found.ValidatorID.String()
+	if !found.HasID {
+		id = "is missing"
 	}
-	if _, err := fmt.Fprintf(std.out, "place %s\n", place); err != nil || !found.Placed && found.Fault != nil {
+	if _, err := fmt.Fprintf(std.out, "place %s\n", id); err != nil || !found.HasID && found.Fault != nil {
 		return false, err
 	}
 	if found.InLog {
@@ -67,7 +67,7 @@ func writeState(std stdio, found *journal.Report) (damaged bool, err error) {
 		}
 	}
 	for _, f := range found.Files {
-		_, uses, err := svid.Uses(f.Messages)
+		uses, err := svid.Uses(f.Messages)
 		says := counted(len(uses), "use")
 		if err != nil {
 			says, damaged = fmt.Sprintf("what it bears is no message: %v", err), true

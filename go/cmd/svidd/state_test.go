@@ -10,8 +10,8 @@ import (
 	"testing"
 	"time"
 
-	"svid.example/go/internal/journal"
-	"svid.example/go/svid"
+	"svid.example/go/v2/journal"
+	"svid.example/go/v2/svid"
 )
 
 // stateFolder makes a folder with two uses in its snapshot and two in its journal, in a frame each.
@@ -26,13 +26,13 @@ func stateFolder(t *testing.T) (dir string, uses []svid.Use) {
 		t.Fatal(err)
 	}
 	for i := byte(1); i <= 4; i++ {
-		uses = append(uses, svid.Use{Key: svid.TokenKey{i}, Expires: svid.Now() + 100, At: svid.Now(), Place: svid.Place{7}})
+		uses = append(uses, svid.Use{Key: svid.TokenKey{i}, Expires: svid.Now() + 100, At: svid.Now(), ValidatorID: svid.ValidatorID{7}})
 	}
-	if err := j.Snapshot(func(w io.Writer) error { _, err := w.Write(svid.Batches(uses[:2])); return err }); err != nil {
+	if err := j.Snapshot(func(w io.Writer) error { _, err := w.Write(batchesOf(uses[:2])); return err }); err != nil {
 		t.Fatal(err)
 	}
 	for _, use := range uses[2:] {
-		if err := j.Append(context.Background(), use.Batch()); err != nil {
+		if err := j.Append(context.Background(), batchOf(use)); err != nil {
 			t.Fatal(err)
 		}
 	}
@@ -43,6 +43,7 @@ func stateFolder(t *testing.T) (dir string, uses []svid.Use) {
 }
 
 func TestCheckState(t *testing.T) {
+	t.Parallel()
 	change := func(name string, at int, bit byte) func(t *testing.T, dir string) {
 		return func(t *testing.T, dir string) {
 			content, err := os.ReadFile(filepath.Join(dir, name))
@@ -66,8 +67,8 @@ func TestCheckState(t *testing.T) {
 		{"whole", func(*testing.T, string) {}, 0, "snapshot: whole: 1 frame, 1 mark: 2 uses, 216 bytes\njournal.3: whole: 2 frames, 1 mark: 2 uses, 262264 bytes\n", "", 4},
 		{"damaged", change("journal.3", 100, 4), 1, "journal.3: damaged at byte 0: 0 frames, 0 marks: 0 uses, 262264 bytes\n", "journal.3 is damaged at byte 0: look for a failing disk, and put back a copy", 2},
 		{"torn", change("journal.3", 300, 4), 0, "journal.3: torn at byte 272, and nobody was answered for the 29 bytes there: 2 frames, 1 mark: 2 uses, 262264 bytes\n", "", 4},
-		{"no place", func(t *testing.T, dir string) { os.Remove(filepath.Join(dir, "place")) }, 2, "place is missing\n", "the file place is missing", 0},
-		{"a bad place", change("place", 3, 0x80), 2, "", "place is not 32 hexadecimal digits", 0},
+		{"no validator ID", func(t *testing.T, dir string) { os.Remove(filepath.Join(dir, "place")) }, 2, "place is missing\n", "the file place is missing", 0},
+		{"a bad validator ID", change("place", 3, 0x80), 2, "", "place is not 32 hexadecimal digits", 0},
 	} {
 		dir, uses := stateFolder(t)
 		row.change(t, dir)
@@ -80,7 +81,7 @@ func TestCheckState(t *testing.T) {
 			if status != row.status || !strings.Contains(err, row.err) {
 				t.Errorf("%s, with --messages: %d %s", row.what, status, err)
 			}
-			if _, found, err := svid.Uses([]byte(out)); err != nil || len(found) != row.uses {
+			if found, err := svid.Uses([]byte(out)); err != nil || len(found) != row.uses {
 				t.Errorf("%s: %d uses, want %d (%v)", row.what, len(found), row.uses, err)
 			}
 		}
@@ -98,6 +99,7 @@ func TestCheckState(t *testing.T) {
 
 // What a frame bears and is no message is damage to a start, and so to check-state.
 func TestCheckStateOfNoMessages(t *testing.T) {
+	t.Parallel()
 	dir := t.TempDir()
 	j, err := journal.Open(dir)
 	if err != nil {
@@ -115,9 +117,10 @@ func TestCheckStateOfNoMessages(t *testing.T) {
 	}
 }
 
-// The way back from damage (docs/SIDECAR.md): a sidecar goes on with all that can still be read, and with a folder of an older
+// The way back from damage (docs/SIDECAR-OPERATION.md): a sidecar goes on with all that can still be read, and with a folder of an older
 // version, which is one of messages.
 func TestASidecarGoesOnWithWhatWasSaved(t *testing.T) {
+	t.Parallel()
 	used := token(t, "used", time.Minute)
 	state := filepath.Join(t.TempDir(), "state")
 	bundle := bundleOption(bundleFile(t, example))

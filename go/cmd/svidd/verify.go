@@ -11,8 +11,9 @@ import (
 	"strings"
 	"time"
 
-	"svid.example/go/internal/bundles"
-	"svid.example/go/svid"
+	"svid.example/go/v2/bundles"
+	"svid.example/go/v2/guard"
+	"svid.example/go/v2/svid"
 )
 
 // fetchWait is how long verify waits for the bundles that come over https or from a Workload API.
@@ -61,7 +62,7 @@ func verify(args []string, std stdio) int {
 var errLines = errors.New("standard input has more than one line: give it one token")
 
 // readToken reads standard input: one token, with or without one line end, which is LF or CR LF. All else is part of the
-// token, and rejected with it. Of a token that is too long it reads as much as shows that.
+// token, and refused with it. Of a token that is too long it reads as much as shows that.
 func readToken(std stdio) (string, error) {
 	const most = svid.MaxToken + len("\r\n")
 	text, err := io.ReadAll(io.LimitReader(std.in, int64(most+1)))
@@ -90,7 +91,7 @@ func (o *options) judge(token string, std stdio) error {
 	if o.longest.given {
 		by.Longest = o.longest.value
 	}
-	// (a token that the keyring rejects goes on, since another refusal may come first)
+	// (a token that the keyring refuses goes on, since another refusal may come first)
 	yes, err := keyring.Verify(token)
 	var refusal svid.Refusal
 	if err != nil && !errors.As(err, &refusal) {
@@ -121,7 +122,7 @@ func (o *options) readBundles(std stdio) ([]byte, error) {
 		}
 		changes <- domains
 		return nil
-	}, bundles.Options{Check: checkBundle, Log: func(event string, fields ...any) {
+	}, bundles.Options{Check: guard.CheckBundle, Log: func(event string, fields ...any) {
 		if strings.HasPrefix(event, "bundle not read") {
 			select {
 			case faults <- unread(fields):

@@ -17,13 +17,14 @@ import (
 	"testing"
 	"time"
 
-	"svid.example/go/internal/issuer"
-	"svid.example/go/svid"
+	"svid.example/go/v2/internal/issuer"
+	"svid.example/go/v2/svid"
 )
 
 // Standard input of verify is one token, with or without one line end. All other bytes belong to the token, and a token with
 // them is none.
 func TestVerifyReadsOneToken(t *testing.T) {
+	t.Parallel()
 	bundle := bundleOption(bundleFile(t, example))
 	good, longest := token(t, "a", time.Minute), longestToken(t)
 	blanks := strings.Repeat(" ", svid.MaxToken)
@@ -66,6 +67,7 @@ func TestVerifyReadsOneToken(t *testing.T) {
 
 // A key with more bits than --rsa-bits verifies nothing, and the operator hears of it.
 func TestAnRSAKeyHasABound(t *testing.T) {
+	t.Parallel()
 	key, err := rsa.GenerateMultiPrimeKey(rand.Reader, 10, 5120)
 	if err != nil {
 		t.Fatal(err)

@@ -10,8 +10,9 @@ import (
 	"testing"
 	"time"
 
-	"svid.example/go/internal/agenttest"
-	"svid.example/go/internal/issuer"
+	"svid.example/go/v2/internal/agenttest"
+	"svid.example/go/v2/internal/issuer"
+	"svid.example/go/v2/internal/patience"
 )
 
 // agentBundles are an issuer's keys as the Workload API of SPIRE gives them: it names no use.
@@ -38,14 +39,15 @@ func TestBundlesOfAWorkloadAPI(t *testing.T) {
 	agent := agenttest.Start(t)
 	agent.Refuse(t, "PERMISSION_DENIED", "no identity issued")
 	t.Setenv("SPIFFE_ENDPOINT_SOCKET", agent.Address)
-	p := &process{t: t, address: freeAddress(t), log: &lines{}, client: &http.Client{Timeout: patience}}
+	p := &process{t: t, address: freeAddress(t), log: &lines{}, client: &http.Client{Timeout: patience.Long}}
 	p.args = []string{"serve", "--audience", "ledger", "--longest", "3600", "--listen", p.address, "--state", filepath.Join(t.TempDir(), "state")}
 	t.Cleanup(p.kill)
 	p.launch()
-	p.await("a word of the refusal", func() bool { return strings.Contains(p.log.String(), "register svidd as a workload") })
-	if status, why := p.get("/readyz"); status != http.StatusServiceUnavailable || !strings.Contains(why, "no trust bundle") {
-		t.Errorf("%d %s", status, why)
-	}
+	p.await("a word of the refusal", func() bool { return strings.Contains(p.log.String(), "register it as a workload") })
+	p.await("/readyz to say it", func() bool {
+		status, why := p.get("/readyz")
+		return status == http.StatusServiceUnavailable && strings.Contains(why, "no trust bundle")
+	})
 
 	agent.Give(t, agentBundles(t, example))
 	p.await("ready", func() bool { status, _ := p.get("/readyz"); return status == http.StatusOK })
@@ -80,6 +82,7 @@ func TestBundlesOfAWorkloadAPI(t *testing.T) {
 }
 
 func TestVerifyAsksTheWorkloadAPI(t *testing.T) {
+	t.Parallel()
 	agent := agenttest.StartTCP(t)
 	agent.Give(t, agentBundles(t, example))
 	for _, more := range [][]string{{}, {bundleOption(bundleFile(t, example))}, {"--bundle=example.com=" + bundleFile(t, example)}} {
@@ -99,6 +102,7 @@ func TestVerifyAsksTheWorkloadAPI(t *testing.T) {
 
 // A bundle that is named and not there yet: its tokens can't be judged, and all others can.
 func TestABundleThatIsNotThereYet(t *testing.T) {
+	t.Parallel()
 	other, err := issuer.New("example.com")
 	if err != nil {
 		t.Fatal(err)
@@ -120,9 +124,10 @@ func TestABundleThatIsNotThereYet(t *testing.T) {
 	p.want(one, 200, "")
 }
 
-// A bundle that the validator itself rejects stands in nobody's way: the log names it once, its tokens can't be judged, and other
+// A bundle that the validator itself refuses stands in nobody's way: the log names it once, its tokens can't be judged, and other
 // bundles are renewed beside it.
-func TestABundleThatTheValidatorRejects(t *testing.T) {
+func TestABundleThatTheValidatorRefuses(t *testing.T) {
+	t.Parallel()
 	name, good := filepath.Join(t.TempDir(), "example.com.json"), bundleFile(t, example)
 	deep := `{"keys":[` + strings.Repeat("[", 500) + strings.Repeat("]", 500) + `]}`
 	if err := os.WriteFile(name, []byte(deep), 0o600); err != nil {
@@ -165,6 +170,7 @@ func TestABundleThatTheValidatorRejects(t *testing.T) {
 }
 
 func TestVerifyDoesNotWaitForAnEmptyFolder(t *testing.T) {
+	t.Parallel()
 	folder := t.TempDir()
 	status, _, err := svidd(t, token(t, "a", time.Hour), "verify", "--audience", "ledger", "--bundles", folder)
 	if status != 2 || err != "svidd: "+folder+" has no file DOMAIN.json\n" {

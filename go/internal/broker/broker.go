@@ -4,7 +4,7 @@ package broker
 
 import (
 	"fmt"
-	"net"
+	"os"
 	"os/exec"
 	"path/filepath"
 	"strings"
@@ -124,16 +124,36 @@ func URLs(servers []*Server) []string {
 	return all
 }
 
-// FreePorts returns n ports of 127.0.0.1 that nobody listened on a moment ago.
+// FreePorts returns n ports of 127.0.0.1 that nobody listens on. They stay held until this process ends, by sockets that do not
+// listen. So the system gives them to nobody who asks for any port. A server that names one can listen on it, and can do so again
+// after it was killed.
 func FreePorts(n int) ([]int, error) {
 	ports := make([]int, n)
 	for i := range ports {
-		l, err := net.Listen("tcp", "127.0.0.1:0")
-		if err != nil {
-			return nil, fmt.Errorf("broker: %w", err)
+		var err error
+		if ports[i], err = hold(); err != nil {
+			return nil, fmt.Errorf("broker: no free port: %w", err)
 		}
-		defer l.Close()
-		ports[i] = l.Addr().(*net.TCPAddr).Port
 	}
 	return ports, nil
+}
+
+// hold takes a free port. Linux lets another socket listen on it where both sockets have SO_REUSEADDR, which servers set.
+func hold() (port int, err error) {
+	fd, err := syscall.Socket(syscall.AF_INET, syscall.SOCK_STREAM|syscall.SOCK_CLOEXEC, 0)
+	if err != nil {
+		return 0, os.NewSyscallError("socket", err)
+	}
+	if err = syscall.SetsockoptInt(fd, syscall.SOL_SOCKET, syscall.SO_REUSEADDR, 1); err == nil {
+		err = syscall.Bind(fd, &syscall.SockaddrInet4{Addr: [4]byte{127, 0, 0, 1}})
+	}
+	var name syscall.Sockaddr
+	if err == nil {
+		name, err = syscall.Getsockname(fd)
+	}
+	if err != nil {
+		syscall.Close(fd)
+		return 0, fmt.Errorf("127.0.0.1: %w", err)
+	}
+	return name.(*syscall.SockaddrInet4).Port, nil
 }

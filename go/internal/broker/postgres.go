@@ -12,6 +12,8 @@ import (
 	"time"
 
 	_ "github.com/lib/pq" // speaks to the server
+
+	"svid.example/go/v2/internal/patience"
 )
 
 // postgresBin is where Debian has the programs of PostgreSQL.
@@ -96,7 +98,7 @@ func (s *Postgres) Command(name string, args ...string) *exec.Cmd {
 // Start starts the server, for the first time or again, and waits until it runs: behind a kill it can't before all its processes
 // have ended.
 func (s *Postgres) Start() error {
-	for end := time.Now().Add(30 * time.Second); ; time.Sleep(20 * time.Millisecond) {
+	for end := time.Now().Add(patience.Long); ; time.Sleep(20 * time.Millisecond) {
 		log, err := os.OpenFile(filepath.Join(filepath.Dir(s.Dir), "log"), os.O_CREATE|os.O_APPEND|os.O_WRONLY, 0o644)
 		if err != nil {
 			return err

@@ -5,11 +5,9 @@ import (
 	"testing"
 	"time"
 
-	"svid.example/go/internal/broker"
+	"svid.example/go/v2/internal/broker"
+	"svid.example/go/v2/internal/patience"
 )
-
-// patience is how long a test waits for what must come.
-const patience = 30 * time.Second
 
 // Start starts one server, with more words on its command line, and waits until JetStream answers.
 func Start(t testing.TB, more ...string) *broker.Server {
@@ -53,9 +51,9 @@ func start(t testing.TB, servers ...*broker.Server) {
 // Await asks every few milliseconds whether something is so, and ends the test where it is not in time.
 func Await(t testing.TB, what string, so func() bool) {
 	t.Helper()
-	for end := time.Now().Add(patience); !so(); time.Sleep(5 * time.Millisecond) {
+	for end := time.Now().Add(patience.Long); !so(); time.Sleep(5 * time.Millisecond) {
 		if time.Now().After(end) {
-			t.Fatalf("waited %v for %s", patience, what)
+			t.Fatalf("waited %v for %s", patience.Long, what)
 		}
 	}
 }

@@ -6,7 +6,7 @@ import (
 	"fmt"
 	"net/http"
 
-	"svid.example/go/svid"
+	"svid.example/go/v2/svid"
 )
 
 // mostAdminBody is how many bytes of a request to the admin socket are read.
@@ -30,7 +30,7 @@ type Missing struct {
 
 // Admin answers on the admin socket: POST /withdraw, POST /reload, GET and POST
 // /resume, GET /messages (the whole record, as docs/FORMATS.md has messages), and
-// what Handler has. Nothing of it may be reachable by who may not revoke tokens.
+// what Handler has. Nothing of it may be reachable by who may not withdraw tokens.
 func (e *Engine) Admin(reload func()) http.Handler {
 	mux := http.NewServeMux()
 	mux.HandleFunc("/withdraw", only(http.MethodPost, e.serveWithdraw))
@@ -92,7 +92,7 @@ func (e *Engine) serveWithdraw(w http.ResponseWriter, r *http.Request) {
 		http.Error(w, err.Error(), http.StatusUnprocessableEntity)
 		return
 	}
-	use, err := e.Withdraw(r.Context(), key, exp)
+	use, err := e.Withdraw(key, exp)
 	switch {
 	case errors.Is(err, svid.ErrGone):
 		http.Error(w, err.Error(), http.StatusUnprocessableEntity)

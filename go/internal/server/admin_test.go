@@ -9,7 +9,7 @@ import (
 	"testing"
 )
 
-// withdraw revokes a token of no key that ever was, on the admin socket.
+// withdraw withdraws a token of no key that ever was, on the admin socket.
 func withdraw(e *Engine) *httptest.ResponseRecorder {
 	w := httptest.NewRecorder()
 	body := fmt.Sprintf(`{"key":"%064d","exp":%d}`, 0, moment+1)
@@ -44,7 +44,7 @@ func TestAWithdrawalThatIsInMemoryAlone(t *testing.T) {
 func TestAWithdrawalOfAFullDisk(t *testing.T) {
 	kept := &disk{fault: errors.New("no space left on device")}
 	e := ready(t, engine(t, Options{Mode: Once, Journal: kept}))
-	if w := withdraw(e); w.Code != 503 || w.Body.String() != "revoked here, but the withdrawal could not be kept: no space left on device\n" {
+	if w := withdraw(e); w.Code != 503 || w.Body.String() != "withdrawn here, but the withdrawal could not be kept: no space left on device\n" {
 		t.Errorf("%d %s", w.Code, w.Body)
 	}
 	kept.mu.Lock()

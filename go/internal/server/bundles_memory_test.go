@@ -8,9 +8,9 @@ import (
 	"fmt"
 	"testing"
 
-	"svid.example/go/internal/issuer"
-	"svid.example/go/internal/scarce"
-	"svid.example/go/svid"
+	"svid.example/go/v2/internal/issuer"
+	"svid.example/go/v2/internal/scarce"
+	"svid.example/go/v2/svid"
 )
 
 // Where there is no memory for new bundles, or for none, the engine is as ready as before, and judges by the old ones: checks do,

@@ -3,11 +3,11 @@ package server
 import (
 	"context"
 	"fmt"
-	"sync"
-	"sync/atomic"
+	"sort"
 	"time"
 
-	"svid.example/go/svid"
+	"svid.example/go/v2/carriers"
+	"svid.example/go/v2/svid"
 )
 
 const (
@@ -24,135 +24,157 @@ const (
 	mostClaims = 512
 )
 
-// claims are those of this sidecar's requests, on their way through the bucket. What becomes of them is for the validator to
-// say. Its methods may be called by many goroutines at once.
+// claims are those of this sidecar's requests, on their way through the bucket: each is a request whose outcome is open. What
+// becomes of them is for the validator to say.
 type claims struct {
-	requests atomic.Int64   // that are being worked on, or wait for an outcome
-	failed   *atomic.Uint64 // counts claims whose outcome stays unknown
-
-	mu       sync.Mutex
-	open     map[svid.TokenKey]*claim // whose outcome is open, one a token
-	editions map[uint64]int           // of the bundles by which those were judged, and how many by each
-	gather   []*claim                 // these wait for a value to go out
-	sent     map[uint64]*value        // those that are on their way, by their numbers
-	number   uint64                   // of the last value
-	at       time.Time                // when that went out
-	flying   bool                     // the broker has not answered to it
-	timer    *time.Timer              // asks for the next value, where one waits
-	due      time.Time                // when it does
+	requests int                        // that are being worked on, or wait for an outcome
+	open     map[svid.TokenKey]*Request // whose outcome is open, one a token
+	editions map[uint64]int             // of the bundles by which those were judged, and how many by each
+	gather   []*Request                 // these wait for a value to go out
+	sent     []*value                   // those that are on their way, by their numbers
+	number   uint64                     // of the last value
+	at       time.Duration              // when that went out
+	flying   bool                       // the broker has not answered to it
+	due      time.Duration              // when the next one is to be tried, where claims wait
 }
 
 // A value has claims that go into the bucket together.
 type value struct {
-	claims []*claim
+	put    Put
+	claims []*Request
 	open   int // of these
+	late   timer
 }
 
-// A claim is that of one request. Its outcome is there once done is closed.
-type claim struct {
-	use    svid.Use
-	token  string
-	yes    []svid.Question
-	done   chan struct{}
-	number uint64 // of its value, 0 until that goes out; guarded by claims.mu
-	ended  bool   // nobody ends it any more; guarded by claims.mu
-
-	accepted svid.Accepted // is written by who judges the claim, in one goroutine, and read once it is done
-	err      error
+func newClaims(now time.Duration) claims {
+	return claims{open: make(map[svid.TokenKey]*Request), editions: make(map[uint64]int), at: now - claimFlight, due: never}
 }
 
-func newClaims(failed *atomic.Uint64) claims {
-	return claims{failed: failed, open: make(map[svid.TokenKey]*claim), editions: make(map[uint64]int), sent: make(map[uint64]*value)}
+// begin opens the claim of a request that was judged.
+func (c *claims) begin(r *Request) {
+	r.open = true
+	c.open[r.Accepted.Use.Key] = r
+	c.editions[r.Accepted.Edition()]++
+	c.gather = append(c.gather, r)
 }
 
-// begin opens a claim, or returns the one that is open for the same token.
-func (c *claims) begin(mine *claim) (other *claim) {
-	c.mu.Lock()
-	defer c.mu.Unlock()
-	if other := c.open[mine.use.Key]; other != nil {
-		return other
-	}
-	c.open[mine.use.Key] = mine
-	c.editions[mine.accepted.Edition()]++
-	c.gather = append(c.gather, mine)
-	return nil
-}
-
-// next returns the number and the uses of the value that is to go out now, if one is. Else it calls again later, where
-// claims wait: once they have waited long enough, if nothing calls next before.
-func (c *claims) next(again func()) (number uint64, uses []svid.Use) {
-	c.mu.Lock()
-	defer c.mu.Unlock()
+// next is the value that is to go out now, if one is. Else due says when to ask again, where claims wait.
+func (c *claims) next(now time.Duration) *value {
+	c.due = never
 	if len(c.gather) == 0 {
-		return 0, nil
+		return nil
 	}
 	pause := claimPause
-	if working := int(c.requests.Load()) - len(c.open); c.flying {
+	if working := c.requests - len(c.open); c.flying {
 		pause = claimFlight
 	} else if working > len(c.gather) {
 		pause = claimCompany
 	}
-	now := time.Now()
-	if due := c.at.Add(pause); due.After(now) {
-		c.arm(due, again)
-		return 0, nil
+	if due := c.at + pause; due > now {
+		c.due = due
+		return nil
 	}
 	these := c.gather
 	if len(these) > mostClaims {
 		these = these[:mostClaims:mostClaims]
 	}
-	c.gather = append([]*claim(nil), c.gather[len(these):]...)
+	c.gather = append([]*Request(nil), c.gather[len(these):]...)
 	c.number++
-	c.sent[c.number] = &value{these, len(these)}
+	v := &value{claims: these, open: len(these)}
+	v.put = Put{Kind: carriers.Claims, Number: c.number, Uses: make([]svid.Use, len(these))}
+	for i, r := range these {
+		r.value = v
+		v.put.Uses[i] = r.Accepted.Use
+	}
+	c.sent = append(c.sent, v)
 	c.at, c.flying = now, true
 	if len(c.gather) > 0 {
-		c.arm(now.Add(claimFlight), again)
+		c.due = now + claimFlight
 	}
-	for _, mine := range these {
-		mine.number = c.number
-		uses = append(uses, mine.use)
-	}
-	return c.number, uses
+	return v
 }
 
-// arm lets again be called at a time, if nothing is to call it before. The caller holds mu.
-func (c *claims) arm(due time.Time, again func()) {
-	if c.timer != nil {
-		if !due.Before(c.due) {
-			return
+// finish takes a claim away whose outcome is there.
+func (c *claims) finish(timers *timers, r *Request) {
+	r.open = false
+	delete(c.open, r.Accepted.Use.Key)
+	c.unjudged(r)
+	v := r.value
+	if v == nil {
+		return
+	}
+	if v.open--; v.open > 0 {
+		return
+	}
+	timers.stop(&v.late)
+	if i := c.index(v.put.Number); i < len(c.sent) && c.sent[i] == v {
+		c.sent = append(c.sent[:i], c.sent[i+1:]...)
+	}
+}
+
+// index is where a value of this number stands, or would stand, among those that are on their way.
+func (c *claims) index(number uint64) int {
+	return sort.Search(len(c.sent), func(i int) bool { return c.sent[i].put.Number >= number })
+}
+
+// judgedBefore returns the claims that are on their way and were judged by other bundles than these.
+func (c *claims) judgedBefore(edition uint64) (all []*Request) {
+	if n := len(c.editions); n == 0 || n == 1 && c.editions[edition] > 0 {
+		return nil
+	}
+	for _, v := range c.sent {
+		for _, r := range v.claims {
+			if r.open && r.Accepted.Edition() != edition {
+				all = append(all, r)
+			}
 		}
-		c.timer.Stop()
 	}
-	var timer *time.Timer
-	timer = time.AfterFunc(time.Until(due), func() {
-		c.mu.Lock()
-		if c.timer == timer {
-			c.timer = nil
-		}
-		c.mu.Unlock()
-		again()
-	})
-	c.timer, c.due = timer, due
+	return all
 }
 
-// landed records that the broker has stored a value, or else why not. In the second case its claims end that are still open.
-func (c *claims) landed(number uint64, err error) {
-	c.mu.Lock()
-	defer c.mu.Unlock()
-	if number == c.number {
-		c.flying = false
-	}
-	if err != nil && c.sent[number] != nil {
-		c.fail(c.sent[number].claims, fmt.Errorf("the token could not be claimed: %w", err))
+// unjudged takes a claim out of the count of those that were judged by its bundles.
+func (c *claims) unjudged(r *Request) {
+	edition := r.Accepted.Edition()
+	if c.editions[edition]--; c.editions[edition] == 0 {
+		delete(c.editions, edition)
 	}
 }
 
-// fail ends those of claims that are open, and whose outcome stays unknown, and says how many these are. The caller holds mu.
-func (c *claims) fail(these []*claim, err error) (failed int) {
-	for _, mine := range these {
-		if !mine.ended {
-			c.failed.Add(1) // (before its answer goes out)
-			c.finish(mine, err)
+// sendClaims sends the claims that are to go out now, in one value, and lets others follow. A value that has not come back
+// in time ends its claims.
+func (m *Machine) sendClaims() {
+	if v := m.claims.next(m.now.Up); v != nil {
+		m.timers.set(&v.late, m.now.Up+m.Wait, v)
+		m.send(&v.put, m.Wait, v)
+	}
+}
+
+// isLate: the value has not come back in time.
+func (v *value) isLate(m *Machine) { m.claimsLanded(v, context.DeadlineExceeded) }
+
+// landed: the broker has stored the value, or Err says why not.
+func (v *value) landed(m *Machine, err error) {
+	m.claimsLanded(v, err)
+	m.sendClaims()
+}
+
+// claimsLanded records that the broker has stored a value, or else why not. In the second case its claims end that are still
+// open.
+func (m *Machine) claimsLanded(v *value, err error) {
+	if v.put.Number == m.claims.number {
+		m.claims.flying = false
+	}
+	if err != nil {
+		m.fail(v.claims, fmt.Errorf("the token could not be claimed: %w", err))
+	}
+}
+
+// fail ends those of claims that are open, and whose outcome stays unknown, and says how many these are.
+func (m *Machine) fail(these []*Request, err error) (failed int) {
+	for _, r := range these {
+		if r.open {
+			m.metrics.ClaimsFailed.Add(1)
+			m.outcome(r, err)
 			failed++
 		}
 	}
@@ -160,105 +182,74 @@ func (c *claims) fail(these []*claim, err error) (failed int) {
 }
 
 // failAll ends all claims that are on their way.
-func (c *claims) failAll(err error) (failed int) {
-	c.mu.Lock()
-	defer c.mu.Unlock()
-	for _, v := range c.sent {
-		failed += c.fail(v.claims, err)
+func (m *Machine) failAll(err error) (failed int) {
+	for _, v := range append([]*value(nil), m.claims.sent...) {
+		failed += m.fail(v.claims, err)
 	}
 	return failed
 }
 
-// giveUp takes a claim back whose time is up, and says whether that went: else its outcome is there.
-func (c *claims) giveUp(mine *claim) bool {
-	c.mu.Lock()
-	defer c.mu.Unlock()
-	if mine.ended {
-		return false
-	}
-	c.finish(mine, context.DeadlineExceeded)
-	for i, other := range c.gather {
-		if other == mine {
-			c.gather = append(c.gather[:i], c.gather[i+1:]...) // so it is not sent
-			break
-		}
-	}
-	return true
-}
-
-// finish ends an open claim, and lets the requests go on that wait for it. The caller holds mu.
-func (c *claims) finish(mine *claim, err error) {
-	mine.ended, mine.err = true, err
-	delete(c.open, mine.use.Key)
-	c.unjudged(mine)
-	if v := c.sent[mine.number]; v != nil {
-		if v.open--; v.open == 0 {
-			delete(c.sent, mine.number)
-		}
-	}
-	close(mine.done)
-}
-
-// end ends claims whose uses were read in the bucket, each as outcome says, and returns how many. Only a claim that is on its
-// way ends so: one whose value has not gone out is open still.
-func (c *claims) end(read []svid.LogUse, place svid.Place, outcome func(svid.Fate) error) (ended int) {
-	c.mu.Lock()
-	defer c.mu.Unlock()
+// endClaims ends claims whose uses were read in the bucket, and returns how many. Only a claim that is on its way ends so: one
+// whose value has not gone out is open still.
+func (m *Machine) endClaims(read []svid.LogUse) (ended int) {
+	c := &m.claims
 	for i := range read {
 		use := &read[i].Use
-		if use.Place != place {
+		if use.ValidatorID != m.ValidatorID {
 			continue
 		}
-		if mine := c.open[use.Key]; mine != nil && mine.number != 0 && mine.use == *use {
-			if mine.number == c.number {
+		if mine := c.open[use.Key]; mine != nil && mine.value != nil && mine.Accepted.Use == *use {
+			if mine.value.put.Number == c.number {
 				c.flying = false // The broker has stored its value, though the answer may come later.
 			}
-			c.finish(mine, outcome(read[i].Fate))
+			err := outcomeOf(read[i].Fate)
+			m.count(err)
+			m.outcome(mine, err)
 			ended++
 		}
 	}
 	return ended
 }
 
-// judgedBefore returns the claims that are on their way and were judged by other bundles than these.
-func (c *claims) judgedBefore(edition uint64) (all []*claim) {
-	c.mu.Lock()
-	defer c.mu.Unlock()
-	if n := len(c.editions); n == 0 || n == 1 && c.editions[edition] > 0 {
-		return nil
-	}
-	for _, v := range c.sent {
-		for _, mine := range v.claims {
-			if !mine.ended && mine.accepted.Edition() != edition {
-				all = append(all, mine)
-			}
+// judgeRenewed judges claims again, by their tokens, that were judged by other bundles than the validator has. It may refuse
+// them now. Then their uses are in the bucket all the same, and the tokens are burnt.
+func (m *Machine) judgeRenewed(now, edition uint64) {
+	c := &m.claims
+	for _, r := range c.judgedBefore(edition) {
+		again, err := m.validator.Judge(now, r.Token, r.Yes)
+		if err != nil {
+			m.count(err)
+			m.outcome(r, err)
+			continue
 		}
+		c.unjudged(r)
+		again.Use = r.Accepted.Use // with the time of the claim, as the bucket has it
+		r.Accepted = again
+		c.editions[again.Edition()]++
 	}
-	return all
 }
 
-// judged records what a second judgment of a claim says: another verdict, or an error that ends it.
-func (c *claims) judged(mine *claim, again svid.Accepted, err error, count func(error)) {
-	c.mu.Lock()
-	defer c.mu.Unlock()
-	if mine.ended {
-		return
+// outcomeOf is what becomes of a claim whose use has this fate.
+func outcomeOf(fate svid.Fate) error {
+	err := outcomes[fate]
+	if fate != svid.FateAccepted && err == nil {
+		err = fmt.Errorf("the claim has the fate %v", fate)
 	}
-	if err != nil {
-		count(err)
-		c.finish(mine, err)
-		return
-	}
-	c.unjudged(mine)
-	again.Use = mine.use // with the time of the claim, as the bucket has it
-	mine.accepted = again
-	c.editions[again.Edition()]++
+	return err
 }
 
-// unjudged takes a claim out of the count of those that were judged by its bundles. The caller holds mu.
-func (c *claims) unjudged(mine *claim) {
-	edition := mine.accepted.Edition()
-	if c.editions[edition]--; c.editions[edition] == 0 {
-		delete(c.editions, edition)
+// outcomes are those of claims, by their fates. A first claim that is not accepted is one behind values that are missing.
+var outcomes = map[svid.Fate]error{svid.FateFirst: ErrMissed, svid.FateTooFarAhead: errEarly, svid.FateExpired: svid.Expired,
+	svid.FateWithdrawn: svid.Withdrawn, svid.FateReplayed: svid.Replayed}
+
+// count counts the outcome of a claim.
+func (m *Machine) count(err error) {
+	switch _, refused := refusalOf(err); {
+	case err == nil:
+		m.metrics.ClaimsWon.Add(1)
+	case refused:
+		m.metrics.ClaimsLost.Add(1)
+	default:
+		m.metrics.ClaimsFailed.Add(1)
 	}
 }

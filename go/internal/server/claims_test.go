@@ -9,13 +9,13 @@ import (
 	"net/http"
 	"net/http/httptest"
 	"strings"
-	"sync"
 	"sync/atomic"
 	"testing"
 	"time"
 
-	"svid.example/go/internal/group"
-	"svid.example/go/svid"
+	"svid.example/go/v2/carriers"
+	"svid.example/go/v2/internal/patience"
+	"svid.example/go/v2/svid"
 )
 
 // A claim whose client goes away ends at once. Nobody knows what became of it, which is counted.
@@ -41,7 +41,7 @@ func TestAClientThatGoesAwayDuringAClaim(t *testing.T) {
 		if !errors.Is(err, context.Canceled) {
 			t.Error(err)
 		}
-	case <-time.After(20 * time.Second):
+	case <-time.After(patience.Long):
 		t.Fatal("the request goes on")
 	}
 	wantClaims(t, e, 0, 0, 1)
@@ -58,14 +58,14 @@ func TestAGapEndsClaimsAtOnce(t *testing.T) {
 	e, m := all[0], b.members[0]
 	e.Wait = time.Minute
 	answer := claimed(m, token("a"))
-	other := svid.Use{Key: svid.TokenKey{1}, Expires: moment + 300, At: moment, Place: svid.Place{9}}
-	e.Take([]group.Value{{Kind: group.Claims, Position: 7, Message: other.Batch()}})
+	other := svid.Use{Key: svid.TokenKey{1}, Expires: moment + 300, At: moment, ValidatorID: svid.ValidatorID{9}}
+	e.Take([]carriers.Value{{Kind: carriers.Claims, Position: 7, Message: batchOf(other)}})
 	select {
 	case err := <-answer:
 		if err != ErrMissed {
 			t.Error(err)
 		}
-	case <-time.After(20 * time.Second):
+	case <-time.After(patience.Long):
 		t.Fatal("the claim has no outcome")
 	}
 	wantClaims(t, e, 0, 0, 1)
@@ -77,7 +77,7 @@ type puttingGroup struct {
 	ended chan error
 }
 
-func (p puttingGroup) Put(ctx context.Context, kind group.Kind, number uint64, message []byte) error {
+func (p puttingGroup) Put(ctx context.Context, kind carriers.Kind, number uint64, message []byte) error {
 	err := p.tie.Put(ctx, kind, number, message)
 	p.ended <- err
 	return err
@@ -99,45 +99,8 @@ func TestAValueInVainLeavesNothing(t *testing.T) {
 		if !errors.Is(err, context.DeadlineExceeded) {
 			t.Error(err)
 		}
-	case <-time.After(20 * time.Second):
+	case <-time.After(patience.Long):
 		t.Error("the value is still tried")
-	}
-}
-
-// A claim is given up and ended at the same time, and its value lands: one of both counts.
-func TestClaimsEndAndAreGivenUpAtOnce(t *testing.T) {
-	c := newClaims(new(atomic.Uint64))
-	again := func() {}
-	for round := 0; round < 300; round++ {
-		mine := &claim{use: svid.Use{Key: svid.TokenKey{byte(round)}}, done: make(chan struct{})}
-		c.begin(mine)
-		c.at = time.Time{} // so that the value goes out at once
-		number, _ := c.next(again)
-		if number == 0 {
-			t.Fatal("no value goes out")
-		}
-		var both sync.WaitGroup
-		var ends atomic.Int32
-		both.Add(3)
-		go func() { defer both.Done(); c.landed(number, nil) }()
-		go func() {
-			defer both.Done()
-			if c.giveUp(mine) {
-				ends.Add(1)
-			}
-		}()
-		go func() {
-			defer both.Done()
-			ends.Add(int32(c.end([]svid.LogUse{{Use: mine.use}}, svid.Place{}, func(svid.Fate) error { return nil })))
-		}()
-		both.Wait()
-		<-mine.done
-		if n := ends.Load(); n != 1 {
-			t.Fatalf("a claim has ended %d times", n)
-		}
-	}
-	if n := len(c.open) + len(c.sent) + len(c.gather) + len(c.editions); n != 0 {
-		t.Errorf("%d things of claims are kept", n)
 	}
 }
 
@@ -153,7 +116,7 @@ func TestResumeByGetChangesNothing(t *testing.T) {
 	all, b := strict(t, 1)
 	e, m := all[0], b.members[0]
 	m.gap = 3
-	b.put(stored{kind: group.Claims, message: svid.Use{Key: svid.TokenKey{1}, Expires: moment + 300, At: moment, Place: svid.Place{9}}.Batch()})
+	b.put(stored{kind: carriers.Claims, message: batchOf(svid.Use{Key: svid.TokenKey{1}, Expires: moment + 300, At: moment, ValidatorID: svid.ValidatorID{9}})})
 	const until = moment + 3600 + 60
 	for _, row := range []struct {
 		method string
@@ -194,15 +157,15 @@ func TestLateMessagesStayUntilTheClockIsRight(t *testing.T) {
 	e := ready(t, engine(t, Options{Mode: Once, Journal: &disk{}, Now: now.Load, Step: 600}))
 	now.Store(moment + 100_000)
 	for i := byte(1); i <= 3; i++ {
-		e.Take([]group.Value{{Kind: group.Uses, Message: svid.Use{Key: svid.TokenKey{i}, Expires: moment + 300, At: moment}.Batch()}})
+		e.Take([]carriers.Value{{Kind: carriers.Uses, Message: batchOf(svid.Use{Key: svid.TokenKey{i}, Expires: moment + 300, At: moment})}})
 	}
 	for i := 0; i < 3; i++ {
-		e.takeLate()
-		e.tick()
+		e.step(doing((*Machine).takeLate))
+		e.step(doing((*Machine).tick))
 	}
 	wantUses(t, []*Engine{e}, 0)
 	now.Store(moment + 1)
-	e.tick()
+	e.step(doing((*Machine).tick))
 	wantUses(t, []*Engine{e}, 3)
 }
 
@@ -224,7 +187,7 @@ func TestAWithdrawalNamesOneToken(t *testing.T) {
 // A timeless group stores what it is given, and can't say when.
 type timelessGroup struct{ slowGroup }
 
-func (timelessGroup) Stored(context.Context, group.Kind, uint64) (time.Time, error) {
+func (timelessGroup) Stored(context.Context, carriers.Kind, uint64) (time.Time, error) {
 	return time.Time{}, errors.New("no servers")
 }
 
@@ -232,7 +195,7 @@ func (timelessGroup) Stored(context.Context, group.Kind, uint64) (time.Time, err
 func TestAWithdrawalOfUnknownTime(t *testing.T) {
 	e := ready(t, engine(t, Options{Mode: Reuse, Grouped: true}))
 	e.Join(timelessGroup{})
-	_, err := e.Withdraw(context.Background(), svid.TokenKey{1}, moment+300)
+	_, err := e.Withdraw(svid.TokenKey{1}, moment+300)
 	if err == nil || !strings.Contains(err.Error(), "no servers") || e.Metrics.Withdrawals.Load() != 0 {
 		t.Errorf("%v, and %d are counted", err, e.Metrics.Withdrawals.Load())
 	}
@@ -288,143 +251,26 @@ func TestWhatIsCounted(t *testing.T) {
 	}
 }
 
-// Many goroutines log errors.
-func TestASeldomOfMany(t *testing.T) {
-	var s seldom
-	var all sync.WaitGroup
-	var spoken atomic.Int32
-	now := time.Now()
-	for i := 0; i < 8; i++ {
-		all.Add(1)
-		go func() {
-			defer all.Done()
-			for n := 0; n < 100; n++ {
-				if _, ok := s.speak(now, "a cause"); ok {
-					spoken.Add(1)
-				}
+// Claims that come one behind the other go out one behind the other: the alarm is set anew each time.
+func TestClaimsGoOutByTheAlarm(t *testing.T) {
+	all, _ := strict(t, 1)
+	all[0].Wait = time.Minute
+	done := make(chan error)
+	go func() {
+		for i := 0; i < 20; i++ {
+			if err := check(all[0], token(fmt.Sprint(i))); err != nil {
+				done <- err
+				return
 			}
-		}()
-	}
-	all.Wait()
-	if n := spoken.Load(); n != 1 || s.unlogged != 799 {
-		t.Errorf("%d lines, and %d are counted", n, s.unlogged)
-	}
-}
-
-// A value that fails once some of its claims have an outcome fails the others alone.
-func TestAValueThatFailsHalfway(t *testing.T) {
-	var failed atomic.Uint64
-	c := newClaims(&failed)
-	one := &claim{use: svid.Use{Key: svid.TokenKey{1}}, done: make(chan struct{})}
-	two := &claim{use: svid.Use{Key: svid.TokenKey{2}}, done: make(chan struct{})}
-	c.begin(one)
-	c.begin(two)
-	number, uses := c.next(func() {})
-	if len(uses) != 2 {
-		t.Fatal(uses)
-	}
-	if n := c.end([]svid.LogUse{{Use: one.use}}, svid.Place{}, func(svid.Fate) error { return nil }); n != 1 {
-		t.Errorf("%d claims have ended", n)
-	}
-	late := errors.New("late")
-	c.landed(number, late)
-	<-one.done
-	<-two.done
-	if one.err != nil || !errors.Is(two.err, late) || failed.Load() != 1 || len(c.sent) != 0 {
-		t.Errorf("%v, %v, %d failed, and %d values are kept", one.err, two.err, failed.Load(), len(c.sent))
-	}
-}
-
-// A claim whose value has not gone out is open still, whatever stands in the bucket.
-func TestAClaimThatHasNotGoneOutStaysOpen(t *testing.T) {
-	c := newClaims(new(atomic.Uint64))
-	mine := &claim{use: svid.Use{Key: svid.TokenKey{1}}, done: make(chan struct{})}
-	c.begin(mine)
-	ended := func() int {
-		return c.end([]svid.LogUse{{Use: mine.use}}, svid.Place{}, func(svid.Fate) error { return nil })
-	}
-	if n := ended(); n != 0 || mine.ended {
-		t.Errorf("%d claims have ended", n)
-	}
-	if number, _ := c.next(func() {}); number != 1 {
-		t.Fatal(number)
-	}
-	if n := ended(); n != 1 || !mine.ended {
-		t.Errorf("%d claims have ended", n)
-	}
-}
-
-// Each claim that waits has its timer, also where an earlier one has run.
-func TestEachClaimThatWaitsHasItsTimer(t *testing.T) {
-	c := newClaims(new(atomic.Uint64))
-	ran := make(chan struct{}, 1)
-	again := func() { ran <- struct{}{} }
-	for i := byte(0); i < 5; i++ {
-		c.begin(&claim{use: svid.Use{Key: svid.TokenKey{i}}, done: make(chan struct{})})
-		c.mu.Lock()
-		c.at = time.Now() // so that a value must wait
-		c.mu.Unlock()
-		if number, _ := c.next(again); number != 0 {
-			t.Fatalf("value %d goes out without a pause", number)
 		}
-		select {
-		case <-ran:
-		case <-time.After(20 * time.Second):
-			t.Fatalf("claim %d waits for ever", i)
+		close(done)
+	}()
+	select {
+	case err := <-done:
+		if err != nil {
+			t.Error(err)
 		}
-	}
-}
-
-// Claims that have no room in a value go out with the next one.
-func TestClaimsWithoutRoomGoOutNext(t *testing.T) {
-	c := newClaims(new(atomic.Uint64))
-	const more = 3
-	for i := 0; i < mostClaims+more; i++ {
-		c.begin(&claim{use: svid.Use{Key: svid.TokenKey{byte(i >> 8), byte(i)}}, done: make(chan struct{})})
-	}
-	seen := map[svid.TokenKey]bool{}
-	for number, want := range []int{mostClaims, more} {
-		c.mu.Lock()
-		c.at = time.Time{} // so that the value goes out at once
-		c.mu.Unlock()
-		got, uses := c.next(func() {})
-		if got != uint64(number+1) || len(uses) != want {
-			t.Errorf("value %d has %d claims, and %d are due", got, len(uses), want)
-		}
-		for _, u := range uses {
-			seen[u.Key] = true
-		}
-		c.landed(got, nil)
-	}
-	if len(seen) != mostClaims+more {
-		t.Errorf("%d claims went out", len(seen))
-	}
-}
-
-// A clock that is wrong for long is said once, and not each time that a value could not be read.
-func TestAWrongClockIsSaidOnce(t *testing.T) {
-	var now, asked atomic.Uint64
-	now.Store(moment)
-	var log lines
-	e := ready(t, engine(t, Options{Mode: Strict, Grouped: true, Step: 600, Log: NewLog(&log, Errors), Now: func() uint64 {
-		asked.Add(1)
-		return now.Load()
-	}}))
-	(&broker{}).join(e)
-	e.tick()
-	now.Store(moment + 100_000)
-	taken := make(chan []error)
-	use := svid.Use{Key: svid.TokenKey{1}, Expires: moment + 300, At: moment, Place: svid.Place{9}}
-	before := asked.Load()
-	go func() { taken <- e.Take([]group.Value{{Kind: group.Claims, Position: 2, Message: use.Batch()}}) }()
-	await(t, "five tries", func() bool { return asked.Load() >= before+5 })
-	now.Store(moment + 50)
-	if errs := <-taken; errs != nil {
-		t.Error(errs)
-	}
-	log.mu.Lock()
-	defer log.mu.Unlock()
-	if n := strings.Count(log.text.String(), `"event":"log"`); n != 1 {
-		t.Errorf("%d lines: %s", n, &log.text)
+	case <-time.After(patience.Long):
+		t.Fatal("a claim waits for ever")
 	}
 }

@@ -7,12 +7,13 @@ import (
 	"errors"
 	"io"
 	"net/http"
+	"runtime"
 	"strings"
 	"testing"
 	"time"
 
-	"svid.example/go/internal/journal"
-	"svid.example/go/svid"
+	"svid.example/go/v2/journal"
+	"svid.example/go/v2/svid"
 )
 
 // The disk hangs: each request ends in time, with 503. Its token is burnt, here and, where the disk had the use after all,
@@ -41,12 +42,12 @@ func TestADiskThatHangs(t *testing.T) {
 			t.Errorf("%s: %d %s", path, w.Code, w.Body)
 		}
 	}
-	e.keepAgain()
+	again(t, e)
 	if err := e.Ready(); err != errKeepsNothing {
 		t.Errorf("ready: %v", err)
 	}
 	close(d.hangs)
-	e.keepAgain()
+	again(t, e)
 	if err := e.Ready(); err != nil {
 		t.Errorf("the disk is back: %v", err)
 	}
@@ -56,6 +57,21 @@ func TestADiskThatHangs(t *testing.T) {
 	if w := request(h, "GET", "/check", "Bearer "+token("a")); w.Code != http.StatusUnauthorized {
 		t.Errorf("a token that was given up: %d %s", w.Code, w.Body)
 	}
+}
+
+// A disk that hangs for long is tried again and again, and gathers no goroutines.
+func TestADiskThatHangsGathersNothing(t *testing.T) {
+	d := &disk{hangs: make(chan struct{})}
+	e := ready(t, engine(t, Options{Mode: Once, Journal: d, Wait: 10 * time.Millisecond}))
+	defer close(d.hangs)
+	if err := check(e, token("a")); err == nil {
+		t.Fatal("it is accepted")
+	}
+	before := runtime.NumGoroutine()
+	for i := 0; i < 20; i++ {
+		again(t, e)
+	}
+	await(t, "the end of all tries", func() bool { return runtime.NumGoroutine() <= before })
 }
 
 // A snapshot that is being written holds no request up, and what comes meanwhile outlives a restart. The real journal here.
@@ -218,10 +234,10 @@ func TestAClientHearsAWordOfWhatFailed(t *testing.T) {
 	}
 	// A fault that no table has, too.
 	e := engine(t, Options{Mode: Reuse})
-	if got := e.reasonOf(errors.New(secret)); got != "NotJudged" {
+	if got := e.ReasonOf(errors.New(secret)); got != "NotJudged" {
 		t.Error(got)
 	}
-	if got := e.reasonOf(svid.ErrNoMemory); got != "NoMemory" {
+	if got := e.ReasonOf(svid.ErrNoMemory); got != "NoMemory" {
 		t.Error(got)
 	}
 }

@@ -2,23 +2,23 @@
 // tokens over HTTP, and keeps what an acceptance owes to the disk and to the
 // group before the answer goes out.
 //
-// An Engine decides, by the proved validator of package svid. A Handler puts it
-// behind /check. The state folder and the group are interfaces here, which
-// packages journal and group implement.
+// A Machine decides, by the proved validator of package svid, and an Engine runs it with goroutines, sockets and files. A
+// Handler puts it behind /check. The state folder and the group are interfaces here, which packages journal and
+// carriers have.
 package server
 
 import (
 	"context"
 	"encoding/json"
-	"errors"
 	"fmt"
 	"io"
 	"sync"
 	"sync/atomic"
 	"time"
 
-	"svid.example/go/internal/group"
-	"svid.example/go/svid"
+	"svid.example/go/v2/carriers"
+	"svid.example/go/v2/svid"
+	"svid.example/go/v2/svidhttp"
 )
 
 // A Mode is what an acceptance means for the next time that the token comes.
@@ -28,15 +28,8 @@ type Mode string
 const (
 	Once   Mode = "once"   // a token is accepted once by this sidecar; the group hears of it at once
 	Strict Mode = "strict" // a token is accepted once in the whole group
-	Reuse  Mode = "reuse"  // a token is accepted until it expires or is revoked
+	Reuse  Mode = "reuse"  // a token is accepted until it expires or is withdrawn
 )
-
-// ErrNotReady: the sidecar has not yet read its bundles, its record and the
-// group's.
-var ErrNotReady = errors.New("not ready")
-
-// ErrNoBundle: the token is of a trust domain whose bundle could not be read yet.
-var ErrNoBundle = errors.New("the bundle of the token's trust domain was not read yet")
 
 // A Journal keeps acceptances on the disk.
 type Journal interface {
@@ -57,9 +50,9 @@ type Group interface {
 	Ready() <-chan struct{}
 	// Put returns once the value is stored, and tries until ctx ends. Every
 	// member is given it then, in one order, with all values.
-	Put(ctx context.Context, kind group.Kind, number uint64, message []byte) error
+	Put(ctx context.Context, kind carriers.Kind, number uint64, message []byte) error
 	// Stored returns when the broker stored a value that was Put, by its clock.
-	Stored(ctx context.Context, kind group.Kind, number uint64) (time.Time, error)
+	Stored(ctx context.Context, kind carriers.Kind, number uint64) (time.Time, error)
 	Taken() uint64
 	Aside() uint64
 	// Connected says whether the broker is there at this moment.
@@ -68,65 +61,52 @@ type Group interface {
 
 // Options of an Engine.
 type Options struct {
-	Mode      Mode
-	Audiences []string
-	Domains   []string // trust domains that are to have a bundle: until one has, its tokens can't be judged
-	RSABits   int      // at most so many has an RSA key, as svid.KeyringOptions has it
-	Longest   uint64   // seconds past now that a token may live
-	Ahead     uint64   // seconds that clocks of the group may differ
-	Step      uint64   // seconds that the clock may go ahead between two ticks; 0 for any
-	Jumped    func()   // is called once the clock has been further ahead than Step for a minute; may be nil
-	Place     svid.Place
-	Journal   Journal       // nil keeps nothing on the disk
-	Grouped   bool          // the engine is not ready before it joined a group
-	Wait      time.Duration // for the disk and the group, in one request
-	Now       func() uint64 // nil is svid.Now
-	Log       *Log
+	Mode        Mode
+	Audiences   []string // until SetRules
+	Allow       []string // patterns of the SPIFFE IDs that may call (svid.Allows), until SetRules; nil allows all
+	Domains     []string // trust domains that are to have a bundle: until one has, its tokens can't be judged
+	RSABits     int      // at most so many has an RSA key, as svid.KeyringOptions has it
+	Longest     uint64   // seconds past now that a token may live
+	Ahead       uint64   // seconds that clocks of the group may differ
+	Step        uint64   // seconds that the clock may go ahead between two ticks; 0 for any
+	Jumped      func()   // is called once the clock has been further ahead than Step for a minute; may be nil
+	ValidatorID svid.ValidatorID
+	Journal     Journal       // nil keeps nothing on the disk
+	Grouped     bool          // the engine is not ready before it joined a group
+	Wait        time.Duration // for the disk and the group, in one request
+	Now         func() uint64 // nil is svid.Now
+	Log         *Log
 }
 
-// An Engine judges tokens. Its methods may be called by many goroutines at once.
+// An Engine judges tokens: it runs a Machine. Its methods may be called by many goroutines at once.
 type Engine struct {
 	Options
 	Metrics   Metrics
 	keyring   *svid.Keyring
 	validator *svid.Validator
-	claims    claims
-	verified  verified // in mode reuse
-	keeper    keeper   // in mode strict
-	late      late
 	group     atomic.Pointer[joined]
-	untold    chan svid.Use
-	values    atomic.Uint64 // numbers of what was put into the group's bucket, except for claims
+	caughtUp  atomic.Bool           // the machine knows that the group's bucket is read
+	renewing  sync.Mutex            // held while bundles are replaced
+	ruling    sync.Mutex            // held while the rules are
+	rules     atomic.Pointer[Rules] // by which requests come
+	start     time.Time             // when Time.Up is 0
+	outlook   outlook
+	toHave    atomic.Pointer[[]string] // trust domains that are to have a bundle; nil while Options.Domains counts
+	isReal    bool                     // Options.Now was not given
 
-	loaded   atomic.Bool                // the state folder's record is in the validator
-	unkept   atomic.Pointer[[]svid.Use] // what the state folder did not take last, nil where it takes all
-	draining atomic.Bool
-	jumped   atomic.Bool   // the clock is further ahead than Options.Step
-	jumpedAt time.Time     // since then; tick alone uses it
-	began    uint64        // when the engine was made
-	ended    chan struct{} // closed as Run ends
-	mixedAt  time.Time     // when it was last logged that the group's modes differ; Take alone uses it
+	mu      sync.Mutex // held over a step of the machine; guards the fields below
+	machine *Machine
+	alarm   *time.Timer   // ticks
+	armed   time.Duration // when it does
 
-	// Of mode strict.
-	deaf     atomic.Uint64 // the moment before which the validator accepts nothing
-	unmarked atomic.Bool   // the state folder does not have that moment yet
-	right    atomic.Uint64 // the last time that was no jump
-	reading  sync.Mutex    // held while the validator reads its log; guards the fields below
-	log      group.Log     // as Begin had it last
-	recalled *svid.Mark    // where an earlier life was in the log, until the log has begun
-	room     []svid.LogUse // for what it reads
-	stuckAt  time.Time     // when it was last logged that it can't read
-
-	renewing sync.Mutex // held while bundles are replaced
-	bundles  atomic.Pointer[[]byte]
+	life   context.Context // ends with Run
+	end    context.CancelFunc
+	ending chan struct{} // closed as Run begins to end
+	ended  chan struct{} // closed once the machine has ended
 }
 
 // joined is the group once it is there.
 type joined struct{ Group }
-
-// mostUntold is how many uses may wait to be told. Behind that they are dropped
-// and counted: the group's summaries bring them later.
-const mostUntold = 1 << 16
 
 // noBundles are the bundles before the first ones are read.
 var noBundles = []byte("{}")
@@ -134,7 +114,8 @@ var noBundles = []byte("{}")
 // NewEngine returns an engine that is not ready: it wants SetBundles, Load, and
 // where Options.Grouped is set, Join.
 func NewEngine(o Options) (*Engine, error) {
-	if o.Now == nil {
+	isReal := o.Now == nil
+	if isReal {
 		o.Now = svid.Now
 	}
 	if o.Step == 0 {
@@ -146,23 +127,179 @@ func NewEngine(o Options) (*Engine, error) {
 	}
 	validator, err := svid.Open(svid.Options{
 		Audiences: o.Audiences, Bundles: noBundles, Longest: o.Longest,
-		Ahead: o.Ahead, Step: o.Step, Place: o.Place,
+		Ahead: o.Ahead, Step: o.Step, ValidatorID: o.ValidatorID,
 	})
 	if err != nil {
 		keyring.Close()
 		return nil, err
 	}
-	e := &Engine{Options: o, keyring: keyring, validator: validator, untold: make(chan svid.Use, mostUntold), began: o.Now(),
-		room: make([]svid.LogUse, readRoom), ended: make(chan struct{})}
-	e.claims = newClaims(&e.Metrics.ClaimsFailed)
-	e.keeper.idle = sync.NewCond(&e.keeper.mu)
+	e := &Engine{Options: o, keyring: keyring, validator: validator, start: time.Now(), isReal: isReal, armed: never,
+		ending: make(chan struct{}), ended: make(chan struct{})}
+	e.life, e.end = context.WithCancel(context.Background())
+	e.machine = newMachine(&e.Options, &e.Metrics, validator, e.time())
+	e.rules.Store(e.machine.rules)
+	e.alarm = time.AfterFunc(never, e.tick)
 	return e, nil
 }
 
 // Close frees the record. No call may be under way.
 func (e *Engine) Close() {
+	e.mu.Lock()
+	defer e.mu.Unlock()
+	e.alarm.Stop()
+	e.armed = -1 // It is never set again.
+	e.end()
 	e.keyring.Close()
 	e.validator.Close()
+}
+
+// time is what the clocks show.
+func (e *Engine) time() Time {
+	if e.isReal {
+		now := time.Now() // (as svid.Now, and a clock is looked at once)
+		return Time{Wall: uint64(now.Unix()), Up: now.Sub(e.start)}
+	}
+	return Time{Wall: e.Now(), Up: time.Since(e.start)}
+}
+
+// step lets something happen to the machine, and does what is to be done then.
+func (e *Engine) step(event Event) { e.stepFor(nil, event) }
+
+// stepFor does so in a goroutine that waits for the answer to a call, and so does itself what that call wants.
+func (e *Engine) stepFor(own *Request, event Event) {
+	var room [4]Effect
+	now := e.time()
+	e.mu.Lock()
+	e.machine.Step(now, event)
+	effects := e.machine.Effects(room[:0])
+	e.arm()
+	e.mu.Unlock()
+	for _, effect := range effects {
+		e.do(own, effect)
+	}
+}
+
+// tick lets happen what is due.
+func (e *Engine) tick() {
+	now := e.time()
+	e.mu.Lock()
+	if e.armed < 0 {
+		e.mu.Unlock()
+		return
+	}
+	e.armed = never
+	e.machine.Tick(now)
+	effects := e.machine.Effects(nil)
+	e.arm()
+	e.mu.Unlock()
+	for _, effect := range effects {
+		e.do(nil, effect)
+	}
+}
+
+// arm sets the alarm, unless it is set to an earlier moment. The caller holds mu.
+func (e *Engine) arm() {
+	if due := e.machine.Due(); due < e.armed {
+		e.armed = due
+		e.alarm.Reset(due - time.Since(e.start))
+	}
+}
+
+// do does what is to be done: at once what takes no time, or what the call wants that this goroutine waits for.
+func (e *Engine) do(own *Request, effect Effect) {
+	switch effect := effect.(type) {
+	case Answer:
+		if effect.done != nil {
+			close(effect.done)
+		}
+	case Verify:
+		effect.Yes, effect.Fault = e.keyring.Verify(effect.Token)
+		e.stepFor(own, Verified(effect))
+	case Append:
+		if own != nil && effect.Write == &own.write {
+			e.append(waiting{own}, effect.Write)
+		} else {
+			go e.appendInTime(effect.Write)
+		}
+	case Send:
+		go e.send(effect.Put)
+	case Snapshot:
+		go e.snapshot()
+	case JumpedAhead:
+		if e.Jumped != nil {
+			e.Jumped()
+		}
+	case Ended:
+		close(e.ended)
+	}
+}
+
+// append brings uses to the disk, or a mark, and waits for that until ctx ends.
+func (e *Engine) append(ctx context.Context, w *Write) {
+	if len(w.Uses) == 0 {
+		w.Err = e.Journal.AppendMark(ctx)
+	} else {
+		w.Err = e.Journal.AppendUses(ctx, w.Uses...)
+	}
+	w.Size = e.Journal.Size()
+	e.step(Kept{w})
+}
+
+// appendInTime does so for no longer than anybody waits for it: a disk that hangs gathers no goroutines.
+func (e *Engine) appendInTime(w *Write) {
+	ctx, cancel := context.WithTimeout(e.life, w.Within)
+	defer cancel()
+	e.append(ctx, w)
+}
+
+// waiting is a context that ends once its request is answered.
+type waiting struct{ *Request }
+
+func (w waiting) Deadline() (time.Time, bool) { return time.Time{}, false }
+func (w waiting) Value(any) any               { return nil }
+func (w waiting) Done() <-chan struct{}       { return w.done }
+func (w waiting) Err() error {
+	select {
+	case <-w.done:
+		return context.DeadlineExceeded
+	default:
+		return nil
+	}
+}
+
+// send puts a value into the group's log, and tries for as long as it is worth it.
+func (e *Engine) send(p *Put) {
+	ctx, cancel := context.WithTimeout(e.life, p.Within)
+	defer cancel()
+	g := e.group.Load()
+	var message []byte
+	if message, p.Err = svid.Batches(p.Uses); p.Err == nil {
+		p.Err = g.Put(ctx, p.Kind, p.Number, message)
+	}
+	if p.Err == nil && p.Timed {
+		var at time.Time
+		at, p.AtErr = g.Stored(ctx, p.Kind, p.Number)
+		p.At = uint64(at.Unix())
+	}
+	e.step(Landed{p})
+}
+
+// snapshot writes the record to the state folder.
+func (e *Engine) snapshot() {
+	var written counter
+	err := e.Journal.Snapshot(func(w io.Writer) error {
+		written = 0
+		return e.Save(io.MultiWriter(w, &written))
+	})
+	e.step(Snapshotted{Length: int64(written), Size: e.Journal.Size(), Err: err})
+}
+
+// A counter counts the bytes that are written to it.
+type counter int64
+
+func (c *counter) Write(bytes []byte) (int, error) {
+	*c += counter(len(bytes))
+	return len(bytes), nil
 }
 
 // SetBundles replaces the trust bundles, given by trust domain. On an error the
@@ -174,89 +311,174 @@ func (e *Engine) SetBundles(domains map[string]json.RawMessage) error {
 	}
 	e.renewing.Lock()
 	defer e.renewing.Unlock()
-	old := e.bundles.Load()
-	if len(domains) == 0 {
-		e.bundles.Store(nil) // No token can be accepted from here on, and it is not the tokens' fault.
-	}
-	if err := e.validator.Renew(e.keyring, bundles); err != nil {
-		e.bundles.Store(old)
+	e.step(Renewing{Empty: len(domains) == 0})
+	err = e.validator.Renew(e.keyring, bundles)
+	e.step(Renewed{Domains: len(domains), Err: err})
+	return err
+}
+
+// SetRules lets tokens for these audiences, and of callers of these patterns, be accepted from now on, and no others. On an error
+// the rules of before count.
+func (e *Engine) SetRules(audiences, allow []string) error {
+	if err := CheckCallers(allow); err != nil {
 		return err
 	}
-	if len(domains) > 0 {
-		e.bundles.Store(&bundles)
+	r := &Ruling{Rules: &Rules{Audiences: append([]string(nil), audiences...), Allow: append([]string(nil), allow...)}}
+	e.ruling.Lock()
+	defer e.ruling.Unlock()
+	if e.step(r); r.Err == nil {
+		e.rules.Store(r.Rules)
 	}
-	e.verified.clear()
-	return nil
+	return r.Err
 }
 
 // Join lets the engine share its record with a group, to which it was given as
 // the Sink.
-func (e *Engine) Join(g Group) { e.group.Store(&joined{g}) }
-
-// Drain lets Ready answer no from now on. Tokens are still judged.
-func (e *Engine) Drain() { e.draining.Store(true) }
-
-// Ready returns nil if tokens are to be sent here: the engine can judge them, and
-// does not drain.
-func (e *Engine) Ready() error {
-	if e.draining.Load() {
-		return errors.New("draining")
-	}
-	if e.jumped.Load() {
-		return fmt.Errorf("the clock went ahead by more than %d seconds at once", e.Step)
-	}
-	if e.Mode == Once && e.unkept.Load() != nil {
-		return errKeepsNothing
-	}
-	if until := e.deafUntil(); until > 0 {
-		return fmt.Errorf("%w: no token is accepted until %d, unless svidd resume says so", ErrMissed, until)
-	}
-	return e.canJudge()
+func (e *Engine) Join(g Group) {
+	e.group.Store(&joined{g})
+	e.step(Joined{})
 }
 
-// errKeepsNothing: in mode once a token would be answered 503, and be burnt.
-var errKeepsNothing = errors.New("the state folder takes no acceptances: the log says why")
-
-// canJudge returns nil once bundles, the engine's own record and the group's are
-// read.
-func (e *Engine) canJudge() error {
-	switch g := e.group.Load(); {
-	case e.bundles.Load() == nil:
-		return errors.New("there is no trust bundle")
-	case !e.loaded.Load():
-		return errors.New("the state folder is being read")
-	case !e.Grouped:
-		return nil
-	case g == nil:
-		return errors.New("the group's broker was not reached yet")
-	default:
+// look tells the machine once the group's bucket is read.
+func (e *Engine) look() {
+	if e.caughtUp.Load() {
+		return
+	}
+	if g := e.group.Load(); g != nil {
 		select {
 		case <-g.Ready():
-			return nil
+			e.step(CaughtUp{})
+			e.caughtUp.Store(true)
 		default:
-			return errors.New("the group's bucket is being read")
 		}
 	}
 }
 
+// Drain lets Ready answer no from now on. Tokens are still judged.
+func (e *Engine) Drain() { e.step(Drain{}) }
+
+// Ready returns nil if tokens are to be sent here: the engine can judge them, and
+// does not drain.
+func (e *Engine) Ready() error {
+	e.look()
+	now := e.time()
+	e.mu.Lock()
+	err := e.machine.Ready(now)
+	e.mu.Unlock()
+	if err != nil {
+		return err
+	}
+	return e.canKeep()
+}
+
+// deafUntil is until when the engine accepts nothing, since values of the bucket are missing: 0 if it does.
+func (e *Engine) deafUntil() uint64 {
+	now := e.time()
+	e.mu.Lock()
+	defer e.mu.Unlock()
+	e.machine.goTo(now)
+	return e.machine.deafUntil()
+}
+
+// untold is how many uses wait to be told to the group.
+func (e *Engine) untold() int {
+	e.mu.Lock()
+	defer e.mu.Unlock()
+	return len(e.machine.tale.untold)
+}
+
+// isBundled says whether there is a trust bundle.
+func (e *Engine) isBundled() bool {
+	e.mu.Lock()
+	defer e.mu.Unlock()
+	return e.machine.bundled
+}
+
 // Check judges a token, and makes an acceptance last as the mode says. The error
-// is nil for an accepted token, a svid.Refusal for a rejected one, and anything
+// is nil for an accepted token, a svid.Refusal for a refused one, and anything
 // else if the token could not be judged, or its acceptance not be kept: it is
-// not accepted then.
+// not accepted then. It counts that, and logs it.
 func (e *Engine) Check(ctx context.Context, token string) (svid.Accepted, error) {
-	if err := e.canJudge(); err != nil {
-		return svid.Accepted{}, fmt.Errorf("%w: %v", ErrNotReady, err)
+	v := e.judgeToken(ctx, caller{}, token)
+	return v.accepted, v.err
+}
+
+// checkBy judges a token, and returns the rules by which it did.
+func (e *Engine) checkBy(ctx context.Context, token string) (accepted svid.Accepted, rules *Rules, err error) {
+	e.look()
+	for rules = e.rules.Load(); ; {
+		if err := e.admit(rules, token); err != nil {
+			return svid.Accepted{}, rules, err
+		}
+		if accepted, rules, err = e.judge(ctx, rules, token); err != errOtherRules {
+			return accepted, rules, err
+		}
 	}
-	accepted, err := e.check(ctx, token)
-	if err == svid.UnknownDomain && (e.bundles.Load() == nil || e.isToHaveBundle(readUnverified(token).domain)) {
-		err = ErrNoBundle
+}
+
+// judge lets the machine judge the token of an admitted caller. Where it answers errOtherRules, it returns these.
+func (e *Engine) judge(ctx context.Context, rules *Rules, token string) (svid.Accepted, *Rules, error) {
+	r := NewRequest(e.Mode, token)
+	r.rules = rules
+	if e.Mode != Reuse { // (there the answer comes at once)
+		r.done = make(chan struct{})
 	}
-	return accepted, err
+	e.stepFor(r, r)
+	switch e.Mode {
+	case Strict:
+		select {
+		case <-r.done:
+		case <-ctx.Done():
+			e.step(Gone{r, ctx.Err()})
+			<-r.done
+		}
+	case Once:
+		<-r.done
+	}
+	return r.Accepted, r.rules, e.ofBundles(token, r.Err)
+}
+
+// ErrNotAllowed: none of Options.Allow allows the token's subject. The token is good, and it is not used up.
+var ErrNotAllowed = svidhttp.ErrNotAllowed
+
+// admit returns nil if a pattern of the rules allows whom the token says it is of. Else the token is judged, and nothing is kept of it: only
+// a good one gets ErrNotAllowed.
+func (e *Engine) admit(rules *Rules, token string) error {
+	if rules.Allow == nil {
+		return nil
+	}
+	said, err := svid.Read(token)
+	if _, refused := refusalOf(err); refused {
+		return nil // Its check says so, too.
+	} else if err != nil {
+		return err
+	}
+	for _, pattern := range rules.Allow {
+		if allows, err := svid.Allows(pattern, said.Subject); allows || err != nil {
+			return err
+		}
+	}
+	yes, err := e.verify(token)
+	if err == nil {
+		_, err = e.validator.Judge(e.Now(), token, yes)
+	}
+	if err != nil {
+		return e.ofBundles(token, err)
+	}
+	return ErrNotAllowed
+}
+
+// ofBundles is ErrNoBundle in the place of UnknownDomain, where the token's trust domain is to have a bundle.
+func (e *Engine) ofBundles(token string, err error) error {
+	if err == svid.UnknownDomain && (!e.isBundled() || e.isToHaveBundle(readUnverified(token).domain)) {
+		return ErrNoBundle
+	}
+	return err
 }
 
 // isToHaveBundle says whether a trust domain is one of Options.Domains.
 func (e *Engine) isToHaveBundle(domain string) bool {
-	for _, one := range e.Domains {
+	for _, one := range e.domains() {
 		if one == domain {
 			return true
 		}
@@ -264,153 +486,179 @@ func (e *Engine) isToHaveBundle(domain string) bool {
 	return false
 }
 
-func (e *Engine) check(ctx context.Context, token string) (svid.Accepted, error) {
-	if e.Mode == Reuse {
-		return e.checkReuse(token)
-	}
-	if e.Mode == Strict {
-		e.claims.requests.Add(1)
-		defer e.claims.requests.Add(-1)
-	}
-	yes, err := e.verify(token)
-	if err != nil {
-		return svid.Accepted{}, err
-	}
-	if e.Mode == Strict {
-		return e.checkStrict(ctx, token, yes)
-	}
-	return e.checkOnce(token, yes)
-}
-
-// verify returns the question that the token's signature answers. A token that the
-// keyring rejects goes on without an answered question, for the validator to say
-// which refusal comes first. It can't be accepted.
-func (e *Engine) verify(token string) ([]svid.Question, error) {
-	yes, err := e.keyring.Verify(token)
-	var refusal svid.Refusal
-	if err != nil && !errors.As(err, &refusal) {
-		return nil, err
-	}
-	return yes, nil
-}
-
-// checkOnce accepts a token once at this sidecar. At each step:
-//
-//  1. Check adds the use to the record in memory, under the validator's lock. Of
-//     all requests with this token exactly one is accepted by it; the others are
-//     Replayed, whatever becomes of that one. Nothing is on the disk. A crash
-//     here forgets the use, and nobody was answered 200.
-//  2. Append returns once the use is on the disk. If it fails, or takes longer than
-//     Options.Wait, the answer is 503; memory has the use, so the token stays
-//     rejected until a restart, and it was never answered 200. (The disk may have it
-//     later. Then the token stays rejected behind a restart too.) A crash behind
-//     this step finds the use again at the start (Load), before the first request is
-//     judged.
-//  3. The group is told, without waiting. What does not reach it now is repaired
-//     by summaries. Until it has heard, another sidecar may accept the token, and
-//     then the report of each lists the token.
-//  4. Only now the answer is 200.
-func (e *Engine) checkOnce(token string, yes []svid.Question) (svid.Accepted, error) {
-	accepted, err := e.validator.Check(e.Now(), token, yes)
-	if err != nil {
-		return svid.Accepted{}, err
-	}
-	if err := e.keep("acceptance", accepted.Use); err != nil {
-		return svid.Accepted{}, err
-	}
-	e.tell(accepted.Use)
-	return accepted, nil
-}
-
-// keep returns once the uses are on the disk, where there is a state folder, and after Options.Wait at the latest. An error
-// says what could not be kept. (A client that goes away changes nothing: what it began is kept all the same.)
-func (e *Engine) keep(what string, uses ...svid.Use) error {
-	if e.Journal == nil {
-		return nil
-	}
-	if err := e.appendInTime(uses); err != nil {
-		e.Metrics.JournalFailures.Add(1)
-		e.unkept.Store(&uses)
-		return &notKept{what, err}
-	}
-	e.unkept.Store(nil)
-	return nil
-}
-
-// A notKept is why the state folder did not take something.
-type notKept struct {
-	what string
-	why  error
-}
-
-func (n *notKept) Error() string { return fmt.Sprintf("the %s could not be kept: %v", n.what, n.why) }
-func (n *notKept) Unwrap() error { return n.why }
-
-func (e *Engine) appendInTime(uses []svid.Use) error {
-	ctx, cancel := context.WithTimeout(context.Background(), e.Wait)
-	defer cancel()
-	return e.Journal.AppendUses(ctx, uses...)
-}
-
-// keepAgain gives the state folder once more what it did not take. So Ready answers yes again once it takes all, though
-// nobody sends tokens to who is not ready.
-func (e *Engine) keepAgain() {
-	if uses := e.unkept.Load(); uses != nil && e.appendInTime(*uses) == nil {
-		e.unkept.CompareAndSwap(uses, nil)
-	}
-	if e.unmarked.Load() {
-		e.keepMark()
-	}
-}
-
-// tell lets the group hear of a use, soon.
-func (e *Engine) tell(use svid.Use) {
-	if !e.Grouped {
-		return
-	}
-	select {
-	case e.untold <- use:
-	default:
-		e.Metrics.Untold.Add(1)
-	}
-}
-
-// Withdraw revokes the token of this key, which expires at exp, here and in the
-// group. An error that says the group was not told leaves the token revoked here;
+// Withdraw withdraws the token of this key, which expires at exp, here and in the
+// group. An error that says the group was not told leaves the token withdrawn here;
 // the same call can be made again.
-func (e *Engine) Withdraw(ctx context.Context, key svid.TokenKey, exp uint64) (svid.Use, error) {
-	if err := e.canJudge(); err != nil {
-		return svid.Use{}, fmt.Errorf("%w: %v", ErrNotReady, err)
+func (e *Engine) Withdraw(key svid.TokenKey, exp uint64) (svid.Use, error) {
+	e.look()
+	w := &Withdraw{Key: key, Expires: exp}
+	e.call(&w.Call, w)
+	if w.Err != nil {
+		return svid.Use{}, w.Err
 	}
-	use, err := e.validator.Withdraw(e.Now(), key, exp)
-	if err != nil {
-		return svid.Use{}, err
-	}
-	ctx, cancel := context.WithTimeout(ctx, e.Wait)
-	defer cancel()
-	if err := e.keep("withdrawal", use); err != nil {
-		return svid.Use{}, fmt.Errorf("revoked here, but %w", err)
-	}
-	if g := e.group.Load(); g != nil {
-		if err := e.tellWithdrawal(ctx, g, use); err != nil {
-			return svid.Use{}, fmt.Errorf("revoked here, but %w", err)
-		}
-	}
-	e.Metrics.Withdrawals.Add(1)
-	e.Log.Event("withdrawn", "key", key.String(), "exp", exp)
-	return use, nil
+	return w.Use, nil
+}
+
+// Resume lets the engine accept tokens though values of the bucket are missing, and returns until when these may live: 0 if none
+// is missing.
+func (e *Engine) Resume() (until uint64, err error) {
+	r := &Resume{}
+	e.call(&r.Call, r)
+	return r.Until, r.Err
+}
+
+// call lets a call happen, and waits for its answer.
+func (e *Engine) call(c *Call, event Event) {
+	c.done = make(chan struct{})
+	e.step(event)
+	<-c.done
 }
 
 // Find returns the key and expiry of a token for these audiences whose signature
 // is good and that has not expired, whether it was used or not.
 func (e *Engine) Find(token string) (svid.Use, error) {
-	if e.bundles.Load() == nil {
+	if !e.isBundled() {
 		return svid.Use{}, ErrNotReady
 	}
 	yes, err := e.verify(token)
 	if err != nil {
 		return svid.Use{}, err
 	}
-	judged, err := e.keyring.Judge(svid.Judgment{Audiences: e.Audiences, Longest: svid.NoLimit, Place: e.Place}, e.Now(), token, yes)
+	judged, err := e.keyring.Judge(svid.Judgment{Audiences: e.rules.Load().Audiences, Longest: svid.NoLimit, ValidatorID: e.ValidatorID}, e.Now(), token, yes)
 	return judged.Use, err
+}
+
+// verify returns the question that the token's signature answers, or none where the keyring refuses it.
+func (e *Engine) verify(token string) ([]svid.Question, error) {
+	yes, err := e.keyring.Verify(token)
+	if _, refused := refusalOf(err); err != nil && !refused {
+		return nil, err
+	}
+	return yes, nil
+}
+
+// Feed gives the record a part of the messages of the state folder, as the journal reads them. Load follows with the last
+// ones, or none.
+func (e *Engine) Feed(messages []byte) error {
+	f := &Feed{Messages: messages}
+	e.step(f)
+	return f.Err
+}
+
+// Load gives the record the messages of the state folder. A record that is
+// further in the future than Options.Ahead is an error: a token that it has as
+// used could be accepted again without it.
+func (e *Engine) Load(messages []byte) error {
+	if err := e.Feed(messages); err != nil {
+		return err
+	}
+	l := &Load{}
+	if e.Journal != nil {
+		l.Size = e.Journal.Size()
+	}
+	e.lookForRoom()
+	e.step(l)
+	return l.Err
+}
+
+// Recall tells the engine where an earlier life of it was in the bucket, as the state folder has it. It comes before Load.
+func (e *Engine) Recall(mark svid.Mark) {
+	r := &Recall{Mark: mark}
+	for e.step(r); r.Again > 0 && e.pause(r.Again); e.step(r) {
+	}
+}
+
+// Begin lets the engine read a bucket from its first value on. In mode strict the validator reads it as its log.
+func (e *Engine) Begin(log carriers.Start) {
+	b := &Begin{Log: log}
+	for e.step(b); b.Again > 0 && e.pause(b.Again); e.step(b) {
+	}
+}
+
+// Take gives the record values of the group, in their order. An error says that a value is put aside: it is no message, or
+// of a time further ahead than Options.Ahead.
+//
+// In mode strict the validator reads them as its log, and the claims of this engine end that stand in them.
+func (e *Engine) Take(values []carriers.Value) []error {
+	t := &Taking{Values: values}
+	if e.Mode != Strict {
+		e.takeAll(t)
+		return t.Errs
+	}
+	for i, v := range values {
+		r := &Reading{Value: v}
+		for e.step(r); !r.Done; e.step(r) {
+			e.pause(r.Again) // (At its end the machine reads no more.)
+		}
+		t.note(i, r.Aside)
+	}
+	return t.Errs
+}
+
+// takeAll takes values by pieces, so that nobody waits for long meanwhile.
+func (e *Engine) takeAll(t *Taking) {
+	for from := 0; from < len(t.Values); {
+		to := from
+		for bytes := 0; to < len(t.Values) && bytes < takePiece; to++ {
+			bytes += len(t.Values[to].Message)
+		}
+		piece := &Taking{Values: t.Values[from:to]}
+		e.step(piece)
+		for i, err := range piece.Errs {
+			t.note(from+i, err)
+		}
+		from = to
+	}
+}
+
+// pause waits, and says whether the engine goes on.
+func (e *Engine) pause(d time.Duration) bool {
+	if d == 0 {
+		return true
+	}
+	timer := time.NewTimer(d)
+	defer timer.Stop()
+	select {
+	case <-e.ending:
+		return false
+	case <-timer.C:
+		return true
+	}
+}
+
+// Mark is where the validator is in the group's bucket: what the state folder is to have with each append, and with a
+// snapshot. Where it reads no bucket, ok is false.
+func (e *Engine) Mark() (mark svid.Mark, ok bool) { return e.machine.Mark() }
+
+// Summary returns the summary of the record, for another sidecar to answer.
+func (e *Engine) Summary() ([]byte, error) { return e.machine.Summary() }
+
+// Answer answers another sidecar's summary.
+func (e *Engine) Answer(summary []byte) ([]byte, error) { return e.machine.Answer(e.time(), summary) }
+
+// Answers answers another sidecar's summary by messages of at most most bytes each.
+func (e *Engine) Answers(summary []byte, most int) ([][]byte, error) {
+	answer, err := e.Answer(summary)
+	if err != nil {
+		return nil, err
+	}
+	return svid.Pieces(answer, most)
+}
+
+// Save writes the whole record as messages.
+func (e *Engine) Save(w io.Writer) error { return e.machine.Save(w) }
+
+// Run keeps the record until ctx ends: it follows the clock, tells the group, and
+// takes snapshots. It returns once what waited for the group is told or given up,
+// and the last snapshot is taken.
+func (e *Engine) Run(ctx context.Context) {
+	e.step(Run{})
+	looked := make(chan struct{})
+	go func() { defer close(looked); e.lookAheadEachSecond() }()
+	<-ctx.Done()
+	e.step(End{})
+	close(e.ending)
+	<-e.ended
+	e.end()
+	<-looked
 }

@@ -15,9 +15,9 @@ import (
 	"sync"
 	"testing"
 
-	"svid.example/go/internal/group"
-	"svid.example/go/internal/issuer"
-	"svid.example/go/svid"
+	"svid.example/go/v2/carriers"
+	"svid.example/go/v2/internal/issuer"
+	"svid.example/go/v2/svid"
 )
 
 // While the state folder's messages are taken, and behind a failure, nothing is judged: a token that they have as used could
@@ -28,16 +28,18 @@ func TestNothingIsJudgedWhileTheRecordIsRead(t *testing.T) {
 	e = engine(t, Options{Mode: Once, Journal: &disk{}, Now: func() uint64 {
 		if reading {
 			asked++
+			reading = false // (Ready asks for the time, too)
 			if err := e.Ready(); err == nil || !strings.Contains(err.Error(), "state folder") {
 				t.Errorf("ready while the record is read: %v", err)
 			}
+			reading = true
 		}
 		return moment
 	}})
 	if err := e.SetBundles(map[string]json.RawMessage{"example.org": example.JWKSet()}); err != nil {
 		t.Fatal(err)
 	}
-	messages := svid.Use{Key: svid.TokenKey{1}, Expires: moment + 9, At: moment}.Batch()
+	messages := batchOf(svid.Use{Key: svid.TokenKey{1}, Expires: moment + 9, At: moment})
 	reading = true
 	if err := e.Load(append(messages, "garbage"...)); err == nil || e.Ready() == nil {
 		t.Errorf("a damaged folder: %v, ready: %v", err, e.Ready())
@@ -49,14 +51,14 @@ func TestNothingIsJudgedWhileTheRecordIsRead(t *testing.T) {
 	if err := e.Ready(); err != nil || asked == 0 {
 		t.Errorf("behind it: %v, %d times", err, asked)
 	}
-	if _, uses, err := svid.Uses(saved(t, e)); err != nil || len(uses) != 1 {
+	if uses, err := svid.Uses(saved(t, e)); err != nil || len(uses) != 1 {
 		t.Errorf("the record has %d uses, %v", len(uses), err)
 	}
 
 	// The clock jumps ahead behind the last message.
 	now := uint64(moment)
 	far := engine(t, Options{Mode: Once, Step: 600, Now: func() uint64 { now += 1000; return now }})
-	if err := far.Load(messages); err != svid.ErrJump || far.loaded.Load() {
+	if err := far.Load(messages); err != svid.ErrJump || far.machine.loaded {
 		t.Errorf("a clock that jumps: %v", err)
 	}
 }
@@ -83,14 +85,9 @@ func TestBundlesThatAreReplacedAtOnce(t *testing.T) {
 			}(set)
 		}
 		all.Wait()
-		for i, one := range tokens {
-			want := error(svid.BadSignature)
-			if bytes.Contains(*e.bundles.Load(), sets[i]) {
-				want = nil
-			}
-			if err := check(e, one); err != want {
-				t.Fatalf("round %d: token %d: %v, want %v", round, i, err, want)
-			}
+		first, second := check(e, tokens[0]), check(e, tokens[1])
+		if (first == nil) == (second == nil) || first != nil && first != svid.BadSignature || second != nil && second != svid.BadSignature {
+			t.Fatalf("round %d: the tokens of both: %v, %v", round, first, second)
 		}
 	}
 }
@@ -127,7 +124,7 @@ func TestAnyTokenCanBeWithdrawn(t *testing.T) {
 		t.Errorf("used, and withdrawn: %v", err)
 	}
 	// The other sidecars may take tokens that live for longer: each has the withdrawal.
-	if _, uses, err := svid.Uses(saved(t, e)); err != nil || len(uses) != 3 {
+	if uses, err := svid.Uses(saved(t, e)); err != nil || len(uses) != 3 {
 		t.Errorf("the record has %d uses, %v", len(uses), err)
 	}
 }
@@ -159,7 +156,7 @@ func TestAWithdrawalThatIsNotDone(t *testing.T) {
 
 // Who reads the record sees whether it is whole.
 func TestARecordThatIsCutOffDoesNotLookWhole(t *testing.T) {
-	e, err := NewEngine(Options{Mode: Once, Now: func() uint64 { return moment }, Place: svid.Place{1}, Longest: 3600, Ahead: 30})
+	e, err := NewEngine(Options{Mode: Once, Now: func() uint64 { return moment }, ValidatorID: svid.ValidatorID{1}, Longest: 3600, Ahead: 30})
 	if err != nil {
 		t.Fatal(err)
 	}
@@ -287,7 +284,7 @@ func TestEverythingAtOnce(t *testing.T) {
 		}
 		accepted := make([]int, each)
 		var mu sync.Mutex
-		late := svid.Use{Key: svid.TokenKey{9}, Expires: moment + 300, At: moment}.Batch()
+		late := batchOf(svid.Use{Key: svid.TokenKey{9}, Expires: moment + 300, At: moment})
 		tasks := []func(i int){
 			func(i int) {
 				switch err := check(e, tokens[i]); err {
@@ -324,16 +321,16 @@ func TestEverythingAtOnce(t *testing.T) {
 				if w := request(e.Admin(nil), "GET", "/messages"); w.Code != 200 {
 					t.Error(w.Code)
 				}
-				e.measure()
+				e.step(doing((*Machine).measure))
 			},
 			func(i int) {
-				e.late.add([][]byte{late})
-				e.takeLate()
+				e.step(doing(func(m *Machine) { m.late.add([][]byte{late}) }))
+				e.step(doing((*Machine).takeLate))
 			},
 			func(i int) {
 				e.snapshot()
-				e.keepSoon(svid.Use{Expires: 1 << 40, At: uint64(i)})
-				e.keepAgain()
+				e.step(doing(func(m *Machine) { m.keepSoon(svid.Use{Expires: 1 << 40, At: uint64(i)}) }))
+				again(t, e)
 			},
 			func(i int) {
 				e.Log.Event("a", "i", i)
@@ -355,7 +352,7 @@ func TestEverythingAtOnce(t *testing.T) {
 		all.Wait()
 		cancel()
 		<-ran
-		e.keeper.wait()
+		kept(t, e)
 		for i, n := range accepted {
 			if n != 1 && mode != Reuse || n != workers && mode == Reuse {
 				t.Errorf("%s: token %d was accepted %d times", mode, i, n)
@@ -379,8 +376,8 @@ func TestAClientThatGoesAway(t *testing.T) {
 	if _, err := e.Check(gone, token("a")); err != nil {
 		t.Error(err)
 	}
-	if d.Size() != 82 || len(e.untold) != 1 {
-		t.Errorf("%d bytes are on the disk, and %d uses wait to be told", d.Size(), len(e.untold))
+	if d.Size() != 82 || e.untold() != 1 {
+		t.Errorf("%d bytes are on the disk, and %d uses wait to be told", d.Size(), e.untold())
 	}
 }
 
@@ -390,10 +387,10 @@ func TestASidecarByItselfTellsNobody(t *testing.T) {
 	if err := check(e, token("a")); err != nil {
 		t.Fatal(err)
 	}
-	if len(e.untold) != 0 || e.Metrics.Untold.Load() != 0 {
-		t.Errorf("%d uses wait, %d are given up", len(e.untold), e.Metrics.Untold.Load())
+	if e.untold() != 0 || e.Metrics.Untold.Load() != 0 {
+		t.Errorf("%d uses wait, %d are given up", e.untold(), e.Metrics.Untold.Load())
 	}
-	if aside := takeAll(e, group.Uses, []byte("garbage")); aside != 1 {
+	if aside := takeAll(e, carriers.Uses, []byte("garbage")); aside != 1 {
 		t.Errorf("%d aside", aside)
 	}
 }

@@ -1,22 +1,22 @@
 package server
 
 import (
-	"encoding/json"
+	"context"
 	"errors"
 	"net/http"
 	"strconv"
 	"strings"
 	"time"
 
-	"svid.example/go/svid"
+	"svid.example/go/v2/svid"
+	"svid.example/go/v2/svidhttp"
 )
-
-// MaxHeader is how many bytes the headers of a request may have: room for the
-// longest token, and for what a proxy adds.
-const MaxHeader = 2 * svid.MaxToken
 
 // refusalOf finds the refusal in an error.
 func refusalOf(err error) (svid.Refusal, bool) {
+	if err == nil {
+		return 0, false // (errors.As asks for memory)
+	}
 	var r svid.Refusal
 	ok := errors.As(err, &r)
 	return r, ok
@@ -55,32 +55,69 @@ func (e *Engine) Handler() http.Handler {
 //
 //	200  X-Spiffe-Id, X-Svid-Audience and X-Svid-Expires say for whom and for how long
 //	401  WWW-Authenticate as RFC 6750 has it, and a JSON body with the refusal
+//	403  the token is good, and Options.Allow does not allow its subject; it is not used up
 //	503  the token could not be judged; it is not accepted
 func (e *Engine) serveCheck(w http.ResponseWriter, r *http.Request) {
-	from := time.Now()
 	headers := w.Header()
 	headers["Cache-Control"] = noStore
-	token, err := svid.BearerToken(r.Header["Authorization"])
-	if problem := notBearer(err); problem != nil {
-		e.Metrics.noToken.Add(1)
-		problem.write(w)
-		return
-	}
-	var accepted svid.Accepted
-	if err == nil {
-		accepted, err = e.Check(r.Context(), token)
-	}
-	took := time.Since(from)
-	e.Metrics.observe(err, took)
-	e.logDecision(from, took, token, accepted, err)
-	if err != nil {
-		e.answerTo(err).write(w)
+	who := callerOf(r)
+	values := &[4]string{who.request}
+	headers["X-Request-Id"] = values[0:1:1]
+	v := e.judgeBearer(r.Context(), who, r.Header["Authorization"])
+	if v.err != nil {
+		e.denial(v.err).Write(w)
 		return
 	}
 	// (Header.Set would make each name canonical, and ask for memory for each value.)
-	values := [...]string{accepted.ID, e.audience(token), strconv.FormatUint(accepted.Use.Expires, 10)}
-	headers["X-Spiffe-Id"], headers["X-Svid-Audience"], headers["X-Svid-Expires"] = values[0:1:1], values[1:2:2], values[2:3:3]
+	values[1], values[2], values[3] = v.values()
+	headers["X-Spiffe-Id"], headers["X-Svid-Audience"], headers["X-Svid-Expires"] = values[1:2:2], values[2:3:3], values[3:4:4]
 	w.WriteHeader(http.StatusOK)
+}
+
+// A verdict is what becomes of a request.
+type verdict struct {
+	token    string
+	accepted svid.Accepted
+	audience string // the first of the engine's that an accepted token names
+	err      error  // nil for an accepted token, a svid.NoBearer for none; else as that of Engine.Check
+}
+
+// judgeBearer judges the bearer token of these fields Authorization, counts that, and logs it.
+func (e *Engine) judgeBearer(ctx context.Context, who caller, authorization []string) verdict {
+	token, err := svid.BearerToken(authorization)
+	if err == nil {
+		return e.judgeToken(ctx, who, token)
+	}
+	if none := svid.NoBearer(0); errors.As(err, &none) {
+		e.Metrics.noToken.Add(1)
+		return verdict{err: err}
+	}
+	v := verdict{token: token, err: err}
+	e.note(time.Now(), who, v)
+	return v
+}
+
+// judgeToken judges a token, counts that, and logs it.
+func (e *Engine) judgeToken(ctx context.Context, who caller, token string) verdict {
+	from, v := time.Now(), verdict{token: token}
+	var rules *Rules
+	if v.accepted, rules, v.err = e.checkBy(ctx, token); v.err == nil {
+		v.audience = rules.audience(token)
+	}
+	e.note(from, who, v)
+	return v
+}
+
+// note counts a verdict, and logs it.
+func (e *Engine) note(from time.Time, who caller, v verdict) {
+	took := time.Since(from)
+	e.Metrics.observe(v.err, took)
+	e.logDecision(from, took, who, v)
+}
+
+// values are those of X-Spiffe-Id, X-Svid-Audience and X-Svid-Expires.
+func (v *verdict) values() (id, audience, expires string) {
+	return v.accepted.ID, v.audience, strconv.FormatUint(v.accepted.Use.Expires, 10)
 }
 
 // connectionEnds is the Connection of an answer to a request with a body. Nobody may change it.
@@ -89,36 +126,17 @@ var connectionEnds = []string{"close"}
 // noStore is the Cache-Control of each answer. Nobody may change it.
 var noStore = []string{"no-store"}
 
-// notBearer is the answer to a request that has no bearer token, and nil for another error.
-func notBearer(err error) *answer {
-	var why svid.NoBearer
-	switch {
-	case !errors.As(err, &why):
-		return nil
-	case why == svid.BearerAbsent:
-		return &answer{status: http.StatusUnauthorized, result: "refused", reason: "NoToken"}
+func (e *Engine) denial(err error) svidhttp.Denial {
+	denial := svidhttp.DenialOf(err)
+	if denial.Status == http.StatusServiceUnavailable {
+		denial.Reason = e.ReasonOf(err)
 	}
-	return &answer{status: http.StatusUnauthorized, result: "refused", reason: "NotBearer", code: "invalid_request"}
+	return denial
 }
 
-// An answer is one that accepts nothing.
-type answer struct {
-	status int
-	result string // "refused" or "unavailable"
-	reason string
-	code   string // the error code of RFC 6750, section 3.1; "" where no token was given
-}
-
-func (e *Engine) answerTo(err error) *answer {
-	if refusal, ok := refusalOf(err); ok {
-		return &answer{http.StatusUnauthorized, "refused", refusal.String(), "invalid_token"}
-	}
-	return &answer{status: http.StatusServiceUnavailable, result: "unavailable", reason: e.reasonOf(err)}
-}
-
-// reasonOf is the word by which a client hears why a token could not be judged. The error itself may name files and
+// ReasonOf is the word by which a client hears why a token could not be judged. The error itself may name files and
 // addresses, so it goes to the log alone.
-func (e *Engine) reasonOf(err error) string {
+func (e *Engine) ReasonOf(err error) string {
 	var kept *notKept
 	switch {
 	case errors.Is(err, ErrNotReady):
@@ -139,52 +157,40 @@ func (e *Engine) reasonOf(err error) string {
 	return "NotJudged"
 }
 
-func (a *answer) write(w http.ResponseWriter) {
-	body, err := json.Marshal(map[string]string{"result": a.result, "reason": a.reason})
-	if err != nil {
-		body = []byte(`{}`)
+// audience is the first of the audiences that a token names which was accepted by these rules.
+func (r *Rules) audience(token string) string {
+	if len(r.Audiences) == 1 {
+		return r.Audiences[0] // or the token would not be accepted
 	}
-	switch {
-	case a.status != http.StatusUnauthorized:
-		w.Header().Set("Retry-After", "1")
-	case a.code == "":
-		w.Header().Set("WWW-Authenticate", "Bearer")
-	default:
-		w.Header().Set("WWW-Authenticate", `Bearer error="`+a.code+`", error_description="`+a.reason+`"`)
-	}
-	w.Header().Set("Content-Type", "application/json")
-	w.WriteHeader(a.status)
-	_, _ = w.Write(append(body, '\n'))
-}
-
-// audience is the first of the engine's audiences that an accepted token names.
-func (e *Engine) audience(token string) string {
-	if len(e.Audiences) == 1 {
-		return e.Audiences[0] // or the token would not be accepted
-	}
-	return readUnverified(token).audience(e.Audiences)
+	return readUnverified(token).audience(r.Audiences)
 }
 
 // logDecision writes the line of a judged token, without the token.
-func (e *Engine) logDecision(at time.Time, took time.Duration, token string, accepted svid.Accepted, err error) {
+func (e *Engine) logDecision(at time.Time, took time.Duration, who caller, v verdict) {
+	err := v.err
 	refusal, refused := refusalOf(err)
 	level := Decisions
-	if err != nil && !refused {
+	if err != nil && !refused && err != ErrNotAllowed {
 		level = Errors
 	}
 	if !e.Log.Writes(level) {
 		return
 	}
-	said := readUnverified(token)
-	d := decision{Time: timestamp(at), Place: e.Place.String(), Micros: took.Microseconds()}
+	if who.request == "" {
+		who.request = names.next()
+	}
+	said := readUnverified(v.token)
+	d := decision{Time: at, Level: level.String(), Request: who.request, Client: who.client, ValidatorID: e.ValidatorID, Micros: took.Microseconds()}
 	switch {
 	case err == nil:
-		d.Event, d.Subject, d.KeyID = "accepted", accepted.ID, said.KeyID
-		d.Aud, d.Expires, d.Key = said.audience(e.Audiences), accepted.Use.Expires, accepted.Use.Key.String()
+		d.Event, d.Subject, d.KeyID = "accepted", v.accepted.ID, said.KeyID
+		d.Aud, d.Expires, d.Key = v.audience, v.accepted.Use.Expires, &v.accepted.Use.Key
 	case refused:
-		d.Event, d.Reason, d.Claimed = "refused", refusal.String(), said.short()
+		d.Event, d.Reason, d.Says, d.Claimed = "refused", refusal.String(), refusal.Sentence(), said.short()
+	case err == ErrNotAllowed:
+		d.Event, d.Reason, d.Claimed = "refused", "NotAllowed", said.short()
 	default:
 		d.Event, d.Reason, d.Claimed = "unavailable", err.Error(), said.short()
 	}
-	e.Log.line(d)
+	e.Log.decide(&d)
 }

@@ -3,10 +3,10 @@ package server
 import (
 	"context"
 	"errors"
-	"sync"
+	"fmt"
 	"time"
 
-	"svid.example/go/svid"
+	"svid.example/go/v2/svid"
 )
 
 // keepPause is between two writes for which no answer waits: what comes meanwhile shares the next one.
@@ -21,119 +21,193 @@ const (
 
 var errUnkept = errors.New("the state folder is too slow: uses are kept by the group's bucket alone")
 
-// A keeper holds uses that wait for the disk, and for which no answer waits.
+// A Write is uses that are to come to the disk, or where it has none, the validator's mark.
+type Write struct {
+	Uses   []svid.Use
+	Within time.Duration // how long anybody waits for it
+
+	// What the effect Append is to say.
+	Err  error // why it is not on the disk. It may be there all the same, or come there later
+	Size int64 // how many bytes the state folder has beside its snapshot
+
+	by   writer // nil once it is done, or too late
+	late timer
+}
+
+// A writer waits for a Write.
+type writer interface{ written(m *Machine, err error) }
+
+// Kept: the effect Append is done.
+type Kept struct{ *Write }
+
+// A keeper is what is to come to the disk.
 type keeper struct {
-	mu     sync.Mutex
-	uses   []svid.Use
-	busy   bool // a goroutine brings them there
-	tasks  int  // that goroutine, and values whose uses are still to come
-	idle   *sync.Cond
+	uses   []svid.Use    // for which no answer waits
+	busy   bool          // some of them are on their way
+	due    time.Duration // when the next ones are to be brought there
 	faults seldom
+
+	unmarked bool   // the state folder does not have the validator's mark, which has changed
+	marking  int    // how many marks are on their way
+	unkept   *Write // what the state folder did not take last, nil where it takes all
+	again    *Write // that, on its way once more
+
+	size   int64 // bytes that the state folder has beside the snapshot
+	saved  int64 // the length of the last snapshot
+	saving bool  // a snapshot is being taken
 }
 
-// begin says that uses are to come, until end.
-func (k *keeper) begin() {
-	k.mu.Lock()
-	defer k.mu.Unlock()
-	k.tasks++
-}
-
-func (k *keeper) end() {
-	k.mu.Lock()
-	defer k.mu.Unlock()
-	if k.tasks--; k.tasks == 0 {
-		k.idle.Broadcast()
-	}
-}
-
-// wait waits until all that came is on the disk, or could not be kept.
-func (k *keeper) wait() {
-	k.mu.Lock()
-	defer k.mu.Unlock()
-	for k.tasks > 0 {
-		k.idle.Wait()
-	}
-}
-
-// keepSoon brings uses to the disk, where there is a state folder, and returns before that. Those that come while
-// others are on their way share the next write.
-func (e *Engine) keepSoon(uses ...svid.Use) {
-	if e.Journal == nil || len(uses) == 0 {
+// keep brings uses to the disk, where there is a state folder, or a mark, and lets by go on once they are there, or after
+// Options.Wait at the latest.
+func (m *Machine) keep(w *Write, by writer) {
+	if m.Journal == nil {
+		by.written(m, nil)
 		return
 	}
-	k := &e.keeper
-	k.mu.Lock()
-	defer k.mu.Unlock()
+	w.by, w.Within = by, m.Wait
+	m.timers.set(&w.late, m.now.Up+m.Wait, w)
+	m.do(Append{w})
+}
+
+func (k Kept) happen(m *Machine) {
+	m.keeper.size = k.Size
+	m.timers.stop(&k.late)
+	k.end(m, k.Err)
+}
+
+var errDisk = fmt.Errorf("the disk did not answer in time: %w", context.DeadlineExceeded)
+
+func (w *Write) isLate(m *Machine) { w.end(m, errDisk) }
+
+// end ends the wait for a write. Who comes first counts: the disk, or the end of the time.
+func (w *Write) end(m *Machine, err error) {
+	by := w.by
+	if by == nil {
+		return
+	}
+	w.by = nil
+	if err != nil && w != m.keeper.again {
+		m.metrics.JournalFailures.Add(1)
+	}
+	if len(w.Uses) > 0 && w != m.keeper.again {
+		if m.keeper.unkept = nil; err != nil {
+			m.keeper.unkept = w
+		}
+	}
+	by.written(m, err)
+}
+
+// keepAgain gives the state folder once more what it did not take. So Ready answers yes again once it takes all, though
+// nobody sends tokens to who is not ready.
+func (m *Machine) keepAgain() {
+	k := &m.keeper
+	if k.unkept != nil && k.again == nil {
+		k.again = &Write{Uses: k.unkept.Uses}
+		m.keep(k.again, retry{k.unkept})
+	}
+	if k.unmarked {
+		m.markSoon()
+	}
+}
+
+// A retry is a write that is tried once more.
+type retry struct{ of *Write }
+
+func (r retry) written(m *Machine, err error) {
+	if m.keeper.again = nil; err == nil && m.keeper.unkept == r.of {
+		m.keeper.unkept = nil
+	}
+}
+
+// keepSoon brings uses to the disk, where there is a state folder, and no answer waits for that. Those that come while
+// others are on their way share the next write.
+func (m *Machine) keepSoon(uses ...svid.Use) {
+	if m.Journal == nil || len(uses) == 0 {
+		return
+	}
+	k := &m.keeper
 	if len(k.uses)+len(uses) > mostUnkept {
-		e.Metrics.JournalFailures.Add(1)
-		k.faults.log(e.Log, "journal", errUnkept)
+		m.metrics.JournalFailures.Add(1)
+		m.seldom("journal", errUnkept)
 		return
 	}
 	k.uses = append(k.uses, uses...)
-	if !k.busy {
-		k.busy = true
-		k.tasks++
-		go e.keepWaiting()
+	if k.due == never {
+		m.keepNext()
 	}
 }
 
-func (e *Engine) keepWaiting() {
-	k := &e.keeper
-	defer k.end()
-	for {
-		k.mu.Lock()
-		uses := k.uses
-		if len(uses) > mostAtOnce {
-			uses = uses[:mostAtOnce:mostAtOnce]
-		}
-		if k.uses = k.uses[len(uses):]; len(k.uses) == 0 {
-			k.uses = nil
-		}
-		k.busy = len(uses) > 0
-		k.mu.Unlock()
-		if len(uses) == 0 {
-			return
-		}
-		if err := e.keep("acceptance", uses...); err != nil {
-			k.faults.log(e.Log, "journal", err)
-		}
-		time.Sleep(keepPause)
+// keepNext brings the next uses to the disk.
+func (m *Machine) keepNext() {
+	k := &m.keeper
+	k.due = never
+	if k.busy || len(k.uses) == 0 {
+		return
 	}
+	uses := k.uses
+	if len(uses) > mostAtOnce {
+		uses = uses[:mostAtOnce:mostAtOnce]
+	}
+	if k.uses = k.uses[len(uses):]; len(k.uses) == 0 {
+		k.uses = nil
+	}
+	k.busy = true
+	m.keep(&Write{Uses: uses}, behind{})
+}
+
+// behind is a write for which no answer waits.
+type behind struct{}
+
+func (behind) written(m *Machine, err error) {
+	if err != nil {
+		m.seldom("journal", &notKept{"acceptance", err})
+	}
+	m.keeper.busy, m.keeper.due = false, m.now.Up+keepPause
+}
+
+// seldom logs an error of what is tried again and again.
+func (m *Machine) seldom(event string, err error) {
+	m.keeper.faults.log(m.now.Up, m.Log, event, err)
 }
 
 // Mark is where the validator is in the group's bucket: what the state folder is to have with each append, and with a
 // snapshot. Where it reads no bucket, ok is false.
-func (e *Engine) Mark() (mark svid.Mark, ok bool) {
-	mark, _, err := e.validator.LogMark()
+func (m *Machine) Mark() (mark svid.Mark, ok bool) {
+	mark, _, err := m.validator.LogMark()
 	return mark, err == nil
 }
 
-// markSoon brings the mark to the disk at once, where there is a state folder, and does not wait for that: the moment until
-// which the validator accepts nothing is another one.
-func (e *Engine) markSoon() {
-	if e.Journal == nil {
+// markSoon brings the mark to the disk at once, where there is a state folder, and nobody waits for that: the moment until
+// which the validator accepts nothing is another one. If it fails, it is tried again each second.
+func (m *Machine) markSoon() {
+	if m.Journal == nil {
 		return
 	}
-	e.unmarked.Store(true)
-	if !e.loaded.Load() {
+	if m.keeper.unmarked = true; !m.loaded {
 		return // Load does it: before that, the folder takes nothing.
 	}
-	e.keeper.begin()
-	go func() {
-		defer e.keeper.end()
-		e.keepMark()
-	}()
+	m.keeper.unmarked = false
+	m.keeper.marking++
+	m.keep(new(Write), mark{})
 }
 
-// keepMark returns once the mark is on the disk, and after Options.Wait at the latest. If it fails, it is called again each
-// second.
-func (e *Engine) keepMark() {
-	e.unmarked.Store(false)
-	ctx, cancel := context.WithTimeout(context.Background(), e.Wait)
-	defer cancel()
-	if err := e.Journal.AppendMark(ctx); err != nil {
-		e.unmarked.Store(true)
-		e.Metrics.JournalFailures.Add(1)
-		e.keeper.faults.log(e.Log, "journal", &notKept{"place in the bucket", err})
+// mark is the write of a mark.
+type mark struct{}
+
+func (mark) written(m *Machine, err error) {
+	m.keeper.marking--
+	m.marked(err)
+}
+
+func (m *Machine) marked(err error) {
+	if err != nil {
+		m.keeper.unmarked = true
+		m.seldom("journal", &notKept{"position in the bucket", err})
 	}
+}
+
+// isKeeping says whether something is on its way to the disk for which nobody waits.
+func (m *Machine) isKeeping() bool {
+	k := &m.keeper
+	return k.busy || len(k.uses) > 0 || k.marking > 0
 }

@@ -5,9 +5,14 @@ import (
 	"errors"
 	"io"
 	"log"
+	"strconv"
 	"strings"
 	"sync"
+	"sync/atomic"
 	"time"
+
+	"svid.example/go/v2/internal/jsontext"
+	"svid.example/go/v2/svid"
 )
 
 // A Level is how much a Log writes.
@@ -20,18 +25,29 @@ const (
 	All                    // and what the group says
 )
 
+// String is what a line of this level says of itself, as other programs name levels.
+func (l Level) String() string { return [...]string{"error", "info", "debug"}[l] }
+
 // A Log writes one JSON object a line. It never has a token in it, but its key.
 // Its methods may be called by many goroutines at once; those of a nil Log do
 // nothing.
 type Log struct {
-	level Level
+	level atomic.Int32
 	mu    sync.Mutex
 	out   io.Writer
+	room  []byte // for the line of a decision; guarded by mu
 }
 
 // NewLog returns a log that writes to out what the level has. Its callers wait for
 // out: give it an Outlet where that may hang.
-func NewLog(out io.Writer, level Level) *Log { return &Log{level: level, out: out} }
+func NewLog(out io.Writer, level Level) *Log {
+	l := &Log{out: out}
+	l.SetLevel(level)
+	return l
+}
+
+// SetLevel lets the log write what another level has, from now on.
+func (l *Log) SetLevel(level Level) { l.level.Store(int32(level)) }
 
 // Dropped is how many lines the log's Outlet has dropped. It is 0 where the log has
 // none.
@@ -41,6 +57,17 @@ func (l *Log) Dropped() uint64 {
 	}
 	outlet, _ := l.out.(*Outlet)
 	return outlet.Dropped()
+}
+
+// Close lets the log's Outlet take no more lines, and waits until those that came are written, for no longer than most. It does nothing
+// where the log has no Outlet.
+func (l *Log) Close(most time.Duration) {
+	if l == nil {
+		return
+	}
+	if outlet, ok := l.out.(*Outlet); ok {
+		outlet.Close(most)
+	}
 }
 
 // Error logs that something went wrong.
@@ -69,13 +96,13 @@ func (s standard) Write(line []byte) (int, error) {
 }
 
 // Writes says whether lines of this level are written.
-func (l *Log) Writes(level Level) bool { return l != nil && level <= l.level }
+func (l *Log) Writes(level Level) bool { return l != nil && level <= Level(l.level.Load()) }
 
 func (l *Log) write(level Level, event string, fields []any) {
 	if !l.Writes(level) {
 		return
 	}
-	line := map[string]any{"time": timestamp(time.Now()), "event": event}
+	line := map[string]any{"time": timestamp(time.Now()), "level": level.String(), "event": event}
 	for i := 0; i+1 < len(fields); i += 2 {
 		name, ok := fields[i].(string)
 		if !ok {
@@ -96,26 +123,90 @@ func (l *Log) write(level Level, event string, fields []any) {
 func (l *Log) line(value any) {
 	text, err := json.Marshal(value)
 	if err != nil {
-		text, _ = json.Marshal(map[string]string{"event": "log", "error": err.Error()})
+		text, _ = json.Marshal(map[string]string{"level": Errors.String(), "event": "log", "error": err.Error()})
 	}
 	l.mu.Lock()
 	defer l.mu.Unlock()
 	_, _ = l.out.Write(append(text, '\n'))
 }
 
-func timestamp(t time.Time) string { return t.UTC().Format("2006-01-02T15:04:05.000000Z") }
+// decide writes the line of a decision, in the order of its fields. Those that are empty are left out, but for the first three,
+// Request, ValidatorID and Micros.
+func (l *Log) decide(d *decision) {
+	l.mu.Lock()
+	defer l.mu.Unlock()
+	line := append(d.Time.UTC().AppendFormat(append(l.room[:0], `{"time":"`...), timeForm), '"')
+	line = appendMember(line, "level", d.Level)
+	line = appendMember(line, "event", d.Event)
+	line = appendUnlessEmpty(line, "reason", d.Reason)
+	line = appendUnlessEmpty(line, "says", d.Says)
+	line = appendUnlessEmpty(line, "sub", d.Subject)
+	line = appendUnlessEmpty(line, "aud", d.Aud)
+	line = appendUnlessEmpty(line, "kid", d.KeyID)
+	if d.Expires != 0 {
+		line = strconv.AppendUint(append(line, `,"exp":`...), d.Expires, 10)
+	}
+	if d.Key != nil {
+		line = appendDigits(line, "key", d.Key[:])
+	}
+	line = appendMember(line, "request", d.Request)
+	line = appendUnlessEmpty(line, "client", d.Client)
+	line = appendDigits(line, "validator_id", d.ValidatorID[:])
+	if d.Claimed != nil {
+		line = d.Claimed.append(append(line, `,"claimed":`...))
+	}
+	line = append(strconv.AppendInt(append(line, `,"us":`...), d.Micros, 10), '}', '\n')
+	_, _ = l.out.Write(line)
+	if l.room = line; cap(line) > mostRoom {
+		l.room = nil
+	}
+}
+
+// mostRoom is how many bytes a log keeps for the next line.
+const mostRoom = 1 << 14
+
+// appendMember adds a member behind others.
+func appendMember(line []byte, name, text string) []byte {
+	line = append(append(append(line, `,"`...), name...), `":`...)
+	return jsontext.Append(line, text)
+}
+
+func appendUnlessEmpty(line []byte, name, text string) []byte {
+	if text == "" {
+		return line
+	}
+	return appendMember(line, name, text)
+}
+
+// appendDigits adds bytes as hexadecimal digits.
+func appendDigits(line []byte, name string, bytes []byte) []byte {
+	const digits = "0123456789abcdef"
+	line = append(append(append(line, `,"`...), name...), `":"`...)
+	for _, b := range bytes {
+		line = append(line, digits[b>>4], digits[b&15])
+	}
+	return append(line, '"')
+}
+
+const timeForm = "2006-01-02T15:04:05.000000Z"
+
+func timestamp(t time.Time) string { return t.UTC().Format(timeForm) }
 
 // A decision is the line of one judged token.
 type decision struct {
-	Time    string      `json:"time"`
-	Event   string      `json:"event"` // accepted, refused or unavailable
-	Reason  string      `json:"reason,omitempty"`
-	Subject string      `json:"sub,omitempty"`
-	Aud     string      `json:"aud,omitempty"`
-	KeyID   string      `json:"kid,omitempty"`
-	Expires uint64      `json:"exp,omitempty"`
-	Key     string      `json:"key,omitempty"`
-	Place   string      `json:"place"`
-	Claimed *unverified `json:"claimed,omitempty"` // what a rejected token says of itself
-	Micros  int64       `json:"us"`
+	Time        time.Time
+	Level       string
+	Event       string // accepted, refused or unavailable
+	Reason      string
+	Says        string // a refusal in words
+	Subject     string
+	Aud         string
+	KeyID       string
+	Expires     uint64
+	Key         *svid.TokenKey
+	Request     string
+	Client      string // "" where a service asks by Engine.Check
+	ValidatorID svid.ValidatorID
+	Claimed     *unverified // what a refused token says of itself
+	Micros      int64
 }

@@ -13,7 +13,8 @@ import (
 	"syscall"
 	"time"
 
-	"svid.example/go/svid"
+	"svid.example/go/v2/internal/version"
+	"svid.example/go/v2/svid"
 )
 
 // Metrics are the numbers of /metrics. All fields may be used by many goroutines
@@ -23,6 +24,7 @@ type Metrics struct {
 	refused     [64]atomic.Uint64 // by the number of a refusal, from that of TooLong on
 	unavailable atomic.Uint64
 	noToken     atomic.Uint64
+	notAllowed  atomic.Uint64
 	seconds     histogram
 
 	ClaimsWon, ClaimsLost, ClaimsFailed atomic.Uint64
@@ -58,6 +60,8 @@ func (m *Metrics) observe(err error, took time.Duration) {
 	switch refusal, ok := refusalOf(err); {
 	case err == nil:
 		m.accepted.Add(1)
+	case err == ErrNotAllowed:
+		m.notAllowed.Add(1)
 	case ok:
 		m.refused[refusal-svid.TooLong].Add(1)
 	default:
@@ -76,12 +80,13 @@ func (e *Engine) WriteMetrics(w io.Writer) error {
 	}
 	p.value(`svidd_checks_total{result="unavailable"}`, float64(m.unavailable.Load()))
 	p.value(`svidd_checks_total{result="no_token"}`, float64(m.noToken.Load()))
+	p.value(`svidd_checks_total{result="not_allowed"}`, float64(m.notAllowed.Load()))
 	p.histogram("svidd_check_seconds", "Time from a request to its answer.", &m.seconds)
 	p.counters("svidd_claims_total", "outcome", "Claims of mode strict, by outcome.",
 		row{"won", &m.ClaimsWon}, row{"lost", &m.ClaimsLost}, row{"failed", &m.ClaimsFailed})
 	p.counters("svidd_told_total", "outcome", "Uses for the group, told or given up (summaries repair that).",
 		row{"told", &m.Told}, row{"given_up", &m.Untold})
-	p.counter("svidd_withdrawals_total", "Tokens revoked at this sidecar.", m.Withdrawals.Load())
+	p.counter("svidd_withdrawals_total", "Tokens withdrawn at this sidecar.", m.Withdrawals.Load())
 	p.counter("svidd_snapshots_total", "Snapshots of the record written to the state folder.", m.Snapshots.Load())
 	p.counter("svidd_journal_failures_total", "Writes to the state folder that failed.", m.JournalFailures.Load())
 	if g := e.group.Load(); g != nil {
@@ -100,14 +105,14 @@ func (e *Engine) WriteMetrics(w io.Writer) error {
 		p.gauge("svidd_journal_bytes", "Bytes appended to the state folder since the last snapshot.", float64(e.Journal.Size()))
 	}
 	if e.Grouped {
-		p.gauge("svidd_untold_uses", "Uses that wait to be told to the group.", float64(len(e.untold)))
+		p.gauge("svidd_untold_uses", "Uses that wait to be told to the group.", float64(e.untold()))
 	}
 	p.counter("svidd_log_lines_dropped_total", "Lines of the log that were dropped, since standard error did not take them.", e.Log.Dropped())
-	p.gauge("svidd_ready", "1 once bundles, record and the group's bucket are read, until the sidecar ends. In mode strict it stays 1 while the broker is away.", truth(e.Ready() == nil))
+	p.gauge("svidd_ready", "1 if /readyz answers 200: the sidecar judges tokens and can keep an acceptance.", truth(e.Ready() == nil))
 	if m.BundleAges != nil {
 		p.head("svidd_bundle_age_seconds", "gauge", "Time since a trust domain's bundle was last read; +Inf if it never was.")
 		ages := m.BundleAges()
-		for _, domain := range e.Domains {
+		for _, domain := range e.domains() {
 			if _, read := ages[domain]; !read {
 				ages[domain] = never
 			}
@@ -138,7 +143,7 @@ var started = time.Now()
 func (p *page) process() {
 	v := svid.Version()
 	p.head("svidd_build_info", "gauge", "1, with what the program was built of.")
-	p.value(fmt.Sprintf(`svidd_build_info{goversion=%q,libsvid="%d.%d.%d"}`, runtime.Version(), v/10000, v/100%100, v%100), 1)
+	p.value(fmt.Sprintf(`svidd_build_info{goversion=%q,libsvid="%d.%d.%d",version=%q}`, runtime.Version(), v/10000, v/100%100, v%100, version.Number), 1)
 	var used syscall.Rusage
 	if syscall.Getrusage(syscall.RUSAGE_SELF, &used) == nil {
 		p.head("process_cpu_seconds_total", "counter", "Processor time used, in seconds.")

@@ -154,8 +154,8 @@ func (o *Outlet) lost(lines []byte, taken int, unsaid uint64) {
 // droppedLine is the line that says how many were dropped.
 func droppedLine(lines uint64) []byte {
 	text, err := json.Marshal(map[string]any{
-		"time": timestamp(time.Now()), "event": "log", "dropped": lines,
-		"error": fmt.Sprintf("%d lines were dropped: standard error did not take them in time", lines),
+		"time": timestamp(time.Now()), "level": Errors.String(), "event": "log", "dropped": lines,
+		"error": fmt.Sprintf("%d lines were dropped: who reads the log did not take them in time", lines),
 	})
 	if err != nil {
 		return nil

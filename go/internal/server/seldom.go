@@ -1,38 +1,32 @@
 package server
 
-import (
-	"sync"
-	"time"
-)
+import "time"
 
 const (
 	// seldomTime is between two lines about one cause.
 	seldomTime = time.Minute
-	// mostCauses is how many causes have a line each in that time. An error may name a file or a place, so causes may have no end.
+	// mostCauses is how many causes have a line each in that time. An error may name a file or an offset, so causes may have no end.
 	mostCauses = 16
 )
 
 // A seldom logs errors of what is tried again and again. For each cause, which is the error's text, it lets one line a minute
 // through, and counts the others: the next line says how many there were (unlogged).
 type seldom struct {
-	mu       sync.Mutex
-	said     map[string]time.Time // when the last line about a cause went out, of the last minute alone
+	said     map[string]time.Duration // when the last line about a cause went out, of the last minute alone
 	unlogged uint64
 }
 
 // log logs an error, or counts it.
-func (s *seldom) log(log *Log, event string, err error) {
-	if unlogged, ok := s.speak(time.Now(), err.Error()); ok {
+func (s *seldom) log(now time.Duration, log *Log, event string, err error) {
+	if unlogged, ok := s.speak(now, err.Error()); ok {
 		log.Error(event, err, "unlogged", unlogged)
 	}
 }
 
 // speak says whether a line about a cause may go out now, and how many did not since the last line.
-func (s *seldom) speak(now time.Time, cause string) (unlogged uint64, ok bool) {
-	s.mu.Lock()
-	defer s.mu.Unlock()
+func (s *seldom) speak(now time.Duration, cause string) (unlogged uint64, ok bool) {
 	for cause, at := range s.said {
-		if now.Sub(at) >= seldomTime {
+		if now-at >= seldomTime {
 			delete(s.said, cause)
 		}
 	}
@@ -41,7 +35,7 @@ func (s *seldom) speak(now time.Time, cause string) (unlogged uint64, ok bool) {
 		return 0, false
 	}
 	if s.said == nil {
-		s.said = make(map[string]time.Time)
+		s.said = make(map[string]time.Duration)
 	}
 	s.said[cause] = now
 	unlogged, s.unlogged = s.unlogged, 0

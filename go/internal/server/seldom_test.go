@@ -8,16 +8,16 @@ import (
 	"testing"
 	"time"
 
-	"svid.example/go/svid"
+	"svid.example/go/v2/svid"
 )
 
 // Each cause has a line a minute, the lines between are counted, and causes without end have few lines.
 func TestOneLineAMinuteForEachCause(t *testing.T) {
 	var s seldom
-	begin := time.Now()
+	begin := time.Hour
 	want := func(at time.Duration, cause string, unlogged uint64, ok bool) {
 		t.Helper()
-		if n, is := s.speak(begin.Add(at), cause); n != unlogged || is != ok {
+		if n, is := s.speak(begin+at, cause); n != unlogged || is != ok {
 			t.Errorf("%s at %v: %d %v", cause, at, n, is)
 		}
 	}
@@ -33,7 +33,7 @@ func TestOneLineAMinuteForEachCause(t *testing.T) {
 	want(2*time.Minute-1, "a", 0, false)
 
 	for i := 0; i < 1000; i++ {
-		_, ok := s.speak(begin.Add(time.Hour), fmt.Sprint(i))
+		_, ok := s.speak(begin+time.Hour, fmt.Sprint(i))
 		if ok != (i < mostCauses) {
 			t.Fatalf("cause %d: %v", i, ok)
 		}
@@ -54,8 +54,8 @@ func TestTheKeeperDoesNotFillTheLog(t *testing.T) {
 	lines := func(text string) int { return strings.Count(out.String(), text) }
 	keep := func(times int) {
 		for i := 0; i < times; i++ {
-			e.keepSoon(svid.Use{})
-			e.keeper.wait()
+			e.step(doing(func(m *Machine) { m.keepSoon(svid.Use{}) }))
+			kept(t, e)
 		}
 	}
 	keep(writes)
@@ -70,15 +70,11 @@ func TestTheKeeperDoesNotFillTheLog(t *testing.T) {
 
 	// So it is of what there is no room for.
 	full := func(times int) {
-		e.keeper.mu.Lock()
-		e.keeper.uses = make([]svid.Use, mostUnkept)
-		e.keeper.mu.Unlock()
+		e.step(doing(func(m *Machine) { m.keeper.uses, m.keeper.busy = make([]svid.Use, mostUnkept), true }))
 		for i := 0; i < times; i++ {
-			e.keepSoon(svid.Use{})
+			e.step(doing(func(m *Machine) { m.keepSoon(svid.Use{}) }))
 		}
-		e.keeper.mu.Lock()
-		e.keeper.uses = nil
-		e.keeper.mu.Unlock()
+		e.step(doing(func(m *Machine) { m.keeper.uses, m.keeper.busy = nil, false }))
 		keep(1)
 	}
 	full(writes)
@@ -91,11 +87,11 @@ func TestTheKeeperDoesNotFillTheLog(t *testing.T) {
 	}
 
 	// A minute later there is another line, with all that were not written.
-	e.keeper.faults.mu.Lock()
-	for cause, at := range e.keeper.faults.said {
-		e.keeper.faults.said[cause] = at.Add(-seldomTime)
-	}
-	e.keeper.faults.mu.Unlock()
+	e.step(doing(func(m *Machine) {
+		for cause, at := range m.keeper.faults.said {
+			m.keeper.faults.said[cause] = at - seldomTime
+		}
+	}))
 	keep(1)
 	if lines("it is full") != 2 || lines(fmt.Sprintf(`"unlogged":%d`, 2*writes+1)) != 1 || lines("\n") != 4 {
 		t.Errorf("a minute later: the log has %s", &out)

@@ -1,198 +1,160 @@
 package server
 
 import (
-	"context"
 	"errors"
-	"fmt"
 	"time"
 
-	"svid.example/go/internal/group"
-	"svid.example/go/svid"
+	"svid.example/go/v2/carriers"
+	"svid.example/go/v2/svid"
 )
-
-// ErrMissed: values of the group's bucket are gone that this sidecar has not read, and a claim of the token may be among them.
-var ErrMissed = errors.New("values of the group's bucket are missing: whether another sidecar claimed the token is unknown")
 
 // errBack: the group's bucket ends in front of what this sidecar has read of it.
 var errBack = errors.New("the group's bucket ends in front of values that this sidecar has read: it was made anew, or put back from an older copy")
-
-// errEarly: the time of the own claim is further ahead than the clock may be. The clock went back.
-var errEarly = errors.New("the claim is from further in the future than clocks may differ: the clock went back")
-
-// checkStrict accepts a token once in the whole group. The bucket is a log, which all sidecars read in one order, and the
-// first claim of a token in it counts: the validator says which that is. At each step:
-//
-//  1. Judge says whether the token would be accepted, and adds nothing. A rejected token ends here; so only tokens with a
-//     good signature cost the broker work.
-//  2. One request a token goes on, in this sidecar; the others wait for its outcome and begin again. Nothing is in memory,
-//     on the disk or in the bucket.
-//  3. The use goes into the bucket, with other claims in one value. Once the broker has stored it, it is there for as long
-//     as the token lives, on as many servers as the bucket has replicas, and its place among all values never changes.
-//     A crash from here on burns the token.
-//  4. The validator reads all values in their order, this one too (Engine.Take). It answers FateAccepted for the use if that is
-//     the first claim of its token; else it says why not. If bundles were replaced since step 1, the token is judged again
-//     before the value is read.
-//  5. Only now the answer is 200.
-//  6. Where there is a state folder, the accepted uses go to the disk, behind the answers: none waits for it. It isn't what
-//     makes a token unusable (the bucket is), but it outlives the broker's disk.
-//
-// If the value does not come back in time (the broker is away), or if values in front of it are missing, the answer is 503.
-// The token is burnt then if the value is in the bucket, now or later: who reads it takes its uses.
-func (e *Engine) checkStrict(ctx context.Context, token string, yes []svid.Question) (svid.Accepted, error) {
-	var late <-chan time.Time // Where this request goes on alone, the time of its value is enough.
-	for {
-		now := e.Now()
-		judged, err := e.validator.Judge(now, token, yes)
-		if err != nil {
-			return svid.Accepted{}, err
-		}
-		if e.deaf.Load() > now { // Its claim would only burn the token.
-			return svid.Accepted{}, ErrMissed
-		}
-		mine := &claim{use: judged.Use, token: token, yes: yes, accepted: judged, done: make(chan struct{})}
-		if other := e.claims.begin(mine); other != nil {
-			if late == nil {
-				timer := time.NewTimer(e.Wait)
-				defer timer.Stop()
-				late = timer.C
-			}
-			if err := other.await(ctx, late); err != nil {
-				return svid.Accepted{}, fmt.Errorf("waiting for the claim of another request: %w", err)
-			}
-			continue
-		}
-		e.sendClaims()
-		if err := mine.await(ctx, late); err != nil && e.claims.giveUp(mine) {
-			e.Metrics.ClaimsFailed.Add(1)
-			return svid.Accepted{}, fmt.Errorf("the token could not be claimed: %w", err)
-		}
-		<-mine.done
-		if mine.err != nil {
-			return svid.Accepted{}, mine.err
-		}
-		return mine.accepted, nil
-	}
-}
-
-// await waits for the outcome of a claim, until late says that it takes too long. (nil never does.)
-func (c *claim) await(ctx context.Context, late <-chan time.Time) error {
-	select {
-	case <-c.done:
-		return nil
-	case <-late:
-		return context.DeadlineExceeded
-	case <-ctx.Done():
-		return ctx.Err()
-	}
-}
-
-// sendClaims sends the claims that are to go out now, in one value, and lets others follow. A value that has not come back
-// in time ends its claims.
-func (e *Engine) sendClaims() {
-	number, uses := e.claims.next(e.sendClaims)
-	if len(uses) == 0 {
-		return
-	}
-	time.AfterFunc(e.Wait, func() { e.claims.landed(number, context.DeadlineExceeded) })
-	ctx, cancel := context.WithTimeout(context.Background(), e.Wait)
-	go func() {
-		defer cancel()
-		e.claims.landed(number, e.group.Load().Put(ctx, group.Claims, number, svid.Batches(uses)))
-		e.sendClaims()
-	}()
-}
 
 // readRoom is how many uses of a value are read at a time. The claims among them end then: other processors answer them, while
 // this one reads the next ones.
 const readRoom = 64
 
-// Begin lets the engine read a bucket from its first value on. In mode strict the validator reads it as its log.
-func (e *Engine) Begin(log group.Log) {
-	if e.Mode != Strict {
+// readPause is before a value is read again that could not be read.
+const readPause = 100 * time.Millisecond
+
+// A reader is how a machine in mode strict reads the bucket, which is its validator's log.
+type reader struct {
+	deaf     uint64         // the moment before which the validator accepts nothing
+	right    uint64         // the last time that was no jump
+	log      carriers.Start // as Begin had it last
+	recalled *svid.Mark     // where an earlier life was in the log, until the log has begun
+	room     []svid.LogUse  // for what it reads
+	reading  bool           // a value is read in part
+	stuckAt  time.Duration  // when it was last logged that it can't read
+}
+
+// A Begin lets the machine read a bucket from its first value on. In mode strict the validator reads it as its log. It is done
+// unless Again is more than 0: then the same event is to come again after that time.
+type Begin struct {
+	Log   carriers.Start
+	Again time.Duration
+
+	begun bool
+}
+
+func (b *Begin) happen(m *Machine) {
+	if m.Mode != Strict {
 		return
 	}
-	e.reading.Lock()
-	defer e.reading.Unlock()
-	e.log = log
-	mark := svid.Mark{Passed: log.Passed}
-	if log.Missed {
-		mark.Deaf = saturated(e.Now(), e.lasts())
+	if !b.begun {
+		m.log.log = b.Log
+		mark := svid.Mark{Passed: b.Log.Passed}
+		if b.Log.Missed {
+			if m.isClockWrong() {
+				b.Again = m.waitForClock()
+				return
+			}
+			mark.Deaf = saturated(m.now.Wall, m.lasts())
+		}
+		if b.Again = m.begin(mark); b.Again > 0 {
+			return
+		}
+		if b.Log.Missed {
+			m.missed(ErrMissed)
+		}
+		b.begun = true
 	}
-	if err := e.begin(mark); err != nil {
-		e.Log.Error("log", err)
+	b.Again = m.recall()
+}
+
+// isClockWrong says whether the clock is too far ahead. The moment until which nothing is accepted is counted by it, so it must be
+// right.
+func (m *Machine) isClockWrong() bool { return m.validator.Tick(m.now.Wall) == svid.ErrJump }
+
+// waitForClock says when to try again where it is not; 0 where nothing is tried any more.
+func (m *Machine) waitForClock() (again time.Duration) {
+	if m.ending {
+		return 0
 	}
-	if log.Missed {
-		e.missed(ErrMissed)
-	}
-	e.recall()
+	m.stuck(svid.ErrJump)
+	return readPause
 }
 
 // lasts is how many seconds a use may live once it is in the bucket. (The clocks of who claimed a token and of who reads that may
 // both be off.)
-func (e *Engine) lasts() uint64 { return saturated(e.Longest, saturated(e.Ahead, e.Ahead)) }
+func (m *Machine) lasts() uint64 { return saturated(m.Longest, saturated(m.Ahead, m.Ahead)) }
 
-// begin lets the validator read the bucket from this mark on. It tries until there is memory for that, or the engine ends.
-func (e *Engine) begin(mark svid.Mark) error {
-	next := svid.Log{Mark: mark, Ready: e.log.Ready, Lasts: e.lasts()}
-	err := e.openLog(next)
-	for err == svid.ErrNoMemory && e.pause(err) {
-		err = e.openLog(next)
+// begin lets the validator read the bucket from this mark on. Where there is no memory for that, it is to be tried again.
+func (m *Machine) begin(mark svid.Mark) (again time.Duration) {
+	err := m.openLog(svid.Log{Mark: mark, Ready: m.log.log.Ready, Lasts: m.lasts()})
+	if err == svid.ErrNoMemory && !m.ending {
+		m.stuck(err)
+		return readPause
 	}
-	return err
+	if err != nil {
+		m.Log.Error("log", err)
+	}
+	return 0
 }
 
-// Recall tells the engine where an earlier life of it was in the bucket, as the state folder has it. It comes before Load.
-func (e *Engine) Recall(mark svid.Mark) {
-	if e.Mode != Strict {
+// A Recall tells the machine where an earlier life of it was in the bucket, as the state folder has it. It comes before Load, and
+// again as Begin does.
+type Recall struct {
+	Mark  svid.Mark
+	Again time.Duration
+}
+
+func (r *Recall) happen(m *Machine) {
+	if m.Mode != Strict {
 		return
 	}
-	e.reading.Lock()
-	defer e.reading.Unlock()
-	e.recalled = &mark
-	e.recall()
+	m.log.recalled = &r.Mark
+	r.Again = m.recall()
 }
 
 // recall takes over what an earlier life knew, once the bucket has begun: until when values may live that it has missed. A bucket
 // that ends in front of what it has read lacks values too.
-func (e *Engine) recall() {
-	if e.recalled == nil {
-		return
+func (m *Machine) recall() (again time.Duration) {
+	if m.log.recalled == nil {
+		return 0
 	}
-	mark, _, err := e.validator.LogMark()
+	mark, _, err := m.validator.LogMark()
 	if err == svid.ErrNoLog {
-		return // Begin does it.
+		return 0 // Begin does it.
 	}
-	before, why := *e.recalled, ErrMissed
-	e.recalled = nil
-	if before.Passed > e.log.Ready {
+	before, why := *m.log.recalled, ErrMissed
+	if before.Passed > m.log.log.Ready {
+		if m.isClockWrong() {
+			return m.waitForClock()
+		}
 		why = errBack
-		if until := saturated(e.Now(), e.lasts()); until > before.Deaf {
+		if until := saturated(m.now.Wall, m.lasts()); until > before.Deaf {
 			before.Deaf = until
 		}
 	}
-	if err == nil && (why == errBack || before.Deaf > mark.Deaf && before.Deaf > e.Now()) {
+	if err == nil && (why == errBack || before.Deaf > mark.Deaf && before.Deaf > m.now.Wall) {
 		mark.Deaf = before.Deaf
-		err = e.begin(mark)
-		e.missed(why)
+		if again := m.begin(mark); again > 0 {
+			return again
+		}
+		m.missed(why)
 	}
+	m.log.recalled = nil
 	if err != nil {
-		e.Log.Error("log", err)
+		m.Log.Error("log", err)
 	}
+	return 0
 }
 
 // openLog lets the validator read a log. What it has heard of another one it keeps.
-func (e *Engine) openLog(next svid.Log) error {
-	before, _, err := e.validator.LogMark()
+func (m *Machine) openLog(next svid.Log) error {
+	before, _, err := m.validator.LogMark()
 	if err == nil {
 		if before.Deaf > next.Mark.Deaf {
 			next.Mark.Deaf = before.Deaf
 		}
-		next.Beside, err = e.validator.LogBeside()
+		next.Beside, err = m.validator.LogBeside()
 	}
 	if err != nil && err != svid.ErrNoLog {
 		return err
 	}
-	return e.validator.OpenLog(next)
+	return m.validator.OpenLog(next)
 }
 
 // saturated is the sum, or the greatest number.
@@ -203,181 +165,146 @@ func saturated(a, b uint64) uint64 {
 	return a + b
 }
 
-// read lets the validator read a value of the bucket, and ends the claims of this sidecar that stand in it. An error says that
-// the value is put aside: it is no messages, or a use in it is from too far ahead.
-func (e *Engine) read(v group.Value) (aside error) {
-	e.keeper.begin() // Claims end before the keeper has their uses. So Run waits for this value too.
-	defer e.keeper.end()
-	if e.Log.Writes(All) {
-		defer func() { e.Log.Detail("message", "bytes", len(v.Message), "error", aside) }()
-	}
-	var accepted []svid.Use
-	var other *svid.Use
-	isOther := e.isOfOtherMode(v.Kind)
-	for rest := svid.RestNoRoom; rest != svid.RestNothing; {
-		reading, err := e.readOn(v)
-		if err != nil {
-			return err
-		}
-		if reading.Fault != nil {
-			aside = reading.Fault
-		}
-		if reading.Order == svid.OrderGap {
-			e.missed(ErrMissed)
-		}
-		read := e.room[:reading.Count]
-		for i := range read {
-			switch read[i].Fate {
-			case svid.FateAccepted:
-				accepted = append(accepted, read[i].Use)
-			case svid.FateTooFarAhead:
-				aside = svid.ErrTooFar
-				continue
-			}
-			if isOther && other == nil && e.saysMode(&read[i].Use) {
-				use := read[i].Use
-				other = &use
-			}
-		}
-		if e.claims.end(read, e.Place, e.outcome) > 0 {
-			e.sendClaims() // The next value need not wait for what the broker answers to this one.
-		}
-		if rest = reading.Rest; rest == svid.RestNoMemory && !e.pause(svid.ErrNoMemory) {
-			return errEnded
-		}
-	}
-	if other != nil {
-		e.sayMixed(other)
-	}
-	e.keepSoon(accepted...)
-	return aside
+// A Reading lets the validator read the next uses of a value of the bucket, and ends the claims of this sidecar that stand among
+// them. The same event is to come again, after the time Again, until it is Done. Values come in their order.
+type Reading struct {
+	Value carriers.Value
+	Done  bool
+	Again time.Duration
+	Aside error // that the value is put aside: it is no messages, or a use in it is from too far ahead
+
+	accepted []svid.Use
+	other    *svid.Use // that tells of another mode
 }
 
-// readOn reads the next uses of a value, as many as have room. It tries until that is done, or the engine ends.
-func (e *Engine) readOn(v group.Value) (svid.Reading, error) {
-	for now := e.Now(); ; {
-		edition := e.validator.Edition()
-		e.judgeRenewed(now, edition)
-		reading, err := e.validator.Read(now, v.Position, v.Message, edition, e.room)
+func (r *Reading) happen(m *Machine) {
+	m.log.reading = true // Claims end before the keeper has their uses. So the end waits for this value too.
+	reading, err := m.readOn(r.Value)
+	switch {
+	case err == svid.ErrJump:
+		r.wait(m, err)
+		return
+	case err != nil:
+		r.done(m, err)
+		return
+	}
+	r.take(m, reading)
+	switch reading.Rest {
+	case svid.RestNothing:
+		if r.other != nil {
+			m.sayMixed(r.other)
+		}
+		m.keepSoon(r.accepted...)
+		r.done(m, r.Aside)
+	case svid.RestNoMemory:
+		r.wait(m, svid.ErrNoMemory)
+	default:
+		r.Again = 0
+	}
+}
+
+// take takes note of uses that were read.
+func (r *Reading) take(m *Machine, reading svid.Reading) {
+	if reading.Fault != nil {
+		r.Aside = reading.Fault
+	}
+	if reading.Order == svid.OrderGap {
+		m.missed(ErrMissed)
+	}
+	isOther := m.isOfOtherMode(r.Value.Kind)
+	read := m.log.room[:reading.Count]
+	for i := range read {
+		switch read[i].Fate {
+		case svid.FateAccepted:
+			r.accepted = append(r.accepted, read[i].Use)
+		case svid.FateTooFarAhead:
+			r.Aside = svid.ErrTooFar
+			continue
+		}
+		if isOther && r.other == nil && m.saysMode(&read[i].Use) {
+			use := read[i].Use
+			r.other = &use
+		}
+	}
+	if m.endClaims(read) > 0 {
+		m.sendClaims() // The next value need not wait for what the broker answers to this one.
+	}
+}
+
+// wait lets the value be read again later, unless the machine ends.
+func (r *Reading) wait(m *Machine, why error) {
+	if m.ending {
+		r.done(m, errEnded)
+		return
+	}
+	m.stuck(why)
+	r.Again = readPause
+}
+
+func (r *Reading) done(m *Machine, aside error) {
+	r.Done, r.Aside = true, aside
+	m.log.reading = false
+	if m.Log.Writes(All) {
+		m.Log.Detail("message", "bytes", len(r.Value.Message), "error", aside)
+	}
+}
+
+// readOn reads the next uses of a value, as many as have room.
+func (m *Machine) readOn(v carriers.Value) (svid.Reading, error) {
+	for now := m.now.Wall; ; {
+		edition := m.validator.Edition()
+		m.judgeRenewed(now, edition)
+		reading, err := m.validator.Read(now, v.Position, v.Message, edition, m.log.room)
 		switch {
 		case err == nil:
-			e.right.Store(now)
+			m.log.right = now
 			return reading, nil
 		case err == svid.ErrRenewed:
-		case err == svid.ErrJump && now != e.right.Load() && !e.isBehindGap(v):
-			now = e.right.Load() // The record has reached it, so it raises nothing.
-		case err == svid.ErrJump:
-			if !e.pause(err) {
-				return svid.Reading{}, errEnded
-			}
-			now = e.Now()
+		case err == svid.ErrJump && now != m.log.right && !m.isBehindGap(v):
+			now = m.log.right // The record has reached it, so it raises nothing.
 		default:
 			return svid.Reading{}, err
 		}
 	}
 }
 
-// judgeRenewed judges claims again, by their tokens, that were judged by other bundles than the validator has. It may refuse
-// them now. Then their uses are in the bucket all the same, and the tokens are burnt.
-func (e *Engine) judgeRenewed(now, edition uint64) {
-	for _, c := range e.claims.judgedBefore(edition) {
-		again, err := e.validator.Judge(now, c.token, c.yes)
-		e.claims.judged(c, again, err, e.count)
-	}
-}
-
 // isBehindGap says whether values in front of this one are missing. The clock must be right then, since the validator counts from it
 // until when they may live.
-func (e *Engine) isBehindGap(v group.Value) bool {
-	mark, _, err := e.validator.LogMark()
+func (m *Machine) isBehindGap(v carriers.Value) bool {
+	mark, _, err := m.validator.LogMark()
 	return err != nil || mark.Passed+1 < v.Position
-}
-
-// outcome is what becomes of a claim whose use has this fate.
-func (e *Engine) outcome(fate svid.Fate) error {
-	err := outcomes[fate]
-	if fate != svid.FateAccepted && err == nil {
-		err = fmt.Errorf("the claim has the fate %v", fate)
-	}
-	e.count(err)
-	return err
-}
-
-// outcomes are those of claims, by their fates. A first claim that is not accepted is one behind values that are missing.
-var outcomes = map[svid.Fate]error{svid.FateFirst: ErrMissed, svid.FateTooFarAhead: errEarly, svid.FateExpired: svid.Expired,
-	svid.FateWithdrawn: svid.Withdrawn, svid.FateReplayed: svid.Replayed}
-
-// count counts the outcome of a claim.
-func (e *Engine) count(err error) {
-	switch _, refused := refusalOf(err); {
-	case err == nil:
-		e.Metrics.ClaimsWon.Add(1)
-	case refused:
-		e.Metrics.ClaimsLost.Add(1)
-	default:
-		e.Metrics.ClaimsFailed.Add(1)
-	}
 }
 
 // missed takes note of values that are missing: claims that are open have no outcome, and the validator accepts nothing for a
 // while. The state folder has that soon, so that a restart changes nothing.
-func (e *Engine) missed(why error) {
-	mark, _, err := e.validator.LogMark()
+func (m *Machine) missed(why error) {
+	mark, _, err := m.validator.LogMark()
 	if err != nil {
-		e.Log.Error("gap", err)
+		m.Log.Error("gap", err)
 		return
 	}
-	e.deaf.Store(mark.Deaf)
-	e.markSoon()
-	e.Metrics.Gaps.Add(1)
-	e.Log.Error("gap", why, "claims", e.claims.failAll(ErrMissed), "behind", mark.Passed, "until", mark.Deaf,
+	m.log.deaf = mark.Deaf
+	m.markSoon()
+	m.metrics.Gaps.Add(1)
+	m.Log.Error("gap", why, "claims", m.failAll(ErrMissed), "behind", mark.Passed, "until", mark.Deaf,
 		"why", "until then each token is answered 503, unless svidd resume lets this sidecar go on")
 }
 
-// Resume lets the engine accept tokens though values of the bucket are missing, and returns until when these may live: 0 if none
-// is missing.
-func (e *Engine) Resume() (until uint64, err error) {
-	until = e.deafUntil()
-	if err := e.validator.GoOn(); err != nil && err != svid.ErrNoLog {
-		return 0, err
-	}
-	e.deaf.Store(0)
-	if until > 0 {
-		e.Log.Event("resumed", "until", until)
-	}
-	if e.Journal != nil && e.loaded.Load() {
-		e.keepMark()
-	}
-	return until, nil
-}
-
-// deafUntil is until when the engine accepts nothing, since values of the bucket are missing: 0 if it does.
-func (e *Engine) deafUntil() uint64 {
-	until := e.deaf.Load()
-	if until == 0 || until <= e.Now() {
+// deafUntil is until when the machine accepts nothing, since values of the bucket are missing: 0 if it does.
+func (m *Machine) deafUntil() uint64 {
+	if m.log.deaf <= m.now.Wall {
 		return 0
 	}
-	return until
+	return m.log.deaf
 }
 
-// errEnded: the engine has ended before a value was read.
+// errEnded: the machine has ended before a value was read.
 var errEnded = errors.New("the sidecar has ended")
 
-const (
-	readPause = 100 * time.Millisecond // before a value is read again
-	stuckSays = time.Minute            // between two lines about that
-)
-
-// pause waits before a value is read again, and says whether it is to be: not once the engine has ended.
-func (e *Engine) pause(why error) bool {
-	if now := time.Now(); now.Sub(e.stuckAt) > stuckSays {
-		e.stuckAt = now
-		e.Log.Error("log", why)
-	}
-	select {
-	case <-e.ended:
-		return false
-	case <-time.After(readPause):
-		return true
+// stuck says, once a minute, that a value can't be read.
+func (m *Machine) stuck(why error) {
+	if m.now.Up-m.log.stuckAt >= seldomTime {
+		m.log.stuckAt = m.now.Up
+		m.Log.Error("log", why)
 	}
 }

@@ -2,9 +2,8 @@ package server
 
 import (
 	"crypto/sha256"
-	"sync"
 
-	"svid.example/go/svid"
+	"svid.example/go/v2/svid"
 )
 
 // mostVerified is how many tokens a generation of verified has: some 4 MB.
@@ -15,7 +14,6 @@ const mostVerified = 1 << 15
 // answer only if its question is of a key that it has at that moment. So a kept answer can't outlive its key; and since a
 // question is a digest over the token's own signed bytes and signature, it is of no use for another token.
 type verified struct {
-	mu         sync.Mutex
 	epoch      uint64 // counts the bundles that there were
 	young, old map[tokenName]svid.Question
 }
@@ -27,8 +25,6 @@ func nameOf(token string) tokenName { return sha256.Sum256([]byte(token)) }
 
 // get finds the answered question of a token. epoch is for put.
 func (v *verified) get(name tokenName) (question svid.Question, epoch uint64, ok bool) {
-	v.mu.Lock()
-	defer v.mu.Unlock()
 	if question, ok = v.young[name]; ok {
 		return question, v.epoch, true
 	}
@@ -40,8 +36,6 @@ func (v *verified) get(name tokenName) (question svid.Question, epoch uint64, ok
 
 // put keeps an answered question, unless the bundles were renewed since get.
 func (v *verified) put(epoch uint64, name tokenName, question svid.Question) {
-	v.mu.Lock()
-	defer v.mu.Unlock()
 	if epoch == v.epoch {
 		v.add(name, question)
 	}
@@ -56,30 +50,6 @@ func (v *verified) add(name tokenName, question svid.Question) {
 
 // clear forgets all, since the bundles are other ones.
 func (v *verified) clear() {
-	v.mu.Lock()
-	defer v.mu.Unlock()
 	v.epoch++
 	v.young, v.old = nil, nil
-}
-
-// checkReuse judges a token, and adds nothing to the record.
-func (e *Engine) checkReuse(token string) (svid.Accepted, error) {
-	name := nameOf(token)
-	question, epoch, ok := e.verified.get(name)
-	if ok {
-		accepted, err := e.validator.Judge(e.Now(), token, []svid.Question{question})
-		if err != svid.BadSignature {
-			return accepted, err
-		}
-		// The key is not among the validator's any more, or is written otherwise: another one may have signed the token.
-	}
-	yes, err := e.verify(token)
-	if err != nil {
-		return svid.Accepted{}, err
-	}
-	accepted, err := e.validator.Judge(e.Now(), token, yes)
-	if err == nil && len(yes) == 1 {
-		e.verified.put(epoch, name, yes[0])
-	}
-	return accepted, err
 }

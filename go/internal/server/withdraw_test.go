@@ -11,9 +11,11 @@ import (
 	"testing"
 	"time"
 
-	"svid.example/go/internal/group"
-	"svid.example/go/internal/natstest"
-	"svid.example/go/svid"
+	"svid.example/go/v2/carriers"
+	"svid.example/go/v2/carriers/jetstream"
+	"svid.example/go/v2/internal/natstest"
+	"svid.example/go/v2/internal/patience"
+	"svid.example/go/v2/svid"
 )
 
 // lines are what a log writes.
@@ -42,9 +44,9 @@ func live(id string) string {
 // running joins an engine to the bucket of a broker, and runs it until the test ends.
 func running(t *testing.T, e *Engine, url string) *Engine {
 	t.Helper()
-	ctx, cancel := context.WithTimeout(context.Background(), 30*time.Second)
+	ctx, cancel := context.WithTimeout(context.Background(), patience.Long)
 	t.Cleanup(cancel)
-	g, err := group.Join(ctx, group.Options{Servers: []string{url}, Name: "svid", Place: e.Place, TTL: time.Hour}, e)
+	g, err := jetstream.Join(ctx, jetstream.Options{Servers: []string{url}, Name: "svid", ValidatorID: e.ValidatorID, TTL: time.Hour}, e)
 	if err != nil {
 		t.Fatal(err)
 	}
@@ -62,16 +64,16 @@ func running(t *testing.T, e *Engine, url string) *Engine {
 // they take it.
 func TestAWithdrawalOfAClockThatIsAhead(t *testing.T) {
 	url := natstest.Start(t).URL
-	right := running(t, ready(t, engine(t, Options{Mode: Reuse, Grouped: true, Place: svid.Place{1}, Now: svid.Now})), url)
+	right := running(t, ready(t, engine(t, Options{Mode: Reuse, Grouped: true, ValidatorID: svid.ValidatorID{1}, Now: svid.Now})), url)
 	var lines lines
-	fast := running(t, ready(t, engine(t, Options{Mode: Reuse, Grouped: true, Place: svid.Place{2}, Log: NewLog(&lines, Errors),
+	fast := running(t, ready(t, engine(t, Options{Mode: Reuse, Grouped: true, ValidatorID: svid.ValidatorID{2}, Log: NewLog(&lines, Errors),
 		Now: func() uint64 { return svid.Now() + 33 }})), url)
 	one := live("a")
 	found, err := right.Find(one)
 	if err != nil {
 		t.Fatal(err)
 	}
-	_, err = fast.Withdraw(context.Background(), found.Key, found.Expires)
+	_, err = fast.Withdraw(found.Key, found.Expires)
 	if err == nil || !strings.Contains(err.Error(), "the other sidecars take it only in") {
 		t.Error(err)
 	}
@@ -88,7 +90,7 @@ func TestAWithdrawalOfAClockThatIsAhead(t *testing.T) {
 	if err != nil {
 		t.Fatal(err)
 	}
-	if _, err := right.Withdraw(context.Background(), other.Key, other.Expires); err != nil {
+	if _, err := right.Withdraw(other.Key, other.Expires); err != nil {
 		t.Error(err)
 	}
 }
@@ -96,12 +98,12 @@ func TestAWithdrawalOfAClockThatIsAhead(t *testing.T) {
 // A slowGroup stores what it is given, by a clock that is behind.
 type slowGroup struct{ behind time.Duration }
 
-func (slowGroup) Ready() <-chan struct{}                                { return closedChannel }
-func (slowGroup) Put(context.Context, group.Kind, uint64, []byte) error { return nil }
-func (slowGroup) Taken() uint64                                         { return 0 }
-func (slowGroup) Aside() uint64                                         { return 0 }
-func (slowGroup) Connected() bool                                       { return true }
-func (g slowGroup) Stored(context.Context, group.Kind, uint64) (time.Time, error) {
+func (slowGroup) Ready() <-chan struct{}                                   { return closedChannel }
+func (slowGroup) Put(context.Context, carriers.Kind, uint64, []byte) error { return nil }
+func (slowGroup) Taken() uint64                                            { return 0 }
+func (slowGroup) Aside() uint64                                            { return 0 }
+func (slowGroup) Connected() bool                                          { return true }
+func (g slowGroup) Stored(context.Context, carriers.Kind, uint64) (time.Time, error) {
 	return time.Unix(moment, 0).Add(-g.behind), nil
 }
 
@@ -111,14 +113,14 @@ var closedChannel = func() chan struct{} {
 	return c
 }()
 
-// Nothing is revoked before all is read, and what the group does not hear of is not answered as done.
+// Nothing is withdrawn before all is read, and what the group does not hear of is not answered as done.
 func TestAWithdrawalThatTheGroupDoesNotHearOf(t *testing.T) {
 	one := svid.TokenKey{1}
 	e := engine(t, Options{Mode: Reuse, Grouped: true, Wait: 50 * time.Millisecond})
 	m := &tie{broker: &broker{}, engine: e, ready: make(chan struct{})}
 	m.members = []*tie{m}
 	withdraw := func() error {
-		_, err := e.Withdraw(context.Background(), one, moment+300)
+		_, err := e.Withdraw(one, moment+300)
 		return err
 	}
 	wantNotReady := func(what string) {
@@ -159,14 +161,14 @@ func TestAWithdrawalThatWaitsEndsWithTheEngine(t *testing.T) {
 	func() { // so that nothing here refers to the engine
 		log := NewLog(io.Discard, Errors)
 		runtime.SetFinalizer(log, func(*Log) { close(freed) }) // (the engine refers to itself, and would have none)
-		e, err := NewEngine(Options{Mode: Reuse, Audiences: []string{"ledger"}, Longest: 3600, Ahead: 30, Place: svid.Place{1}, Grouped: true,
+		e, err := NewEngine(Options{Mode: Reuse, Audiences: []string{"ledger"}, Longest: 3600, Ahead: 30, ValidatorID: svid.ValidatorID{1}, Grouped: true,
 			Wait: time.Second, Log: log, Now: func() uint64 { return moment }})
 		if err != nil {
 			t.Fatal(err)
 		}
 		defer e.Close()
 		ready(t, e).Join(slowGroup{behind: 3 * 24 * time.Hour})
-		_, err = e.Withdraw(context.Background(), svid.TokenKey{1}, moment+300)
+		_, err = e.Withdraw(svid.TokenKey{1}, moment+300)
 		if err == nil || !strings.Contains(err.Error(), "the other sidecars take it only in 259170 seconds") {
 			t.Error(err)
 		}

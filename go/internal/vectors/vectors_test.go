@@ -14,21 +14,21 @@ import (
 	"strings"
 	"testing"
 
-	"svid.example/go/internal/bundles"
-	"svid.example/go/internal/journal"
-	"svid.example/go/internal/server"
-	"svid.example/go/internal/vectors"
-	"svid.example/go/svid"
+	"svid.example/go/v2/bundles"
+	"svid.example/go/v2/internal/server"
+	"svid.example/go/v2/internal/vectors"
+	"svid.example/go/v2/journal"
+	"svid.example/go/v2/svid"
 )
 
 // A setting is what stands beside the vectors of a file.
 type setting struct {
 	Setting struct {
-		Audience string
-		Now      uint64
-		Ahead    uint64
-		Place    vectors.Bytes
-		Bundles  json.RawMessage // trust bundles as a text, or their name
+		Audience    string
+		Now         uint64
+		Ahead       uint64
+		ValidatorID vectors.Bytes   `json:"validator_id"`
+		Bundles     json.RawMessage // trust bundles as a text, or their name
 	}
 }
 
@@ -58,7 +58,7 @@ func words(good string, err error) string {
 	case errors.As(err, &refusal):
 		return "refused " + refusal.String()
 	case errors.As(err, &message):
-		return fmt.Sprintf("%s %d %d", message.Reason, message.Message, message.Place)
+		return fmt.Sprintf("%s %d %d", message.Reason, message.Message, message.Offset)
 	case errors.Is(err, svid.ErrJump):
 		return "Jump"
 	case errors.Is(err, svid.ErrGone):
@@ -143,12 +143,12 @@ func saved(t *testing.T, v *svid.Validator) []byte {
 
 func TestCallsOfAValidator(t *testing.T) {
 	type options struct {
-		Audiences []string
-		Bundles   string
-		Longest   *uint64 `json:",string"`
-		Ahead     *uint64 `json:",string"`
-		Step      *uint64 `json:",string"`
-		Place     vectors.Bytes
+		Audiences   []string
+		Bundles     string
+		Longest     *uint64       `json:",string"`
+		Ahead       *uint64       `json:",string"`
+		Step        *uint64       `json:",string"`
+		ValidatorID vectors.Bytes `json:"validator_id"`
 	}
 	type vector struct {
 		vectors.Each
@@ -176,7 +176,7 @@ func TestCallsOfAValidator(t *testing.T) {
 		}
 		text := []byte(file.Bundles[given.Bundles])
 		o := svid.Options{Audiences: given.Audiences, Bundles: text, Longest: limit(given.Longest), Ahead: limit(given.Ahead), Step: limit(given.Step)}
-		copy(o.Place[:], given.Place)
+		copy(o.ValidatorID[:], given.ValidatorID)
 		v := open(t, o)
 		k, err := svid.NewKeyring(text)
 		if err != nil {
@@ -326,21 +326,45 @@ func TestHeaders(t *testing.T) {
 	}
 }
 
+func TestPatterns(t *testing.T) {
+	type vector struct {
+		vectors.Each
+		Pattern, ID, Answer string
+		Offset              *int
+	}
+	for _, it := range vectors.Read[vector](t, "patterns", nil) {
+		allowed, err := svid.Allows(it.Pattern, it.ID)
+		var bad *svid.PatternError
+		got := map[bool]string{true: "allowed", false: "not allowed"}[allowed]
+		if errors.As(err, &bad) {
+			got = "no pattern"
+		} else if err != nil {
+			got = "no ID"
+		}
+		if got != it.Answer {
+			t.Errorf("%s: %s (%v)", it.Name, got, err)
+		}
+		if bad != nil && it.Offset != nil && bad.Offset != *it.Offset {
+			t.Errorf("%s: the offset is %d, and not %d", it.Name, bad.Offset, *it.Offset)
+		}
+	}
+}
+
 func TestMessages(t *testing.T) {
 	type vector struct {
 		vectors.Each
 		Messages, Record vectors.Bytes
 		Now              uint64
 		Fault            *struct {
-			Reason         string
-			Message, Place int
+			Reason          string
+			Message, Offset int
 		}
 	}
 	for _, it := range vectors.Read[vector](t, "messages", nil) {
 		v := open(t, checking([]byte("{}")))
 		err := v.Take(0, it.Messages)
 		if it.Fault != nil {
-			if got, want := words("", err), fmt.Sprintf("%s %d %d", it.Fault.Reason, it.Fault.Message, it.Fault.Place); got != want {
+			if got, want := words("", err), fmt.Sprintf("%s %d %d", it.Fault.Reason, it.Fault.Message, it.Fault.Offset); got != want {
 				t.Errorf("%s: %s, and not %s", it.Name, got, want)
 			}
 			continue
@@ -415,7 +439,7 @@ func (c logCall) run(t *testing.T, v *svid.Validator) (got, want string) {
 		var message *svid.MessageError
 		fault := ""
 		if errors.As(reading.Fault, &message) {
-			fault = fmt.Sprintf("%s %d", message.Reason, message.Place)
+			fault = fmt.Sprintf("%s %d", message.Reason, message.Offset)
 		}
 		if reading.Count == 0 {
 			reading.From = c.From
@@ -454,7 +478,7 @@ func TestLogs(t *testing.T) {
 	for _, it := range vectors.Read[vector](t, "logs", &file) {
 		o := checking([]byte("{}"))
 		o.Ahead = file.Setting.Ahead
-		copy(o.Place[:], file.Setting.Place)
+		copy(o.ValidatorID[:], file.Setting.ValidatorID)
 		v := open(t, o)
 		if err := v.Tick(file.Setting.Now); err != nil {
 			t.Fatal(err)
@@ -474,17 +498,18 @@ func TestLogs(t *testing.T) {
 func TestFilesOfAStateFolder(t *testing.T) {
 	type vector struct {
 		vectors.Each
-		Place, Content vectors.Bytes
-		Journal        uint64
-		Payloads       []string
-		End            string
-		At             int64
-		Format         int
+		FolderID vectors.Bytes `json:"folder_id"`
+		Content  vectors.Bytes
+		Journal  uint64
+		Payloads []string
+		End      string
+		At       int64
+		Format   int
 	}
 	for _, it := range vectors.Read[vector](t, "files", nil) {
-		var place svid.Place
-		copy(place[:], it.Place)
-		reader, payloads, end := svid.NewFileReader(place, it.Journal), []string{}, ""
+		var id svid.ValidatorID
+		copy(id[:], it.FolderID)
+		reader, payloads, end := svid.NewFileReader(id, it.Journal), []string{}, ""
 		for end == "" {
 			payload, err := reader.Next(it.Content)
 			var other *svid.FormatError

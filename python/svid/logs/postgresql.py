@@ -182,8 +182,12 @@ class _Line:
         with self._lock, self._faults():
             if self._connection is None:
                 return True
-            if not self._connection.notifies:
-                self._ready(select.POLLIN, seconds)
+            end = time.monotonic() + seconds
+            # (one that came with the rows of a statement is read already: only this call shows it)
+            self._answer(time.monotonic() + self._timeout)
+            while not self._connection.notifies and self._ready(
+                select.POLLIN, end - time.monotonic()
+            ):
                 self._answer(time.monotonic() + self._timeout)
             told = bool(self._connection.notifies)
             self._connection.notifies.clear()

@@ -14,7 +14,7 @@ returns-in-Some-clause-answer g c =
 pub returns-clause-answer : goal.returns-clause-answer
 returns-clause-answer g c =
     accepted (given_setting (g.V.Verifier.says c.args.verifier.now) c.args.given.now) c.args.replay.now.moment c.args.replay.now.uses c.args.token.now (said_in c.in-Ok.reading) c.in-Ok.ensures.value (sym c.in_default.ensures)
-    ∙ (λ i. Ok (Some (record { id = c.in-Ok.reading.claims.sub; used = record { exp = c.in-Ok.reading.claims.exp; key = sym c.key-key.ensures i; place = c.args.given.now.place; at = sym c.moment.ensures.value i; withdrawn = false } })))
+    ∙ (λ i. Ok (Some (record { id = c.in-Ok.reading.claims.sub; used = record { exp = c.in-Ok.reading.claims.exp; key = sym c.key-key.ensures i; validator_id = c.args.given.now.validator_id; at = sym c.moment.ensures.value i; withdrawn = false } })))
 
 pub returns-clause-live : goal.returns-clause-live
 returns-clause-live g c = lives (given_setting (g.V.Verifier.says c.args.verifier.now) c.args.given.now) c.args.replay.now.moment c.args.replay.now.uses (said_in c.in-Ok.reading) (sym c.in_default.ensures)

@@ -4,8 +4,8 @@ use Rattle.svid_id.proofs.path.check_path.Given as goal
 
 abbrev pub invariant-loop-text : goal.invariant-loop-text
 invariant-loop-text l = record {
-  same : path_fault l.fn.place l.fn.path ≡ path_fault l.at l.rest;
-  within : l.at + length l.rest ≡ l.fn.place + length l.fn.path;
+  same : path_fault l.fn.offset l.fn.path ≡ path_fault l.at l.rest;
+  within : l.at + length l.rest ≡ l.fn.offset + length l.fn.path;
 }
 
 abbrev pub decreases-loop-text : goal.decreases-loop-text

@@ -11,12 +11,12 @@ pub returns-in-None : goal.returns-in-None
 returns-in-None c =
     let keys = c.args.keys.now in
     let test = is_in_front_of c.args.kind.now c.args.expired_by in
-    let place : c.partition_point-place.result ≡ prefix_len test keys = prefix_from_point test _ _ c.partition_point-place.ensures.bound (IsPartitionPoint-from_clause test _ _ c.partition_point-place.ensures.partitioned (behind_parted c.args.kind.now c.args.expired_by keys c.requires) (λ a r q k. search rules)) in
-    none_left c.args.kind.now c.args.expired_by keys _ c.requires place (ap (λ es. slice_get es 0) (sym (take_rest keys c.partition_point-place.result)) ∙ sym c.in-None.ensures.value)
+    let index : c.partition_point-index.result ≡ prefix_len test keys = prefix_from_point test _ _ c.partition_point-index.ensures.bound (IsPartitionPoint-from_clause test _ _ c.partition_point-index.ensures.partitioned (behind_parted c.args.kind.now c.args.expired_by keys c.requires) (λ a r q k. search rules)) in
+    none_left c.args.kind.now c.args.expired_by keys _ c.requires index (ap (λ es. slice_get es 0) (sym (take_rest keys c.partition_point-index.result)) ∙ sym c.in-None.ensures.value)
 
 pub returns-in-Some : goal.returns-in-Some
 returns-in-Some c =
     let keys = c.args.keys.now in
     let test = is_in_front_of c.args.kind.now c.args.expired_by in
-    let place : c.partition_point-place.result ≡ prefix_len test keys = prefix_from_point test _ _ c.partition_point-place.ensures.bound (IsPartitionPoint-from_clause test _ _ c.partition_point-place.ensures.partitioned (behind_parted c.args.kind.now c.args.expired_by keys c.requires) (λ a r q k. search rules)) in
-    c.has_kind.ensures ∙ some_left c.args.kind.now c.args.expired_by keys _ c.in-Some.found.now c.requires place (ap (λ es. slice_get es 0) (sym (take_rest keys c.partition_point-place.result)) ∙ sym c.in-Some.ensures.value)
+    let index : c.partition_point-index.result ≡ prefix_len test keys = prefix_from_point test _ _ c.partition_point-index.ensures.bound (IsPartitionPoint-from_clause test _ _ c.partition_point-index.ensures.partitioned (behind_parted c.args.kind.now c.args.expired_by keys c.requires) (λ a r q k. search rules)) in
+    c.has_kind.ensures ∙ some_left c.args.kind.now c.args.expired_by keys _ c.in-Some.found.now c.requires index (ap (λ es. slice_get es 0) (sym (take_rest keys c.partition_point-index.result)) ∙ sym c.in-Some.ensures.value)

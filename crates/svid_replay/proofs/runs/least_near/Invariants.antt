@@ -7,5 +7,5 @@ abbrev pub invariant-loop-run : goal.invariant-loop-run
 invariant-loop-run l = record {
   least : least_from l.after (drop l.run-index l.runs) (option_copied l.least) ≡ least_from l.after l.runs None;
   low : l.at ≤ 7;
-  long : length l.near.places ≡ 8;
+  long : length l.near.indexes ≡ 8;
 }

@@ -10,4 +10,4 @@ returns-in_default c = (walk_none c.args.uses.now).parts ∙ ap (λ o. filter (i
 pub returns : goal.returns
 returns c =
     let us = c.args.uses.now in
-    take_rest us c.count_near-place.result ∙ ap (λ n. drop n us) c.count_near-place.ensures.value ∙ filter_is_rest c.in-Some.last us c.requires ∙ ap (λ o. filter (is_after o) us) (sym c.in-Some.is)
+    take_rest us c.count_near-index.result ∙ ap (λ n. drop n us) c.count_near-index.ensures.value ∙ filter_is_rest c.in-Some.last us c.requires ∙ ap (λ o. filter (is_after o) us) (sym c.in-Some.is)

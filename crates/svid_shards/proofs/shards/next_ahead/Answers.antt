@@ -29,12 +29,12 @@ loop-used-preserved g c =
     let u = c.in-Some.used in
     let next = sym c.in-Some.ensures.next in
     let more = room_pushed ss last _ c.loop-used.room c.push.new.self u next so_far.few so_far.parts c.if-not-push.ensures.answer c.push.ensures.pushed in
-    let place = c.shard_of-place.ensures.value in
-    let here = store_at f stores c.shard_of-place.result c.index-shards-place.result (omega (arith, c.requires.long, c.shard_of-place.ensures.bound)) c.index-shards-place.is ∙ ap (shard ss) place in
+    let index = c.shard_of-index.ensures.value in
+    let here = store_at f stores c.shard_of-index.result c.index-shards-index.result (omega (arith, c.requires.long, c.shard_of-index.ensures.bound)) c.index-shards-index.is ∙ ap (shard ss) index in
     let head = c.exp_if_any.ensures ∙ ap exp_if_any (c.next_near-then.ensures ∙ ap (λ s. next_above s (Some u)) here) in
     record {
       known = c.in-Some.ensures.known ∙ so_far.known;
-      heads = (λ i. set ((c.in-Some.ensures.heads ∙ so_far.heads) i) (place i) (head i)) ∙ sym (map-set exp_if_any (heads_of ss last) _ _) ∙ ap (map exp_if_any) (heads_more ss last u c.requires.apart next);
+      heads = (λ i. set ((c.in-Some.ensures.heads ∙ so_far.heads) i) (index i) (head i)) ∙ sym (map-set exp_if_any (heads_of ss last) _ _) ∙ ap (map exp_if_any) (heads_more ss last u c.requires.apart next);
       after = last_in c.args.ahead.now.after c.loop-used.room c.push.new.self u c.if-not-push.ensures.answer c.push.ensures.pushed;
       few = more.few;
       parts = more.parts;

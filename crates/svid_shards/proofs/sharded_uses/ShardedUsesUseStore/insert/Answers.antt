@@ -18,7 +18,7 @@ pub returns-in_err-more-clause-held : goal.returns-in_err-more-clause-held
 returns-in_err-more-clause-held g c = λ has. absurd (false≢true (c.in_err-more.ensures.held (shard_held _ _ _ c.args.new _ c.self.invariant c.self.view_is has)))
 
 pub invariant_of-self-2 : goal.invariant_of-self-2
-invariant_of-self-2 g c = put_is _ _ _ _ _ _ c.args.new c.self.invariant c.in_ok-more.ensures.ok c.insert_into.ensures.place c.in_ok-more.ensures.more.1 c.min-self-inside.ensures
+invariant_of-self-2 g c = put_is _ _ _ _ _ _ c.args.new c.self.invariant c.in_ok-more.ensures.ok c.insert_into.ensures.index c.in_ok-more.ensures.more.1 c.min-self-inside.ensures
 
 pub returns-clause-ok : goal.returns-clause-ok
-returns-clause-ok g c = put_view _ _ _ _ c.args.new _ c.self.invariant c.self.view_is c.in_ok-more.ensures.ok c.insert_into.ensures.place
+returns-clause-ok g c = put_view _ _ _ _ c.args.new _ c.self.invariant c.self.view_is c.in_ok-more.ensures.ok c.insert_into.ensures.index

@@ -1,0 +1,3 @@
+pub mod AllowsLemmas
+pub mod PatternLemmas
+pub mod LawLemmas

@@ -1,0 +1,2 @@
+pub mod Allows
+pub mod Pattern

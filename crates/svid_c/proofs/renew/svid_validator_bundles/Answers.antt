@@ -1,6 +1,0 @@
-use Rattle.std.proofs.Common.{Some, sym, ap, ◌∙◌}
-use Rattle.svid_c.specs.Live.{does}
-use Rattle.svid_c.proofs.renew.svid_validator_bundles.Goals as goal
-
-pub returns : goal.returns
-returns c = does _ _ (sym c.in-Some.ensures.value ∙ ap Some (sym c.deref_mut.ensures.value)) c.put.ensures (c.renew-status.ensures.rest, c.renew-status.ensures.does)

@@ -1,9 +1,0 @@
-use Rattle.svid_c.proofs.LiveLemmas.{called, not_called}
-use Rattle.svid_c.proofs.take.svid_validator_take.Goals as goal
-
-pub returns-in-Err : goal.returns-in-Err
-returns-in-Err c = not_called _ _ _ _ _ _ _ _ c.in-Err.ensures.not_taken c.only.ensures.status c.only.ensures.told tt
-
-pub returns : goal.returns
-returns c =
-    called _ _ _ _ _ _ _ _ _ _ _ c.in-Ok.ensures.taken c.deref_mut.ensures.value c.put.ensures c.take-status.ensures.rest c.take-status.ensures.does

@@ -1,0 +1,80 @@
+ghost use Rattle.std.specs.Prelude.{◌≡◌, ◌≢◌, ◌⊎◌, length, unwrap_or};
+ghost use Rattle.svid_id.specs.Id.{IdParts, IsId, id_fault};
+ghost use Rattle.svid_c.specs.Status.{id_number, id_offset};
+
+use std::alloc::Global;
+use svid_id::{IdFault, SpiffeId};
+
+/// The lengths of an ID's parts, in bytes, or the offset of its fault; 0 elsewhere.
+#[repr(C)]
+#[derive(Drop)]
+pub struct SvidId {
+    /// The offset of the fault, from the first byte of the text; 0 for a fault that is told without one.
+    pub offset: usize,
+    /// How long the trust domain name is, which stands behind `spiffe://`.
+    pub domain_len: usize,
+    /// How long the path is, which stands behind the trust domain name.
+    pub path_len: usize,
+}
+
+pub(crate) fn number_of(fault: IdFault) -> u32
+    ensures { result ≡ id_number fault }
+{
+    match fault {
+        IdFault::OutOfMemory => 2,
+        IdFault::TooLong => 21,
+        IdFault::Scheme => 22,
+        IdFault::DomainEmpty => 23,
+        IdFault::DomainByte(_) => 24,
+        IdFault::DomainLong => 25,
+        IdFault::SegmentEmpty(_) => 26,
+        IdFault::SegmentDots(_) => 27,
+        IdFault::PathByte(_) => 28,
+    }
+}
+
+pub(crate) fn offset_of(fault: IdFault) -> usize
+    ensures { result ≡ id_offset fault }
+{
+    match fault {
+        IdFault::DomainByte(offset)
+        | IdFault::SegmentEmpty(offset)
+        | IdFault::SegmentDots(offset)
+        | IdFault::PathByte(offset) => offset,
+        IdFault::TooLong
+        | IdFault::Scheme
+        | IdFault::DomainEmpty
+        | IdFault::DomainLong
+        | IdFault::OutOfMemory => 0,
+    }
+}
+
+/// Reads a SPIFFE ID (SPIFFE-ID, section 2): 0 where the text is one, and `out` has the lengths of its
+/// parts; else the number of the first fault that holds, and for 24 and 26 to 28 its offset, or 2 for want of
+/// memory.
+#[unsafe(no_mangle)]
+pub extern "C" fn svid_id_parse(alloc: Global, text: &[u8], out: &mut SvidId) -> u32
+    ensures accepted { result ≡ 0 → (id : IdParts) × IsId text.now id × (out.new.domain_len ≡ length id.domain) × (out.new.path_len ≡ length id.path) × (out.new.offset ≡ 0) }
+    ensures refused { result ≢ 0 → let fault = unwrap_or (id_fault text.now) IdFault.OutOfMemory in
+        (result ≡ id_number fault) × (out.new.offset ≡ id_offset fault) × (out.new.domain_len ≡ 0) × (out.new.path_len ≡ 0) }
+    ensures only { (id : IdParts) → IsId text.now id → (result ≡ 0) ⊎ (result ≡ 2) }
+{
+    match SpiffeId::parse(alloc, text) {
+        Ok(id) => {
+            *out = SvidId {
+                offset: 0,
+                domain_len: id.domain().len(),
+                path_len: id.path().len(),
+            };
+            0
+        }
+        Err(fault) => {
+            *out = SvidId {
+                offset: offset_of(fault),
+                domain_len: 0,
+                path_len: 0,
+            };
+            number_of(fault)
+        }
+    }
+}

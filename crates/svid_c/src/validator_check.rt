@@ -1,0 +1,173 @@
+ghost use Rattle.std.specs.Prelude.{◌≡◌, IfOk, IfErr, None, Some};
+ghost use Rattle.svid_token.specs.Rows.{Answers};
+ghost use Rattle.svid_replay.specs.Buckets.{raised_to};
+ghost use Rattle.svid_check.specs.Said.{RefusesForm};
+ghost use Rattle.svid_c.specs.Live.{Checks, ChecksAlone, HandleCallsAt, IsLeft, adds, adds_nothing, gained_by, verdict_at};
+ghost use Rattle.svid_c.specs.declared.validator_check.Gain.TheVariants.{ItsUse};
+
+use crate::answered::Answered;
+use crate::check::{SvidUse, accept_whole};
+use crate::live::Live;
+use crate::refusal::refusal_number;
+use crate::told::{SvidTold, told_length};
+use crate::validator::{SvidValidator, only};
+use std::alloc::Global;
+use svid_check::Accepted;
+use svid_token::Refusal;
+
+/// What the record gains of a token that a call accepts.
+#[derive(Clone, Copy)]
+pub enum Gain {
+    /// The token's use, so that a later check refuses it.
+    ItsUse,
+    /// Nothing, so that a later check may accept it.
+    Nothing,
+}
+
+// The acceptance of a token that adds its use, or why it is refused.
+#[tactic(auto, using(crate::proofs::LogLemmas::unclaimed))]
+fn checked(live: &mut Live, now: u64, yes: &[[u8; 32]], token: &[u8]) -> Result<Accepted, Refusal>
+    requires { live.old.member ≡ None }
+    ensures answer { Answers Some result (verdict_at live.old yes.now now token.now) }
+    ensures early { RefusesForm token.now result }
+    ensures gained { IfOk result (λ accepted. IsLeft now (adds (raised_to live.old.validator.state now) accepted.used) live.old live.new) }
+    ensures raised { IfErr result (λ _. IsLeft now (raised_to live.old.validator.state now) live.old live.new) }
+{
+    live.validator.check_by(now, token, &Answered { yes })
+}
+
+// The acceptance of a token that adds nothing, or why it is refused.
+fn judged(live: &mut Live, now: u64, yes: &[[u8; 32]], token: &[u8]) -> Result<Accepted, Refusal>
+    ensures answer { Answers Some result (verdict_at live.old yes.now now token.now) }
+    ensures early { RefusesForm token.now result }
+    ensures left { IsLeft now (raised_to live.old.validator.state now) live.old live.new }
+{
+    let answered = Answered { yes };
+    match &mut live.member {
+        Some(member) => live.validator.judge_claim(member, now, token, &answered),
+        None => live.validator.judge_by(now, token, &answered),
+    }
+}
+
+// The acceptance of a token, or why it is refused.
+fn answer(
+    live: &mut Live,
+    now: u64,
+    yes: &[[u8; 32]],
+    token: &[u8],
+    gain: Gain,
+) -> Result<Accepted, Refusal>
+    requires { gain ≡ ItsUse → live.old.member ≡ None }
+    ensures answer { Answers Some result (verdict_at live.old yes.now now token.now) }
+    ensures early { RefusesForm token.now result }
+    ensures gained { IfOk result (λ accepted. IsLeft now (gained_by gain (raised_to live.old.validator.state now) accepted.used) live.old live.new) }
+    ensures raised { IfErr result (λ _. IsLeft now (raised_to live.old.validator.state now) live.old live.new) }
+{
+    match gain {
+        Gain::ItsUse => checked(live, now, yes, token),
+        Gain::Nothing => judged(live, now, yes, token),
+    }
+}
+
+// Checks a token, and tells the answer.
+fn check(
+    live: &mut Live,
+    now: u64,
+    yes: &[[u8; 32]],
+    token: &[u8],
+    gain: Gain,
+    out: &mut [u8],
+    used: &mut SvidUse,
+    told: &mut SvidTold,
+) -> u32
+    requires { gain ≡ ItsUse → live.old.member ≡ None }
+    ensures { Checks (gained_by gain) now yes.now token.now result told.new out.old out.new used.old used.new live.old live.new }
+{
+    if out.len() < 2048 {
+        *told = told_length(2048);
+        return 1;
+    }
+    match answer(live, now, yes, token, gain) {
+        Ok(accepted) => accept_whole(accepted, out, used, told),
+        Err(refusal) => {
+            *told = told_length(0);
+            refusal_number(refusal)
+        }
+    }
+}
+
+// Checks a token, unless the validator reads a log.
+fn check_alone(
+    live: &mut Live,
+    now: u64,
+    yes: &[[u8; 32]],
+    token: &[u8],
+    out: &mut [u8],
+    used: &mut SvidUse,
+    told: &mut SvidTold,
+) -> u32
+    ensures { ChecksAlone now yes.now token.now result told.new out.old out.new used.old used.new live.old live.new }
+{
+    if live.member.is_some() {
+        return only(10, told);
+    }
+    check(live, now, yes, token, Gain::ItsUse, out, used, told)
+}
+
+/// Checks a token at the moment `now`, in seconds, and writes the SPIFFE ID of its subject into `out`, which must have room for 2,048
+/// bytes. `yes` are the questions of [`svid_validator_ask`](crate::validator_ask::svid_validator_ask) to which the caller's verifier said yes.
+///
+/// The call first advances the record to `now`, and judges the token at the record's moment, which may be later.
+///
+/// 0 where it accepts the token: the record has gained the use, and `used` is that use. Else `out` and `used` stay as they were: 101 to
+/// 125 for the first refusal that holds, and 2 for want of memory, which may stand in place of all but 101 and 102. 5 where the validator
+/// is closed, 9 where `now` is more than `step` past the record's moment, 10 where the validator reads a log, so that it accepts tokens by
+/// their claims alone ([`svid_validator_read`](crate::validator_read::svid_validator_read)), and 1 where `out` is shorter than 2,048 bytes: then
+/// nothing happened.
+#[unsafe(no_mangle)]
+pub extern "C" fn svid_validator_check(
+    alloc: Global,
+    v: &mut SvidValidator,
+    now: u64,
+    yes: &[[u8; 32]],
+    token: &[u8],
+    out: &mut [u8],
+    used: &mut SvidUse,
+    told: &mut SvidTold,
+) -> u32
+    ensures { HandleCallsAt now ((out.new ≡ out.old) × (used.new ≡ used.old)) (ChecksAlone now yes.now token.now result told.new out.old out.new used.old used.new)
+        result told.new v.old.handle.live v.new.handle.live }
+{
+    let mut live = match v.take_at(alloc, now) {
+        Ok(live) => live,
+        Err(status) => return only(status, told),
+    };
+    let status = check_alone(&mut live, now, yes, token, out, used, told);
+    v.put(live);
+    status
+}
+
+/// Answers what [`svid_validator_check`] would answer, and adds no use to the record: `used` is the use that a check would add. All else
+/// is as there, but that a validator that reads a log answers too: it refuses a token (125) that is claimed beside its record as well.
+#[unsafe(no_mangle)]
+pub extern "C" fn svid_validator_judge(
+    alloc: Global,
+    v: &mut SvidValidator,
+    now: u64,
+    yes: &[[u8; 32]],
+    token: &[u8],
+    out: &mut [u8],
+    used: &mut SvidUse,
+    told: &mut SvidTold,
+) -> u32
+    ensures { HandleCallsAt now ((out.new ≡ out.old) × (used.new ≡ used.old)) (Checks adds_nothing now yes.now token.now result told.new out.old out.new used.old used.new)
+        result told.new v.old.handle.live v.new.handle.live }
+{
+    let mut live = match v.take_at(alloc, now) {
+        Ok(live) => live,
+        Err(status) => return only(status, told),
+    };
+    let status = check(&mut live, now, yes, token, Gain::Nothing, out, used, told);
+    v.put(live);
+    status
+}

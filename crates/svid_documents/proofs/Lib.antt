@@ -1,0 +1,4 @@
+pub mod DepthLemmas
+pub mod JoinLemmas
+pub mod LawLemmas
+pub mod ViewLemmas

@@ -1,0 +1,51 @@
+use svid_documents::{Document, DocumentFault, join};
+use svid_script_base::byte_words::bytes;
+use svid_script_base::env::Env;
+use svid_script_base::out::Out;
+use svid_script_base::say::{say_fault, say_lines};
+use svid_script_base::stop::Stop;
+use svid_script_base::words::{from, word};
+
+/// Makes the call that a line names.
+pub fn call(out: &mut Out<'_>, env: &Env, words: &[&str]) -> Result<(), Stop> {
+    match word(words, 0) {
+        "documents" => documents(out, env, from(words, 1)),
+        _ => Err(Stop::NoCall),
+    }
+}
+
+// The document of the words `many - BYTES`, `one DOMAIN BYTES` or `keys DOMAIN BYTES`.
+fn document<'a>(words: &[&'a str], text: &'a [u8]) -> Result<Document<'a>, Stop> {
+    let domain = word(words, 1);
+    match word(words, 0) {
+        "many" => Ok(Document::Bundles(text)),
+        "one" => Ok(Document::Bundle { domain, text }),
+        "keys" => Ok(Document::Keys { domain, text }),
+        _ => Err(Stop::Script("no document")),
+    }
+}
+
+// The texts of documents, of which each has three words.
+fn texts(env: &Env, words: &[&str]) -> Result<Vec<Vec<u8>>, Stop> {
+    let mut texts = Vec::new(env.alloc);
+    for three in words.chunks(3) {
+        texts.push(bytes(env, word(three, 2))?)?;
+    }
+    Ok(texts)
+}
+
+// `documents [many - BYTES] [one DOMAIN BYTES] [keys DOMAIN BYTES] ..`
+fn documents(out: &mut Out<'_>, env: &Env, words: &[&str]) -> Result<(), Stop> {
+    let texts = texts(env, words)?;
+    let mut documents = Vec::new(env.alloc);
+    for (three, text) in words.chunks(3).zip(texts.iter()) {
+        documents.push(document(three, text)?)?;
+    }
+    match join(env.alloc, &documents) {
+        Ok(text) => say_lines(out, &text),
+        Err(fault) => {
+            let is_out_of_memory = matches!(fault.fault, DocumentFault::OutOfMemory);
+            say_fault(out, fault, is_out_of_memory)
+        }
+    }
+}

@@ -1,0 +1,33 @@
+-- What one bucket of a set tells at a moment, and what of it answers a summary.
+use Rattle.std.specs.Prelude.{◌≡◌, ℕ, ◌≤◌, List, [], map, slice_index_or, if◌then◌else◌}
+use Rattle.std.specs.List.{flat_map, range_with_len}
+use Rattle.std.specs.Ordering.{is_eq}
+use Rattle.svid_replay.specs.declared.token_use.Use.{Use}
+use Rattle.svid_replay.specs.Batches.{BatchData}
+use Rattle.svid_replay.specs.Buckets.{answer_to, bucket, bucket_digest, raised_to, summary_of}
+use Rattle.svid_replay.specs.Records.{State, IsRecord}
+use Rattle.svid_replay.specs.Sets.{rising}
+use Rattle.svid_replay.specs.Summary.{SummaryData}
+use Rattle.svid_replay.specs.Use.{bytes_cmp}
+use Rattle.svid_replay.specs.Uses.{Uses, count, live, uses_in}
+use Rattle.svid_shards.specs.declared.bucket_digest.BucketDigest.{BucketDigest}
+
+-- the digest of the uses of a bucket that expire after a moment, and how many these are
+unfoldable pub digest_at : ℕ → ℕ → Uses → BucketDigest
+digest_at b moment uses = record { digest = bucket_digest b (live uses moment); uses = count (bucket b (live uses moment)) }
+
+-- the uses with which a bucket answers a summary: all that expire after its moment, or none where their digest is the one that it has
+unfoldable pub answer_at : SummaryData → Uses → ℕ → List Use
+answer_at s uses b = if is_eq (bytes_cmp (bucket_digest b (live uses s.moment)) (slice_index_or s.digests b [])) then [] else rising (bucket b (live uses s.moment))
+
+-- the uses that batches tell, as a set
+abbrev pub uses_told : List BatchData → Uses
+uses_told batches = uses_in (flat_map (λ b. b.uses) batches)
+
+-- the digests of all buckets at a moment are those of the summary that the record has once it is raised to it
+abbrev pub DigestsAreSummary : Type 0
+DigestsAreSummary = (r : State) (moment : ℕ) → r.moment ≤ moment → summary_of (raised_to r moment) ≡ record { moment = moment; digests = map (λ b. (digest_at b moment r.uses).digest) (range_with_len 0 256) }
+
+-- the answers of all buckets of a record tell the uses that its answer to the whole summary tells
+abbrev pub AnswersTellAnswer : Type 0
+AnswersTellAnswer = (r : State) (s : SummaryData) → IsRecord r → uses_in (flat_map (answer_at s r.uses) (range_with_len 0 256)) ≡ uses_told (answer_to r s)

@@ -1,5 +1,0 @@
-use Rattle.svid_snapshot.proofs.SnapshotsLemmas.{messages_bear_no_place}
-use Rattle.svid_snapshot.proofs.laws.messages_bear_no_place.Goals as goal
-
-pub returns : goal.returns
-returns c = messages_bear_no_place

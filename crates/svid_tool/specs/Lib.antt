@@ -1,0 +1,4 @@
+pub mod Failure
+pub mod HexByte
+pub mod Input
+pub mod Sentence

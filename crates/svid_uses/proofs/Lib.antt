@@ -1,0 +1,4 @@
+pub mod CutLemmas
+pub mod OneWayLemmas
+pub mod TextsLemmas
+pub mod TimeLemmas

@@ -1,0 +1,122 @@
+package bundles
+
+import (
+	"crypto/tls"
+	"crypto/x509"
+	"encoding/json"
+	"io"
+	"log"
+	"net/http"
+	"net/http/httptest"
+	"strings"
+	"testing"
+	"time"
+)
+
+// A bundle comes over TLS 1.2 or 1.3 (SPIFFE Federation, profile https_web).
+func TestVersionsOfTLS(t *testing.T) {
+	for version, want := range map[uint16]bool{
+		tls.VersionTLS10: false, tls.VersionTLS11: false, tls.VersionTLS12: true, tls.VersionTLS13: true,
+	} {
+		e := httptest.NewUnstartedServer(http.HandlerFunc(func(w http.ResponseWriter, r *http.Request) { _, _ = io.WriteString(w, spire) }))
+		e.TLS = &tls.Config{MinVersion: version, MaxVersion: version}
+		e.Config.ErrorLog = log.New(io.Discard, "", 0)
+		e.StartTLS()
+		_, o := watch(t, func(o *Options) {
+			o.Roots = x509.NewCertPool()
+			o.Roots.AddCert(e.Certificate())
+		}, Spec{Domain: "example.org", Source: e.URL})
+		if o.awaitAnswer(t) != want {
+			t.Errorf("version %x: %q", version, o.lines)
+		}
+		e.Close()
+	}
+}
+
+// A service may have replaced the transport of package http: bundles neither need that, nor trust it.
+func TestAnotherDefaultTransport(t *testing.T) {
+	before := http.DefaultTransport
+	defer func() { http.DefaultTransport = before }()
+	e := newEndpoint(t)
+	for _, other := range []http.RoundTripper{
+		http.NewFileTransport(http.Dir(t.TempDir())),
+		&http.Transport{DialTLSContext: (&tls.Dialer{Config: &tls.Config{InsecureSkipVerify: true}}).DialContext},
+	} {
+		http.DefaultTransport = other
+		e.set(http.StatusOK, spire, "")
+		_, o := watch(t, e.trusted, Spec{Domain: "example.org", Source: e.URL})
+		o.await(t, "the bundle", o.says("bundle read"))
+		_, o = watch(t, nil, Spec{Domain: "example.org", Source: e.URL})
+		o.await(t, "that the server is a stranger", o.says("bundle not read"))
+		if o.calls != 0 {
+			t.Errorf("told %d times: %q", o.calls, o.lines)
+		}
+	}
+}
+
+// Only the answer 200 has a bundle.
+func TestStatusesOfAnEndpoint(t *testing.T) {
+	e := newEndpoint(t)
+	e.set(http.StatusNotFound, spire, "")
+	w, o := watch(t, e.trusted, Spec{Domain: "example.org", Source: e.URL})
+	for _, status := range []int{http.StatusNotFound, http.StatusCreated, http.StatusNonAuthoritativeInfo, http.StatusAccepted, http.StatusUnauthorized} {
+		e.set(status, spire, "")
+		w.Reload()
+		o.await(t, http.StatusText(status), o.says(http.StatusText(status)))
+	}
+	if o.calls != 0 {
+		t.Errorf("told %d times: %q", o.calls, o.lines)
+	}
+}
+
+// A bundle of an address, and of a file, has at most 1 MiB.
+func TestTheLongestBundle(t *testing.T) {
+	sized := func(bytes int) string { return strings.Repeat(" ", bytes-len(spire)) + spire }
+	e := newEndpoint(t)
+	e.set(http.StatusOK, sized(1<<20), "")
+	name := t.TempDir() + "/bundle.json"
+	write(t, name, sized(1<<20))
+	w, o := watch(t, e.trusted, Spec{Domain: "a", Source: e.URL}, Spec{Domain: "b", Source: name})
+	o.await(t, "both", func() bool { return len(o.last) == 2 })
+	e.set(http.StatusOK, sized(1<<20+1), "")
+	write(t, name, sized(1<<20+1))
+	w.Reload()
+	for _, source := range []string{e.URL, name} {
+		o.await(t, source, o.says("source "+source+" why it has more than 1048576 bytes"))
+	}
+}
+
+// A hint of 0 is none, and a good hint holds to its bounds.
+func TestBoundsOfHints(t *testing.T) {
+	for hint, want := range map[string]time.Duration{
+		"0": usualRefresh, "9": shortestRefresh, "10": shortestRefresh, "11": 11 * time.Second,
+		"86399": 86399 * time.Second, "86400": longestRefresh, "86401": longestRefresh,
+	} {
+		d, err := parse([]byte(`{"keys":null,"spiffe_refresh_hint":` + hint + `}`))
+		if got := d.refresh(); got != want || err != nil {
+			t.Errorf("%s: %v %v, want %v", hint, got, err, want)
+		}
+	}
+}
+
+// What is passed over, and what is no bundle.
+func TestWhatIsNoBundle(t *testing.T) {
+	for text, want := range map[string]string{
+		"null": "it is no JSON object, but null", "{}": `it has no member "keys"`, `{"Keys":[]}`: `it has no member "keys"`,
+		`{"keys":{}}`: `its member "keys" is no list`, `{"keys":7}`: `its member "keys" is no list`, "[]": "it is no JSON object",
+		"{\"keys\":[\"\xff\"]}": "it is not UTF-8", `{"keys":[]}x`: "it is no JSON object",
+	} {
+		if _, err := parse([]byte(text)); err == nil || !strings.Contains(err.Error(), want) {
+			t.Errorf("%q: %v, want %q", text, err, want)
+		}
+	}
+	for entry, want := range map[string]string{
+		`{"use":"jwt-svid","kid":"a","kty":"EC","n":1e999}`: "", // a number that no float is
+		`{"use":"jwt-svid","kid":"a","kty":"oct"}`:          `its "kty" is neither "RSA" nor "EC"`,
+		`{"use":"jwt-svid","kid":"a"}`:                      `its "kty" is neither "RSA" nor "EC"`,
+	} {
+		if got := passedOver(json.RawMessage(entry)); got != want {
+			t.Errorf("%s: %q, want %q", entry, got, want)
+		}
+	}
+}

@@ -1,0 +1,191 @@
+// Package carriers carries values to the members of a group. A carrier is a log: its values have one order, and every member
+// reads all of them in it, its own ones too. A carrier knows nothing of tokens.
+//
+// A Log is what a group shares, before it is joined: the Options of packages jetstream (NATS), redis and postgres are one. A Group is a
+// member's tie to it, whatever carries it: package jetstream has its own, and Join makes one of a Store. A Store is the small part that each server needs: package redis has one, package postgres another, and package
+// memory one for tests.
+package carriers
+
+import (
+	"context"
+	"errors"
+	"fmt"
+	"time"
+)
+
+// A Kind says what a value is.
+type Kind byte
+
+// The kinds of values.
+const (
+	Uses   Kind = 'u' // uses and withdrawals that the record of a member has gained
+	Claims Kind = 'c' // uses that a member claims: of all claims of a token, the first in the log counts
+	Answer Kind = 'a' // a part of an answer to this member's summary, and no value of the log
+)
+
+// MostValue is how many bytes a value may have. 512 uses are 33 kB, or 42 kB as batches of one use.
+const MostValue = 1 << 20
+
+// A Value is what a Sink is given.
+type Value struct {
+	Kind     Kind
+	Position uint64 // where it stands in the log: 1 for the first, and one more for each; 0 for an Answer
+	Message  []byte // whole batches, if its sender is honest
+	From     string // its key, or what else to log
+}
+
+// A Start is a log, as a member begins to read it.
+type Start struct {
+	Passed uint64 // the position of the last value in front of the first one that will come; 0 if all will come
+	Ready  uint64 // of the last value that the log has; an earlier life of this member has read no value behind it
+	Missed bool   // values are gone that may still live, and that this member has not read
+}
+
+// A Sink is what values are given to, in the order that they have in the log: a validator. Its methods are called by one
+// goroutine at a time.
+type Sink interface {
+	// Begin comes before the first value of a log. It comes again where the values that come next don't stand behind
+	// those that came last: the values in between have expired, or it is another log, or one that has lost its last values.
+	Begin(start Start)
+	// Take returns nil if it took all values. Else it returns as many errors as there are values, and one that isn't nil
+	// says that the value is put aside: the group counts it, logs where it is from and goes on. The log still has it.
+	//
+	// Positions rise. Where one is missing, someone removed the value, or the server lost it.
+	Take(values []Value) []error
+}
+
+// A Group is a member's tie to the others. Its methods may be called from many goroutines at once.
+//
+// Its duties: it gives the sink the values of one log in their order, each one whole. A value whose Put has returned nil is
+// there to stay until it has the age of the log, and is given to every member. A value that is missing is seen by its
+// position, or Begin says so. Whoever can write to the log may put values into it, and no more: what stands there stays.
+type Group interface {
+	// Ready is closed once the sink was given every value that the log held when this member joined.
+	Ready() <-chan struct{}
+	// Put puts a value at the end of the log, and returns once it is stored. number is greater than 0, and another one in
+	// each call. It tries until ctx ends. The error then says what the server said last; the value may be stored all the same,
+	// also later, and it may be stored twice: the first one counts.
+	Put(ctx context.Context, kind Kind, number uint64, message []byte) error
+	// Stored returns a time by the server's clock that is not before the one when it stored a value that was Put.
+	Stored(ctx context.Context, kind Kind, number uint64) (time.Time, error)
+	// Taken returns how many values the sink took, and Aside how many it did not take.
+	Taken() uint64
+	Aside() uint64
+	// Connected says whether the server is there at this moment.
+	Connected() bool
+	// Close ends what Join began, and lets go of the server. It returns when no Take is under way.
+	Close() error
+}
+
+// A Log is that of a group, before it is joined. The Options of packages jetstream, redis and postgres are one, and Of makes one of a
+// Store.
+type Log interface {
+	// Join makes the log where it is not there, and begins to read it. It tries until ctx ends, so a server that comes up later is
+	// waited for. A log that could lose a claim before its token expires is an error that says why, and what to do.
+	Join(ctx context.Context, o Options, s Sink) (Group, error)
+	// GroupName is the group's name, for people.
+	GroupName() string
+}
+
+// A Repairer is a Group whose members bring back to each other what the server may have lost.
+type Repairer interface {
+	// Summaries lets this member send a summary of its record to another one, each time about so much later, and give the sink what
+	// differs. answer answers the summary of another member, by messages of at most most bytes each.
+	Summaries(every time.Duration, summary func() ([]byte, error), answer func(summary []byte, most int) ([][]byte, error))
+}
+
+// Of is the Log that a Store has.
+func Of(name string, store Store) Log { return of{name, store} }
+
+type of struct {
+	name  string
+	store Store
+}
+
+func (l of) GroupName() string { return l.name }
+
+func (l of) Join(ctx context.Context, o Options, s Sink) (Group, error) {
+	return JoinStore(ctx, l.store, o, s)
+}
+
+// JoinStore is Join as a Log has it, where the error is no Group that is nil.
+func JoinStore(ctx context.Context, store Store, o Options, s Sink) (Group, error) {
+	m, err := Join(ctx, store, o, s)
+	if err != nil {
+		return nil, err
+	}
+	return m, nil
+}
+
+// A State is what a Store says about its log.
+type State struct {
+	Made  string        // tells this log from every other one, such as one that was made anew
+	First uint64        // the position of the first value that the log has; Last+1 where it has none
+	Last  uint64        // of the last value that the log was given, and 0 where it was given none
+	Gone  uint64        // values up to this position were removed because of their age
+	Keeps time.Duration // the age at which values are removed
+	Stamp string        // tells the value at a position from every other one; "" where none is
+	Lost  bool          // values may be lost that nobody here has read, since another server has taken over
+
+	Unsafe string // settings of the server by which it may lose values, and what they must be; "" where none is known
+}
+
+// A Stored is a value as its Store has it.
+type Stored struct {
+	Position uint64
+	Kind     Kind
+	Message  []byte
+	Stamp    string
+}
+
+// A Store is a server that keeps a log. Its calls end soon after ctx does, and after Close. Append may be called while
+// others are under way; these come one at a time.
+//
+// Its duties: each Append puts one value behind all that are there, at the next position: whoever reads sees values appear in
+// the order of their positions, and never one in front of another that was read. A value that Append has told of, or that was
+// read, is there behind a crash of the server. What is at a position is never replaced. Values are removed by their age
+// alone, and Gone says so before, or at the moment when, they are.
+type Store interface {
+	// Open makes the log where there is none, and says what it is. An *Unfit says that the log may lose values, or that
+	// this member can't use it.
+	Open(ctx context.Context) (State, error)
+	// State says what the log is, and has the stamp of the value at a position. The error is ErrNoLog where there is none.
+	State(ctx context.Context, at uint64) (State, error)
+	// Append puts a value at the end of this log, and returns once it is there to stay, with the server's time. An error may
+	// come of a value that is stored, or that will be. It is ErrNoLog where the log is another one.
+	Append(ctx context.Context, made string, kind Kind, message []byte) (time.Time, error)
+	// Read returns values behind a position, in their order: those that are there, or the next one that comes within about
+	// Patience; none if none comes.
+	Read(ctx context.Context, behind uint64) ([]Stored, error)
+	// Expire removes what is older than the log keeps.
+	Expire(ctx context.Context, made string) error
+	// Close lets go of the server.
+	Close() error
+}
+
+// Patience is how long Read waits for a value.
+const Patience = time.Second
+
+// ErrNoLog: the log is not there, or is another one.
+var ErrNoLog = errors.New("the log is not there, or is another one")
+
+// ErrTooLarge: the value has more than MostValue bytes.
+var ErrTooLarge = fmt.Errorf("a value has at most %d bytes", MostValue)
+
+// An Unfit says why a log is of no use to this member, and what to do.
+type Unfit struct{ Why string }
+
+func (u *Unfit) Error() string { return u.Why }
+
+// Unfitf returns an *Unfit.
+func Unfitf(text string, values ...any) error { return &Unfit{fmt.Sprintf(text, values...)} }
+
+// ValidName says whether a group can have this name: letters, digits, - and _ alone.
+func ValidName(name string) bool {
+	for _, c := range []byte(name) {
+		if !(c >= 'a' && c <= 'z' || c >= 'A' && c <= 'Z' || c >= '0' && c <= '9' || c == '-' || c == '_') {
+			return false
+		}
+	}
+	return name != ""
+}

@@ -1,0 +1,450 @@
+package main
+
+import (
+	"bytes"
+	"fmt"
+	"net/http"
+	"os"
+	"os/exec"
+	"path/filepath"
+	"regexp"
+	"strings"
+	"syscall"
+	"testing"
+	"time"
+
+	"svid.example/go/v2/internal/broker"
+	"svid.example/go/v2/internal/issuer"
+	"svid.example/go/v2/internal/natstest"
+	"svid.example/go/v2/internal/patience"
+)
+
+// rowWait is --wait of the sidecars of the table.
+const rowWait = 2 * time.Second
+
+// A row is one of the table in docs/SIDECAR-REFERENCE.md, "What /readyz says".
+type row struct {
+	state, mode          string
+	check, reason        string // the status, and the word of a 503
+	ready, says          string // the status, and what the body begins with
+	checkCell, readyCell string
+}
+
+var tableCell = regexp.MustCompile("^(?:([0-9]{3})(?: `([^`]*)`)?|waits)")
+
+// readyRows reads the table: a row for each state and mode.
+func readyRows(t *testing.T) (all []row) {
+	t.Helper()
+	text, err := os.ReadFile("../../../docs/SIDECAR-REFERENCE.md")
+	if err != nil {
+		t.Fatal(err)
+	}
+	_, text, found := bytes.Cut(text, []byte("\n### What `/readyz` says\n"))
+	if !found {
+		t.Fatal("docs/SIDECAR-REFERENCE.md has no such heading")
+	}
+	for _, line := range strings.Split(string(text), "\n") {
+		if strings.HasPrefix(line, "#") {
+			break
+		}
+		cells := strings.Split(strings.Trim(line, "|"), " | ")
+		if len(cells) != 4 || !strings.HasPrefix(line, "| ") || strings.HasPrefix(line, "| state ") {
+			continue
+		}
+		check, ready := tableCell.FindStringSubmatch(cells[2]), tableCell.FindStringSubmatch(cells[3])
+		if check == nil || ready == nil {
+			t.Fatalf("a row that says no status: %s", line)
+		}
+		modes := strings.Split(strings.ReplaceAll(cells[1], "`", ""), ", ")
+		if cells[1] == "all" {
+			modes = []string{"once", "strict", "reuse"}
+		}
+		for _, mode := range modes {
+			all = append(all, row{strings.TrimSpace(cells[0]), mode, check[1], check[2], ready[1], ready[2], cells[2], cells[3]})
+		}
+	}
+	return all
+}
+
+// A stage is where a row is played: a sidecar that is not started yet, with a bundle, a state folder and a group.
+type stage struct {
+	*process
+	mode   string
+	broker *broker.Server // of its group, where it has one
+	domain string         // of its tokens
+	of     *issuer.Issuer // signs them
+}
+
+// newStage prepares a sidecar of a mode. In mode strict it has a group, and in once a state folder.
+func newStage(t *testing.T, mode, bundles string, more ...string) *stage {
+	t.Helper()
+	s := &stage{mode: mode, domain: "example.org", of: example}
+	args := append([]string{bundles, "--replay", mode, "--wait", rowWait.String(), "--admin", filepath.Join(t.TempDir(), "admin.sock")}, more...)
+	given := strings.Join(more, " ")
+	if mode == "strict" && !strings.Contains(given, "--nats") {
+		args = append(args, "--nats", natstest.Start(t).URL)
+	}
+	if mode == "once" && !strings.Contains(given, "--state") {
+		args = append(args, "--state", filepath.Join(t.TempDir(), "state"))
+	}
+	s.process = prepare(t, nil, args...)
+	return s
+}
+
+// inGroup is a stage with a group, in each mode.
+func inGroup(t *testing.T, mode string) *stage {
+	server := natstest.Start(t)
+	s := newStage(t, mode, bundleOption(bundleFile(t, example)), "--nats", server.URL)
+	s.broker = server
+	return s
+}
+
+// plays bring a sidecar into each state of the table.
+var plays = map[string]func(t *testing.T, mode string) *stage{
+	"No bundle was read yet": func(t *testing.T, mode string) *stage {
+		s := newStage(t, mode, bundleOption(filepath.Join(t.TempDir(), "none.json")))
+		s.launch()
+		return s
+	},
+	"The group's log was not reached yet": func(t *testing.T, mode string) *stage {
+		s := newStage(t, mode, bundleOption(bundleFile(t, example)), "--nats", "nats://"+freeAddress(t))
+		s.launch()
+		return s
+	},
+	"The token's bundle was not read yet, and another one was": func(t *testing.T, mode string) *stage {
+		s := newStage(t, mode, bundleOption(bundleFile(t, example)), "--bundle=example.com="+filepath.Join(t.TempDir(), "none.json"))
+		var err error
+		if s.of, err = issuer.New("example.com"); err != nil {
+			t.Fatal(err)
+		}
+		s.domain = "example.com"
+		s.start()
+		return s
+	},
+	"The last bundle is gone from its folder": func(t *testing.T, mode string) *stage {
+		folder := t.TempDir()
+		name := filepath.Join(folder, "example.org.json")
+		writeBundle(t, name, example)
+		s := newStage(t, mode, "--bundles="+folder)
+		s.start()
+		if err := os.Remove(name); err != nil {
+			t.Fatal(err)
+		}
+		s.hangUp()
+		return s
+	},
+	"A bundle can't be read again, or is past its refresh hint": func(t *testing.T, mode string) *stage {
+		name := bundleFile(t, example)
+		s := newStage(t, mode, bundleOption(name))
+		s.start()
+		if err := os.WriteFile(name, []byte("{"), 0o600); err != nil {
+			t.Fatal(err)
+		}
+		s.hangUp()
+		s.await("the bad bundle", func() bool { return strings.Contains(s.log.String(), "the last good one stays") })
+		return s
+	},
+	"The disk is full": func(t *testing.T, mode string) *stage {
+		disk := smallDisk(t)
+		s := newStage(t, mode, bundleOption(bundleFile(t, example)), "--state", filepath.Join(disk, "state"))
+		s.start()
+		s.end()
+		fill(t, filepath.Join(disk, "other"))
+		s.launch()
+		return s
+	},
+	"A sync has failed": func(t *testing.T, mode string) *stage {
+		state := filepath.Join(t.TempDir(), "state")
+		s := newStage(t, mode, bundleOption(bundleFile(t, example)), "--state", state)
+		s.start()
+		s.failSync()
+		return s
+	},
+	"The disk hangs": func(t *testing.T, mode string) *stage {
+		s := newStage(t, mode, bundleOption(bundleFile(t, example)), "--state", filepath.Join(t.TempDir(), "state"))
+		s.more = []string{asSvidd + "=1"}
+		s.program = hanging(t, "fdatasync")
+		s.start()
+		s.write("first") // Only a write shows it.
+		return s
+	},
+	"The broker has been away for less than `--wait`": func(t *testing.T, mode string) *stage {
+		server := natstest.Start(t)
+		s := newStage(t, mode, bundleOption(bundleFile(t, example)), "--nats", server.URL, "--wait", "1h")
+		s.start()
+		server.Kill()
+		s.await("the loss", func() bool { return s.metric("svidd_broker_connected") == "0" })
+		return s
+	},
+	"The broker has been away for longer": func(t *testing.T, mode string) *stage {
+		s := inGroup(t, mode)
+		s.start()
+		s.broker.Kill()
+		return s
+	},
+	"The broker takes no values, and claims have failed": func(t *testing.T, mode string) *stage {
+		s := inGroup(t, mode)
+		s.start()
+		if err := syscall.Kill(s.broker.Pid(), syscall.SIGSTOP); err != nil {
+			t.Fatal(err)
+		}
+		s.want(s.token("first"), 503, "NotClaimed")
+		return s
+	},
+	"The broker is away, or takes no values": func(t *testing.T, mode string) *stage {
+		s := inGroup(t, mode)
+		s.start()
+		s.broker.Kill()
+		s.await("the loss", func() bool { return s.metric("svidd_broker_connected") == "0" })
+		return s
+	},
+	"Values of the group's log are missing": func(t *testing.T, mode string) *stage {
+		s := inGroup(t, mode)
+		first := several(t, 1, mode, s.broker.URL)[0]
+		first.want(token(t, "lost", 30*time.Minute), 200, "")
+		if mode != "strict" { // Those of mode once come later than their answer, and in reuse nothing is told.
+			first.withdraw(token(t, "a", 30*time.Minute))
+			first.withdraw(token(t, "b", 30*time.Minute))
+		} else {
+			first.want(token(t, "kept", 30*time.Minute), 200, "")
+		}
+		loseFirst(t, first, s.broker.URL)
+		s.launch()
+		s.await("the bucket", func() bool {
+			_, _, body := s.check("a.b.c")
+			return strings.Contains(body, "HeaderSpelling")
+		})
+		return s
+	},
+	"The clock has jumped ahead": func(t *testing.T, mode string) *stage {
+		file := filepath.Join(t.TempDir(), "ahead")
+		s := newStage(t, mode, bundleOption(bundleFile(t, example)))
+		s.more = []string{jumpedBy + "=" + file}
+		s.start()
+		if err := os.WriteFile(file, []byte("100000"), 0o600); err != nil {
+			t.Fatal(err)
+		}
+		return s
+	},
+	"It drains (`--drain`)": func(t *testing.T, mode string) *stage {
+		s := newStage(t, mode, bundleOption(bundleFile(t, example)), "--drain", "1h")
+		s.start()
+		if err := s.signal(syscall.SIGTERM); err != nil {
+			t.Fatal(err)
+		}
+		return s
+	},
+}
+
+// token is a new one that would be accepted.
+func (s *stage) token(id string) string {
+	return s.of.Token("ES256", map[string]any{
+		"sub": "spiffe://" + s.domain + "/web", "aud": "ledger", "exp": time.Now().Add(time.Minute).Unix(), "jti": id,
+	})
+}
+
+// write lets the state folder be written to: by an acceptance, or by a withdrawal in mode reuse, which keeps no acceptance.
+func (s *stage) write(id string) {
+	if s.mode == "reuse" {
+		s.withdraw(s.token(id))
+		return
+	}
+	s.check(s.token(id))
+}
+
+// withdraw withdraws a token, or fails.
+func (p *process) withdraw(token string) {
+	_, _, _ = svidd(p.t, "", "withdraw", "--admin", p.option("--admin"), token)
+}
+
+// hangUp lets the bundles be read again.
+func (s *stage) hangUp() {
+	s.t.Helper()
+	if err := s.signal(syscall.SIGHUP); err != nil {
+		s.t.Fatal(err)
+	}
+}
+
+// Each row of the table in docs/SIDECAR-REFERENCE.md is so. /readyz says it before a token is asked, and goes on saying it.
+func TestReadyzTable(t *testing.T) {
+	t.Parallel()
+	if isAgain := asRoot(t); isAgain {
+		return
+	}
+	played := map[string]bool{}
+	for _, r := range readyRows(t) {
+		r := r
+		played[r.state] = true
+		play := plays[r.state]
+		if play == nil {
+			t.Errorf("nothing plays the state %q", r.state)
+			continue
+		}
+		t.Run(r.mode+"/"+r.state, func(t *testing.T) {
+			t.Parallel() // (most of the time it waits)
+			s := play(t, r.mode)
+			var status int
+			var body string
+			isSo := func() bool {
+				status, body = s.get("/readyz")
+				return fmt.Sprint(status) == r.ready && strings.Contains(body, r.says)
+			}
+			s.await("/readyz to say "+r.readyCell, isSo)
+			if status, body := s.get("/healthz"); status != 200 {
+				t.Errorf("/healthz: %d %s", status, body)
+			}
+			if want := map[bool]string{true: "1", false: "0"}[r.ready == "200"]; s.metric("svidd_ready") != want {
+				t.Errorf("svidd_ready is not %s", want)
+			}
+			if r.check != "" {
+				for i := 0; i < 2; i++ {
+					s.want(s.token(fmt.Sprint("row", i)), map[string]int{"200": 200, "503": 503}[r.check], r.reason)
+				}
+			}
+			if r.reason != "NotReady" && r.reason != "ClockJump" {
+				s.want("a.b.c", 401, "HeaderSpelling")
+			}
+			if !isSo() {
+				t.Errorf("/readyz says %d %s behind these tokens", status, body)
+			}
+		})
+	}
+	for state := range plays {
+		if !played[state] {
+			t.Errorf("docs/SIDECAR-REFERENCE.md does not have the state %q", state)
+		}
+	}
+}
+
+// A disk that fills up while tokens come, and gets room again: /readyz says both, and all goes on without a restart.
+func TestADiskThatIsFullForAWhile(t *testing.T) {
+	t.Parallel()
+	if isAgain := asRoot(t); isAgain {
+		return
+	}
+	disk := smallDisk(t)
+	s := newStage(t, "once", bundleOption(bundleFile(t, example)), "--state", filepath.Join(disk, "state"))
+	s.start()
+	other := filepath.Join(disk, "other")
+	fill(t, other)
+	s.want(s.token("room that it has"), 200, "")
+	accepted := 0
+	for isReady := true; isReady; accepted++ {
+		if accepted > 10_000 {
+			t.Fatal("the disk never fills up")
+		}
+		status, _, _ := s.check(s.token(fmt.Sprint(accepted)))
+		ready, _ := s.get("/readyz")
+		if isReady = ready == http.StatusOK; isReady && status != http.StatusOK {
+			t.Errorf("token %d: %d, and it is ready", accepted, status)
+		}
+	}
+	if err := os.Remove(other); err != nil {
+		t.Fatal(err)
+	}
+	s.await("room", func() bool { status, _ := s.get("/readyz"); return status == http.StatusOK })
+	s.want(s.token("behind it"), 200, "")
+	s.end()
+}
+
+// A token that is asked while the broker is away for a short time waits for it, and is accepted.
+func TestABrokerThatIsAwayForAShortTime(t *testing.T) {
+	t.Parallel()
+	server := natstest.Start(t)
+	s := newStage(t, "strict", bundleOption(bundleFile(t, example)), "--nats", server.URL, "--wait", "25s")
+	s.start()
+	server.Kill()
+	s.await("the loss", func() bool { return s.metric("svidd_broker_connected") == "0" })
+	answer := make(chan int)
+	go func() {
+		status, _, _ := s.check(s.token("waits"))
+		answer <- status
+	}()
+	if status, body := s.get("/readyz"); status != http.StatusOK {
+		t.Errorf("/readyz: %d %s", status, body)
+	}
+	if err := server.Start(); err != nil {
+		t.Fatal(err)
+	}
+	if status := <-answer; status != http.StatusOK {
+		t.Errorf("%d", status)
+	}
+}
+
+// asRoot runs a test once more, in namespaces where it may mount, unless it may already.
+func asRoot(t *testing.T) (again bool) {
+	t.Helper()
+	if os.Getuid() == 0 {
+		return false
+	}
+	said, err := exec.Command("unshare", "--user", "--map-root-user", "--mount", os.Args[0], "-test.v", "-test.run=^"+t.Name()+"$").CombinedOutput()
+	t.Logf("%s", said)
+	if err != nil {
+		t.Errorf("as root: %v", err)
+	}
+	return true
+}
+
+// smallDisk is a folder with a disk of its own, of a megabyte.
+func smallDisk(t *testing.T) string {
+	t.Helper()
+	folder := t.TempDir()
+	if err := syscall.Mount("svidd", folder, "tmpfs", 0, "size=1m"); err != nil {
+		t.Fatalf("mount: %v", err)
+	}
+	t.Cleanup(func() { _ = syscall.Unmount(folder, syscall.MNT_DETACH) })
+	return folder
+}
+
+// fill writes a file until the disk is full.
+func fill(t *testing.T, name string) {
+	t.Helper()
+	f, err := os.Create(name)
+	if err != nil {
+		t.Fatal(err)
+	}
+	defer f.Close()
+	for piece := make([]byte, 4096); err == nil; {
+		_, err = f.Write(piece)
+	}
+	if pathError, ok := err.(*os.PathError); !ok || pathError.Err != syscall.ENOSPC {
+		t.Fatal(err)
+	}
+}
+
+// failSync lets an fdatasync of svidd fail. In mode once that is the sync of a mark, for which no request waits: it comes a second
+// behind an acceptance.
+func (s *stage) failSync() {
+	s.t.Helper()
+	for end := time.Now().Add(3 * patience.Long); time.Now().Before(end); {
+		s.want(s.token(fmt.Sprint(time.Now().UnixNano())), 200, "")
+		strace := exec.Command("strace", "-f", "--quiet=all", "--output=/dev/null", "--trace=fdatasync", "--inject=fdatasync:error=EIO", "-p", fmt.Sprint(s.run.Process.Pid))
+		if err := strace.Start(); err != nil {
+			s.t.Fatalf("a disk that fails is made by strace: %v", err)
+		}
+		failed := s.failedSync()
+		_ = strace.Process.Signal(syscall.SIGTERM) // It lets go of svidd.
+		_ = strace.Wait()
+		if failed {
+			return
+		}
+	}
+	s.t.Fatalf("no sync failed in %v\n%s", 3*patience.Long, s.log)
+}
+
+// failedSync waits for what shows that a sync has failed, for some seconds.
+func (s *stage) failedSync() bool {
+	for end := time.Now().Add(5 * time.Second); time.Now().Before(end); time.Sleep(10 * time.Millisecond) {
+		if s.mode == "once" {
+			if status, _ := s.get("/readyz"); status == http.StatusServiceUnavailable {
+				return true
+			}
+			continue
+		}
+		s.write(fmt.Sprint(time.Now().UnixNano()))
+		if s.metric("svidd_journal_failures_total") != "0" {
+			return true
+		}
+	}
+	return false
+}

@@ -1,0 +1,334 @@
+package main
+
+import (
+	"bufio"
+	"fmt"
+	"io"
+	"net"
+	"net/http"
+	"net/http/httptest"
+	"os"
+	"os/exec"
+	"path/filepath"
+	"strings"
+	"sync/atomic"
+	"testing"
+	"time"
+
+	"svid.example/go/v2/internal/patience"
+)
+
+// A recipe is a proxy before a service, by files of deploy/.
+type recipe struct {
+	*process        // the sidecar
+	front    string // where clients come
+	said     *lines // what the proxy prints
+	heard    chan heard
+	folder   string
+	replaced *strings.Replacer // the addresses and places of the files, by those of the test
+}
+
+// heard is a request as the service gets it.
+type heard struct {
+	Method, URI, Body string
+	Header            http.Header
+}
+
+// newRecipe starts a sidecar and a service.
+func newRecipe(t *testing.T, places ...string) *recipe {
+	t.Helper()
+	r := &recipe{heard: make(chan heard, 100), said: &lines{}, folder: t.TempDir(), front: freeAddress(t)}
+	for _, folder := range []string{r.folder, filepath.Dir(r.folder)} { // Apache's processes are of another user.
+		if err := os.Chmod(folder, 0o755); err != nil {
+			t.Fatal(err)
+		}
+	}
+	service := httptest.NewServer(http.HandlerFunc(func(w http.ResponseWriter, it *http.Request) {
+		body, _ := io.ReadAll(it.Body)
+		r.heard <- heard{it.Method, it.RequestURI, string(body), it.Header}
+		_, _ = io.WriteString(w, "served")
+	}))
+	t.Cleanup(service.Close)
+	r.process = start(t, bundleOption(bundleFile(t, example)), "--state", filepath.Join(t.TempDir(), "state"))
+	r.replaced = strings.NewReplacer(append(places, "127.0.0.1:9901", r.address, "127.0.0.1:8081", service.Listener.Addr().String(),
+		"127.0.0.1:8080", r.front)...)
+	return r
+}
+
+// file writes a file of deploy/ with the addresses of the test, and something in front of it.
+func (r *recipe) file(name, front string) string {
+	r.t.Helper()
+	text, err := os.ReadFile(filepath.Join("../../deploy", name))
+	if err != nil {
+		r.t.Fatal(err)
+	}
+	to := filepath.Join(r.folder, name)
+	if err := os.WriteFile(to, []byte(front+r.replaced.Replace(string(text))), 0o644); err != nil {
+		r.t.Fatal(err)
+	}
+	return to
+}
+
+// runs starts the proxy, and waits until it answers.
+func (r *recipe) runs(environment []string, words ...string) {
+	r.t.Helper()
+	c := exec.Command(words[0], words[1:]...)
+	c.Env = append(os.Environ(), environment...)
+	c.Stdout, c.Stderr = r.said, r.said
+	if err := c.Start(); err != nil {
+		r.t.Fatalf("%v: install Debian's package of it", err)
+	}
+	r.t.Cleanup(func() {
+		killAll(c.Process.Pid)
+		_ = c.Wait()
+		if r.t.Failed() {
+			r.t.Logf("%s says: %s", words[0], r.said)
+		}
+	})
+	r.await(words[0], func() bool {
+		if c.ProcessState != nil {
+			r.t.Fatalf("%s ended: %s", words[0], r.said)
+		}
+		it, err := net.Dial("tcp", r.front)
+		if err == nil {
+			it.Close()
+		}
+		return err == nil
+	})
+}
+
+// send sends a request with these lines of headers, and returns the answer with its body.
+func (r *recipe) send(method, path, body string, headers ...string) (*http.Response, string) {
+	r.t.Helper()
+	c, err := net.Dial("tcp", r.front)
+	if err != nil {
+		r.t.Fatal(err)
+	}
+	defer c.Close()
+	_ = c.SetDeadline(time.Now().Add(patience.Long))
+	text := fmt.Sprintf("%s %s HTTP/1.1\r\nHost: ledger.example.org\r\nContent-Length: %d\r\n", method, path, len(body))
+	for _, header := range headers {
+		text += header + "\r\n"
+	}
+	if _, err := io.WriteString(c, text+"\r\n"+body); err != nil {
+		r.t.Fatal(err)
+	}
+	answer, err := http.ReadResponse(bufio.NewReader(c), nil)
+	if err != nil {
+		r.t.Fatalf("%s %s: %v", method, path, err)
+	}
+	defer answer.Body.Close()
+	said, err := io.ReadAll(answer.Body)
+	if err != nil {
+		r.t.Fatal(err)
+	}
+	return answer, string(said)
+}
+
+// served is the request that has reached the service; nil where none has.
+func (r *recipe) served() *heard {
+	select {
+	case h := <-r.heard:
+		return &h
+	default:
+		return nil
+	}
+}
+
+// forged is what a client may not say of itself, in each spelling that a service may take for it.
+var forged = func() (all []string) {
+	for _, name := range []string{"X-Spiffe-Id", "X-Svid-Audience", "X-Svid-Expires"} {
+		for _, spelling := range []string{name, strings.ToLower(name), strings.ReplaceAll(name, "-", "_"), strings.Replace(name, "-", "_", 1),
+			name[:strings.LastIndex(name, "-")] + "_" + name[strings.LastIndex(name, "-")+1:], strings.ToUpper(strings.ReplaceAll(name, "-", "_"))} {
+			all = append(all, spelling+": spiffe://example.org/admin")
+		}
+	}
+	return append(all, "X-Spiffe-Id: spiffe://example.org/root", "X-Spiffe-Id:", "X-Request-Id: mine", "X-Forwarded-For: 192.0.2.66")
+}()
+
+// identity is what the service hears of the caller, whatever spelling its headers have.
+func (h *heard) identity() map[string][]string {
+	all := map[string][]string{}
+	for name, values := range h.Header {
+		name = strings.ReplaceAll(strings.ToLower(name), "_", "-")
+		if name == "authorization" || strings.HasPrefix(name, "x-svid") || strings.HasPrefix(name, "x-spiffe") {
+			all[name] = append(all[name], values...)
+		}
+	}
+	return all
+}
+
+// holds wants the recipe to keep what each must.
+func (r *recipe) holds() {
+	t := r.t
+	t.Helper()
+	for i, method := range []string{"GET", "POST", "DELETE", "PATCH", "OPTIONS"} {
+		path := []string{"/", "/a/b?c=d&e=%2f", "/a//b/%2e%2e/c", "/check", "/metrics?a"}[i]
+		exp := time.Now().Add(time.Minute).Unix()
+		one := example.Token("ES256", map[string]any{"sub": "spiffe://example.org/web", "aud": "ledger", "exp": exp, "jti": "recipe" + method})
+		body := map[bool]string{true: "a body"}[method == "POST" || method == "PATCH"]
+		answer, said := r.send(method, path, body, append(forged, "Authorization: Bearer "+one)...)
+		got := r.served()
+		if answer.StatusCode != 200 || said != "served" || got == nil {
+			t.Errorf("%s %s: %d %q", method, path, answer.StatusCode, said)
+			continue
+		}
+		due := map[string][]string{"x-spiffe-id": {"spiffe://example.org/web"}, "x-svid-audience": {"ledger"}, "x-svid-expires": {fmt.Sprint(exp)}}
+		if who := got.identity(); fmt.Sprint(who) != fmt.Sprint(due) {
+			t.Errorf("%s %s: the service hears of %v, and %v is due", method, path, who, due)
+		}
+		if got.Method != method || got.URI != path || got.Body != body {
+			t.Errorf("%s %s: the service gets %s %s %q", method, path, got.Method, got.URI, got.Body)
+		}
+		// The logs of both have one name of the request, and that of the sidecar the client's address.
+		id := got.Header.Get("X-Request-Id")
+		r.await("the line of the request", func() bool { return len(r.events("accepted")) > i })
+		if line := r.events("accepted")[i]; id == "" || id == "mine" || line["request"] != id || line["client"] != "127.0.0.1" {
+			t.Errorf("%s %s: the service hears of the request %q, and the log has %v", method, path, id, line)
+		}
+
+		answer, said = r.send(method, path, body, append(forged, "Authorization: Bearer "+one)...)
+		if answer.StatusCode != 401 || !strings.Contains(answer.Header.Get("WWW-Authenticate"), "Replayed") || r.served() != nil {
+			t.Errorf("%s %s again: %d %v %q", method, path, answer.StatusCode, answer.Header, said)
+		}
+	}
+	if answer, _ := r.send("GET", "/", "", forged...); answer.StatusCode != 401 || answer.Header.Get("WWW-Authenticate") != "Bearer" || r.served() != nil {
+		t.Errorf("no token: %d %v", answer.StatusCode, answer.Header)
+	}
+	// Two tokens are none.
+	if answer, _ := r.send("GET", "/", "", "Authorization: Bearer "+token(t, "two", time.Minute), "Authorization: Bearer a.b.c"); answer.StatusCode/100 != 4 || r.served() != nil {
+		t.Errorf("two tokens: %d %v", answer.StatusCode, answer.Header)
+	}
+	// A client that lets the proxy take a header out makes nobody of itself.
+	for _, named := range []string{"X-Spiffe-Id", "x-svid-expires, X-Spiffe-Id", "keep-alive, X_Spiffe_Id"} {
+		answer, _ := r.send("GET", "/", "", "Connection: "+named, "Authorization: Bearer "+token(t, named, time.Minute))
+		got := r.served()
+		if answer.StatusCode == 200 && (got == nil || len(got.identity()) != 3) || answer.StatusCode != 200 && got != nil {
+			t.Errorf("Connection: %s: %d, and the service hears of %+v", named, answer.StatusCode, got)
+		}
+	}
+	long := example.Token("ES256", map[string]any{"sub": "spiffe://example.org/web", "aud": "ledger", "exp": time.Now().Add(time.Minute).Unix(), "pad": strings.Repeat("a", 45000)})
+	if answer, _ := r.send("GET", "/", "", "Authorization: Bearer "+long); answer.StatusCode != 200 || r.served() == nil {
+		t.Errorf("a token of %d bytes: %d", len(long), answer.StatusCode)
+	}
+	body := strings.Repeat("b", 300_000)
+	answer, _ := r.send("POST", "/", body, "Authorization: Bearer "+token(t, "body", time.Minute))
+	if got := r.served(); answer.StatusCode != 200 || got == nil || got.Body != body {
+		t.Errorf("a long body: %d", answer.StatusCode)
+	}
+	// Without its sidecar nothing is let through, and nor is it if that does not answer.
+	r.end()
+	unavailable := func(what string) {
+		t.Helper()
+		answer, _ := r.send("GET", "/", "", append(forged, "Authorization: Bearer "+token(t, what, time.Minute))...)
+		if answer.StatusCode != 503 || answer.Header.Get("Retry-After") == "" || r.served() != nil {
+			t.Errorf("%s: %d %v", what, answer.StatusCode, answer.Header)
+		}
+	}
+	unavailable("without its sidecar")
+	deaf, err := net.Listen("tcp", r.address)
+	if err != nil {
+		t.Fatal(err)
+	}
+	var asked atomic.Int64
+	go func() {
+		for {
+			c, err := deaf.Accept()
+			if err != nil {
+				return
+			}
+			defer c.Close()
+			asked.Add(1)
+		}
+	}()
+	unavailable("a sidecar that does not answer")
+	deaf.Close()
+	if n := asked.Load(); n != 1 { // A second time, a token that was accepted is Replayed.
+		t.Errorf("the sidecar is asked %d times", n)
+	}
+	// Nor by an answer that is none of the sidecar's.
+	for _, status := range []int{204, 302, 403, 500, 503} {
+		other, err := net.Listen("tcp", r.address)
+		if err != nil {
+			t.Fatal(err)
+		}
+		it := &http.Server{Handler: http.HandlerFunc(func(w http.ResponseWriter, _ *http.Request) { w.WriteHeader(status) })}
+		go func() { _ = it.Serve(other) }()
+		answer, _ := r.send("GET", "/", "", append(forged, "Authorization: Bearer "+token(t, "other", time.Minute))...)
+		if got := r.served(); got != nil && (status != 204 || len(got.identity()["x-spiffe-id"]) > 0 && got.identity()["x-spiffe-id"][0] != "") {
+			t.Errorf("an answer of %d: %d, and the service hears of %+v", status, answer.StatusCode, got.identity())
+		}
+		it.Close()
+	}
+}
+
+func TestCaddyRecipe(t *testing.T) {
+	t.Parallel()
+	r := newRecipe(t)
+	_, port, _ := net.SplitHostPort(r.front)
+	r.replaced = strings.NewReplacer(":8080 {", ":"+port+" {", "127.0.0.1:9901", r.address, "127.0.0.1:8081", r.replaced.Replace("127.0.0.1:8081"))
+	home := []string{"HOME=" + r.folder, "XDG_DATA_HOME=" + r.folder, "XDG_CONFIG_HOME=" + r.folder}
+	file := r.file("Caddyfile", "{\n\tadmin off\n\tauto_https off\n}\n")
+	r.runs(home, "caddy", "run", "--config", file, "--adapter", "caddyfile")
+	r.holds()
+}
+
+func TestHAProxyRecipe(t *testing.T) {
+	t.Parallel()
+	r := newRecipe(t)
+	lua := r.file("haproxy-svidd.lua", "")
+	// (an abstract name is one of the whole machine)
+	name := fmt.Sprintf("abns@svidd-%s", r.front)
+	text, err := os.ReadFile(lua)
+	if err != nil {
+		t.Fatal(err)
+	}
+	if err := os.WriteFile(lua, []byte(strings.ReplaceAll(string(text), "abns@svidd-ask", name)), 0o644); err != nil {
+		t.Fatal(err)
+	}
+	r.replaced = strings.NewReplacer("/etc/haproxy/haproxy-svidd.lua", lua, "abns@svidd-ask", name, "127.0.0.1:9901", r.address, "127.0.0.1:8081", r.replaced.Replace("127.0.0.1:8081"), "127.0.0.1:8080", r.front)
+	r.runs(nil, "haproxy", "-db", "-f", r.file("haproxy.cfg", ""))
+	r.holds()
+}
+
+func TestApacheRecipe(t *testing.T) {
+	t.Parallel()
+	r := newRecipe(t)
+	lua := r.file("apache-svidd.lua", "")
+	r.replaced = strings.NewReplacer("/etc/apache2/apache-svidd.lua", lua, "127.0.0.1:8081", r.replaced.Replace("127.0.0.1:8081"), "127.0.0.1:8080", r.front)
+	front := fmt.Sprintf("ServerRoot %[1]s\nServerName ledger.example.org\nPidFile %[1]s/pid\nErrorLog %[1]s/error.log\nMutex file:%[1]s\n", r.folder)
+	if os.Getuid() == 0 {
+		front += "User nobody\nGroup nogroup\n"
+	}
+	for _, module := range []string{"mpm_event", "authz_core", "headers", "lua", "proxy", "proxy_http", "unique_id"} {
+		front += fmt.Sprintf("LoadModule %s_module /usr/lib/apache2/modules/mod_%[1]s.so\n", module)
+	}
+	r.runs(nil, "/usr/sbin/apache2", "-D", "FOREGROUND", "-f", r.file("apache-site.conf", front))
+	t.Cleanup(func() {
+		if text, err := os.ReadFile(filepath.Join(r.folder, "error.log")); t.Failed() {
+			t.Logf("the log of Apache: %s %v", text, err)
+		}
+	})
+	r.holds()
+}
+
+// The recipe of nginx holds what the others do.
+func TestNginxRecipe(t *testing.T) {
+	t.Parallel()
+	r := newRecipe(t)
+	front := fmt.Sprintf(`daemon off; master_process off; pid %[1]s/pid; error_log %[1]s/error.log; events { }
+http {
+  access_log off;
+  client_body_temp_path %[1]s/1; proxy_temp_path %[1]s/2; fastcgi_temp_path %[1]s/3; uwsgi_temp_path %[1]s/4; scgi_temp_path %[1]s/5;
+`, r.folder)
+	file := r.file("nginx-site.conf", front)
+	text, err := os.ReadFile(file)
+	if err != nil {
+		t.Fatal(err)
+	}
+	if err := os.WriteFile(file, append(text, "}\n"...), 0o600); err != nil {
+		t.Fatal(err)
+	}
+	r.runs(nil, "nginx", "-c", file, "-e", filepath.Join(r.folder, "error.log"))
+	r.holds()
+}

@@ -1,0 +1,200 @@
+package main
+
+import (
+	"errors"
+	"flag"
+	"fmt"
+	"io"
+	"math"
+	"regexp"
+	"strconv"
+	"strings"
+	"time"
+)
+
+// A list is an option that may be given more than once.
+type list []string
+
+func (l *list) String() string { return strings.Join(*l, ",") }
+
+func (l *list) Set(value string) error {
+	if value == "" {
+		return errors.New("is empty")
+	}
+	*l = append(*l, value)
+	return nil
+}
+
+// errNoTime is what an option says whose value is to be a time.
+var errNoTime = errors.New("is no time: write it as 1h, 30s or 1h30m, or as a whole number of seconds")
+
+// parseTime reads a time, which may not be negative: in the words of Go, or as a whole number of seconds.
+func parseTime(text string) (time.Duration, error) {
+	if n, err := strconv.ParseUint(text, 10, 64); err == nil {
+		if n > math.MaxInt64/uint64(time.Second) {
+			return 0, errors.New("is too long")
+		}
+		return time.Duration(n) * time.Second, nil
+	}
+	d, err := time.ParseDuration(text)
+	if err != nil || d < 0 {
+		return 0, errNoTime
+	}
+	return d, nil
+}
+
+// A period is an option whose value is a time.
+type period time.Duration
+
+func (p *period) String() string { return time.Duration(*p).String() }
+
+func (p *period) Set(text string) error {
+	d, err := parseTime(text)
+	*p = period(d)
+	return err
+}
+
+// seconds is an option whose value is a time of whole seconds. It tells 0 from not given.
+type seconds struct {
+	value uint64
+	given bool
+}
+
+func (s *seconds) String() string {
+	if !s.given {
+		return ""
+	}
+	return (time.Duration(s.value) * time.Second).String()
+}
+
+func (s *seconds) Set(text string) error {
+	d, err := parseTime(text)
+	if err != nil {
+		return err
+	}
+	if d%time.Second != 0 {
+		return errors.New("is no whole number of seconds")
+	}
+	*s = seconds{uint64(d / time.Second), true}
+	return nil
+}
+
+// A moment is an option whose value is a time since 1970.
+type moment struct{ seconds }
+
+func (m *moment) Set(text string) error {
+	value, err := strconv.ParseUint(text, 10, 64)
+	if err != nil {
+		return errors.New("is no moment: write it as seconds since 1970")
+	}
+	m.seconds = seconds{value, true}
+	return nil
+}
+
+// parseWords reads the options of a command line. What is wrong with them is one line, which names the nearest option. --help
+// prints them all.
+func parseWords(f *flag.FlagSet, args []string) error {
+	to := f.Output()
+	f.SetOutput(io.Discard)
+	f.Usage = func() {}
+	err := f.Parse(args)
+	f.SetOutput(to)
+	if errors.Is(err, flag.ErrHelp) {
+		fmt.Fprintf(to, "Usage of %s:\n", f.Name())
+		f.PrintDefaults()
+	}
+	if err == nil || errors.Is(err, flag.ErrHelp) {
+		return err
+	}
+	return worded(f, err)
+}
+
+// faults of options are in these words, which package flag has.
+var (
+	unknownOption = regexp.MustCompile(`^flag provided but not defined: -(.*)$`)
+	badValue      = regexp.MustCompile(`(?s)^invalid (?:boolean )?value (".*") for (?:flag )?-([a-z-]+): (.*)$`)
+	noValue       = regexp.MustCompile(`^flag needs an argument: -(.*)$`)
+)
+
+// worded says what is wrong with an option.
+func worded(f *flag.FlagSet, err error) error {
+	text := err.Error()
+	if it := unknownOption.FindStringSubmatch(text); it != nil {
+		near := meant(f, it[1])
+		if near == "" {
+			near = "."
+		}
+		return fmt.Errorf("no option is named --%s%s '%s --help' lists them", it[1], near, f.Name())
+	}
+	if it := badValue.FindStringSubmatch(text); it != nil {
+		if strings.HasPrefix(text, "invalid boolean") {
+			it[3] = "is neither true nor false"
+		}
+		return fmt.Errorf("--%s: %s %s", it[2], it[1], it[3])
+	}
+	if it := noValue.FindStringSubmatch(text); it != nil {
+		return fmt.Errorf("--%s wants a value. '%s --help' says which", it[1], f.Name())
+	}
+	return errors.New(strings.TrimPrefix(text, "flag: "))
+}
+
+// meant asks whether the nearest option was meant; "" where none is near.
+func meant(f *flag.FlagSet, name string) string {
+	var names []string
+	f.VisitAll(func(option *flag.Flag) { names = append(names, option.Name) })
+	if near := nearest(name, names); near != "" {
+		return fmt.Sprintf(": did you mean --%s?", near)
+	}
+	return ""
+}
+
+// nearest is the name that is spelled nearly so: of which this is the beginning, or from which a third of the letters differ at the
+// most. It is "" where there is none.
+func nearest(name string, names []string) (near string) {
+	name = strings.ToLower(strings.ReplaceAll(strings.Trim(name, "-"), "_", "-"))
+	least := len(name)/3 + 1
+	if least > 3 {
+		least = 3
+	}
+	for _, one := range names {
+		apart := distance(name, one)
+		if len(name) >= 3 && strings.HasPrefix(one, name) {
+			apart = 0
+		}
+		if apart < least || apart == least && near == "" {
+			near, least = one, apart
+		}
+	}
+	return near
+}
+
+// distance is how many letters must be put, taken out, changed or swapped with the next one to make b of a.
+func distance(a, b string) int {
+	var before, last, next []int
+	for k := 0; k <= len(b); k++ {
+		last = append(last, k)
+	}
+	for i := 1; i <= len(a); i++ {
+		next = []int{i}
+		for k := 1; k <= len(b); k++ {
+			best := last[k-1]
+			if a[i-1] != b[k-1] {
+				best++
+			}
+			best = min(best, min(last[k]+1, next[k-1]+1))
+			if i > 1 && k > 1 && a[i-1] == b[k-2] && a[i-2] == b[k-1] {
+				best = min(best, before[k-2]+1)
+			}
+			next = append(next, best)
+		}
+		before, last = last, next
+	}
+	return last[len(b)]
+}
+
+func min(a, b int) int {
+	if a < b {
+		return a
+	}
+	return b
+}

@@ -1,0 +1,58 @@
+-- The hook of apache-site.conf: asks the sidecar about the bearer token of a request, and lets the request go on only where it accepts
+-- that.
+require "apache2"
+local http = require "socket.http"
+local ltn12 = require "ltn12"
+
+local sidecar = "http://127.0.0.1:9901/check"
+http.TIMEOUT = 5 -- seconds until the sidecar must have answered
+
+-- what the sidecar says of an accepted token
+local accepted = { "X-Spiffe-Id", "X-Svid-Audience", "X-Svid-Expires" }
+
+-- No header of the client may stand in the place of one of these. Some services read X_Spiffe_Id as X-Spiffe-Id.
+local function forget(r)
+  for _, name in ipairs(accepted) do
+    local parts = {}
+    for part in name:gmatch("[^-]+") do
+      parts[#parts + 1] = part
+    end
+    for _, a in ipairs({ "-", "_" }) do
+      for _, b in ipairs({ "-", "_" }) do
+        r.headers_in[parts[1] .. a .. parts[2] .. b .. parts[3]] = nil
+      end
+    end
+  end
+end
+
+function check(r)
+  forget(r)
+  -- Apache leaves a header out of what it sends on if the client names it in Connection.
+  local connection = r.headers_in["Connection"]
+  if connection and connection:lower():find("x[-_]s") then
+    return 400
+  end
+  local id = r.subprocess_env["UNIQUE_ID"] or r.log_id
+  r.headers_in["X-Request-Id"] = id
+  local body = {}
+  local made, status, said = http.request({
+    url = sidecar,
+    redirect = false,
+    headers = { ["authorization"] = r.headers_in["Authorization"], ["x-request-id"] = id, ["x-forwarded-for"] = r.useragent_ip },
+    sink = ltn12.sink.table(body),
+  })
+  if made and status == 200 and said["x-spiffe-id"] then
+    for _, name in ipairs(accepted) do
+      r.headers_in[name] = said[name:lower()]
+    end
+    -- The token ends here: the service must not be able to use it elsewhere.
+    r.headers_in["Authorization"] = nil
+    return apache2.OK
+  end
+  if made and status == 401 then
+    r.err_headers_out["WWW-Authenticate"] = said["www-authenticate"]
+    return 401
+  end
+  r.err_headers_out["Retry-After"] = "1"
+  return 503
+end

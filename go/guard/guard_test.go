@@ -1,0 +1,551 @@
+package guard
+
+import (
+	"bytes"
+	"context"
+	"encoding/json"
+	"errors"
+	"fmt"
+	"net/http"
+	"net/http/httptest"
+	"os"
+	"path/filepath"
+	"strings"
+	"sync"
+	"testing"
+	"time"
+
+	"svid.example/go/v2/bundles"
+	"svid.example/go/v2/carriers"
+	"svid.example/go/v2/carriers/memory"
+	"svid.example/go/v2/internal/issuer"
+	"svid.example/go/v2/internal/patience"
+	"svid.example/go/v2/internal/server"
+	"svid.example/go/v2/svid"
+)
+
+var example = func() *issuer.Issuer {
+	i, err := issuer.New("example.org")
+	if err != nil {
+		panic(err)
+	}
+	return i
+}()
+
+// token is one of example.org's /web for the ledger.
+func token(name string) string {
+	return example.Token("ES256", map[string]any{"sub": "spiffe://example.org/web", "aud": "ledger", "exp": svid.Now() + 300, "jti": name})
+}
+
+// bundleFile is the spec of a file with the bundle of an issuer.
+func bundleFile(t testing.TB, i *issuer.Issuer) bundles.Spec {
+	t.Helper()
+	name := filepath.Join(t.TempDir(), "bundle.json")
+	if err := os.WriteFile(name, i.JWKSet(), 0o600); err != nil {
+		t.Fatal(err)
+	}
+	spec, err := bundles.Parse("example.org=" + name)
+	if err != nil {
+		t.Fatal(err)
+	}
+	return spec
+}
+
+// usual are options of mode once with a state folder of its own.
+func usual(t testing.TB) Options {
+	return Options{Audiences: []string{"ledger"}, Bundles: []bundles.Spec{bundleFile(t, example)}, State: filepath.Join(t.TempDir(), "state"), Wait: time.Minute}
+}
+
+func open(t testing.TB, o Options) *Guard {
+	t.Helper()
+	g, err := Open(o)
+	if err != nil {
+		t.Fatal(err)
+	}
+	t.Cleanup(g.Close)
+	return g
+}
+
+// hello answers who calls.
+var hello = http.HandlerFunc(func(w http.ResponseWriter, r *http.Request) { fmt.Fprintln(w, "hello", Caller(r).ID) })
+
+// ask asks a handler with these values of Authorization, and returns the answer.
+func ask(h http.Handler, authorization ...string) *httptest.ResponseRecorder {
+	r, w := httptest.NewRequest(http.MethodGet, "/", nil), httptest.NewRecorder()
+	r.Header["Authorization"] = authorization
+	h.ServeHTTP(w, r)
+	return w
+}
+
+// A token is accepted once, and not behind a restart; what else comes is denied as svidd denies it.
+func TestAServiceAcceptsEachTokenOnce(t *testing.T) {
+	o := usual(t)
+	o.Allow = []string{"spiffe://example.org/web"}
+	g := open(t, o)
+	other := example.Token("ES256", map[string]any{"sub": "spiffe://example.org/other", "aud": "ledger", "exp": svid.Now() + 300})
+	good := token("good")
+	for i, row := range []struct {
+		authorization   []string
+		status          int
+		body, challenge string
+	}{
+		{[]string{"Bearer " + good}, 200, "hello spiffe://example.org/web\n", ""},
+		{[]string{"Bearer " + good}, 401, `{"reason":"Replayed","result":"refused"}`, `Bearer error="invalid_token", error_description="Replayed"`},
+		{nil, 401, `{"reason":"NoToken","result":"refused"}`, "Bearer"},
+		{[]string{"Basic x"}, 401, `{"reason":"NotBearer","result":"refused"}`, `Bearer error="invalid_request", error_description="NotBearer"`},
+		{[]string{"Bearer " + other}, 403, `{"reason":"NotAllowed","result":"refused"}`, `Bearer error="insufficient_scope", error_description="NotAllowed"`},
+	} {
+		w := ask(g.Protect(hello), row.authorization...)
+		if w.Code != row.status || strings.TrimSpace(w.Body.String()) != strings.TrimSpace(row.body) || w.Header().Get("WWW-Authenticate") != row.challenge {
+			t.Errorf("%d: %d %q %q", i, w.Code, w.Body, w.Header())
+		}
+		if cached := w.Header().Get("Cache-Control"); (cached == "no-store") != (row.status != 200) {
+			t.Errorf("%d: Cache-Control %q", i, cached)
+		}
+	}
+	g.Close()
+	if w := ask(g.Protect(hello), "Bearer "+token("late")); w.Code != 503 || w.Header().Get("Retry-After") == "" || strings.Contains(w.Body.String(), "hello") {
+		t.Errorf("a guard that is closed: %d %q", w.Code, w.Body)
+	}
+	g = open(t, o)
+	if w := ask(g.Protect(hello), "Bearer "+good); w.Code != 401 || !strings.Contains(w.Body.String(), "Replayed") {
+		t.Errorf("behind a restart: %d %q", w.Code, w.Body)
+	}
+}
+
+// A withdrawn token is refused, whether it was used or not; one of another issuer can't be withdrawn.
+func TestWithdraw(t *testing.T) {
+	g := open(t, usual(t))
+	one := token("withdrawn")
+	use, err := g.Withdraw(one)
+	if err != nil || !use.Withdrawn {
+		t.Fatal(use, err)
+	}
+	if w := ask(g.Protect(hello), "Bearer "+one); w.Code != 401 || !strings.Contains(w.Body.String(), "Withdrawn") {
+		t.Errorf("%d %q", w.Code, w.Body)
+	}
+	stranger, err := issuer.New("example.org")
+	if err != nil {
+		t.Fatal(err)
+	}
+	forged := stranger.Token("ES256", map[string]any{"sub": "spiffe://example.org/web", "aud": "ledger", "exp": svid.Now() + 300})
+	if _, err := g.Withdraw(forged); !errors.Is(err, svid.BadSignature) {
+		t.Errorf("a forged token: %v", err)
+	}
+	if _, err := g.WithdrawKey(svid.TokenKey{1}, svid.Now()+300); err != nil {
+		t.Error(err)
+	}
+}
+
+// What would accept a token twice, or none, is an error that says what to do.
+func TestOptionsThatCanNotBeMeant(t *testing.T) {
+	for want, change := range map[string]func(*Options){
+		"Options.Audiences is empty": func(o *Options) { o.Audiences = nil },
+		"Options.Bundles is empty":   func(o *Options) { o.Bundles = nil },
+		"Options.State is empty":     func(o *Options) { o.State = "" },
+		"Options.Log is nil":         func(o *Options) { o.Mode = Strict },
+		`Options.Mode "twice"`:       func(o *Options) { o.Mode = "twice" },
+		"Options.Longest is at most": func(o *Options) { o.Longest = mostLongest + 1 },
+		"Options.Ahead at most":      func(o *Options) { o.Ahead = mostAhead + 1 },
+		"Options.Wait and":           func(o *Options) { o.Wait = -1 },
+		"Summaries are not negative": func(o *Options) { o.Summaries = -1 },
+		"is no trust domain's name":  func(o *Options) { o.Bundles[0].Domain = "A" },
+		"no pattern of SPIFFE IDs":   func(o *Options) { o.Allow = []string{"*"} },
+		"leave the list out (nil)":   func(o *Options) { o.Allow = []string{} },
+	} {
+		o := usual(t)
+		change(&o)
+		if g, err := Open(o); err == nil || !strings.Contains(err.Error(), want) {
+			t.Errorf("%s: %v", want, err)
+			if err == nil {
+				g.Close()
+			}
+		}
+	}
+}
+
+// What the options leave out, and that clocks may be said not to differ.
+func TestWhatOptionsLeaveOut(t *testing.T) {
+	o := usual(t)
+	o.Wait = 0
+	got, err := o.usual()
+	if err != nil || got.Mode != Once || got.Longest != 3600 || got.Ahead != 30 || got.Wait != 2*time.Second || got.Summaries != time.Minute {
+		t.Errorf("%+v %v", got, err)
+	}
+	o.Log, o.Ahead = carriers.Of("svid", memory.NewServer().Store(time.Hour)), Exactly
+	if got, err = o.usual(); err != nil || got.Mode != Strict || got.Ahead != 0 {
+		t.Errorf("%+v %v", got, err)
+	}
+	if keep := Keep(3600, 30); keep != 3660*time.Second {
+		t.Error(keep)
+	}
+}
+
+// The guards of a group accept a token once in all, whichever is asked, and one behind a restart knows what the others accepted.
+func TestAGroupAcceptsEachTokenOnce(t *testing.T) {
+	server := memory.NewServer()
+	var all [3]*Guard
+	var last string
+	join := func() *Guard {
+		o := usual(t)
+		o.State, o.Log = "", carriers.Of("svid", server.Store(Keep(3600, 30)))
+		g := open(t, o)
+		await(t, g)
+		return g
+	}
+	for i := range all {
+		all[i] = join()
+	}
+	for n := 0; n < 20; n++ {
+		one, accepted := token(fmt.Sprint("group", n)), make(chan int, len(all))
+		last = one
+		var asking sync.WaitGroup
+		for _, g := range all {
+			asking.Add(1)
+			go func(g *Guard) {
+				defer asking.Done()
+				accepted <- ask(g.Protect(hello), "Bearer "+one).Code
+			}(g)
+		}
+		asking.Wait()
+		close(accepted)
+		codes := map[int]int{}
+		for code := range accepted {
+			codes[code]++
+		}
+		if codes[200] != 1 || codes[401] != len(all)-1 {
+			t.Fatalf("token %d: %v", n, codes)
+		}
+	}
+	all[0].Close()
+	if w := ask(join().Protect(hello), "Bearer "+last); w.Code != 401 || !strings.Contains(w.Body.String(), "Replayed") {
+		t.Errorf("behind a restart: %d %q", w.Code, w.Body)
+	}
+}
+
+// await waits until the guard is ready.
+func await(t *testing.T, g *Guard) {
+	t.Helper()
+	for deadline := time.Now().Add(patience.Long); g.Ready() != nil; time.Sleep(5 * time.Millisecond) {
+		if time.Now().After(deadline) {
+			t.Fatal(g.Ready())
+		}
+	}
+}
+
+// A log that is of no use is told, and nothing is accepted.
+func TestALogThatIsOfNoUse(t *testing.T) {
+	o, failed := usual(t), make(chan error, 1)
+	o.Log, o.Failed = carriers.Of("svid", memory.NewServer().Store(time.Second)), func(err error) { failed <- err }
+	g := open(t, o)
+	var unfit *carriers.Unfit
+	select {
+	case err := <-failed:
+		if !errors.As(err, &unfit) {
+			t.Error(err)
+		}
+	case <-time.After(patience.Long):
+		t.Fatal("nobody is told")
+	}
+	if w := ask(g.Protect(hello), "Bearer "+token("unfit")); w.Code != 503 || !strings.Contains(w.Body.String(), "NotReady") {
+		t.Errorf("%d %q", w.Code, w.Body)
+	}
+}
+
+// Each judged token counts, and is a line of the log that does not have it.
+func TestEachJudgedTokenIsCountedAndLogged(t *testing.T) {
+	var log, metrics bytes.Buffer
+	o := usual(t)
+	o.Lines = NewLines(&log, Decisions)
+	g := open(t, o)
+	one := token("counted")
+	for i := 0; i < 3; i++ {
+		ask(g.Protect(hello), "Bearer "+one)
+	}
+	if err := g.WriteMetrics(&metrics); err != nil {
+		t.Fatal(err)
+	}
+	for _, want := range []string{`svidd_checks_total{result="accepted"} 1`, `svidd_checks_total{result="Replayed"} 2`, "svidd_check_seconds_count 3"} {
+		if !strings.Contains(metrics.String(), want+"\n") {
+			t.Errorf("no %s", want)
+		}
+	}
+	o.Lines.Close(time.Minute)
+	lines := log.String()
+	if strings.Count(lines, `"event":"accepted"`) != 1 || strings.Count(lines, `"reason":"Replayed"`) != 2 || strings.Contains(lines, one) {
+		t.Error(lines)
+	}
+}
+
+// A hanging is a writer that takes nothing until it is let go.
+type hanging struct {
+	free chan struct{}
+	text bytes.Buffer // for who has waited for all lines
+}
+
+func (h *hanging) Write(b []byte) (int, error) {
+	<-h.free
+	return h.text.Write(b)
+}
+
+// A log that nobody reads holds up no request. What there is no room for is dropped and counted, and the log says so later.
+func TestALogThatHangs(t *testing.T) {
+	for _, mode := range []Mode{Once, Reuse} {
+		out := &hanging{free: make(chan struct{})}
+		o := usual(t)
+		o.Mode, o.Lines = mode, NewLines(out, All)
+		var g *Guard
+		inTime(t, func() { g = open(t, o) })
+		inTime(t, func() {
+			for header, want := range map[string]int{"Bearer " + token("hanging"): 200, "Bearer x": 401} {
+				if w := ask(g.Protect(hello), header); w.Code != want {
+					t.Errorf("%s: %d %q", mode, w.Code, w.Body)
+				}
+			}
+			for long := strings.Repeat("a", 1<<16); o.Lines.Dropped() < 5; {
+				o.Lines.Event("long", "text", long)
+			}
+		})
+		inTime(t, g.Close)
+		if out.text.Len() > 0 {
+			t.Errorf("%s: it did not hang", mode)
+		}
+		close(out.free)
+		inTime(t, func() { o.Lines.Close(time.Minute) })
+		if text := out.text.String(); !strings.Contains(text, `"event":"accepted"`) || !strings.Contains(text, `"dropped":`) {
+			t.Errorf("%s: %.2000s", mode, text)
+		}
+	}
+}
+
+// A log of no Outlet, and none at all, may be closed.
+func TestLinesThatAreNone(t *testing.T) {
+	var none *Lines
+	none.Close(time.Minute)
+	server.NewLog(&bytes.Buffer{}, All).Close(time.Minute)
+}
+
+// Who is told that the guard can't go on may close it then.
+func TestFailedMayClose(t *testing.T) {
+	o, guards, closed := usual(t), make(chan *Guard, 1), make(chan bool)
+	o.Log = carriers.Of("svid", memory.NewServer().Store(time.Second))
+	o.Failed = func(error) { (<-guards).Close(); close(closed) }
+	g, err := Open(o)
+	if err != nil {
+		t.Fatal(err)
+	}
+	guards <- g
+	inTime(t, func() { <-closed })
+	inTime(t, func() {
+		if w := ask(g.Protect(hello), "Bearer "+token("failed")); w.Code != 503 {
+			t.Errorf("%d %q", w.Code, w.Body)
+		}
+	})
+}
+
+// A guard that is closed while requests come answers each of them, and accepts none behind that.
+func TestCloseWhileRequestsCome(t *testing.T) {
+	for _, mode := range []Mode{Once, Strict, Reuse} {
+		o := usual(t)
+		o.Mode = mode
+		if mode == Strict {
+			o.Log = carriers.Of("svid", memory.NewServer().Store(Keep(3600, 30)))
+		}
+		g := open(t, o)
+		await(t, g)
+		tokens := make([]string, 400)
+		for i := range tokens {
+			tokens[i] = token(fmt.Sprint(mode, i))
+		}
+		var asking sync.WaitGroup
+		begun := make(chan bool, len(tokens))
+		for i := 0; i < 8; i++ {
+			asking.Add(1)
+			go func(own []string) {
+				defer asking.Done()
+				for _, one := range own {
+					begun <- true
+					if code := ask(g.Protect(hello), "Bearer "+one).Code; code != 200 && code != 503 {
+						t.Errorf("%s: %d", mode, code)
+					}
+				}
+			}(tokens[i*50 : i*50+50])
+		}
+		for i := 0; i < 40; i++ {
+			<-begun
+		}
+		g.Close()
+		inTime(t, func() {
+			if code := ask(g.Protect(hello), "Bearer "+token(fmt.Sprint(mode, "late"))).Code; code != 503 {
+				t.Errorf("%s: behind Close: %d", mode, code)
+			}
+		})
+		if _, err := g.Withdraw(tokens[0]); err != svid.ErrClosed {
+			t.Errorf("%s: behind Close: %v", mode, err)
+		}
+		if _, err := g.WithdrawKey(svid.TokenKey{1}, svid.Now()+300); err != svid.ErrClosed {
+			t.Errorf("%s: behind Close: %v", mode, err)
+		}
+		if _, err := g.Resume(); err != svid.ErrClosed {
+			t.Errorf("%s: behind Close: %v", mode, err)
+		}
+		if err := g.Ready(); err != svid.ErrClosed {
+			t.Errorf("%s: behind Close: ready: %v", mode, err)
+		}
+		inTime(t, asking.Wait)
+	}
+}
+
+// A slowLog is one whose group takes its time to close.
+type slowLog struct {
+	carriers.Log
+	closing, goOn chan struct{}
+}
+
+func (l slowLog) Join(ctx context.Context, o carriers.Options, s carriers.Sink) (carriers.Group, error) {
+	g, err := l.Log.Join(ctx, o, s)
+	return slowGroup{g, l}, err
+}
+
+type slowGroup struct {
+	carriers.Group
+	log slowLog
+}
+
+func (g slowGroup) Close() error {
+	close(g.log.closing)
+	<-g.log.goOn
+	return g.Group.Close()
+}
+
+// A token that comes while a guard closes is answered at once: nobody would take its claim any more.
+func TestATokenThatComesWhileAGuardCloses(t *testing.T) {
+	o, slow := usual(t), slowLog{carriers.Of("svid", memory.NewServer().Store(Keep(3600, 30))), make(chan struct{}), make(chan struct{})}
+	o.Log = slow
+	g := open(t, o)
+	await(t, g)
+	closed := make(chan struct{})
+	go func() { defer close(closed); g.Close() }()
+	<-slow.closing
+	inTime(t, func() {
+		if w := ask(g.Protect(hello), "Bearer "+token("closing")); w.Code != 503 {
+			t.Errorf("%d %q", w.Code, w.Body)
+		}
+	})
+	close(slow.goOn)
+	<-closed
+}
+
+// inTime fails the test where what it calls hangs.
+func inTime(t *testing.T, do func()) {
+	t.Helper()
+	done := make(chan struct{})
+	go func() { defer close(done); do() }()
+	select {
+	case <-done:
+	case <-time.After(patience.Long):
+		t.Fatal("it hangs")
+	}
+}
+
+// In mode once a group must be able to repair what its log has lost.
+func TestModeOnceWantsALogThatRepairs(t *testing.T) {
+	o, failed := usual(t), make(chan error, 1)
+	o.Mode, o.Log, o.Failed = Once, carriers.Of("svid", memory.NewServer().Store(Keep(3600, 30))), func(err error) { failed <- err }
+	g := open(t, o)
+	select {
+	case err := <-failed:
+		if err != errNoRepair {
+			t.Error(err)
+		}
+	case <-time.After(patience.Long):
+		t.Fatal("nobody is told")
+	}
+	if w := ask(g.Protect(hello), "Bearer "+token("unrepaired")); w.Code != 503 || !strings.Contains(w.Body.String(), "NotReady") {
+		t.Errorf("%d %q", w.Code, w.Body)
+	}
+}
+
+// Of a source that is followed no more, nothing counts, also if it was being read at that moment.
+func TestBundlesOfASourceThatIsLeft(t *testing.T) {
+	var log bytes.Buffer
+	o := usual(t)
+	o.Mode, o.Lines = Reuse, server.NewLog(&log, All)
+	g, err := New(o)
+	if err != nil {
+		t.Fatal(err)
+	}
+	defer g.Close()
+	if err := g.Follow([]bundles.Spec{bundleFile(t, example)}); err != nil {
+		t.Fatal(err)
+	}
+	before := strings.Count(log.String(), `"event":"bundles"`)
+	late := map[string]json.RawMessage{"example.net": example.JWKSet()}
+	if err := g.renew(1, late); err != nil || strings.Count(log.String(), `"event":"bundles"`) != before {
+		t.Errorf("%v: %s", err, &log)
+	}
+	if err := g.renew(2, late); err != nil || strings.Count(log.String(), `"event":"bundles"`) != before+1 {
+		t.Errorf("%v: %s", err, &log)
+	}
+	if err := g.Follow([]bundles.Spec{{Domain: "A", Source: "b"}}); err == nil {
+		t.Error("a source that is none is followed")
+	}
+	if err := g.renew(2, late); err != nil || strings.Count(log.String(), `"event":"bundles"`) != before+2 {
+		t.Errorf("behind a source that is none: %v: %s", err, &log)
+	}
+}
+
+// What a source gives while another one is tried that is none, counts: a key that is gone must not stay.
+func TestBundlesThatComeWhileABadSourceIsTried(t *testing.T) {
+	o, taken := usual(t), 0
+	var log bytes.Buffer
+	o.Mode, o.Lines = Reuse, server.NewLog(&log, All)
+	g, err := New(o)
+	if err != nil {
+		t.Fatal(err)
+	}
+	defer g.Close()
+	stop, tried := make(chan struct{}), make(chan struct{})
+	go func() {
+		defer close(tried)
+		for {
+			select {
+			case <-stop:
+				return
+			default:
+				if g.Follow([]bundles.Spec{{Domain: "A", Source: "b"}}) == nil {
+					t.Error("a source that is none is followed")
+				}
+			}
+		}
+	}()
+	for ; taken < 500; taken++ {
+		if err := g.renew(1, map[string]json.RawMessage{"example.org": example.JWKSet()}); err != nil {
+			t.Fatal(err)
+		}
+	}
+	close(stop)
+	<-tried
+	if got := strings.Count(log.String(), `"event":"bundles"`); got != taken+1 {
+		t.Errorf("%d of %d were taken", got-1, taken)
+	}
+}
+
+// Bundles that the engine does not take are an error for the watcher, which gives them again. They are no event.
+func TestBundlesThatTheEngineDoesNotTake(t *testing.T) {
+	var log bytes.Buffer
+	o := usual(t)
+	o.Mode, o.Lines = Reuse, server.NewLog(&log, All)
+	g, err := New(o)
+	if err != nil {
+		t.Fatal(err)
+	}
+	domains, before := map[string]json.RawMessage{"example.org": example.JWKSet()}, strings.Count(log.String(), "\n")
+	if err := g.renew(1, domains); err != nil || strings.Count(log.String(), "\n") != before+1 {
+		t.Errorf("%v: %s", err, &log)
+	}
+	g.Close()
+	if err := g.renew(1, domains); err != svid.ErrClosed || strings.Count(log.String(), "\n") != before+1 {
+		t.Errorf("%v: %s", err, &log)
+	}
+}

@@ -1,0 +1,26 @@
+// Package patience says how long a test waits for what must come.
+package patience
+
+import (
+	"fmt"
+	"os"
+	"strconv"
+	"time"
+)
+
+// variable, in the environment, says it in seconds. go/wrong/run sets it, since there most of what a test waits for never comes.
+const variable = "SVID_TEST_PATIENCE"
+
+// Long is three minutes where nobody says anything else: a busy machine may be slow.
+var Long = long(os.Getenv(variable))
+
+func long(said string) time.Duration {
+	if said == "" {
+		return 3 * time.Minute
+	}
+	seconds, err := strconv.ParseUint(said, 10, 16)
+	if err != nil {
+		panic(fmt.Sprintf("%s is %q, and not a number of seconds", variable, said))
+	}
+	return time.Duration(seconds) * time.Second
+}

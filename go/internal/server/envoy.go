@@ -1,0 +1,157 @@
+package server
+
+import (
+	"bytes"
+	"encoding/binary"
+	"errors"
+	"io"
+	"net/http"
+	"net/textproto"
+	"strconv"
+	"strings"
+
+	"svid.example/go/v2/internal/extauthz"
+	"svid.example/go/v2/svidhttp"
+)
+
+// MaxEnvoy is how many bytes a CheckRequest of Envoy may have: the headers of a request, and what Envoy says beside them.
+const MaxEnvoy = 2 * svidhttp.MaxHeader
+
+// frameHead is what stands before each message of gRPC: whether it is compressed, and its length.
+const frameHead = 5
+
+// A call that can't be read ends with such a status of gRPC. (Envoy then lets nothing through, unless it is told to.)
+type grpcFault struct {
+	code int
+	why  string
+}
+
+func (f *grpcFault) Error() string { return f.why }
+
+var (
+	errNoCheck    = &grpcFault{extauthz.Unimplemented, "only envoy.service.auth.v3.Authorization/Check is answered"}
+	errCompressed = &grpcFault{extauthz.Unimplemented, "the message is compressed"}
+	errTooLarge   = &grpcFault{extauthz.ResourceExhausted, "the message has more than " + strconv.Itoa(MaxEnvoy) + " bytes: let Envoy send no body (with_request_body)"}
+	errNotWhole   = &grpcFault{extauthz.InvalidArgument, "the call has not one whole message"}
+)
+
+// Envoy answers envoy.service.auth.v3.Authorization/Check, for a server of HTTP/2. It answers a request as Handler does at /check:
+// an accepted one gets X-Spiffe-Id, X-Svid-Audience and X-Svid-Expires, and loses its Authorization; any other one is denied with
+// the status, the headers and the body of /check. Where the token could not be judged, that is 503: such a request is denied too,
+// whatever Envoy does about calls that fail.
+func (e *Engine) Envoy() http.Handler {
+	return http.HandlerFunc(func(w http.ResponseWriter, r *http.Request) {
+		if r.Method != http.MethodPost || !isGRPC(r.Header.Get("Content-Type")) {
+			http.Error(w, "this address answers gRPC", http.StatusUnsupportedMediaType)
+			return
+		}
+		w.Header().Set("Content-Type", "application/grpc")
+		answer, fault := e.checkEnvoy(r)
+		if fault != nil {
+			w.Header().Set("Grpc-Status", strconv.Itoa(fault.code))
+			w.Header().Set("Grpc-Message", fault.why)
+			return
+		}
+		w.Header().Set("Trailer", "Grpc-Status")
+		_, _ = w.Write(framed(answer))
+		w.Header().Set("Grpc-Status", "0")
+	})
+}
+
+// isGRPC says whether a type is one of gRPC with messages of protobuf.
+func isGRPC(kind string) bool {
+	return kind == "application/grpc" || kind == "application/grpc+proto" || strings.HasPrefix(kind, "application/grpc;")
+}
+
+// checkEnvoy answers one call.
+func (e *Engine) checkEnvoy(r *http.Request) (answer []byte, fault *grpcFault) {
+	if r.URL.Path != extauthz.Path {
+		return nil, errNoCheck
+	}
+	message, fault := readFrame(r.Body)
+	if fault != nil {
+		return nil, fault
+	}
+	asked, err := extauthz.ReadHeaders(message, "authorization", "x-request-id", "x-forwarded-for")
+	if err != nil {
+		return nil, &grpcFault{extauthz.InvalidArgument, "it is no CheckRequest"}
+	}
+	header := http.Header{}
+	for name, values := range asked {
+		header[textproto.CanonicalMIMEHeaderKey(name)] = values
+	}
+	who := callerOf(&http.Request{Header: header, RemoteAddr: r.RemoteAddr})
+	v := e.judgeBearer(r.Context(), who, header["Authorization"])
+	if v.err != nil {
+		return e.deniedByEnvoy(who, v.err), nil
+	}
+	id, audience, expires := v.values()
+	return extauthz.Accepted([]extauthz.Field{
+		{Name: "x-spiffe-id", Value: id}, {Name: "x-svid-audience", Value: audience}, {Name: "x-svid-expires", Value: expires},
+	}, "authorization"), nil
+}
+
+// deniedByEnvoy is the answer of /check to this error, as a CheckResponse.
+func (e *Engine) deniedByEnvoy(who caller, err error) []byte {
+	denial := e.denial(err)
+	w := heard{header: http.Header{}}
+	denial.Write(&w)
+	fields := []extauthz.Field{{Name: "cache-control", Value: "no-store"}, {Name: "x-request-id", Value: who.request}}
+	for _, name := range []string{"Content-Type", "Retry-After", "Www-Authenticate"} {
+		if value := w.header.Get(name); value != "" {
+			fields = append(fields, extauthz.Field{Name: strings.ToLower(name), Value: value})
+		}
+	}
+	return extauthz.Denied(codeOf(denial.Status), denial.Reason, denial.Status, fields, w.body.String())
+}
+
+// heard is an answer over HTTP that stays here.
+type heard struct {
+	header http.Header
+	body   bytes.Buffer
+}
+
+func (h *heard) Header() http.Header                  { return h.header }
+func (h *heard) WriteHeader(int)                      {}
+func (h *heard) Write(text []byte) (n int, err error) { return h.body.Write(text) }
+
+// codeOf is the code of gRPC for a status of /check.
+func codeOf(status int) int {
+	switch status {
+	case http.StatusUnauthorized:
+		return extauthz.Unauthenticated
+	case http.StatusForbidden:
+		return extauthz.PermissionDenied
+	}
+	return extauthz.Unavailable
+}
+
+// framed is a message as gRPC sends it.
+func framed(message []byte) []byte {
+	frame := make([]byte, frameHead, frameHead+len(message))
+	binary.BigEndian.PutUint32(frame[1:], uint32(len(message)))
+	return append(frame, message...)
+}
+
+// readFrame reads the one message of a call.
+func readFrame(r io.Reader) ([]byte, *grpcFault) {
+	var head [frameHead]byte
+	if _, err := io.ReadFull(r, head[:]); err != nil {
+		return nil, errNotWhole
+	}
+	length := binary.BigEndian.Uint32(head[1:])
+	switch {
+	case head[0] != 0:
+		return nil, errCompressed
+	case length > MaxEnvoy:
+		return nil, errTooLarge
+	}
+	message, err := io.ReadAll(io.LimitReader(r, int64(length))) // Memory comes as the bytes do.
+	if err != nil || len(message) < int(length) {
+		return nil, errNotWhole
+	}
+	if n, err := io.ReadFull(r, head[:1]); n > 0 || !errors.Is(err, io.EOF) {
+		return nil, errNotWhole // Something stands behind it, or the call was ended.
+	}
+	return message, nil
+}

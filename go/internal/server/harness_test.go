@@ -1,0 +1,463 @@
+package server
+
+import (
+	"bytes"
+	"context"
+	"encoding/json"
+	"fmt"
+	"io"
+	"net/http"
+	"net/http/httptest"
+	"sync"
+	"testing"
+	"time"
+
+	"svid.example/go/v2/carriers"
+	"svid.example/go/v2/internal/issuer"
+	"svid.example/go/v2/internal/patience"
+	"svid.example/go/v2/svid"
+)
+
+const moment = 1_767_225_600
+
+var example = func() *issuer.Issuer {
+	i, err := issuer.New("example.org")
+	if err != nil {
+		panic(err)
+	}
+	return i
+}()
+
+// A disk is a Journal that keeps what is appended, and fails when it is told to.
+type disk struct {
+	mu     sync.Mutex
+	kept   []byte
+	marks  int // how often a mark alone was appended
+	fault  error
+	before func()        // called as an append begins
+	hangs  chan struct{} // where it is not nil, an append waits for it
+}
+
+func (d *disk) AppendUses(ctx context.Context, uses ...svid.Use) error {
+	return d.append(ctx, func() { d.kept = append(d.kept, batchesOf(uses)...) })
+}
+
+func (d *disk) AppendMark(ctx context.Context) error { return d.append(ctx, func() { d.marks++ }) }
+
+func (d *disk) append(ctx context.Context, keep func()) error {
+	if d.before != nil {
+		d.before()
+	}
+	if d.hangs != nil {
+		select {
+		case <-d.hangs:
+		case <-ctx.Done():
+			return ctx.Err()
+		}
+	}
+	d.mu.Lock()
+	defer d.mu.Unlock()
+	if d.fault != nil {
+		return d.fault
+	}
+	keep()
+	return nil
+}
+
+func (d *disk) Size() int64 {
+	d.mu.Lock()
+	defer d.mu.Unlock()
+	return int64(len(d.kept))
+}
+
+func (d *disk) Snapshot(write func(io.Writer) error) error {
+	var b bytes.Buffer
+	if err := write(&b); err != nil {
+		return err
+	}
+	d.mu.Lock()
+	defer d.mu.Unlock()
+	d.kept = b.Bytes()
+	return nil
+}
+
+// A broker is a bucket in memory: a log, which each member reads in its order. Each member of the group is a tie to it.
+type broker struct {
+	mu      sync.Mutex
+	log     []stored
+	members []*tie
+}
+
+type stored struct {
+	by      *tie
+	kind    carriers.Kind
+	number  uint64
+	message []byte
+}
+
+// put stores a value, and lets all members read who are not held.
+func (b *broker) put(v stored) {
+	b.mu.Lock()
+	defer b.mu.Unlock()
+	b.log = append(b.log, v)
+	for _, m := range b.members {
+		m.read()
+	}
+}
+
+// uses are the uses of the log's values, in their order.
+func (b *broker) uses(t *testing.T) (all []svid.Use) {
+	b.mu.Lock()
+	defer b.mu.Unlock()
+	for _, v := range b.log {
+		uses, err := svid.Uses(v.message)
+		if err != nil {
+			t.Fatal(err)
+		}
+		all = append(all, uses...)
+	}
+	return all
+}
+
+// A tie is a member's Group.
+type tie struct {
+	*broker
+	engine *Engine
+	ready  chan struct{}
+	fault  error         // what Put answers, behind storing the value; guarded by broker.mu
+	answer chan struct{} // Put waits for it, behind storing the value
+	forged []byte        // stands in the place of the value that Put stores, if it is set
+	aside  int
+
+	// Of reading the log, guarded by broker.mu.
+	held bool
+	done int
+	gap  uint64 // so many values are gone in front of the next one
+}
+
+func (t *tie) Ready() <-chan struct{} { return t.ready }
+func (t *tie) Taken() uint64          { return 0 }
+func (t *tie) Aside() uint64          { return 0 }
+func (t *tie) Connected() bool        { return true }
+
+func (t *tie) Put(ctx context.Context, kind carriers.Kind, number uint64, message []byte) error {
+	t.mu.Lock()
+	if t.forged != nil {
+		message = t.forged
+	}
+	t.mu.Unlock()
+	t.put(stored{t, kind, number, message})
+	if t.answer != nil {
+		select {
+		case <-t.answer:
+		case <-ctx.Done():
+			return ctx.Err()
+		}
+	}
+	t.mu.Lock()
+	defer t.mu.Unlock()
+	return t.fault
+}
+
+func (t *tie) Stored(context.Context, carriers.Kind, uint64) (time.Time, error) {
+	return time.Unix(moment, 0), nil
+}
+
+// hold lets the member read nothing, or all that it has not read. The caller does not hold mu.
+func (t *tie) hold(held bool) {
+	t.mu.Lock()
+	defer t.mu.Unlock()
+	t.held = held
+	t.read()
+}
+
+func (t *tie) read() {
+	if t.held || t.done == len(t.log) {
+		return
+	}
+	var values []carriers.Value
+	for i, v := range t.log[t.done:] {
+		values = append(values, carriers.Value{Kind: v.kind, Position: uint64(t.done+i+1) + t.gap, Message: v.message})
+	}
+	t.done = len(t.log)
+	for _, err := range t.engine.Take(values) {
+		if err != nil {
+			t.aside++
+		}
+	}
+}
+
+// join makes an engine a member.
+func (b *broker) join(e *Engine) *tie {
+	m := &tie{broker: b, engine: e, ready: make(chan struct{})}
+	close(m.ready)
+	b.members = append(b.members, m)
+	e.Begin(carriers.Start{})
+	e.Join(m)
+	return m
+}
+
+func engine(t testing.TB, o Options) *Engine {
+	t.Helper()
+	o.Audiences, o.Longest, o.Ahead = []string{"ledger", "audit"}, 3600, 30
+	if o.Now == nil {
+		o.Now = func() uint64 { return moment }
+	}
+	if o.Wait == 0 {
+		o.Wait = 5 * time.Second
+	}
+	if o.ValidatorID == (svid.ValidatorID{}) {
+		o.ValidatorID = svid.ValidatorID{1}
+	}
+	e, err := NewEngine(o)
+	if err != nil {
+		t.Fatal(err)
+	}
+	t.Cleanup(e.Close)
+	t.Cleanup(soon(t))
+	return e
+}
+
+// soon ends all tests where this one hangs: earlier than the test tool's own limit would.
+func soon(t testing.TB) (ended func()) {
+	late := time.AfterFunc(80*time.Second, func() { panic(t.Name() + " hangs") })
+	return func() { late.Stop() }
+}
+
+// ready gives an engine its bundles and an empty record.
+func ready(t testing.TB, e *Engine) *Engine {
+	t.Helper()
+	if err := e.SetBundles(map[string]json.RawMessage{"example.org": example.JWKSet()}); err != nil {
+		t.Fatal(err)
+	}
+	if err := e.Load(nil); err != nil {
+		t.Fatal(err)
+	}
+	return e
+}
+
+// strict returns engines of one group in mode strict.
+func strict(t testing.TB, n int) ([]*Engine, *broker) {
+	t.Helper()
+	b := &broker{}
+	var all []*Engine
+	for i := 0; i < n; i++ {
+		e := ready(t, engine(t, Options{Mode: Strict, Grouped: true, ValidatorID: svid.ValidatorID{byte(i + 1)}}))
+		b.join(e)
+		all = append(all, e)
+	}
+	return all, b
+}
+
+func token(id string) string {
+	return example.Token("ES256", map[string]any{"sub": "spiffe://example.org/web", "aud": "ledger", "exp": moment + 300, "jti": id})
+}
+
+func check(e *Engine, token string) error {
+	_, err := e.Check(context.Background(), token)
+	return err
+}
+
+func saved(t testing.TB, e *Engine) []byte {
+	t.Helper()
+	var b bytes.Buffer
+	if err := e.Save(&b); err != nil {
+		t.Fatal(err)
+	}
+	return b.Bytes()
+}
+
+// wantUses wants all records equal, with so many uses.
+func wantUses(t *testing.T, all []*Engine, want int) {
+	t.Helper()
+	first := saved(t, all[0])
+	if uses, err := svid.Uses(first); err != nil || len(uses) != want {
+		t.Errorf("%d uses, want %d (%v)", len(uses), want, err)
+	}
+	for _, e := range all[1:] {
+		if !bytes.Equal(saved(t, e), first) {
+			t.Error("the records differ")
+		}
+	}
+}
+
+// claimed sends a token to an engine whose reading is held, and returns once its claim is in the log.
+func claimed(m *tie, token string) (answer chan error) {
+	m.mu.Lock()
+	m.held = true
+	before := len(m.log)
+	m.mu.Unlock()
+	answer = make(chan error, 1)
+	go func() { answer <- check(m.engine, token) }()
+	for in := before; in == before; time.Sleep(time.Millisecond) {
+		m.mu.Lock()
+		in = len(m.log)
+		m.mu.Unlock()
+	}
+	return answer
+}
+
+// gather sends tokens to an engine whose claims do not go out yet, and returns once all of them wait.
+func gather(t *testing.T, m *tie, tokens []string) (answers []chan error) {
+	t.Helper()
+	m.hold(true)
+	m.engine.step(doing(waitAnHour))
+	want := gathered(m.engine) + len(tokens)
+	for _, one := range tokens {
+		answer := make(chan error, 1)
+		answers = append(answers, answer)
+		go func(one string) { answer <- check(m.engine, one) }(one)
+	}
+	await(t, "all claims", func() bool { return gathered(m.engine) == want })
+	return answers
+}
+
+// send lets claims that gather gathered go out in one value, and returns once that is in the log.
+func send(t *testing.T, m *tie) {
+	t.Helper()
+	m.mu.Lock()
+	before := len(m.log)
+	m.mu.Unlock()
+	m.engine.step(doing(sendNow))
+	await(t, "the value", func() bool {
+		m.mu.Lock()
+		defer m.mu.Unlock()
+		return len(m.log) == before+1
+	})
+}
+
+// inOrderOf returns tokens and the uses of their claims, in the order in which a value has those.
+func inOrderOf(t *testing.T, e *Engine, count int) (tokens []string, uses []svid.Use) {
+	t.Helper()
+	byKey := make(map[svid.TokenKey]string)
+	for i := 0; i < count; i++ {
+		one := token(fmt.Sprint("of a value ", i))
+		found, err := e.Find(one)
+		if err != nil {
+			t.Fatal(err)
+		}
+		byKey[found.Key] = one
+		uses = append(uses, svid.Use{Key: found.Key, Expires: found.Expires, At: moment, ValidatorID: e.ValidatorID})
+	}
+	uses, err := svid.Uses(batchesOf(uses))
+	if err != nil {
+		t.Fatal(err)
+	}
+	for _, use := range uses {
+		tokens = append(tokens, byKey[use.Key])
+	}
+	return tokens, uses
+}
+
+// wantClaims wants so many claims to have ended in each way.
+func wantClaims(t *testing.T, e *Engine, won, lost, failed uint64) {
+	t.Helper()
+	m := &e.Metrics
+	if w, l, f := m.ClaimsWon.Load(), m.ClaimsLost.Load(), m.ClaimsFailed.Load(); w != won || l != lost || f != failed {
+		t.Errorf("%d claims won, %d lost, %d failed; want %d, %d, %d", w, l, f, won, lost, failed)
+	}
+	if n := withClaims(e, keptOf); n != 0 {
+		t.Errorf("%d claims are kept", n)
+	}
+}
+
+// claimOf is a claim of a token that is judged, and not opened.
+func claimOf(t *testing.T, e *Engine, token string) *Request {
+	t.Helper()
+	yes, err := e.verify(token)
+	if err != nil {
+		t.Fatal(err)
+	}
+	judged, err := e.validator.Judge(moment, token, yes)
+	if err != nil {
+		t.Fatal(err)
+	}
+	r := NewRequest(Strict, token)
+	r.Yes, r.Accepted, r.done = yes, judged, make(chan struct{})
+	return r
+}
+
+// request sends one to a handler.
+func request(h http.Handler, method, target string, authorization ...string) *httptest.ResponseRecorder {
+	r := httptest.NewRequest(method, "http://svidd/", nil)
+	r.URL.Path = target
+	for _, a := range authorization {
+		r.Header.Add("Authorization", a)
+	}
+	w := httptest.NewRecorder()
+	h.ServeHTTP(w, r)
+	return w
+}
+
+func await(t *testing.T, what string, is func() bool) {
+	t.Helper()
+	for end := time.Now().Add(patience.Long); !is(); time.Sleep(10 * time.Millisecond) {
+		if time.Now().After(end) {
+			t.Fatalf("waited in vain for %s", what)
+		}
+	}
+}
+
+// takeAll gives an engine messages as a group does.
+func takeAll(e *Engine, kind carriers.Kind, messages ...[]byte) (aside int) {
+	values := make([]carriers.Value, len(messages))
+	for i, m := range messages {
+		values[i] = carriers.Value{Kind: kind, Message: m}
+	}
+	for _, err := range e.Take(values) {
+		if err != nil {
+			aside++
+		}
+	}
+	return aside
+}
+
+// doing is an event by which a test does something to the machine of an engine.
+type doing func(m *Machine)
+
+func (d doing) happen(m *Machine) { d(m) }
+
+// kept waits until all that came is on the disk, or could not be kept.
+func kept(t testing.TB, e *Engine) {
+	t.Helper()
+	for end := time.Now().Add(patience.Long); ; time.Sleep(time.Millisecond) {
+		e.mu.Lock()
+		keeping := e.machine.isKeeping() || e.machine.keeper.again != nil
+		e.mu.Unlock()
+		if !keeping {
+			return
+		}
+		if time.Now().After(end) {
+			t.Fatal("the disk was waited for in vain")
+		}
+	}
+}
+
+// claims are the claims of an engine.
+func withClaims[A any](e *Engine, look func(c *claims) A) A {
+	e.mu.Lock()
+	defer e.mu.Unlock()
+	return look(&e.machine.claims)
+}
+
+// keptOf is how many claims are kept.
+func keptOf(c *claims) int { return len(c.open) + len(c.sent) + len(c.gather) }
+
+// again lets an engine give the disk once more what it did not take, and waits for that.
+func again(t testing.TB, e *Engine) {
+	t.Helper()
+	e.step(doing((*Machine).keepAgain))
+	kept(t, e)
+}
+
+// waitAnHour lets no claims go out for an hour.
+func waitAnHour(m *Machine) { m.claims.at = m.now.Up + time.Hour }
+
+// sendNow lets the claims that wait go out.
+func sendNow(m *Machine) {
+	m.claims.at = m.now.Up - time.Hour
+	m.sendClaims()
+}
+
+// gathered is how many claims wait to go out.
+func gathered(e *Engine) int { return withClaims(e, func(c *claims) int { return len(c.gather) }) }

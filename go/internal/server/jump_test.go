@@ -1,0 +1,177 @@
+package server
+
+import (
+	"bytes"
+	"errors"
+	"strings"
+	"testing"
+	"time"
+
+	"svid.example/go/v2/carriers"
+	"svid.example/go/v2/svid"
+)
+
+// A clock that jumps ahead expires nothing. While it is there no token is judged, and when it has come back all is as before. If
+// it stays there for a minute, the sidecar begins anew.
+func TestAClockThatJumpsAhead(t *testing.T) {
+	var log bytes.Buffer
+	b := benchOf(t, Options{Mode: Once, Log: NewLog(&log, Errors)})
+	b.step(Run{})
+	if r := b.asks("a"); r.Err != nil || !r.answered {
+		t.Fatal(r.Err)
+	}
+	b.now.Wall += 100_000
+	for i := 0; i < 3; i++ {
+		b.pass(time.Second)
+	}
+	if r := b.asks("b"); !errors.Is(r.Err, svid.ErrJump) {
+		t.Errorf("a token while the clock is wrong: %v", r.Err)
+	}
+	if err := b.machine.Ready(b.now); err == nil || !strings.Contains(err.Error(), "clock") {
+		t.Errorf("ready: %v", err)
+	}
+	if n := strings.Count(log.String(), "\n"); n != 1 || b.count(JumpedAhead{}) != 0 {
+		t.Errorf("%d lines, and given up %d times: %s", n, b.count(JumpedAhead{}), &log)
+	}
+	b.now.Wall -= 100_000
+	b.pass(time.Second)
+	if err := b.machine.Ready(b.now); err != nil {
+		t.Error(err)
+	}
+	for id, want := range map[string]error{"a": svid.Replayed, "b": nil} {
+		if r := b.asks(id); r.Err != want {
+			t.Errorf("the clock is right again: %s: %v, want %v", id, r.Err, want)
+		}
+	}
+	b.now.Wall += 100_000
+	for i := time.Duration(0); i <= jumpPatience; i += time.Second {
+		if b.pass(time.Second); b.count(JumpedAhead{}) != 0 {
+			t.Fatalf("it is given up after %v", i)
+		}
+	}
+	if b.pass(time.Second); b.count(JumpedAhead{}) != 1 {
+		t.Errorf("the clock stays there: given up %d times", b.count(JumpedAhead{}))
+	}
+}
+
+// Behind a gap the validator counts by the clock until when it accepts nothing. So while that has jumped, nothing is read, which is
+// said once a minute. The end of the machine ends the wait. So it is where a log begins anew, of which values were missed.
+func TestAGapWhileTheClockIsTooFarAhead(t *testing.T) {
+	var log bytes.Buffer
+	b := benchOf(t, Options{Mode: Strict, Grouped: true, Log: NewLog(&log, Errors)})
+	use := svid.Use{Key: svid.TokenKey{1}, Expires: moment + 300, At: moment, ValidatorID: svid.ValidatorID{9}}
+	value := func(position uint64) *Reading {
+		return &Reading{Value: carriers.Value{Kind: carriers.Claims, Position: position, Message: batchOf(use)}}
+	}
+	deaf := func(want uint64) {
+		t.Helper()
+		if b.machine.log.deaf != want {
+			t.Errorf("it accepts nothing until %d, want %d", b.machine.log.deaf, want)
+		}
+	}
+	b.step(Run{})
+	b.now.Wall += 100_000
+	r := value(2)
+	for i := 0; i < 5; i++ {
+		if b.step(r); r.Done || r.Again != readPause {
+			t.Fatal("it was read", r)
+		}
+		b.pass(r.Again)
+	}
+	if n := strings.Count(log.String(), `"event":"log"`); n != 1 {
+		t.Errorf("%d lines: %s", n, &log)
+	}
+	deaf(0)
+	b.now.Wall = moment + 50
+	if b.step(r); !r.Done || r.Aside != nil {
+		t.Error(r)
+	}
+	deaf(moment + 50 + 3600 + 60)
+
+	b.now.Wall += 100_000
+	begin := &Begin{Log: carriers.Start{Ready: 7, Missed: true}}
+	for i := 0; i < 5; i++ {
+		if b.step(begin); begin.Again != readPause {
+			t.Fatal("it begins", begin)
+		}
+	}
+	deaf(moment + 50 + 3600 + 60)
+	b.now.Wall = moment + 100
+	if b.step(begin); begin.Again != 0 {
+		t.Error(begin)
+	}
+	deaf(moment + 100 + 3600 + 60)
+
+	// And where an earlier life has read more than the log has.
+	b.now.Wall += 100_000
+	recall := &Recall{Mark: svid.Mark{Passed: 8}}
+	if b.step(recall); recall.Again != readPause {
+		t.Error("it is taken over", recall)
+	}
+	deaf(moment + 100 + 3600 + 60)
+	b.now.Wall = moment + 150
+	if b.step(recall); recall.Again != 0 {
+		t.Error(recall)
+	}
+	deaf(moment + 150 + 3600 + 60)
+
+	b.now.Wall += 100_000
+	r = value(4)
+	b.step(r)
+	if b.step(End{}); r.Done || b.count(Ended{}) != 0 {
+		t.Error("it is read, or the end does not wait for it", r)
+	}
+	if b.step(r); !r.Done || r.Aside != errEnded || b.count(Ended{}) != 1 {
+		t.Error(r, b.count(Ended{}))
+	}
+	begin = &Begin{Log: carriers.Start{Ready: 9, Missed: true}}
+	if b.step(begin); begin.Again != 0 {
+		t.Error("it goes on behind the end", begin)
+	}
+	deaf(moment + 150 + 3600 + 60)
+	recall = &Recall{Mark: svid.Mark{Passed: 10}}
+	load := &Load{}
+	if b.step(recall, load); recall.Again != 0 || load.Err != errEnded {
+		t.Error("what an earlier life knew is taken for known", recall, load)
+	}
+}
+
+// While the machine runs, the record follows the clock, and a journal that has grown is replaced by a snapshot: once it is longer
+// than the last snapshot, and not short. There is one at a time, and one at the end.
+func TestRunFollowsTheClockAndTakesSnapshots(t *testing.T) {
+	b := benchOf(t, Options{Mode: Once, Journal: &disk{}})
+	uses := func() uint64 { b.pass(time.Second); return b.machine.metrics.Uses.Load() }
+	b.step(&Feed{Messages: batchOf(svid.Use{Key: svid.TokenKey{1}, Expires: moment + 100, At: moment})}, &Load{Size: smallJournal}, Run{})
+	if n := uses(); n != 1 || b.count(Snapshot{}) != 0 {
+		t.Errorf("%d uses, %d snapshots of a short journal", n, b.count(Snapshot{}))
+	}
+	b.step(Kept{&Write{Size: smallJournal + 1}})
+	for i := 0; i < 3; i++ {
+		if b.pass(time.Second); b.count(Snapshot{}) != 1 {
+			t.Errorf("%d snapshots at once", b.count(Snapshot{}))
+		}
+	}
+	const length = 2 * smallJournal
+	b.step(Snapshotted{Length: length}, Kept{&Write{Size: length}})
+	if b.pass(time.Second); b.count(Snapshot{}) != 1 {
+		t.Error("a snapshot of a journal that is not longer than the last one")
+	}
+	b.step(Kept{&Write{Size: length + 1}})
+	if b.pass(time.Second); b.count(Snapshot{}) != 2 {
+		t.Error("no snapshot of a journal that is longer than the last one")
+	}
+	b.step(Snapshotted{Err: errors.New("the disk is full")})
+	if m := b.machine.metrics; m.Snapshots.Load() != 1 || m.JournalFailures.Load() != 1 {
+		t.Errorf("%d snapshots, %d failures", m.Snapshots.Load(), m.JournalFailures.Load())
+	}
+	b.now.Wall += 100
+	if n := uses(); n != 0 {
+		t.Errorf("%d uses that have expired", n)
+	}
+	if b.step(End{}); b.count(Snapshot{}) != 3 || b.count(Ended{}) != 0 {
+		t.Errorf("at the end %d snapshots", b.count(Snapshot{}))
+	}
+	if b.step(Snapshotted{}); b.count(Ended{}) != 1 {
+		t.Error("it does not end")
+	}
+}

@@ -1,0 +1,127 @@
+package server
+
+import (
+	"encoding/json"
+	"fmt"
+	"strings"
+	"sync/atomic"
+	"testing"
+
+	"svid.example/go/v2/internal/issuer"
+	"svid.example/go/v2/svid"
+)
+
+// A token that comes again is not verified again, and judged all the same: a key that is gone, a withdrawal, the token's
+// expiry and another signature count at once.
+func TestAReusedTokenIsVerifiedOnce(t *testing.T) {
+	var now atomic.Uint64
+	now.Store(moment)
+	e := ready(t, engine(t, Options{Mode: Reuse, Now: now.Load}))
+	one := token("a")
+	question := func() (q svid.Question, ok bool) { q, _, ok = e.machine.verified.get(nameOf(one)); return }
+	for i := 0; i < 3; i++ {
+		if err := check(e, one); err != nil {
+			t.Fatal(err)
+		}
+		if _, ok := question(); !ok {
+			t.Fatal("nothing is kept")
+		}
+	}
+	for what, bad := range map[string]string{"another signature": one[:len(one)-8] + "AAAAAAAA", "none": one[:strings.LastIndexByte(one, '.')+1], "a byte more": one + "A"} {
+		if err := check(e, bad); err == nil {
+			t.Errorf("%s is accepted", what)
+		}
+	}
+	if len(e.machine.verified.young) != 1 {
+		t.Errorf("%d are kept; only accepted tokens are", len(e.machine.verified.young))
+	}
+	// The same keys, written otherwise, have other questions.
+	var set struct {
+		Keys []map[string]any `json:"keys"`
+	}
+	if err := json.Unmarshal(example.JWKSet(), &set); err != nil {
+		t.Fatal(err)
+	}
+	for _, key := range set.Keys {
+		key["note"] = "renewed"
+	}
+	renewed, err := json.Marshal(set)
+	if err != nil {
+		t.Fatal(err)
+	}
+	kept, epoch := func() (svid.Question, uint64) { q, epoch, _ := e.machine.verified.get(nameOf(one)); return q, epoch }()
+	if err := e.SetBundles(map[string]json.RawMessage{"example.org": renewed}); err != nil {
+		t.Fatal(err)
+	}
+	if _, ok := question(); ok {
+		t.Error("an answer of the old bundles is kept")
+	}
+	e.machine.verified.put(epoch, nameOf(one), kept)
+	if _, ok := question(); ok {
+		t.Error("an answer of the old bundles was put behind their end")
+	}
+	e.machine.verified.put(epoch+1, nameOf(one), kept) // as if it had been
+	if err := check(e, one); err != nil {
+		t.Errorf("a kept answer that is of no use any more: %v", err)
+	}
+	if q, ok := question(); !ok || q == kept {
+		t.Errorf("%v, kept %v", q, ok)
+	}
+	// Without the key.
+	other, err := issuer.New("example.org")
+	if err != nil {
+		t.Fatal(err)
+	}
+	fresh, epoch := func() (svid.Question, uint64) { q, epoch, _ := e.machine.verified.get(nameOf(one)); return q, epoch }()
+	if err := e.SetBundles(map[string]json.RawMessage{"example.org": other.JWKSet()}); err != nil {
+		t.Fatal(err)
+	}
+	e.machine.verified.put(epoch+1, nameOf(one), fresh)
+	if err := check(e, one); err != svid.BadSignature {
+		t.Errorf("without its key: %v", err)
+	}
+	if err := e.SetBundles(map[string]json.RawMessage{"example.org": example.JWKSet()}); err != nil {
+		t.Fatal(err)
+	}
+	if err := check(e, one); err != nil {
+		t.Error(err)
+	}
+	now.Store(moment + 300)
+	if err := check(e, one); err != svid.Expired {
+		t.Errorf("expired: %v", err)
+	}
+	now.Store(moment)
+	again := ready(t, engine(t, Options{Mode: Reuse}))
+	if err := check(again, one); err != nil {
+		t.Fatal(err)
+	}
+	found, err := again.Find(one)
+	if err != nil {
+		t.Fatal(err)
+	}
+	if _, err := again.Withdraw(found.Key, found.Expires); err != nil {
+		t.Fatal(err)
+	}
+	if err := check(again, one); err != svid.Withdrawn {
+		t.Errorf("withdrawn: %v", err)
+	}
+}
+
+// What is kept of tokens has a bound, and a token that comes again and again stays.
+func TestVerifiedTokensHaveABound(t *testing.T) {
+	var v verified
+	name := func(i int) tokenName { return nameOf(fmt.Sprint(i)) }
+	for i := 0; i < 3*mostVerified; i++ {
+		_, epoch, _ := v.get(name(0))
+		v.put(epoch, name(i), svid.Question{byte(i)})
+	}
+	if n := len(v.young) + len(v.old); n > 2*mostVerified {
+		t.Errorf("%d are kept", n)
+	}
+	if q, _, ok := v.get(name(0)); !ok || q != (svid.Question{}) {
+		t.Error("a token that came all the while is not kept")
+	}
+	if _, _, ok := v.get(name(1)); ok {
+		t.Error("one that came once long ago is kept")
+	}
+}

@@ -1,0 +1,552 @@
+package sim
+
+import (
+	"context"
+	"errors"
+	"fmt"
+	"syscall"
+	"time"
+
+	"svid.example/go/v2/carriers"
+	"svid.example/go/v2/internal/server"
+	"svid.example/go/v2/journal"
+	"svid.example/go/v2/svid"
+)
+
+// wait is Options.Wait of all machines.
+const wait = 2 * time.Second
+
+var errLate = fmt.Errorf("the log did not answer: %w", context.DeadlineExceeded)
+
+// A member is a sidecar of the group, over all its lives.
+type member struct {
+	w      *world
+	number int
+	id     svid.ValidatorID
+	disk   *journal.Model // nil without a state folder
+	life   *life          // nil while it is down
+	lives  uint64
+	draws  uint64 // of delays
+
+	offset time.Duration // its clock is ahead by so much
+	drift  float64       // and by this part of the time
+	set    int           // its bundles
+
+	slow        time.Duration // the disk does nothing before this time
+	faulty      int           // so many of the next calls of the disk that change something fail
+	powerAt     int           // the power is lost in the call with this number; 0 for none
+	powerLost   bool
+	effects     int           // it is killed in front of the effect with this number; 0 for none
+	apart       time.Duration // it reaches no log before this time
+	answersLost int           // the log's answers to so many of its next values are lost
+	lag         time.Duration // it reads the log so much later
+
+	kept      map[svid.Use]bool               // uses whose write was done
+	withdrawn map[svid.TokenKey]time.Duration // when the answer to a withdrawal was that it is done
+}
+
+func (m *member) String() string { return fmt.Sprintf("member %d", m.number) }
+
+// cutOff says whether it reaches no log now.
+func (m *member) cutOff() bool { return m.apart > m.w.now }
+
+// A life is one of a member: from a start of its process to its end.
+type life struct {
+	m          *member
+	w          *world
+	number     uint64
+	machine    *server.Machine
+	validator  *svid.Validator
+	journal    *journal.Journal
+	born       time.Duration
+	dead       bool
+	ending     bool
+	diskFaults bool          // a call of its disk has failed
+	set        int           // of the bundles that its validator has
+	armed      time.Duration // when it ticks next
+
+	// Of reading the log.
+	joined    bool
+	position  uint64 // of the value that was read last
+	ready     uint64 // all up to this one is to be read before it is caught up
+	caughtUp  bool
+	copies    int           // as the log had them when it was looked at last
+	cut       bool          // the connection was lost since
+	pumpAt    time.Duration // when it reads next; never where it waits for a value
+	beginning *server.Begin
+	reading   *server.Reading
+	read      stored // what it reads
+	missed    bool   // it has missed values
+
+	asks  map[*server.Call]*ask
+	heard map[svid.TokenKey]time.Duration // withdrawals of others that it has taken
+}
+
+const never = time.Duration(1<<63 - 1)
+
+// The kinds of delays.
+const (
+	kindRead = iota
+	kindSend
+	kindLand
+	kindDisk
+	kindTick
+	kindVerify
+)
+
+// delay draws how long something takes. Most of it is quick, and some takes very long.
+func (m *member) delay(kind uint64) time.Duration {
+	m.draws++
+	r := m.w.chance(uint64(m.number), kind, m.draws)
+	quickly := [...]time.Duration{3 * time.Millisecond, 2 * time.Millisecond, 2 * time.Millisecond, 4 * time.Millisecond, 2 * time.Millisecond, time.Millisecond}[kind]
+	d := time.Duration(r.Int63n(int64(quickly)))
+	if kind == kindTick || kind == kindVerify || m.w.healed {
+		return d
+	}
+	if r.Intn(m.w.plan.rough) == 0 {
+		d += time.Duration(r.Int63n(int64([...]time.Duration{2 * time.Second, 3 * time.Second, 3 * time.Second, 3 * time.Second}[kind])))
+	}
+	if kind == kindRead {
+		d += m.lag
+	}
+	return d
+}
+
+// wall is what its clock shows.
+func (m *member) wall() uint64 {
+	at := base*time.Second.Seconds() + (m.w.now + m.offset).Seconds() + m.w.now.Seconds()*m.drift
+	return uint64(at)
+}
+
+func (l *life) time() server.Time { return server.Time{Wall: l.m.wall(), Up: l.w.now - l.born} }
+
+// start begins a life. Where that fails, it is tried again, as a service manager does.
+func (m *member) start() {
+	w := m.w
+	if m.life != nil {
+		return
+	}
+	if m.offset > wildest*time.Second { // Nobody starts a sidecar with such a clock: it would be right from then on.
+		w.after(time.Second, m.start)
+		return
+	}
+	m.lives++
+	l := &life{m: m, w: w, number: m.lives, born: w.now, set: m.set, armed: never, pumpAt: never,
+		asks: map[*server.Call]*ask{}, heard: map[svid.TokenKey]time.Duration{}}
+	m.life = l
+	w.tell("%v: starts", m)
+	o := server.Options{Mode: w.plan.mode, Audiences: []string{"ledger"}, Longest: longest, Ahead: ahead, Step: step, ValidatorID: m.id,
+		Grouped: w.plan.mode == server.Strict || len(w.members) > 1, Wait: wait}
+	var err error
+	if l.validator, err = svid.Open(svid.Options{Audiences: o.Audiences, Bundles: w.pool.bundles[l.set], Longest: longest, Ahead: ahead,
+		Step: step, ValidatorID: m.id}); err != nil {
+		w.fail("a validator does not open: %v", err)
+		return
+	}
+	if m.disk != nil {
+		m.disk.Before(m.before)
+		if l.journal, err = m.disk.Open(); err != nil {
+			l.startsAgain(err)
+			return
+		}
+		o.Journal = l.journal
+	}
+	l.machine = server.NewMachine(o, l.validator, l.time())
+	if l.journal != nil && o.Mode == server.Strict {
+		l.journal.Bear(l.machine.Mark)
+	}
+	l.step(server.Renewed{Domains: 1})
+	if o.Mode != server.Strict && !l.load() {
+		return
+	}
+	l.step(server.Run{})
+	if o.Grouped {
+		w.after(m.delay(kindSend), l.join)
+	}
+}
+
+// before is asked before each call of the disk that changes something.
+func (m *member) before(call, name string, length int) (int, error) {
+	if m.powerLost {
+		return 0, journal.ErrGone
+	}
+	if m.powerAt > 0 {
+		if m.powerAt--; m.powerAt == 0 {
+			m.powerLost = true
+			m.w.tell("%v: the power is lost in %s %s", m, call, name)
+			return 0, journal.ErrLost
+		}
+	}
+	if m.faulty > 0 {
+		m.faulty--
+		if m.life != nil {
+			m.life.diskFaults = true
+		}
+		m.w.tell("%v: %s %s fails", m, call, name)
+		m.draws++
+		return m.w.chance(uint64(m.number), m.draws).Intn(length + 1), syscall.EIO
+	}
+	return 0, nil
+}
+
+// startsAgain ends a life that could not begin.
+func (l *life) startsAgain(why error) {
+	l.w.tell("%v: does not start: %v", l.m, why)
+	var damaged interface{ Unwrap() error }
+	if errors.As(why, &damaged) && errors.Is(why, svid.ErrDamaged) {
+		l.w.fail("%v: what a crash left is called damaged: %v", l.m, why)
+		return
+	}
+	l.die(time.Second)
+}
+
+// die ends a life at once: nothing of it is left but what its disk has.
+func (l *life) die(down time.Duration) {
+	if l.dead {
+		return
+	}
+	m := l.m
+	l.dead, m.life = true, nil
+	l.w.tell("%v: ends", m)
+	if l.journal != nil && !m.powerLost {
+		// (A kill closes no journal. But one that is closed puts a mark, so it is left open here.)
+		l.journal = nil
+	}
+	if m.disk == nil {
+		m.withdrawn = map[svid.TokenKey]time.Duration{}
+	}
+	if m.powerLost {
+		m.draws++
+		m.disk = m.disk.Crash(m.w.chance(uint64(m.number), m.draws, 99))
+		m.powerLost = false
+	}
+	l.validator.Close()
+	l.w.after(down, m.start)
+}
+
+// lost says whether the power was lost in the last call of the disk, and ends the life then.
+func (l *life) lost() bool {
+	if !l.m.powerLost {
+		return false
+	}
+	l.die(time.Second / 2)
+	return true
+}
+
+// load gives the machine what the state folder has, as svidd does.
+func (l *life) load() bool {
+	load := &server.Load{}
+	if l.journal != nil {
+		err := l.journal.Load(func(messages []byte) error {
+			f := &server.Feed{Messages: messages}
+			l.machine.Step(l.time(), f)
+			return f.Err
+		})
+		if l.lost() {
+			return false
+		}
+		if err == nil {
+			if mark, ok := l.journal.Mark(); ok {
+				l.step(&server.Recall{Mark: mark})
+			}
+			if wants, must := l.journal.WantsSnapshot(); wants {
+				if fault := l.journal.Snapshot(l.machine.Save); l.lost() {
+					return false
+				} else if must || errors.Is(fault, svid.ErrFolderEnded) {
+					err = fault
+				}
+			}
+		}
+		if err != nil {
+			l.startsAgain(err)
+			return false
+		}
+		load.Size = l.journal.Size()
+	}
+	if l.step(load); load.Err != nil {
+		l.startsAgain(load.Err)
+		return false
+	}
+	l.w.tell("%v: has read its state folder", l.m)
+	return true
+}
+
+// step lets something happen to the machine, and does what is to be done then.
+func (l *life) step(event server.Event) {
+	if l.dead {
+		return
+	}
+	l.machine.Step(l.time(), event)
+	l.perform()
+}
+
+func (l *life) tick() {
+	if l.dead || l.w.now < l.armed {
+		return
+	}
+	l.armed = never
+	l.machine.Tick(l.time())
+	l.perform()
+}
+
+func (l *life) perform() {
+	for _, effect := range l.machine.Effects(nil) {
+		if l.m.effects > 0 {
+			if l.m.effects--; l.m.effects == 0 {
+				l.die(time.Second / 4)
+				return
+			}
+		}
+		if l.do(effect); l.dead {
+			return
+		}
+	}
+	if due := l.machine.Due(); due != never {
+		if at := l.born + due + l.m.delay(kindTick); at < l.armed {
+			l.armed = at
+			l.w.at(at, l.tick)
+		}
+	}
+}
+
+// do does what is to be done, at some time.
+func (l *life) do(effect server.Effect) {
+	w, m := l.w, l.m
+	switch effect := effect.(type) {
+	case server.Verify:
+		w.after(m.delay(kindVerify), func() {
+			if !l.dead {
+				a := l.asks[&effect.Call]
+				a.set, a.wall = l.set, m.wall()
+				effect.Yes, effect.Fault = w.pool.verify(l.set, a.token)
+				l.step(server.Verified(effect))
+			}
+		})
+	case server.Append:
+		at := w.now + m.delay(kindDisk)
+		if at < m.slow {
+			at = m.slow + time.Millisecond
+		}
+		w.at(at, func() { l.append(effect.Write) })
+	case server.Send:
+		l.send(effect.Put)
+	case server.Answer:
+		if a := l.asks[effect.Call]; a != nil {
+			delete(l.asks, effect.Call)
+			a.answered(effect.Err)
+		}
+	case server.Snapshot:
+		w.after(m.delay(kindDisk), l.snapshot)
+	case server.JumpedAhead:
+		l.end()
+	case server.Ended:
+		l.die(time.Second)
+	}
+}
+
+// append brings uses to the disk, or a mark.
+func (l *life) append(w *server.Write) {
+	if l.dead {
+		return
+	}
+	if len(w.Uses) == 0 {
+		w.Err = l.journal.AppendMark(context.Background())
+	} else {
+		w.Err = l.journal.AppendUses(context.Background(), w.Uses...)
+	}
+	if l.lost() {
+		return
+	}
+	w.Size = l.journal.Size()
+	if w.Err == nil {
+		for _, use := range w.Uses {
+			l.m.kept[use] = true
+		}
+	}
+	l.w.after(l.m.delay(kindTick), func() { l.step(server.Kept{Write: w}) })
+}
+
+func (l *life) snapshot() {
+	if l.dead || l.journal == nil {
+		return
+	}
+	err := l.journal.Snapshot(l.machine.Save)
+	if l.lost() {
+		return
+	}
+	l.w.tell("%v: snapshot: %v", l.m, err)
+	l.step(server.Snapshotted{Size: l.journal.Size(), Err: err})
+}
+
+// end lets the process end as a signal does.
+func (l *life) end() {
+	if !l.ending && !l.dead {
+		l.ending = true
+		l.w.tell("%v: is told to end", l.m)
+		l.step(server.Drain{})
+		l.step(server.End{})
+	}
+}
+
+// renew gives the validator other bundles.
+func (l *life) renew(set int) {
+	if l.dead {
+		return
+	}
+	l.machine.Step(l.time(), server.Renewing{})
+	err := l.validator.SetBundles(l.w.pool.bundles[set])
+	if err == nil {
+		l.set = set
+	}
+	l.step(server.Renewed{Domains: 1, Err: err})
+}
+
+// join joins the group, once its log is there.
+func (l *life) join() {
+	if l.dead || l.joined {
+		return
+	}
+	if l.w.log.away > l.w.now || l.m.cutOff() {
+		l.w.after(50*time.Millisecond, l.join)
+		return
+	}
+	l.joined = true
+	l.step(server.Joined{})
+	l.begin(false)
+}
+
+// begin lets the machine begin to read the log.
+func (l *life) begin(lost bool) {
+	s := l.w.log
+	l.position, l.ready, l.copies = s.first()-1, s.last, s.copies
+	missed := lost || l.position > s.gone || s.lost > l.w.now
+	l.missed = l.missed || missed
+	l.w.tell("%v: reads the log from behind %d on, up to %d, missed %v", l.m, l.position, s.last, missed)
+	l.beginning = &server.Begin{Log: carriers.Start{Passed: l.position, Ready: s.last, Missed: missed}}
+	l.beginOn()
+}
+
+// beginOn lets the machine begin, for as often as it wants that.
+func (l *life) beginOn() {
+	if l.step(l.beginning); l.dead {
+		return
+	}
+	if l.beginning.Again > 0 {
+		l.pumpSoon(l.beginning.Again)
+		return
+	}
+	l.beginning = nil
+	l.pumpSoon(0)
+}
+
+// pumpSoon lets the life read the log after a while, unless it does so before.
+func (l *life) pumpSoon(d time.Duration) {
+	if at := l.w.now + d; at < l.pumpAt {
+		l.pumpAt = at
+		l.w.at(at, l.pump)
+	}
+}
+
+// pump reads the next value.
+func (l *life) pump() {
+	if l.dead || l.w.now < l.pumpAt {
+		return
+	}
+	l.pumpAt = never
+	s := l.w.log
+	if !l.joined {
+		return
+	}
+	if l.beginning != nil {
+		l.beginOn()
+		return
+	}
+	if l.reading != nil {
+		l.readOn()
+		return
+	}
+	if s.away > l.w.now || l.m.cutOff() {
+		l.cut = true
+		l.pumpSoon(100 * time.Millisecond)
+		return
+	}
+	if l.cut || l.copies != s.copies {
+		l.cut = false
+		if l.copies != s.copies {
+			l.begin(true)
+			return
+		}
+	}
+	next := s.next(l.position)
+	if next == nil || next.position > l.position+1 {
+		before := s.last // values in front of the next one are gone
+		if next != nil {
+			before = next.position - 1
+		}
+		if before > l.position {
+			if l.position = before; before <= s.gone {
+				l.beginning = &server.Begin{Log: carriers.Start{Passed: before, Ready: s.last}}
+				l.beginOn()
+				return
+			}
+			l.missed = true
+		}
+	}
+	if next == nil {
+		l.catchUp()
+		return
+	}
+	l.position, l.read = next.position, *next
+	value := carriers.Value{Kind: next.kind, Position: next.position, Message: next.message}
+	if l.w.plan.mode == server.Strict {
+		l.reading = &server.Reading{Value: value}
+		l.readOn()
+		return
+	}
+	t := &server.Taking{Values: []carriers.Value{value}}
+	l.step(t)
+	l.took(t.Errs == nil)
+}
+
+// readOn reads the next uses of a value.
+func (l *life) readOn() {
+	r := l.reading
+	if l.step(r); l.dead {
+		return
+	}
+	if !r.Done {
+		l.pumpSoon(r.Again)
+		return
+	}
+	l.reading = nil
+	l.missed = l.missed || r.Aside == svid.ErrTooFar // (Its claims count, and are not in the record.)
+	l.took(r.Aside == nil)
+}
+
+// took: a value was taken.
+func (l *life) took(whole bool) {
+	if l.dead {
+		return
+	}
+	for _, use := range l.read.uses {
+		if use.Withdrawn && whole {
+			if _, is := l.heard[use.Key]; !is {
+				l.heard[use.Key] = l.w.now
+			}
+		}
+	}
+	l.catchUp()
+	l.pumpSoon(l.m.delay(kindTick) / 8)
+}
+
+// catchUp: the machine has all that the log had when it joined.
+func (l *life) catchUp() {
+	if l.caughtUp || l.position < l.ready {
+		return
+	}
+	l.caughtUp = true
+	l.step(server.CaughtUp{})
+	if !l.dead && l.w.plan.mode == server.Strict {
+		l.load()
+	}
+}

@@ -1,0 +1,422 @@
+package sim
+
+import (
+	"fmt"
+	"math/rand"
+	"sort"
+	"strings"
+	"time"
+
+	"svid.example/go/v2/carriers"
+	"svid.example/go/v2/internal/server"
+	"svid.example/go/v2/journal"
+	"svid.example/go/v2/svid"
+)
+
+// A plan is a group, and what happens to it from outside. What it leaves open, such as how long something takes, is drawn from
+// the seed, too.
+type plan struct {
+	seed    int64
+	mode    server.Mode
+	members int
+	disks   []bool
+	drifts  []float64
+	offsets []time.Duration
+	rough   int  // one of so many things takes very long
+	wild    bool // clocks are further off than the group's options say
+	lasts   time.Duration
+	deeds   []deed
+}
+
+// A deed is something that happens to a group.
+type deed struct {
+	at     time.Duration
+	kind   string
+	member int
+	number int // of what the kind says
+	length time.Duration
+}
+
+func (d deed) String() string {
+	return fmt.Sprintf("%12v  %s: member %d, %d, %v", d.at, d.kind, d.member, d.number, d.length)
+}
+
+func (p *plan) String() string {
+	lines := []string{fmt.Sprintf("seed %d, mode %s, %d members, disks %v, clocks %v %v, one of %d things is slow, for %v",
+		p.seed, p.mode, p.members, p.disks, p.offsets, p.drifts, p.rough, p.lasts)}
+	for _, d := range p.deeds {
+		lines = append(lines, d.String())
+	}
+	return strings.Join(lines, "\n")
+}
+
+// deeds are what may happen, and how often by comparison. Tokens are sent by each second deed.
+var deeds = []struct {
+	kind  string
+	often int
+}{
+	{"kill", 3}, {"kill within", 4}, {"lose power", 4}, {"end", 2}, {"set the clock", 3}, {"jump", 2}, {"renew", 5}, {"withdraw", 5}, {"log away", 3}, {"cut off", 3},
+	{"lag", 2}, {"lose answers", 6}, {"store again", 3}, {"remove", 1}, {"put back", 1}, {"garbage", 2}, {"claim", 2}, {"fail disk", 4},
+	{"slow disk", 4}, {"snapshot", 3}, {"resume", 1},
+}
+
+// planOf is the plan of a seed.
+func planOf(mode server.Mode, seed int64) *plan {
+	r := rand.New(&quick{uint64(seed)*2654435761 + uint64(len(mode))})
+	p := &plan{seed: seed, mode: mode, members: 1 + r.Intn(4), rough: []int{4, 20, 100, 1000}[r.Intn(4)], wild: r.Intn(4) == 0,
+		lasts: time.Duration(5+r.Intn(30)) * time.Second}
+	for i := 0; i < p.members; i++ {
+		p.disks = append(p.disks, mode == server.Once || r.Intn(3) > 0)
+		p.drifts = append(p.drifts, (r.Float64()-0.5)/500)
+		p.offsets = append(p.offsets, time.Duration(r.Intn(ahead*500))*time.Millisecond)
+	}
+	all := 0
+	for _, d := range deeds {
+		all += d.often
+	}
+	// Some runs have few kinds of trouble, so that one fault is not hidden by another.
+	trouble := 1 + r.Intn(3)
+	for n := 10 + r.Intn(60); n > 0; n-- {
+		d := deed{at: time.Duration(r.Int63n(int64(p.lasts))), member: r.Intn(p.members), number: r.Intn(1 << 20), length: time.Duration(r.Int63n(int64(6 * time.Second)))}
+		if d.kind = "send"; r.Intn(4) < trouble {
+			number := r.Intn(all)
+			for _, one := range deeds {
+				if number -= one.often; number < 0 {
+					d.kind = one.kind
+					break
+				}
+			}
+		}
+		p.deeds = append(p.deeds, d)
+	}
+	sort.SliceStable(p.deeds, func(i, k int) bool { return p.deeds[i].at < p.deeds[k].at })
+	return p
+}
+
+// run runs a plan, and says what happened that may not; "" for nothing.
+func (p *plan) run(trace func(format string, args ...any)) report {
+	w := &world{plan: p, pool: tokensOf(), trace: trace}
+	w.report.accepted, w.report.answers = map[svid.TokenKey][]acceptance{}, map[string]int{}
+	w.log = &logServer{w: w, ever: map[svid.Use]bool{}}
+	for i := 0; i < p.members; i++ {
+		m := &member{w: w, number: i, id: svid.ValidatorID{byte(i + 1)}, offset: p.offsets[i], drift: p.drifts[i],
+			kept: map[svid.Use]bool{}, withdrawn: map[svid.TokenKey]time.Duration{}}
+		if p.disks[i] {
+			m.disk = journal.NewModel(m.id)
+		}
+		w.members = append(w.members, m)
+	}
+	for _, m := range w.members {
+		w.after(time.Duration(m.number)*time.Millisecond, m.start)
+	}
+	w.after(3*time.Second, w.log.expire)
+	for _, d := range p.deeds {
+		d := d
+		w.at(time.Second/2+d.at, func() { w.do(d) })
+	}
+	w.run(p.lasts + time.Second)
+	w.heal()
+	for _, m := range w.members {
+		if m.life != nil {
+			m.life.die(0)
+		}
+	}
+	return w.report
+}
+
+// issued is a token that was issued by now, and not long ago.
+func (w *world) issued(number int) *token {
+	now := int(w.now / time.Second)
+	back := number % 4 // (few, so that a token comes often)
+	s := now/slot - back*back
+	if s < 0 {
+		s = 0
+	}
+	return w.pool.tokens[s%slots][number/4%eachSlot]
+}
+
+// do does a deed.
+func (w *world) do(d deed) {
+	m := w.members[d.member]
+	l := m.life
+	if d.kind != "send" {
+		w.tell("deed: %v", d)
+	}
+	r := w.chance(uint64(d.number), uint64(d.at))
+	switch d.kind {
+	case "send":
+		one := w.issued(d.number)
+		for n := 1 + r.Intn(6); n > 0; n-- {
+			to, gives := w.members[r.Intn(len(w.members))], time.Duration(0)
+			if r.Intn(8) == 0 {
+				gives = time.Duration(1 + r.Int63n(int64(wait)))
+			}
+			d := time.Duration(r.Int63n(int64(4 * time.Millisecond)))
+			if r.Intn(4) == 0 {
+				d = time.Duration(r.Int63n(int64(4 * time.Second)))
+			}
+			w.after(d, func() { to.ask(one, gives) })
+		}
+	case "kill":
+		if l != nil {
+			l.die(d.length / 2)
+		}
+	case "kill within": // a step: some of its effects are done, and others are not
+		m.effects = 1 + d.number%12
+	case "resume": // From here on tokens may be accepted twice, as the command says.
+		if l != nil && w.plan.mode == server.Strict && l.machine.Ready(l.time()) != nil {
+			w.resumed = true
+			l.step(&server.Resume{})
+		}
+	case "lose power":
+		if m.disk == nil {
+			if l != nil {
+				l.die(d.length / 2)
+			}
+		} else {
+			m.powerAt = 1 + d.number%30
+		}
+	case "end":
+		if l != nil {
+			l.end()
+		}
+	case "set the clock": // a little, and where it is wild, far
+		most := ahead * 1000 / 2
+		if w.plan.wild {
+			most = wildest * 1000
+		}
+		m.offset = time.Duration(d.number%most) * time.Millisecond
+	case "jump": // by so much that it is seen, and back
+		if before := m.offset; before < 1000*time.Second {
+			m.offset += 10000 * time.Second
+			w.after(10*d.length, func() {
+				if !w.healed {
+					m.offset = before
+				}
+			})
+		}
+	case "renew":
+		m.set = d.number % bundleSets
+		if d.number%7 < 5 {
+			m.set = d.number % 2
+		}
+		if l != nil {
+			l.renew(m.set)
+		}
+	case "withdraw":
+		m.withdraw(w.issued(d.number))
+	case "log away":
+		w.log.away = w.now + d.length
+	case "cut off":
+		m.apart = w.now + d.length
+	case "lag":
+		m.lag = d.length / 4
+	case "lose answers":
+		m.answersLost += 1 + d.number%3
+	case "store again": // what was stored is stored once more
+		if n := len(w.log.values); n > 0 {
+			v := w.log.values[n-1-d.number%n%5]
+			w.log.append(v.kind, v.message, v.uses)
+		}
+	case "remove":
+		w.log.remove(d.number)
+	case "put back":
+		w.log.putBack(d.number % 5)
+	case "garbage":
+		message := make([]byte, d.number%100)
+		r.Read(message)
+		w.log.append(carriers.Claims, message, nil)
+	case "claim": // by a member that lies
+		one := w.issued(d.number)
+		use := svid.Use{Key: one.key, Expires: one.expires, At: w.wall() + uint64(d.number%3)*ahead, ValidatorID: svid.ValidatorID{byte(200 + d.number%2)}}
+		w.log.claim(use, []svid.Use{use})
+	case "fail disk":
+		m.faulty += 1 + d.number%3
+	case "slow disk":
+		m.slow = w.now + d.length
+	case "snapshot":
+		if l != nil {
+			w.after(m.delay(kindDisk), l.snapshot)
+		}
+	}
+}
+
+// heal ends all faults, and looks whether all is well then.
+func (w *world) heal() {
+	if w.report.failure != "" {
+		return
+	}
+	w.healed = true
+	w.tell("all faults end")
+	w.log.away = 0
+	last := svid.Use{Key: svid.TokenKey{0xff}, Expires: w.wall() + 1, At: w.wall(), ValidatorID: svid.ValidatorID{200}}
+	w.log.claim(last, nil) // Who has missed the value in front of it hears so now.
+	for _, m := range w.members {
+		m.offset, m.drift, m.slow, m.faulty, m.powerAt, m.effects, m.apart, m.answersLost, m.lag = 0, 0, 0, 0, 0, 0, 0, 0, 0
+		m.set = 0
+		if l := m.life; l != nil {
+			if l.renew(0); l.diskFaults { // as someone does who has mended the disk
+				l.die(0)
+			}
+		}
+	}
+	// Behind the longest wait for what is under way, and the times by which clocks were off.
+	w.run(w.now + 8*time.Second)
+	if w.plan.wild {
+		w.run(w.now + wildest*time.Second)
+	}
+	if w.report.failure != "" {
+		return
+	}
+	w.repair()
+	w.wantEqual()
+	// Behind the time for which a sidecar accepts nothing that has missed values, and one for which a clock was wrong.
+	w.run(w.now + keeps + 12*time.Second)
+	if w.report.failure != "" {
+		return
+	}
+	for _, m := range w.members {
+		if m.life == nil {
+			w.fail("%v: is not up, though no fault is left", m)
+			return
+		}
+		if err := m.life.machine.Ready(m.life.time()); err != nil {
+			w.fail("%v: is not ready, though no fault is left: %v", m, err)
+			return
+		}
+	}
+	w.wantFresh()
+	for _, m := range w.members {
+		if n := m.life.machine.Backlog(); n != 0 && w.report.failure == "" {
+			w.fail("%v: %d things are under way, though nothing happens", m, n)
+		}
+	}
+}
+
+// repair lets the members of mode once send summaries to each other, and take the answers.
+func (w *world) repair() {
+	if w.plan.mode == server.Strict {
+		return
+	}
+	for round := 0; round < 2; round++ {
+		for _, asking := range w.members {
+			for _, asked := range w.members {
+				if asking == asked || asking.life == nil || asked.life == nil {
+					continue
+				}
+				summary, err := asking.life.machine.Summary()
+				if err == nil {
+					summary, err = asked.life.machine.Answer(asked.life.time(), summary)
+				}
+				if err != nil {
+					w.fail("%v asks %v for what it has: %v", asking, asked, err)
+					return
+				}
+				t := &server.Taking{Values: []carriers.Value{{Kind: carriers.Answer, Message: summary}}}
+				asking.life.step(t)
+				w.tell("%v takes %d bytes of %v: %v", asking, len(summary), asked, t.Errs)
+			}
+		}
+	}
+}
+
+// A list takes what a record saves.
+type list struct{ messages []byte }
+
+func (l *list) Write(b []byte) (int, error) {
+	l.messages = append(l.messages, b...)
+	return len(b), nil
+}
+
+// wantEqual wants the records of all members to be equal, of those that have read all.
+func (w *world) wantEqual() {
+	var moment uint64
+	records := map[*member][]svid.Use{}
+	for _, m := range w.members {
+		l := m.life
+		if l == nil || l.missed || !l.caughtUp && len(w.members) > 1 {
+			continue
+		}
+		l.machine.Tick(l.time())
+		l.perform()
+		var saved list
+		if err := l.machine.Save(&saved); err != nil {
+			w.fail("%v: %v", m, err)
+			return
+		}
+		uses, err := svid.Uses(saved.messages)
+		if err != nil {
+			w.fail("%v: %v", m, err)
+			return
+		}
+		size, err := l.validator.Size()
+		if err != nil {
+			w.fail("%v: %v", m, err)
+			return
+		}
+		if records[m] = uses; size.Moment > moment {
+			moment = size.Moment
+		}
+	}
+	// Mode strict has no summaries: a withdrawal may be in one record alone, if the answer was that the group does not know it. And
+	// no record takes a claim that it reads behind a withdrawal.
+	untold, withdrawn := map[svid.Use]bool{}, map[svid.TokenKey]bool{}
+	for _, use := range w.report.withdrawals {
+		if w.plan.mode == server.Strict {
+			untold[use], withdrawn[use.Key] = !w.log.ever[use], true
+		}
+	}
+	var first map[svid.Use]bool
+	var whose *member
+	for _, m := range w.members {
+		uses, is := records[m]
+		if !is {
+			continue
+		}
+		live := map[svid.Use]bool{}
+		for _, use := range uses {
+			// (A summary leaves out what expires soon.)
+			if use.Expires > moment+ahead && use.ValidatorID[0] < 200 && !untold[use] && (use.Withdrawn || !withdrawn[use.Key]) {
+				live[use] = true
+			}
+		}
+		if first == nil {
+			first, whose = live, m
+			continue
+		}
+		for use := range live {
+			if !first[use] {
+				w.fail("%v has %s, and %v has not", m, names(w, []svid.Use{use}), whose)
+				return
+			}
+		}
+		if len(live) != len(first) {
+			w.fail("%v has %d uses, and %v %d", m, len(live), whose, len(first))
+			return
+		}
+	}
+}
+
+// wantFresh wants fresh tokens to be accepted by each member.
+func (w *world) wantFresh() {
+	now := int(w.now/time.Second) / slot
+	for i, m := range w.members {
+		one := w.pool.tokens[now%slots][4+i%2*2] // of issuer 0
+		if i >= 2 {
+			one = w.pool.tokens[(now-1)%slots][4+i%2*2]
+		}
+		a := m.ask(one, 0)
+		w.run(w.now + 3*time.Second)
+		if w.report.failure != "" {
+			return
+		}
+		if a == nil || !a.done {
+			w.fail("%v: is not up, though no fault is left", m)
+			return
+		}
+		if a.request.Err != nil {
+			w.fail("%v: %s is not accepted, though no fault is left: %v", m, w.name(one), a.request.Err)
+			return
+		}
+	}
+}

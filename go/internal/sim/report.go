@@ -1,0 +1,216 @@
+package sim
+
+import (
+	"errors"
+	"fmt"
+	"strings"
+	"time"
+
+	"svid.example/go/v2/internal/server"
+	"svid.example/go/v2/svid"
+)
+
+// A report is what is said about a run.
+type report struct {
+	failure  string // what happened that may not; "" for nothing
+	kind     string // of that
+	accepted map[svid.TokenKey][]acceptance
+	answers  map[string]int // how often each answer was given
+
+	withdrawals []svid.Use
+}
+
+// An acceptance is a 200.
+type acceptance struct {
+	by *member
+	at time.Duration
+}
+
+// fail says what happened that may not. The first time counts.
+func (w *world) fail(format string, args ...any) {
+	if w.report.failure == "" {
+		w.report.failure, w.report.kind = fmt.Sprintf(format, args...), format
+		w.tell("FAILURE: %s", w.report.failure)
+	}
+}
+
+// An ask is a request of a client, or a withdrawal.
+type ask struct {
+	l         *life
+	token     *token
+	request   *server.Request
+	withdraw  *server.Withdraw
+	at        time.Duration
+	set       int    // of the bundles by which it was verified
+	wall      uint64 // what the clock showed then
+	withdrawn bool   // it was withdrawn there before
+	done      bool
+	gone      bool // the client went away
+}
+
+// most is how long a request may take: the verification, the pause before its claim goes out, and the wait; and all that ticks
+// is late by some milliseconds.
+const most = wait + 50*time.Millisecond
+
+// name is how a token is called.
+func (w *world) name(one *token) string {
+	return fmt.Sprintf("token %x of issuer %d (until %+d)", one.key[:3], one.issuer, int64(one.expires)-base)
+}
+
+func names(w *world, uses []svid.Use) string {
+	var all []string
+	for _, use := range uses {
+		what := "use"
+		if use.Withdrawn {
+			what = "withdrawal"
+		}
+		all = append(all, fmt.Sprintf("%s of %x by %d at %+d", what, use.Key[:3], use.ValidatorID[0], int64(use.At)-base))
+	}
+	return strings.Join(all, ", ")
+}
+
+// ask lets a client send a token to a member. It goes away after a while, if that is more than 0.
+func (m *member) ask(one *token, gives time.Duration) *ask {
+	l := m.life
+	if l == nil || l.ending {
+		return nil
+	}
+	a := &ask{l: l, token: one, at: m.w.now, request: server.NewRequest(m.w.plan.mode, one.text)}
+	_, a.withdrawn = m.withdrawn[one.key]
+	if _, heard := l.heard[one.key]; heard {
+		a.withdrawn = true
+	}
+	l.asks[&a.request.Call] = a
+	m.w.tell("%v: is asked about %s", m, m.w.name(one))
+	l.step(a.request)
+	if gives > 0 && m.w.plan.mode == server.Strict {
+		m.w.after(gives, func() {
+			if !l.dead && !a.done {
+				a.gone = true
+				l.step(server.Gone{Request: a.request, Why: errors.New("the client has gone away")})
+			}
+		})
+	}
+	m.w.after(most, func() {
+		if !l.dead && !a.done {
+			m.w.fail("%v: no answer within %v about %s", m, most, m.w.name(one))
+		}
+	})
+	return a
+}
+
+// withdraw withdraws a token at a member.
+func (m *member) withdraw(one *token) {
+	l := m.life
+	if l == nil || l.ending {
+		return
+	}
+	a := &ask{l: l, token: one, at: m.w.now, withdraw: &server.Withdraw{Key: one.key, Expires: one.expires}}
+	l.asks[&a.withdraw.Call] = a
+	m.w.tell("%v: is to withdraw %s", m, m.w.name(one))
+	l.step(a.withdraw)
+	if use := a.withdraw.Use; use != (svid.Use{}) { // (from here on no token is accepted that comes later)
+		m.w.report.withdrawals = append(m.w.report.withdrawals, use)
+		if _, is := l.heard[use.Key]; !is {
+			l.heard[use.Key] = m.w.now
+		}
+	}
+	m.w.after(2*most, func() {
+		if !l.dead && !a.done {
+			m.w.fail("%v: no answer to a withdrawal", m)
+		}
+	})
+}
+
+// answered looks at an answer.
+func (a *ask) answered(err error) {
+	w, m := a.l.w, a.l.m
+	a.done = true
+	if a.withdraw != nil {
+		w.tell("%v: withdrawn %s: %v", m, w.name(a.token), err)
+		if err == nil {
+			m.withdrawn[a.token.key] = w.now
+			if m.disk != nil && !m.kept[a.withdraw.Use] {
+				w.fail("%v: a withdrawal is done that is not on the disk", m)
+			}
+			if w.plan.mode == server.Strict && !w.log.ever[a.withdraw.Use] {
+				w.fail("%v: a withdrawal is done that is not in the log", m)
+			}
+			// (Without a disk, a member has it for as long as it lives, or the log has it.)
+		}
+		return
+	}
+	w.tell("%v: answers %s: %v", m, w.name(a.token), err)
+	if d := w.now - a.at; d > most {
+		w.fail("%v: an answer took %v: %v", m, d, err)
+	}
+	if err != nil {
+		w.report.answers[word(err)]++
+		return
+	}
+	w.report.answers["accepted"]++
+	a.accepted()
+}
+
+// word is an answer in a word.
+func word(err error) string {
+	var refusal svid.Refusal
+	switch {
+	case errors.As(err, &refusal):
+		return refusal.String()
+	case errors.Is(err, server.ErrNotReady):
+		return "not ready"
+	case errors.Is(err, server.ErrMissed):
+		return "missed"
+	case errors.Is(err, svid.ErrJump):
+		return "jump"
+	}
+	return "unavailable"
+}
+
+// accepted looks at a 200.
+func (a *ask) accepted() {
+	l, w, m := a.l, a.l.w, a.l.m
+	one, got := a.token, a.request.Accepted
+	if got.ID != "spiffe://example.org/web" || got.Use.Key != one.key || got.Use.Expires != one.expires || got.Use.ValidatorID != m.id {
+		w.fail("%v: another token was accepted: %+v", m, got)
+	}
+	set := a.set
+	if w.plan.mode == server.Strict || a.wall == 0 { // (judged again as its claim was read, or by an answer that was kept)
+		set = l.set
+	}
+	if set != one.issuer {
+		w.fail("%v: %s is accepted by the keys of another issuer", m, w.name(one))
+	}
+	if a.wall >= one.expires {
+		w.fail("%v: %s is accepted, and has expired", m, w.name(one))
+	}
+	if a.withdrawn {
+		w.fail("%v: %s is accepted behind its withdrawal", m, w.name(one))
+	}
+	before := w.report.accepted[one.key]
+	for _, other := range before {
+		switch w.plan.mode {
+		case server.Strict:
+			if w.resumed {
+				continue
+			}
+			w.fail("%s is accepted by %v at %v and by %v", w.name(one), other.by, other.at, m)
+		case server.Once:
+			if other.by == m {
+				w.fail("%s is accepted twice by %v, before at %v", w.name(one), m, other.at)
+			}
+		}
+	}
+	w.report.accepted[one.key] = append(before, acceptance{m, w.now})
+	switch w.plan.mode {
+	case server.Strict:
+		if !w.log.ever[got.Use] {
+			w.fail("%v: %s is accepted, and the log does not have its claim", m, w.name(one))
+		}
+	case server.Once:
+		if m.disk != nil && !m.kept[got.Use] {
+			w.fail("%v: %s is accepted, and the disk does not have its use", m, w.name(one))
+		}
+	}
+}

@@ -1,0 +1,61 @@
+package journal
+
+import (
+	"errors"
+	"os"
+
+	"svid.example/go/v2/svid"
+)
+
+// A Report is what a state folder holds.
+type Report struct {
+	ValidatorID svid.ValidatorID
+	HasID       bool      // the folder has a validator ID
+	Log         svid.Mark // where the validator was in its log, as the last payload says that bears it
+	InLog       bool      // one does
+	Files       []*File   // the snapshot, if there is one, and the journals by rising number
+	// Fault is why a start would refuse the folder: the first damage (svid.ErrDamaged), another format (*svid.FormatError), or a
+	// validator ID that is missing.
+	Fault error
+}
+
+// mostTries is how often a folder is read whose files go meanwhile.
+const mostTries = 10
+
+// Check reads a state folder and changes nothing. A process may have the folder open: what it was writing at that moment
+// counts as torn.
+func Check(dir string) (*Report, error) {
+	return check(&folder{dir: dir}, dir)
+}
+
+func check(sys system, dir string) (*Report, error) {
+	var before *contents
+	for try := 1; ; try++ {
+		found, err := readAll(sys, nil)
+		if try < mostTries && errors.Is(err, os.ErrNotExist) {
+			continue // A journal went behind the listing: a snapshot has taken its place.
+		}
+		if err != nil {
+			return nil, err
+		}
+		r := &Report{ValidatorID: found.id, HasID: found.hasID, Log: found.mark, InLog: found.isMarked, Files: found.files, Fault: found.fault(dir)}
+		// A file that grows while it is read can look damaged. Damage stays where it is.
+		if try == mostTries || !errors.Is(r.Fault, svid.ErrDamaged) || before != nil && sameFaults(before, found) {
+			return r, nil
+		}
+		before = found
+	}
+}
+
+// sameFaults says whether the files of two readings end at the same offsets for the same reasons.
+func sameFaults(a, b *contents) bool {
+	if len(a.files) != len(b.files) {
+		return false
+	}
+	for i, f := range a.files {
+		if g := b.files[i]; f.Name != g.Name || f.At != g.At || f.Fault != g.Fault {
+			return false
+		}
+	}
+	return true
+}

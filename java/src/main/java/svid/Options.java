@@ -1,0 +1,181 @@
+package svid;
+
+import java.nio.ByteBuffer;
+import java.nio.CharBuffer;
+import java.nio.charset.CharacterCodingException;
+import java.nio.charset.StandardCharsets;
+import java.security.SecureRandom;
+import java.time.Clock;
+import java.time.Duration;
+import java.util.Arrays;
+import java.util.Collection;
+import java.util.List;
+
+/**
+ * What a validator is given for its whole life. Each method gives new options, and leaves these as they are.
+ *
+ * <pre>{@code
+ * Options options = Options.audiences("ledger").longest(Duration.ofHours(1)).step(Duration.ofDays(7));
+ * }</pre>
+ */
+public final class Options {
+    /** The number of seconds that stands for no limit. */
+    static final long ANY = -1;
+
+    private static final int ID_LEN = 16;
+
+    private List<byte[]> audiences;
+    private long longest = ANY;
+    private long ahead = 10;
+    private long step = ANY;
+    private byte[] validatorId;
+    private int rsaBits = Library.USUAL_RSA_BITS;
+    private Clock clock = Clock.systemUTC();
+
+    private Options() {}
+
+    private Options(Options from) {
+        audiences = from.audiences;
+        longest = from.longest;
+        ahead = from.ahead;
+        step = from.step;
+        validatorId = from.validatorId;
+        rsaBits = from.rsaBits;
+        clock = from.clock;
+    }
+
+    /** Options of a validator with these audiences: this service's own names. A token is for it if one of them is in {@code aud}. */
+    public static Options audiences(String... audiences) {
+        return audiences(Arrays.asList(audiences));
+    }
+
+    /** Options of a validator with these audiences. */
+    public static Options audiences(Collection<String> audiences) {
+        Options made = new Options();
+        made.audiences = audiences.stream().map(it -> utf8("an audience", it)).toList();
+        return made;
+    }
+
+    /**
+     * A token that expires more than so long past the record's moment is refused as {@code TooLongLived}. Without it there is no limit. It
+     * bounds how long a use stays in the record.
+     */
+    public Options longest(Duration limit) {
+        return longest(secondsOf(limit));
+    }
+
+    Options longest(long seconds) {
+        Options made = new Options(this);
+        made.longest = seconds;
+        return made;
+    }
+
+    /** How far the moment of a message may lie past the clock: a little more than clocks differ. Without it, ten seconds. */
+    public Options ahead(Duration limit) {
+        return ahead(secondsOf(limit));
+    }
+
+    Options ahead(long seconds) {
+        Options made = new Options(this);
+        made.ahead = seconds;
+        return made;
+    }
+
+    /**
+     * A clock more than so far past the record's moment makes calls throw {@link SvidException.Jump}, so that a wrong clock does not expire
+     * the record. Without it there is no limit. Set it to more than the longest time without a call.
+     */
+    public Options step(Duration limit) {
+        return step(secondsOf(limit));
+    }
+
+    Options step(long seconds) {
+        Options made = new Options(this);
+        made.step = seconds;
+        return made;
+    }
+
+    /**
+     * The 16 bytes that name this validator among all that share its record. Without them it takes random ones. Two validators of one ID
+     * accept a token twice.
+     */
+    public Options validatorId(byte[] id) {
+        if (id.length != ID_LEN) {
+            throw new IllegalArgumentException("a validator ID has 16 bytes, and not " + id.length);
+        }
+        Options made = new Options(this);
+        made.validatorId = id.clone();
+        return made;
+    }
+
+    /**
+     * How many bits an RSA key may have: without this 4,096, and never more than 16,384. A longer one made no signature. Each verification
+     * by a long key costs more, and a stranger may ask for it.
+     */
+    public Options rsaBits(int most) {
+        if (most < 0) {
+            throw new IllegalArgumentException("an RSA key has no negative number of bits: " + most);
+        }
+        Options made = new Options(this);
+        made.rsaBits = most;
+        return made;
+    }
+
+    /** The clock that tokens are judged by. Without it, that of the system. */
+    public Options clock(Clock other) {
+        Options made = new Options(this);
+        made.clock = java.util.Objects.requireNonNull(other);
+        return made;
+    }
+
+    List<byte[]> audiences() {
+        return audiences;
+    }
+
+    long longest() {
+        return longest;
+    }
+
+    long ahead() {
+        return ahead;
+    }
+
+    long step() {
+        return step;
+    }
+
+    int rsaBits() {
+        return rsaBits;
+    }
+
+    Clock clock() {
+        return clock;
+    }
+
+    /** The ID that was given, or a new one. */
+    byte[] idOrRandom() {
+        if (validatorId != null) {
+            return validatorId;
+        }
+        byte[] random = new byte[ID_LEN];
+        new SecureRandom().nextBytes(random);
+        return random;
+    }
+
+    private static long secondsOf(Duration limit) {
+        if (limit.isNegative()) {
+            throw new IllegalArgumentException("a limit is not negative: " + limit);
+        }
+        return limit.toSeconds();
+    }
+
+    /** A text of the service's own as UTF-8. */
+    static byte[] utf8(String what, String text) {
+        try {
+            ByteBuffer bytes = StandardCharsets.UTF_8.newEncoder().encode(CharBuffer.wrap(text));
+            return Arrays.copyOf(bytes.array(), bytes.limit());
+        } catch (CharacterCodingException why) {
+            throw new IllegalArgumentException(what + " is no Unicode text: it has one half of a surrogate pair", why);
+        }
+    }
+}

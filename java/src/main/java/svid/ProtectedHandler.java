@@ -1,0 +1,75 @@
+package svid;
+
+import com.sun.net.httpserver.HttpExchange;
+import com.sun.net.httpserver.HttpHandler;
+import java.io.IOException;
+import java.util.Collection;
+import java.util.List;
+import java.util.Objects;
+
+/**
+ * A handler for {@code com.sun.net.httpserver} that lets in requests with a good token, once each, and answers all others: with status 401
+ * or 403 as
+ * {@link Denied} says, and with 503 where there is no answer about the token. It logs the reason of a 503 to the system's logger "svid".
+ */
+public final class ProtectedHandler implements HttpHandler {
+    private static final System.Logger LOGGER = System.getLogger("svid");
+    private static final int UNAVAILABLE = 503;
+    private static final int NO_BODY = -1;
+
+    private final Validator validator;
+    private final Handler handler;
+    private final Collection<IdPattern> callers; // null for all
+
+    /** What the service does for a request that was let in. The exchange is closed behind it. */
+    public interface Handler {
+        /** Answers the request. */
+        void handle(HttpExchange exchange, Admission admission) throws IOException;
+    }
+
+    /** Lets in each caller with a good token. */
+    public ProtectedHandler(Validator validator, Handler handler) {
+        this.validator = Objects.requireNonNull(validator);
+        this.callers = null;
+        this.handler = Objects.requireNonNull(handler);
+    }
+
+    /**
+     * Lets in the callers whose ID one of the patterns allows. Another one gets status 403, and its token is not used up.
+     *
+     * @throws IllegalArgumentException where the list is empty: the other constructor lets all in
+     */
+    public ProtectedHandler(Validator validator, Collection<IdPattern> callers, Handler handler) {
+        this.validator = Objects.requireNonNull(validator);
+        this.callers = List.copyOf(callers);
+        if (this.callers.isEmpty()) {
+            throw new IllegalArgumentException("callers is empty: name who may call, or leave the list out to let all call");
+        }
+        this.handler = Objects.requireNonNull(handler);
+    }
+
+    @Override
+    public void handle(HttpExchange exchange) throws IOException {
+        try (exchange) {
+            Admission admission = admitted(exchange);
+            if (admission != null) {
+                handler.handle(exchange, admission);
+            }
+        }
+    }
+
+    /** Lets the request in, or answers it and gives null. */
+    private Admission admitted(HttpExchange exchange) throws IOException {
+        try {
+            List<String> values = exchange.getRequestHeaders().get("Authorization");
+            return callers == null ? validator.admit(values) : validator.admit(values, callers);
+        } catch (Denied why) {
+            exchange.getResponseHeaders().set("WWW-Authenticate", why.challenge());
+            exchange.sendResponseHeaders(why.status(), NO_BODY);
+        } catch (SvidException why) {
+            LOGGER.log(System.Logger.Level.WARNING, "no answer about a token", why);
+            exchange.sendResponseHeaders(UNAVAILABLE, NO_BODY);
+        }
+        return null;
+    }
+}

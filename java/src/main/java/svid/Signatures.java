@@ -1,0 +1,181 @@
+package svid;
+
+import com.sun.jna.Pointer;
+import java.nio.ByteBuffer;
+import java.nio.charset.StandardCharsets;
+import java.security.GeneralSecurityException;
+import java.security.InvalidKeyException;
+import java.security.KeyFactory;
+import java.security.ProviderException;
+import java.security.PublicKey;
+import java.security.Signature;
+import java.security.SignatureException;
+import java.security.interfaces.RSAKey;
+import java.security.spec.InvalidKeySpecException;
+import java.security.spec.MGF1ParameterSpec;
+import java.security.spec.PSSParameterSpec;
+import java.security.spec.X509EncodedKeySpec;
+import java.util.Map;
+import java.util.Optional;
+import java.util.concurrent.ConcurrentHashMap;
+
+/**
+ * Verifies signatures by java.security. The library says which keys may have made one, and writes each as SubjectPublicKeyInfo; this
+ * answers whether it did. It keeps the keys that it has read.
+ */
+final class Signatures {
+    private static final int QUESTION = 32;
+    private static final int MOST_KEYS = 4096;
+    private static final long USUAL = 1024;
+
+    private final int mostBits;
+    private final Map<String, Optional<PublicKey>> keys = new ConcurrentHashMap<>();
+
+    Signatures(int mostBits) {
+        this.mostBits = mostBits;
+    }
+
+    /** The question of the key that made a signature, if one did; else why it is not known of one whether it did, if that is so. */
+    record Found(byte[] question, SvidException.Unverifiable unknown) {
+        static final Found NONE = new Found(null, null);
+    }
+
+    /** Drops the keys of bundles that were replaced. */
+    void forget() {
+        keys.clear();
+    }
+
+    /** Which of the keys made the token's signature. Rows are those of {@code svid_validator_ask}. */
+    Found find(Room room, byte[] rows, Pointer token, byte[] tokenBytes) {
+        Told told = new Told(room);
+        Pointer over = room.take(Library.Signed.SIZE);
+        Written signature = Written.by(
+                room, told, USUAL, (out, outLen) -> Library.svid_token_signature(token, tokenBytes.length, over, out, outLen, told.at));
+        if (Refusal.Reason.of(signature.status()) != null) {
+            return Found.NONE;
+        }
+        told.must(signature.status());
+        int signed = (int) over.getLong(Library.Signed.LEN);
+        SvidException.Unverifiable unknown = null;
+        for (ByteBuffer rest = ByteBuffer.wrap(rows); rest.hasRemaining();) {
+            byte[] question = next(rest, QUESTION);
+            String algorithm = new String(next(rest, rest.getInt()), StandardCharsets.UTF_8);
+            byte[] jwk = next(rest, rest.getInt());
+            try {
+                if (isMadeBy(algorithm, jwk, tokenBytes, signed, signature.bytes())) {
+                    return new Found(question, null);
+                }
+            } catch (GeneralSecurityException | ProviderException why) {
+                unknown = new SvidException.Unverifiable(why);
+            }
+        }
+        return new Found(null, unknown);
+    }
+
+    private static byte[] next(ByteBuffer rest, int len) {
+        byte[] bytes = new byte[len];
+        rest.get(bytes);
+        return bytes;
+    }
+
+    /** Whether the key made the signature of the token's first bytes. */
+    private boolean isMadeBy(String name, byte[] jwk, byte[] token, int signed, byte[] signature) throws GeneralSecurityException {
+        Algorithm algorithm = Algorithm.valueOf(name);
+        PublicKey key = key(algorithm, jwk).orElse(null);
+        if (key == null || signature.length != algorithm.lengthBy(key)) {
+            return false;
+        }
+        Signature verifier = Signature.getInstance(algorithm.signature);
+        if (algorithm.pss != null) {
+            verifier.setParameter(algorithm.pss);
+        }
+        try {
+            verifier.initVerify(key);
+            verifier.update(token, 0, signed);
+            return verifier.verify(signature);
+        } catch (InvalidKeyException | SignatureException why) {
+            return false;
+        }
+    }
+
+    /** A key as java.security has it, or none where it can't be used with the algorithm. */
+    private Optional<PublicKey> key(Algorithm algorithm, byte[] jwk) throws GeneralSecurityException {
+        String name = algorithm + " " + new String(jwk, StandardCharsets.UTF_8);
+        Optional<PublicKey> kept = keys.get(name);
+        if (kept != null) {
+            return kept;
+        }
+        Optional<PublicKey> read = read(algorithm, jwk);
+        if (keys.size() >= MOST_KEYS) {
+            keys.clear();
+        }
+        keys.put(name, read);
+        return read;
+    }
+
+    private Optional<PublicKey> read(Algorithm algorithm, byte[] jwk) throws GeneralSecurityException {
+        byte[] spki;
+        try (Room room = new Room()) {
+            Told told = new Told(room);
+            byte[] name = algorithm.name().getBytes(StandardCharsets.UTF_8);
+            Pointer key = room.put(jwk);
+            Pointer alg = room.put(name);
+            Written written = Written.by(room, told, Library.SPKI_ROOM,
+                    (out, outLen) -> Library.svid_key_spki(key, jwk.length, alg, name.length, mostBits, out, outLen, told.at));
+            Status status = Status.of(written.status());
+            if (status != null && status.isFrom(Status.NO_ALGORITHM, Status.KEY_Y)) {
+                return Optional.empty();
+            }
+            told.must(written.status());
+            spki = written.bytes();
+        }
+        try {
+            return Optional.of(KeyFactory.getInstance(algorithm.keys).generatePublic(new X509EncodedKeySpec(spki)));
+        } catch (InvalidKeySpecException why) {
+            // (a point that is not on its curve)
+            return Optional.empty();
+        }
+    }
+
+    /** The algorithms of a token, as java.security names them. */
+    private enum Algorithm {
+        // clang-format off
+        // lists:begin algorithms (written by tools/lists from lists/algorithms.toml)
+        RS256("RSA", "SHA256withRSA", "", 0),
+        RS384("RSA", "SHA384withRSA", "", 0),
+        RS512("RSA", "SHA512withRSA", "", 0),
+        ES256("EC", "SHA256withECDSAinP1363Format", "", 32),
+        ES384("EC", "SHA384withECDSAinP1363Format", "", 48),
+        ES512("EC", "SHA512withECDSAinP1363Format", "", 66),
+        PS256("RSA", "RSASSA-PSS", "SHA-256", 0),
+        PS384("RSA", "RSASSA-PSS", "SHA-384", 0),
+        PS512("RSA", "RSASSA-PSS", "SHA-512", 0);
+        // lists:end
+        // clang-format on
+
+        private final String keys;
+        private final String signature;
+        private final PSSParameterSpec pss;
+        private final int half;
+
+        /**
+         * The last two are the hash of RSASSA-PSS, whose salt is as long (RFC 7518, section 3.5), and how many bytes each half of an EC
+         * signature has.
+         */
+        Algorithm(String keys, String signature, String hash, int half) {
+            this.keys = keys;
+            this.signature = signature;
+            this.pss = hash.isEmpty() ? null : new PSSParameterSpec(hash, "MGF1", new MGF1ParameterSpec(hash), saltOf(hash), 1);
+            this.half = half;
+        }
+
+        private static int saltOf(String hash) {
+            return Integer.parseInt(hash.substring("SHA-".length())) / 8;
+        }
+
+        /** How many bytes a signature by the key has (RFC 8017, section 8; RFC 7518, section 3.4). A provider may take others. */
+        int lengthBy(PublicKey key) {
+            return key instanceof RSAKey rsa ? (rsa.getModulus().bitLength() + 7) / 8 : 2 * half;
+        }
+    }
+}

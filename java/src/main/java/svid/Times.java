@@ -1,0 +1,31 @@
+package svid;
+
+import java.time.Clock;
+import java.time.Instant;
+
+/** Times as the library has them, in whole seconds of 64 bits without a sign, and as Java has them. */
+final class Times {
+    private Times() {}
+
+    static long now(Clock clock) {
+        long seconds = clock.instant().getEpochSecond();
+        if (seconds < 0) {
+            throw new SvidException.NoClock();
+        }
+        return seconds;
+    }
+
+    /** A time as an instant. What lies behind the last one is the last one. */
+    static Instant instantOf(long seconds) {
+        boolean isBehind = Long.compareUnsigned(seconds, Instant.MAX.getEpochSecond()) >= 0;
+        return isBehind ? Instant.MAX : Instant.ofEpochSecond(seconds);
+    }
+
+    /** An expiry in seconds: the last instant stands for whatever lies behind it. */
+    static long expiryOf(Instant instant) {
+        if (instant.equals(Instant.MAX)) {
+            return -1;
+        }
+        return Math.max(0, instant.getEpochSecond());
+    }
+}

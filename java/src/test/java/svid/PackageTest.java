@@ -1,0 +1,246 @@
+package svid;
+
+import static org.junit.Assert.assertArrayEquals;
+import static org.junit.Assert.assertEquals;
+import static org.junit.Assert.assertThrows;
+import static org.junit.Assert.assertTrue;
+
+import com.sun.net.httpserver.HttpServer;
+import java.io.BufferedReader;
+import java.io.File;
+import java.io.IOException;
+import java.io.InputStream;
+import java.net.HttpURLConnection;
+import java.net.InetAddress;
+import java.net.InetSocketAddress;
+import java.net.Socket;
+import java.net.URL;
+import java.nio.charset.StandardCharsets;
+import java.nio.file.Files;
+import java.nio.file.Path;
+import java.util.ArrayList;
+import java.util.List;
+import java.util.jar.JarFile;
+import java.util.regex.Matcher;
+import java.util.regex.Pattern;
+import java.util.stream.Stream;
+import javax.tools.ToolProvider;
+import javax.xml.parsers.DocumentBuilderFactory;
+import org.junit.BeforeClass;
+import org.junit.ClassRule;
+import org.junit.Test;
+import org.junit.rules.TemporaryFolder;
+import org.w3c.dom.Element;
+
+/** The jar by itself, and what README.md shows. */
+public class PackageTest {
+    private static final int MOST_LINES = 15;
+    private static final String JNA = "/usr/share/java/jna.jar";
+
+    @ClassRule public static final TemporaryFolder ROOM = new TemporaryFolder();
+
+    private static Path jar;
+
+    @BeforeClass
+    public static void build() throws Exception {
+        jar = built("first");
+    }
+
+    private static Path built(String name) throws Exception {
+        File folder = ROOM.newFolder(name);
+        return Path.of(HeaderTest.ran("bash", Vectors.JAVA + "/build", folder.toString()).strip());
+    }
+
+    /** The blocks of README.md in this language. */
+    private static List<String> blocks(String language) {
+        Matcher matcher = Pattern.compile("(?ms)^```" + language + "\n(.*?)^```$").matcher(Vectors.text(Vectors.JAVA.resolve("README.md")));
+        return matcher.results().map(it -> it.group(1)).toList();
+    }
+
+    /** Compiles the program of a block against the jar, in a folder of its own, and gives the command that runs it. */
+    private static ProcessBuilder program(int block) throws Exception {
+        String source = blocks("java").get(block);
+        Matcher matcher = Pattern.compile("public class (\\w+)").matcher(source);
+        assertTrue(matcher.find());
+        Path folder = ROOM.getRoot().toPath().resolve(matcher.group(1));
+        String path = jar + ":" + JNA + ":" + folder;
+        if (!Files.exists(folder)) {
+            Files.createDirectory(folder);
+            Path file = folder.resolve(matcher.group(1) + ".java");
+            Files.writeString(file, source);
+            Files.createSymbolicLink(folder.resolve("examples"), Vectors.TOP.resolve("examples"));
+            String[] words = {"-Xlint:all", "-Werror", "-cp", path, "-d", folder.toString(), file.toString()};
+            assertEquals(0, ToolProvider.getSystemJavaCompiler().run(null, null, null, words));
+        }
+        String java = System.getProperty("java.home") + "/bin/java";
+        return new ProcessBuilder(
+                new ArrayList<>(List.of(java, "-XX:TieredStopAtLevel=1", "-XX:+UseSerialGC", "-cp", path, matcher.group(1))))
+                .directory(folder.toFile())
+                .redirectErrorStream(true);
+    }
+
+    @Test
+    public void theJarIsTheSameEachTime() throws Exception {
+        assertArrayEquals(Files.readAllBytes(jar), Files.readAllBytes(built("second")));
+    }
+
+    @Test
+    public void whatTheJarHas() throws Exception {
+        List<String> names = new ArrayList<>();
+        try (JarFile file = new JarFile(jar.toFile())) {
+            file.stream().forEach(it -> names.add(it.getName()));
+            assertEquals("svid", file.getManifest().getMainAttributes().getValue("Automatic-Module-Name"));
+            for (String arch : List.of("x86_64", "aarch64")) {
+                try (InputStream packed = file.getInputStream(file.getEntry("svid/" + arch + "/libsvid.so"))) {
+                    assertArrayEquals(Files.readAllBytes(Vectors.TOP.resolve("dist/" + arch + "/libsvid.so")), packed.readAllBytes());
+                }
+            }
+        }
+        List<String> others =
+                names.stream().filter(it -> !it.matches("META-INF/(MANIFEST\\.MF)?|svid/[\\w$]+\\.class|svid/\\w+/libsvid\\.so")).toList();
+        assertEquals(List.of(), others);
+    }
+
+    @Test
+    public void whatReadmeShows() throws Exception {
+        Process process = program(0).start();
+        String said = new String(process.getInputStream().readAllBytes(), StandardCharsets.UTF_8);
+        assertEquals(0, process.waitFor());
+        assertEquals(blocks("text").get(0), said);
+    }
+
+    /** The service accepts a token once, and refuses it the second time, also while others send half of a request. */
+    @Test
+    public void theServiceOfReadme() throws Exception {
+        String source = blocks("java").get(1);
+        List<String> own = source.lines().filter(it -> !it.isBlank() && !it.startsWith("import ") && !it.matches("[\\s{}();]*")).toList();
+        assertTrue(own.size() + " lines", own.size() <= MOST_LINES);
+        ProcessBuilder builder = program(1);
+        builder.command().addAll(List.of("examples/bundles.json", "0"));
+        Process service = builder.start();
+        List<Socket> slows = new ArrayList<>();
+        try (BufferedReader lines = service.inputReader()) {
+            String line = lines.readLine();
+            assertTrue(line, line.startsWith("listening on "));
+            int port = Integer.parseInt(line.substring("listening on ".length()));
+            String bearer = "Bearer " + Vectors.tokens().get(0);
+            for (int count = 0; count < 20; count++) {
+                Socket slow = new Socket("127.0.0.1", port);
+                slows.add(slow);
+                slow.getOutputStream().write("GET / HTTP/1.1\r\n".getBytes(StandardCharsets.US_ASCII));
+            }
+            assertEquals("200 hello spiffe://example.org/billing/api\n", asked(port, bearer));
+            assertEquals("401 Bearer error=\"invalid_token\", error_description=\"Replayed\"", asked(port, bearer));
+            assertEquals("401 Bearer error=\"invalid_request\", error_description=\"NotBearer\"", asked(port, "Bearer"));
+            assertEquals("401 Bearer", asked(port));
+            assertEquals("401 Bearer", asked(port, bearer, "Basic x"));
+        } finally {
+            for (Socket slow : slows) {
+                slow.close();
+            }
+            service.destroy();
+            service.waitFor();
+        }
+    }
+
+    /** The status of the answer to a request with these header fields, and its challenge or its body. */
+    private static String asked(int port, String... authorizations) throws IOException {
+        HttpURLConnection connection = (HttpURLConnection) new URL("http://127.0.0.1:" + port + "/").openConnection();
+        connection.setReadTimeout(30_000);
+        for (String it : authorizations) {
+            connection.addRequestProperty("Authorization", it);
+        }
+        int status = connection.getResponseCode();
+        String challenge = connection.getHeaderField("WWW-Authenticate");
+        if (challenge != null || status != 200) {
+            return status + " " + challenge;
+        }
+        return status + " " + new String(connection.getInputStream().readAllBytes(), StandardCharsets.UTF_8);
+    }
+
+    /** The handler answers 403 to a caller that may not call, and 503 where there is no answer about the token. */
+    @Test
+    public void theHandlerAnswersAll() throws Exception {
+        Validator validator = Validator.open(Vectors.ledger(), Vectors.bundles());
+        HttpServer server = HttpServer.create(new InetSocketAddress(InetAddress.getLoopbackAddress(), 0), 0);
+        List<IdPattern> callers = new ArrayList<>(List.of(IdPattern.of("spiffe://example.org/other")));
+        ProtectedHandler.Handler handler = (exchange, admission) -> exchange.sendResponseHeaders(204, -1);
+        server.createContext("/", new ProtectedHandler(validator, callers, handler));
+        callers.add(IdPattern.of("spiffe://example.org"));
+        assertThrows(IllegalArgumentException.class, () -> new ProtectedHandler(validator, List.of(), handler));
+        server.start();
+        try {
+            int port = server.getAddress().getPort();
+            String bearer = "Bearer " + Vectors.tokens().get(0);
+            assertEquals("403 Bearer error=\"insufficient_scope\", error_description=\"NotAllowed\"", asked(port, bearer));
+            assertEquals(0, validator.size().uses());
+            validator.close();
+            assertEquals("503 null", asked(port, bearer));
+        } finally {
+            server.stop(0);
+        }
+    }
+
+    /** The version and the dependency of pom.xml, and the folder of the library. */
+    @Test
+    public void thePom() throws Exception {
+        Element pom = DocumentBuilderFactory.newInstance()
+                              .newDocumentBuilder()
+                              .parse(Vectors.JAVA.resolve("pom.xml").toFile())
+                              .getDocumentElement();
+        String version = pom.getElementsByTagName("version").item(0).getTextContent();
+        assertEquals("svid-" + version + ".jar", jar.getFileName().toString());
+        assertTrue(Vectors.text(Vectors.JAVA.resolve("README.md")).contains("\n/tmp/svid-" + version + ".jar\n"));
+        Path resources = Vectors.JAVA.resolve(pom.getElementsByTagName("directory").item(0).getTextContent());
+        assertTrue(resources.toString(), Files.exists(resources.resolve("x86_64/libsvid.so")));
+        assertEquals("svid", pom.getElementsByTagName("targetPath").item(0).getTextContent());
+    }
+
+    /** Another library is taken where the system property names it, and what is none is said to be none. */
+    @Test
+    public void anotherLibrary() throws Exception {
+        for (String named : List.of(Vectors.TOP + "/dist/x86_64/libsvid.so", "/nowhere/libsvid.so", Vectors.TOP + "/README.md",
+                     System.getProperty("svid.other"))) {
+            ProcessBuilder builder = program(0);
+            builder.command().add(1, "-Dsvid.library=" + named);
+            Process process = builder.start();
+            String said = new String(process.getInputStream().readAllBytes(), StandardCharsets.UTF_8);
+            boolean isGood = named.endsWith("64/libsvid.so");
+            assertEquals(said, isGood, process.waitFor() == 0);
+            assertEquals(said, isGood, said.equals(blocks("text").get(0)));
+            String due = named.endsWith("other.so") ? "libsvid.so has the version 30000, and 20000 is wanted" : named;
+            assertTrue(said, isGood || said.contains("UnsatisfiedLinkError") && said.contains(due));
+        }
+    }
+
+    @Test
+    public void everythingPublicIsDocumented() throws Exception {
+        List<String> bare = new ArrayList<>();
+        List<Path> sources;
+        try (Stream<Path> found = Files.list(Vectors.JAVA.resolve("src/main/java/svid"))) {
+            sources = found.sorted().toList();
+        }
+        for (Path source : sources) {
+            List<String> lines = Files.readAllLines(source);
+            for (int n = 1; n < lines.size(); n++) {
+                if (lines.get(n).matches("\\s*public .*[({].*") && !lines.get(n - 1).strip().matches(".*\\*/|@Override")) {
+                    bare.add(source.getFileName() + ":" + (n + 1) + ": " + lines.get(n).strip());
+                }
+            }
+        }
+        assertEquals(List.of(), bare);
+        assertTrue(sources.size() > 10);
+    }
+
+    /** The unpacked library is gone from the folder that it was loaded from. */
+    @Test
+    public void nothingIsLeftBehind() throws Exception {
+        ProcessBuilder builder = program(0);
+        File folder = ROOM.newFolder();
+        builder.command().add(1, "-Djava.io.tmpdir=" + folder);
+        Process process = builder.start();
+        process.getInputStream().readAllBytes();
+        assertEquals(0, process.waitFor());
+        assertEquals(0, folder.list().length);
+    }
+}

@@ -1,0 +1,424 @@
+/**
+ * Checks SPIFFE JWT-SVIDs, and accepts each of them once. README.md has an introduction.
+ *
+ * All times are whole seconds since 1970. A call takes them as a number or a bigint, and answers bigints, since a token may have any number of 64
+ * bits.
+ */
+
+/** The time of a call, in seconds since 1970. One of 100,000,000,000 or more, as milliseconds are, is a RangeError. */
+export type Seconds = number | bigint;
+
+declare global {
+  // (what TypeScript 5.2 and the types of Node declare in the same words)
+  interface SymbolConstructor {
+    readonly dispose: unique symbol;
+    readonly asyncDispose: unique symbol;
+  }
+}
+
+/** A token in compact form, as it stands behind `Authorization: Bearer`. */
+export type Token = string | Uint8Array;
+
+/** The bundle of one trust domain, a JWK set: its JSON text, or the object. A text stays as it is, since the library reads it. */
+export type Bundle = string | Uint8Array | object;
+
+/** The bundles of all trust domains: an object from their names to bundles, or the JSON text of such an object. */
+export type BundleSet = string | Uint8Array | { readonly [trustDomain: string]: Bundle };
+
+/**
+ * Whether a key made a signature.
+ *
+ * @param alg the algorithm's name, as "ES256"
+ * @param key the key as JSON (RFC 7517), always the same text for the same key
+ * @param signed the bytes that are signed
+ * @param signature the signature's bytes: of ES256, ES384 and ES512 both numbers, one directly behind the other
+ */
+export type Verify = (alg: string, key: string, signed: Uint8Array, signature: Uint8Array) => boolean | Promise<boolean>;
+
+/** What `Bundles.open` takes. */
+export interface BundlesOptions {
+  /** This service's own names. A token is for it where one of them is in `aud`. */
+  audiences: string | Iterable<string>;
+  /** The keys of each trust domain. */
+  bundles: BundleSet;
+  /** How many seconds a token may still live; a token that expires later is refused as `TooLongLived`. By default there is no limit. */
+  longest?: Seconds;
+  /** Verifies signatures instead of WebCrypto. Where it throws, the check throws `Unverifiable`. */
+  verify?: Verify;
+  /** How many bits an RSA key may have: 2,048 to 16,384, by default 4,096. It is not for `verify`. */
+  rsaBits?: number;
+}
+
+/** What `Validator.open` takes. */
+export interface ValidatorOptions extends BundlesOptions {
+  /** How many seconds a message's moment may lie past `now`: a little more than clocks differ. By default 10. */
+  ahead?: Seconds;
+  /**
+   * A `now` more than so many seconds past the record's moment is answered with `Jump`, so that a wrong clock does not expire the record. By
+   * default there is no limit. After a longer pause you need a new validator, so set it to more than the longest time without a call.
+   */
+  step?: Seconds;
+  /** 16 bytes that name this validator among all that share its record; by default random ones. Two of one ID accept a token twice. */
+  validatorId?: Uint8Array;
+}
+
+/** What `Member.open` takes. */
+export interface MemberOptions extends ValidatorOptions {
+  /** The log of the group. */
+  log: Log;
+  /** How many seconds a token may still live. Uses stay in the log for so long, and for twice `ahead`. All members have the same two. */
+  longest: Seconds;
+  /** For how many seconds a check waits for the log, until it throws `Unavailable`. By default 2. */
+  wait?: number;
+  /** Is told what is wrong with the log, each kind of fault once in a minute at the most. By default `console.warn`. */
+  onWarning?: (text: string) => void;
+}
+
+/** One entry of a record: a token was accepted, or withdrawn. */
+export interface Use {
+  /** When the token expires. The entry is dropped then. */
+  readonly expires: bigint;
+  /** The record's moment when the entry was made. */
+  readonly at: bigint;
+  /** 32 bytes by which all uses of the token are known. */
+  readonly key: Uint8Array;
+  /** 16 bytes that name the validator that made the entry. */
+  readonly validatorId: Uint8Array;
+  /** Whether the token was withdrawn, and not accepted. */
+  readonly withdrawn: boolean;
+  /** The entry as a message of 82 bytes, for `take` of other validators. */
+  readonly message: Uint8Array;
+}
+
+/** A token that was accepted. */
+export interface Accepted {
+  /** The SPIFFE ID of the token's subject, as "spiffe://example.org/billing/api". */
+  readonly spiffeId: string;
+  /** The trust domain of the subject, as "example.org". */
+  readonly trustDomain: string;
+  /** The path of the subject with its first "/", as "/billing/api"; "" where it has none. */
+  readonly path: string;
+  /** When the token expires. */
+  readonly expires: bigint;
+  /** What the record has gained, or would gain. */
+  readonly use: Use;
+}
+
+/** What a token says. Nobody has vouched for it: neither signature nor times nor audience were looked at. */
+export interface Says {
+  /** The algorithm, as "ES256". */
+  readonly alg: string;
+  /** The subject. */
+  readonly spiffeId: string;
+  /** The trust domain of the subject. */
+  readonly trustDomain: string;
+  /** The name of its key, `kid`; "" where it has none. */
+  readonly keyId: string;
+  /** Its audiences. */
+  readonly audiences: readonly string[];
+  /** 32 bytes by which all uses of the token are known: `key` of `Use`. */
+  readonly key: Uint8Array;
+  /** When it expires. */
+  readonly expires: bigint;
+}
+
+/** What the header fields Authorization of a request bear: a token, or none. `spelling` says whether the scheme is Bearer, and the rest no token. */
+export type Bearer =
+  | { readonly token: Uint8Array; readonly spelling?: undefined }
+  | { readonly token?: undefined; readonly spelling: boolean };
+
+/**
+ * Judges tokens by bundles, without a record: a token is never `Withdrawn` or `Replayed`.
+ *
+ * Each method throws `Closed` after `close`, `OutOfMemory` and `Stopped`.
+ */
+export class Bundles {
+  private constructor(ready: never);
+  /** Reads bundles. Throws `BadBundles`, `OutOfMemory`, and TypeError and RangeError for options that can't be. */
+  static open(options: BundlesOptions): Promise<Bundles>;
+  /** Answers what a validator with an empty record would. Throws `Refusal` and `Unverifiable`. */
+  judge(token: Token, now?: Seconds): Promise<Accepted>;
+  /** What a token says, for a log, say. Throws `Refusal` for what is no JWT-SVID. */
+  says(token: Token): Says;
+  /** Finds the one bearer token of a request, by the values of all its header fields Authorization. Throws `Refusal` for one that is `TooLong`. */
+  bearer(values: readonly string[]): Bearer;
+  /** Frees the bundles. Closing twice does nothing. */
+  close(): void;
+  /** Does what `close` does, where the platform has this symbol. */
+  [Symbol.dispose](): void;
+}
+
+/**
+ * Checks JWT-SVIDs, and remembers which were used. Make one for each process.
+ *
+ * Any number of checks may run at once: signatures are verified in between, and each token is accepted once.
+ *
+ * Each method throws `Closed` after `close`, `OutOfMemory` and `Stopped`; each with `now` throws `Jump`. `now` is by default the time of the
+ * clock. Tokens are judged at the record's moment, the greatest time that it has seen.
+ */
+export class Validator {
+  protected constructor(ready: never);
+  /** Opens a validator whose record is empty. Throws `BadBundles`, `OutOfMemory`, and TypeError and RangeError for options that can't be. */
+  static open(options: ValidatorOptions): Promise<Validator>;
+  /** Accepts a token, once. Throws `Refusal`, whose `name` says why not, and `Unverifiable`. */
+  check(token: Token, now?: Seconds): Promise<Accepted>;
+  /** Answers what `check` would, but the record gains no use: `check` may still accept it. */
+  judge(token: Token, now?: Seconds): Promise<Accepted>;
+  /**
+   * Withdraws a token until it expires: from now on it is refused as `Withdrawn`. Send the `message` of what it returns to the other validators.
+   *
+   * It verifies no signature: the token is withdrawn that has this trust domain and `jti`, or this text where it has no `jti`. Throws `Gone` for
+   * an expired token, and `Refusal` for what is no JWT-SVID.
+   */
+  withdraw(token: Token, now?: Seconds): Promise<Use>;
+  /** Withdraws the token with this key of 32 bytes (`Use.key`), which expires at `expires`. Throws `Gone` if it has expired. */
+  withdrawKey(key: Uint8Array, expires: Seconds, now?: Seconds): Promise<Use>;
+  /** What a token says, for a log, say. Throws `Refusal` for what is no JWT-SVID. */
+  says(token: Token): Says;
+  /**
+   * Whether a pattern allows a SPIFFE ID: "spiffe://example.org/billing/api" allows that ID, "spiffe://example.org/billing/*" all IDs below the path,
+   * by whole segments, and "spiffe://example.org" all of the trust domain. Throws RangeError for what is no pattern, or no SPIFFE ID.
+   */
+  allows(pattern: string, spiffeId: string): boolean;
+  /** Finds the one bearer token of a request, by the values of all its header fields Authorization. Throws `Refusal` for one that is `TooLong`. */
+  bearer(values: readonly string[]): Bearer;
+  /** Advances the record to `now`, and drops what has expired by then. */
+  tick(now?: Seconds): void;
+  /**
+   * Takes messages of other validators, or a record that was saved: at most 67,108,864 bytes. Taking a message twice, or in another order, makes
+   * no difference. Throws `TooFar` and `BadMessages`, and then takes none of them.
+   */
+  take(messages: Uint8Array, now?: Seconds): void;
+  /**
+   * The record as messages, each a piece of at most `size` bytes (82 at the least, by default 1,048,576), for `take`. Other calls may come in
+   * between. Together they have each use that the record had at the first piece, and that is still live at the last.
+   */
+  parts(size?: number): IterableIterator<Uint8Array>;
+  /** The whole record as messages, in one piece: to save it, or for `take` of another validator. */
+  record(): Uint8Array;
+  /** The moment of the record, and how many uses it has; withdrawals count too. */
+  size(): { readonly moment: bigint; readonly uses: number };
+  /** A message of 8,205 bytes, for a validator that is to `answer` what is missing here. */
+  summary(): Uint8Array;
+  /** Answers the summary of another validator: messages with the uses that it may lack. Throws `TooFar`, and `BadMessages` for no summary. */
+  answer(summary: Uint8Array, now?: Seconds): Uint8Array;
+  /** What the record holds, as `svid report` prints it. It is for people and for tests. Throws `BadMessages` for one of more than 67,108,864 bytes. */
+  report(): string;
+  /** Replaces the bundles. The record stays. Throws `BadBundles`, and then the old ones stay. */
+  renew(bundles: BundleSet): void;
+  /** Frees the record and the bundles. Closing twice does nothing. */
+  close(): void;
+  /** Does what `close` does, where the platform has this symbol. */
+  [Symbol.dispose](): void;
+}
+
+/**
+ * What `Member` wants of a log: values in one order, which all members read.
+ *
+ * Values have positions that are counted from 1 without gaps. A log keeps a value for at least `longest` plus twice `ahead` seconds of its
+ * members. Each call may throw, and then it is made again. No call may wait without end.
+ */
+export interface Log {
+  /**
+   * The position in front of the first value that the log has, and that of the last value; both are 0 in a log that never had any. Throw
+   * `UnfitLog` where no member may join.
+   */
+  bounds(): Promise<readonly [bigint | number, bigint | number]>;
+  /** Puts a value behind all others, and returns once it is there to stay. Where that is not known, throw: it is put again. It may be there twice. */
+  append(value: Uint8Array): Promise<void>;
+  /**
+   * Values behind this position, in their order, each with its own position. Where there are none, wait for `wait` seconds at the most, and give
+   * none. Throw `OtherLog` where the log is another one than was read so far: it was lost, or an older copy was put back.
+   */
+  read(after: bigint, wait: number): Promise<Iterable<readonly [bigint | number, Uint8Array]>>;
+}
+
+/** A log in the memory of one process, for tests. It keeps all values. */
+export class MemoryLog implements Log {
+  bounds(): Promise<[bigint, bigint]>;
+  append(value: Uint8Array): Promise<void>;
+  read(after: bigint, wait: number): Promise<[bigint, Uint8Array][]>;
+}
+
+/**
+ * A `Validator` of a group whose members read one log: each token is accepted once in all.
+ *
+ * Of the claims of a token that are in the log, the first counts. `check` puts a claim there, and returns once this member has read it and all in
+ * front of it. It starts where the log is away, too. Until it has read the log, and whenever that is away, checks throw `Unavailable`.
+ */
+export class Member extends Validator {
+  private constructor(ready: never);
+  /** Opens a member, and begins to read the log. Throws what `Validator.open` does, and `UnfitLog` where the log may lose values. */
+  static open(options: MemberOptions): Promise<Member>;
+  /** Accepts a token, once in the group. Throws `Unavailable` where the log does not say so in time: the token may be used up then. */
+  check(token: Token, now?: Seconds): Promise<Accepted>;
+  /** Whether it accepts tokens: it has read the log, and no value is missing that may live. */
+  readonly isReady: boolean;
+  /** Before this moment it accepts nothing: values are missing. */
+  readonly deafUntil: bigint;
+  /** Lets it accept tokens though values of the log are missing. A token whose claim was among them may be accepted twice. */
+  goOn(): void;
+  /** Ends the checks that wait, and frees the record. It may take a quarter of a second, and longer where the log does not answer. */
+  close(): Promise<void>;
+  /** Does what `close` does, where the platform has this symbol. */
+  [Symbol.asyncDispose](): Promise<void>;
+}
+
+/** A request, as Express and node:http have it. */
+export interface Incoming {
+  /** Names and values of all header fields, in turn. */
+  rawHeaders: string[];
+}
+
+/** A response, as Express and node:http have it. */
+export interface Outgoing {
+  statusCode: number;
+  setHeader(name: string, value: string): unknown;
+  end(): unknown;
+}
+
+/** What middleware and listeners take beside a validator. */
+export interface GuardOptions {
+  /**
+   * Patterns of the SPIFFE IDs that may call (`Validator.allows`). Another one with a good token is answered with status 403, and the token is not
+   * used up. Left out, all may call. What is no pattern throws RangeError, and so does an empty list.
+   */
+  allow?: string | readonly string[];
+  /** Is told why a request was answered with status 503. */
+  onError?: (why: unknown, req: Incoming) => void;
+}
+
+/**
+ * Middleware for Express and its like: checks the bearer token of each request, and goes on if it is good. `req.svid` is then what the check
+ * answered, whatever stood there before.
+ *
+ * Any other request is answered with status 401 and a header WWW-Authenticate. Where nothing can be said of the token, the status is 503.
+ */
+export function guard(
+  validator: Validator,
+  options?: GuardOptions,
+): (req: Incoming & { svid?: Accepted }, res: Outgoing, next: (why?: unknown) => void) => Promise<void>;
+
+/** A listener for node:http that calls `handler` where the request has a good token, and answers any other request as `guard` does. */
+export function protect<Request extends Incoming, Response extends Outgoing>(
+  validator: Validator,
+  handler: (req: Request & { svid: Accepted }, res: Response) => unknown,
+  options?: GuardOptions,
+): (req: Request, res: Response) => Promise<unknown>;
+
+/** The base of all errors of this package. Its `name` says which one it is, and stays the same. */
+export class SvidError extends Error {}
+
+/** The token is refused, and the record has gained no use. Nothing of the token is in the error, so you can log it. */
+export class Refusal extends SvidError {
+  private constructor(name: never);
+  /** Why: the name that the program `svid` prints. A token has the first that holds, in the order of `RefusalName`. */
+  readonly name: RefusalName;
+}
+
+/** Why a token is refused, in the order in which the library looks. */
+// lists:begin refusals (written by tools/lists from lists/refusals.toml)
+export type RefusalName =
+  /** The token has more than 65,536 bytes. */
+  | "TooLong"
+  /** The token has not exactly two periods. */
+  | "NotThreeParts"
+  /** The header is not base64url. */
+  | "HeaderSpelling"
+  /** The header is no JSON object. */
+  | "HeaderNotObject"
+  /** The header has a member `crit`. */
+  | "Crit"
+  /** `alg` is none of the nine algorithms RS256 to RS512, ES256 to ES512 and PS256 to PS512. */
+  | "Alg"
+  /** `typ` is there, and is neither "JWT" nor "JOSE". */
+  | "Typ"
+  /** `kid` is there, and is no string. */
+  | "Kid"
+  /** The payload is not base64url. */
+  | "PayloadSpelling"
+  /** The payload is no JSON object. */
+  | "PayloadNotObject"
+  /** The signature is empty, or not base64url. */
+  | "SignatureSpelling"
+  /** `sub` is no SPIFFE ID. */
+  | "Sub"
+  /** `aud` is neither a string nor a list of one or more strings. */
+  | "Aud"
+  /** `exp` is no whole number from 0 to 2^64-1, written with digits alone. */
+  | "Exp"
+  /** `nbf` is there, and is no whole number from 0 to 2^64-1. */
+  | "Nbf"
+  /** `jti` is there, and is no string. */
+  | "Jti"
+  /** No value of `aud` is one of the validator's audiences. */
+  | "NotAudience"
+  /** The token has expired: `exp` is not greater than the record's moment. */
+  | "Expired"
+  /** The token is not valid yet: `nbf` is greater than the record's moment. */
+  | "NotYet"
+  /** The token expires more than `longest` seconds past the record's moment. */
+  | "TooLongLived"
+  /** The bundles have no trust domain of this name. */
+  | "UnknownDomain"
+  /** The trust domain has no key that fits `alg` and `kid`. */
+  | "NoKey"
+  /** No key among the first 3 that fit made the signature. */
+  | "BadSignature"
+  /** The token was withdrawn. */
+  | "Withdrawn"
+  /** The token was accepted before, here or by a validator whose messages were taken. */
+  | "Replayed"
+// lists:end
+
+/** The names of all refusals, in their order. */
+export const REFUSALS: readonly RefusalName[];
+
+/** The validator is closed. Make a new one. */
+export class Closed extends SvidError {}
+
+/** `now` is more than `step` seconds past the record's moment. Nothing happened. */
+export class Jump extends SvidError {}
+
+/** The token has expired, so there is nothing to withdraw. */
+export class Gone extends SvidError {}
+
+/** The messages tell of a time more than `ahead` seconds past `now`. None of them was taken. */
+export class TooFar extends SvidError {}
+
+/** The trust bundles can't be read. A validator that has bundles keeps the ones that it has. */
+export class BadBundles extends SvidError {}
+
+/** The bytes are no messages of a validator. None of them was taken. */
+export class BadMessages extends SvidError {
+  /** A name of docs/FORMATS.md, as "Truncated"; or "TooMuch" for more than 67,108,864 bytes, or "NotSummary". */
+  readonly reason: string;
+  /** Which of the messages is bad, counted from 1; 0 for "TooMuch" and "NotSummary". */
+  readonly number: number;
+  /** The number of the bad byte in it, counted from 0. */
+  readonly offset: number;
+}
+
+/** Nobody accepts the token: the log did not keep its claim in time. Answer with status 503. The token may be used up all the same. */
+export class Unavailable extends SvidError {
+  constructor(message: string, options?: { cause?: unknown });
+}
+
+/** WebCrypto here, or your `verify`, could not say whether a key made the signature: see `cause`. Nothing was accepted. */
+export class Unverifiable extends SvidError {}
+
+/** There is no memory. Nothing was accepted, and you can make the call again. */
+export class OutOfMemory extends SvidError {}
+
+/** The library has stopped, and this validator makes no other call. Open a new one, and let it take the record that you saved last. */
+export class Stopped extends SvidError {}
+
+/** The log may lose values while they live. The message says why, and what to change. A log of your own throws it. */
+export class UnfitLog extends SvidError {
+  constructor(message: string, options?: { cause?: unknown });
+}
+
+/** The log is another one than was read so far: values that were read may be gone. A log of your own throws it. */
+export class OtherLog extends SvidError {
+  constructor(message: string, options?: { cause?: unknown });
+}

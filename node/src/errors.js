@@ -1,0 +1,160 @@
+// What this package throws: a refusal of a token, and why a call did nothing.
+
+/** The base of all errors of this package. Its `name` says which one it is, and stays the same in all versions. */
+export class SvidError extends Error {}
+
+/** The token is refused, and the record has gained no use. `name` says why. Nothing of the token is in the error, so you can log it. */
+export class Refusal extends SvidError {
+  constructor(name, sentence) {
+    super(sentence);
+    this.name = name;
+  }
+}
+
+/** The validator is closed. Make a new one. */
+export class Closed extends SvidError {
+  constructor() {
+    super("the validator is closed: open a new one");
+  }
+}
+
+/** `now` is more than `step` seconds past the record's moment. Nothing happened. */
+export class Jump extends SvidError {
+  constructor() {
+    super("now is more than `step` seconds past the record's moment: if the clock is right, open a new validator, and let it take the record");
+  }
+}
+
+/** The token has expired, so there is nothing to withdraw. */
+export class Gone extends SvidError {
+  constructor() {
+    super("the token has expired: there is nothing to withdraw");
+  }
+}
+
+/** The messages tell of a time more than `ahead` seconds past `now`. None of them was taken. */
+export class TooFar extends SvidError {
+  constructor() {
+    super("the messages tell of a time more than `ahead` seconds past now: look at the clocks of both validators");
+  }
+}
+
+/** The trust bundles can't be read. A validator that has bundles keeps the ones that it has. */
+export class BadBundles extends SvidError {}
+
+/** The bytes are no messages of a validator, and none of them was taken. `reason` says why, and `number` and `offset` where. */
+export class BadMessages extends SvidError {
+  constructor(reason, number, offset) {
+    super(number ? `${reason} in message ${number} at byte ${offset}` : reason);
+    Object.assign(this, { reason, number, offset });
+  }
+}
+
+/** Nobody accepts the token: the log of the group did not keep its claim in time. It may be used up all the same. */
+export class Unavailable extends SvidError {}
+
+/** The platform's WebCrypto, or a verifier of your own, could not say whether a key made a signature. Nothing was accepted. */
+export class Unverifiable extends SvidError {
+  constructor(options) {
+    super("the signature can't be verified here: see the cause, and give `verify` where WebCrypto lacks the algorithm", options);
+  }
+}
+
+/** There is no memory. Nothing was accepted, and you can make the call again. */
+export class OutOfMemory extends SvidError {
+  constructor(options) {
+    super("there is no memory left: nothing was accepted, and the call can be made again", options);
+  }
+}
+
+/** The library has stopped, so this validator makes no other call. Open a new one, and let it take the record that you saved last. */
+export class Stopped extends SvidError {
+  constructor(options) {
+    super("the library has stopped in this or an earlier call: open a new validator, and let it take the record that was saved last", options);
+  }
+}
+
+/** The log may lose values while they live. The message says why, and what to change. */
+export class UnfitLog extends SvidError {}
+
+/** The log is another one than was read so far: values that were read may be gone. */
+export class OtherLog extends SvidError {}
+
+// (each by its own text, since tools that make scripts shorter change the names of classes)
+for (const [name, kind] of Object.entries({
+  SvidError, Closed, Jump, Gone, TooFar, BadBundles, BadMessages, Unavailable, Unverifiable, OutOfMemory, Stopped, UnfitLog, OtherLog,
+})) {
+  Object.defineProperty(kind.prototype, "name", { value: name, configurable: true, writable: true });
+}
+
+// Each refusal, by its number in the library.
+// lists:begin refusals (written by tools/lists from lists/refusals.toml)
+const SENTENCES = new Map([
+  [101, ["TooLong", "The token has more than 65,536 bytes."]],
+  [102, ["NotThreeParts", "The token has not exactly two periods."]],
+  [103, ["HeaderSpelling", "The header is not base64url."]],
+  [104, ["HeaderNotObject", "The header is no JSON object."]],
+  [105, ["Crit", "The header has a member `crit`."]],
+  [106, ["Alg", "`alg` is none of the nine algorithms RS256 to RS512, ES256 to ES512 and PS256 to PS512."]],
+  [107, ["Typ", "`typ` is there, and is neither \"JWT\" nor \"JOSE\"."]],
+  [108, ["Kid", "`kid` is there, and is no string."]],
+  [109, ["PayloadSpelling", "The payload is not base64url."]],
+  [110, ["PayloadNotObject", "The payload is no JSON object."]],
+  [111, ["SignatureSpelling", "The signature is empty, or not base64url."]],
+  [112, ["Sub", "`sub` is no SPIFFE ID."]],
+  [113, ["Aud", "`aud` is neither a string nor a list of one or more strings."]],
+  [114, ["Exp", "`exp` is no whole number from 0 to 2^64-1, written with digits alone."]],
+  [115, ["Nbf", "`nbf` is there, and is no whole number from 0 to 2^64-1."]],
+  [116, ["Jti", "`jti` is there, and is no string."]],
+  [117, ["NotAudience", "No value of `aud` is one of the validator's audiences."]],
+  [118, ["Expired", "The token has expired: `exp` is not greater than the record's moment."]],
+  [119, ["NotYet", "The token is not valid yet: `nbf` is greater than the record's moment."]],
+  [120, ["TooLongLived", "The token expires more than `longest` seconds past the record's moment."]],
+  [121, ["UnknownDomain", "The bundles have no trust domain of this name."]],
+  [122, ["NoKey", "The trust domain has no key that fits `alg` and `kid`."]],
+  [123, ["BadSignature", "No key among the first 3 that fit made the signature."]],
+  [124, ["Withdrawn", "The token was withdrawn."]],
+  [125, ["Replayed", "The token was accepted before, here or by a validator whose messages were taken."]],
+]);
+// lists:end
+
+/** The names of all refusals, in the order in which the library looks for them. */
+export const REFUSALS = Object.freeze([...SENTENCES.values()].map(([name]) => name));
+
+const TOO_MUCH = 3;
+// Why bytes are no messages, by the status.
+// lists:begin messages (written by tools/lists from lists/statuses.toml)
+const MESSAGE_FAULTS = new Map([
+  [TOO_MUCH, "TooMuch"],
+  [4, "NotSummary"],
+  [11, "Magic"],
+  [12, "Kind"],
+  [13, "Count"],
+  [14, "UseKind"],
+  [15, "UseExpired"],
+  [16, "UseFuture"],
+  [17, "UseOrder"],
+  [18, "Truncated"],
+]);
+// lists:end
+
+const FAULTS = new Map([[2, OutOfMemory], [5, Closed], [7, Gone], [8, TooFar], [9, Jump]]);
+const BUNDLE_FAULTS = new Map([
+  [TOO_MUCH, () => "the bundles are more than 67,108,864 bytes"],
+  [31, () => "the bundles are no JSON object of trust domains"],
+  [32, (index) => `the name of trust domain ${index} of the bundles, in rising order and counted from 0, is no trust domain name`],
+  [33, (index) => `trust domain ${index} of the bundles, in rising order and counted from 0, has no list of keys`],
+]);
+
+/** The error for a status that is not OK. `told` is what the call told beside it. */
+export function ofStatus(status, told) {
+  if (SENTENCES.has(status)) return new Refusal(...SENTENCES.get(status));
+  if (FAULTS.has(status)) return new (FAULTS.get(status))();
+  if (MESSAGE_FAULTS.has(status)) return new BadMessages(MESSAGE_FAULTS.get(status), told.message, told.offset);
+  return new SvidError(`the library answered ${status}, which include/svid.h explains`);
+}
+
+/** The same, of a call that reads bundles. */
+export function ofBundles(status, told) {
+  return BUNDLE_FAULTS.has(status) ? new BadBundles(BUNDLE_FAULTS.get(status)(told.offset)) : ofStatus(status, told);
+}

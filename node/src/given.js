@@ -1,0 +1,99 @@
+// What callers give: times, audiences, bundles and validator IDs, as the library takes them.
+
+import { BadBundles } from "./errors.js";
+import { ANY, TOKEN_ROOM, utf8 } from "./library.js";
+
+const YEAR_5138 = 100_000_000_000n;
+const VALIDATOR_ID = 16, KEY = 32;
+
+/** The time of a call, in whole seconds: by default that of the clock. */
+export function seconds(now) {
+  if (now === undefined) return BigInt(Math.floor(Date.now() / 1000));
+  const whole = wholeOf("now", now);
+  if (whole >= YEAR_5138) throw new RangeError(`now is in seconds since 1970, and ${now} is not: Date.now() is in milliseconds`);
+  return whole;
+}
+
+/** A number of seconds without a limit, or the limit that stands for none. */
+export function limit(name, given) {
+  return given === undefined || given === null ? ANY : wholeOf(name, given);
+}
+
+function wholeOf(name, given) {
+  if (typeof given === "number" && given >= 0 && Number.isFinite(given)) return bounded(name, BigInt(Math.floor(given)));
+  if (typeof given === "bigint" && given >= 0n) return bounded(name, given);
+  throw new TypeError(`${name} is a number of seconds from 0 on, or a bigint, and not ${given}`);
+}
+
+function bounded(name, whole) {
+  if (whole > ANY) throw new RangeError(`${name} is at most 2^64-1`);
+  return whole;
+}
+
+/** The audiences of a service. */
+export function audiences(given) {
+  const names = typeof given === "string" ? [given] : [...(given ?? [])];
+  if (!names.length || names.some((it) => typeof it !== "string" || !it)) {
+    throw new TypeError("audiences is a name of this service, or an array of such, and none is empty");
+  }
+  return names;
+}
+
+/** The 16 bytes that name a validator: by default random ones. */
+export async function validatorId(given) {
+  if (given !== undefined) return sized("validatorId", given, VALIDATOR_ID);
+  const crypto = globalThis.crypto ?? (await import("node:crypto")).webcrypto;
+  return crypto.getRandomValues(new Uint8Array(VALIDATOR_ID));
+}
+
+/**
+ * A token as it is now. Bytes are copied, since a buffer may be filled again while a signature is verified: what was verified must be what is
+ * judged. (What has more bytes than are copied is too long all the same.)
+ */
+export function tokenOf(given) {
+  if (typeof given === "string") return given;
+  if (given instanceof Uint8Array) return new Uint8Array(given.subarray(0, TOKEN_ROOM));
+  throw new TypeError(`a token is a string or a Uint8Array, and not ${given === null ? "null" : typeof given}`);
+}
+
+/** A text. */
+export function nameOf(what, given) {
+  if (typeof given === "string") return given;
+  throw new TypeError(`${what} is a string, and not ${given === null ? "null" : typeof given}`);
+}
+
+/** The key of a token. */
+export const keyOf = (given) => sized("key", given, KEY);
+
+function sized(name, given, size) {
+  if (!(given instanceof Uint8Array) || given.length !== size) throw new TypeError(`${name} is a Uint8Array of ${size} bytes`);
+  return new Uint8Array(given); // (`slice` of a Buffer makes no copy)
+}
+
+/** Messages, as bytes. */
+export function bytesOf(name, given) {
+  if (!(given instanceof Uint8Array)) throw new TypeError(`${name} is a Uint8Array`);
+  return given;
+}
+
+/** Bundles as the one text that the library reads: the text of a bundle stays as it is. Throws BadBundles. */
+export function bundlesText(given) {
+  if (typeof given === "string") return utf8(given);
+  if (given instanceof Uint8Array) return given;
+  if (typeof given !== "object" || given === null || Array.isArray(given)) {
+    throw new TypeError("bundles is an object from trust domains to bundles, or the JSON text of one");
+  }
+  return utf8(`{${Object.entries(given).map(([name, it]) => `${JSON.stringify(name)}:${bundleText(name, it)}`).join(",")}}`);
+}
+
+// The text of one bundle. It is looked at here only so that it is one JSON value, and has no other bundle behind it.
+function bundleText(name, given) {
+  try {
+    const strict = new TextDecoder("utf-8", { fatal: true, ignoreBOM: true });
+    const text = typeof given === "string" ? given : given instanceof Uint8Array ? strict.decode(given) : JSON.stringify(given);
+    JSON.parse(text);
+    return text;
+  } catch (why) {
+    throw new BadBundles(`the bundle of ${name} is no JSON: ${why.message}`, { cause: why });
+  }
+}

@@ -1,0 +1,79 @@
+// Middleware for Express, and for servers of node:http: lets in requests with a good token.
+
+import { Refusal } from "./errors.js";
+
+const HEADER = "authorization";
+const NOT_ALLOWED = 'Bearer error="insufficient_scope", error_description="NotAllowed"';
+const NOT_BEARER = 'Bearer error="invalid_request", error_description="NotBearer"';
+
+/**
+ * Middleware for Express and its like: checks the bearer token of each request, and goes on if it is good. `req.svid` is then what the check
+ * answered, whatever stood there before.
+ */
+export function guard(validator, { onError = () => {}, allow } = {}) {
+  const patterns = wanted(validator, allow);
+  return async function svid(req, res, next) {
+    const accepted = await admitted(validator, req, res, onError, patterns);
+    // (outside of any try: what the service throws is its own)
+    if (accepted) next();
+  };
+}
+
+/** A listener for node:http that calls `handler` where the request has a good token. */
+export function protect(validator, handler, { onError = () => {}, allow } = {}) {
+  const patterns = wanted(validator, allow);
+  return async function svid(req, res) {
+    if (await admitted(validator, req, res, onError, patterns)) return handler(req, res);
+  };
+}
+
+// The patterns of who may call, once each of them is one. Undefined for all callers, which an empty list is not.
+function wanted(validator, allow) {
+  if (typeof validator?.check !== "function" || typeof validator?.bearer !== "function") throw new TypeError("a Validator or a Member is wanted");
+  if (allow === undefined) return undefined;
+  const patterns = typeof allow === "string" ? [allow] : [...allow];
+  if (!patterns.length) throw new RangeError("allow is empty: name who may call, or leave it out to let all call");
+  for (const it of patterns) validator.allows(it, "spiffe://example.org");
+  return patterns;
+}
+
+// Whether a request is let in. Else it is answered here.
+async function admitted(validator, req, res, onError, patterns) {
+  try {
+    delete req.svid;
+    const { token, spelling } = validator.bearer(valuesOf(req));
+    if (token === undefined) return answer(res, 401, spelling ? NOT_BEARER : "Bearer");
+    if (patterns && !patterns.some((it) => validator.allows(it, validator.says(token).spiffeId))) {
+      await validator.judge(token);
+      return answer(res, 403, NOT_ALLOWED);
+    }
+    req.svid = await validator.check(token);
+    return true;
+  } catch (why) {
+    if (why instanceof Refusal) return answer(res, 401, `Bearer error="invalid_token", error_description="${why.name}"`);
+    try {
+      // (who is told must not keep the request from its answer, nor end the process, at once or later)
+      Promise.resolve(onError(why, req)).catch(() => {});
+    } catch {
+      // (nor by what it throws)
+    }
+    return answer(res, 503);
+  }
+}
+
+// The values of all header fields Authorization. (`req.headers` has the first one alone.)
+function valuesOf({ rawHeaders }) {
+  const values = [];
+  for (let n = 0; n + 1 < rawHeaders.length; n += 2) if (rawHeaders[n].toLowerCase() === HEADER) values.push(rawHeaders[n + 1]);
+  return values;
+}
+
+// Answers a request that is not let in, unless another one has answered it while the check waited.
+function answer(res, status, challenge) {
+  if (res.headersSent) return false;
+  res.statusCode = status;
+  if (challenge) res.setHeader("WWW-Authenticate", challenge);
+  res.setHeader("Content-Length", "0");
+  res.end();
+  return false;
+}

@@ -1,0 +1,101 @@
+// Verifies signatures by WebCrypto: is this signature good for this key?
+//
+// The library says which key can be used with an algorithm, and gives it as SubjectPublicKeyInfo. A key that it does not give, or that
+// WebCrypto does not read, made no signature. What WebCrypto can't do is an error, and no answer.
+
+import { SvidError, Unverifiable } from "./errors.js";
+
+// Each algorithm of a token, in the words of WebCrypto.
+// lists:begin algorithms (written by tools/lists from lists/algorithms.toml)
+const ALGORITHMS = {
+  RS256: { family: "RSASSA-PKCS1-v1_5", hash: "SHA-256" },
+  RS384: { family: "RSASSA-PKCS1-v1_5", hash: "SHA-384" },
+  RS512: { family: "RSASSA-PKCS1-v1_5", hash: "SHA-512" },
+  ES256: { family: "ECDSA", hash: "SHA-256", curve: "P-256" },
+  ES384: { family: "ECDSA", hash: "SHA-384", curve: "P-384" },
+  ES512: { family: "ECDSA", hash: "SHA-512", curve: "P-521" },
+  PS256: { family: "RSA-PSS", hash: "SHA-256" },
+  PS384: { family: "RSA-PSS", hash: "SHA-384" },
+  PS512: { family: "RSA-PSS", hash: "SHA-512" },
+};
+// lists:end
+
+/** Verifies signatures, and keeps each key that it has read. */
+export class Verifier {
+  #library;
+  #mostBits;
+  #own;
+  #keys = new Map();
+
+  /** @param own a verifier of the service's own: called with the algorithm, the key as JSON, what is signed, and the signature */
+  constructor(library, mostBits, own) {
+    this.#library = library;
+    this.#mostBits = mostBits;
+    this.#own = own;
+  }
+
+  /** Drops the keys of bundles that were replaced. */
+  forget() {
+    this.#keys.clear();
+  }
+
+  /**
+   * The first row whose key made the signature: `{ number, row }`. Where none did, `{ unverifiable }` is the error of the first that could
+   * not be asked, if there is one. Throws where the library has no memory.
+   */
+  async first({ rows, signed, signature }) {
+    let unverifiable;
+    for (const [number, row] of rows.entries()) {
+      try {
+        // (what a verifier of the service's own answers counts as yes if it is `true`, and not if it is an object, say)
+        if ((await this.#made(row, signed, signature)) === true) return { number, row };
+      } catch (why) {
+        if (why instanceof SvidError) throw why;
+        unverifiable ??= new Unverifiable({ cause: why });
+      }
+    }
+    return { unverifiable };
+  }
+
+  #made({ alg, key }, signed, signature) {
+    return this.#own ? this.#own(alg, key, signed, signature) : this.#verified(alg, key, signed, signature);
+  }
+
+  async #verified(alg, key, signed, signature) {
+    const name = `${alg} ${key}`;
+    if (!this.#keys.has(name)) {
+      const read = this.#read(alg, key);
+      this.#keys.set(name, read);
+      // (a key that could not be read this time may be read the next time)
+      read.catch(() => this.#keys.get(name) === read && this.#keys.delete(name));
+    }
+    const public_ = await this.#keys.get(name);
+    if (!public_) return false;
+    const { family, hash } = ALGORITHMS[alg], bits = public_.algorithm.modulusLength;
+    // (OpenSSL takes a shorter signature for RSA-PSS, which RFC 8017, section 8.1.2, does not)
+    if (bits && signature.length !== Math.ceil(bits / 8)) return false;
+    const saltLength = Number(hash.slice(4)) / 8;
+    return (await subtle()).verify({ name: family, hash, saltLength }, public_, signature, signed);
+  }
+
+  // A key as WebCrypto has it, or null where it makes no signature.
+  async #read(alg, key) {
+    const der = this.#library.spki(key, alg, this.#mostBits);
+    if (!der) return null;
+    const { family, hash, curve } = ALGORITHMS[alg];
+    try {
+      return await (await subtle()).importKey("spki", der, { name: family, hash, namedCurve: curve }, false, ["verify"]);
+    } catch (why) {
+      if (why?.name === "DataError") return null; // (a point that is not on its curve)
+      throw why;
+    }
+  }
+}
+
+let found;
+
+// WebCrypto, which is not global in each Node 18.
+async function subtle() {
+  found ??= globalThis.crypto?.subtle ?? (await import("node:crypto")).webcrypto.subtle;
+  return found;
+}

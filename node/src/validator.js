@@ -1,0 +1,276 @@
+// A validator that remembers which tokens were used, and bundles that judge tokens without a record.
+
+import { Refusal } from "./errors.js";
+import { audiences, bundlesText, bytesOf, keyOf, limit, nameOf, seconds, tokenOf, validatorId } from "./given.js";
+import { ANY, BATCH, LEAST_RSA_BITS, Library, MOST_RSA_BITS, USUAL_RSA_BITS, utf8 } from "./library.js";
+import { Verifier } from "./signatures.js";
+
+const NO_SIGNATURE = "BadSignature";
+const PIECE = 1_048_576;
+
+/** What an acceptance is, for callers. */
+export function acceptedOf({ spiffeId, trustDomain, path, use }) {
+  return { spiffeId, trustDomain, path, expires: use.expires, use };
+}
+
+/** How an RSA key may be long. */
+function rsaBits(given = USUAL_RSA_BITS) {
+  if (Number.isInteger(given) && given >= LEAST_RSA_BITS && given <= MOST_RSA_BITS) return given;
+  throw new RangeError(`rsaBits is a number from ${LEAST_RSA_BITS} to ${MOST_RSA_BITS}`);
+}
+
+/** The verifier of these options. */
+function verifierOf(library, options) {
+  if (options.verify !== undefined && typeof options.verify !== "function") throw new TypeError("verify is a function");
+  return new Verifier(library, rsaBits(options.rsaBits), options.verify);
+}
+
+/** Calls `open` with a library, and closes that where it throws. */
+async function opened(open) {
+  const library = await Library.start();
+  try {
+    return open(library);
+  } catch (why) {
+    library.close();
+    throw why;
+  }
+}
+
+/** Checks JWT-SVIDs, and remembers which were used. Documentation of all of it stands in index.d.ts. */
+export class Validator {
+  /** The handle of the library; for subclasses. */
+  _library;
+  #verifier;
+  #editions = 0; // how often the bundles were replaced
+
+  /** Opens a validator whose record is empty. */
+  static async open(options) {
+    return new this(await Validator._ready(options));
+  }
+
+  /** What the constructor is given. */
+  static async _ready(options) {
+    const own = audiences(options.audiences), bundles = bundlesText(options.bundles);
+    const terms = {
+      longest: limit("longest", options.longest),
+      ahead: limit("ahead", options.ahead ?? 10),
+      step: limit("step", options.step),
+      validatorId: await validatorId(options.validatorId),
+    };
+    return opened((library) => {
+      const verifier = verifierOf(library, options);
+      library.openValidator(terms, own, bundles);
+      return { library, verifier, terms };
+    });
+  }
+
+  /** Takes what `open` has made: call that instead. */
+  constructor(ready) {
+    if (!ready?.library) throw new TypeError("call `await Validator.open(..)`");
+    this._library = ready.library;
+    this.#verifier = ready.verifier;
+  }
+
+  /** How often the bundles were replaced; for subclasses. */
+  get _edition() {
+    return this.#editions;
+  }
+
+  /** Frees the record and the bundles. Closing twice does nothing. */
+  close() {
+    this._library.close();
+  }
+
+  /** Accepts a token, once. */
+  async check(token, now) {
+    return (await this._judged("check", token, now)).accepted;
+  }
+
+  /** Answers what `check` would, and uses nothing up. */
+  async judge(token, now) {
+    return (await this._judged("judge", token, now)).accepted;
+  }
+
+  /** What `check` or `judge` answers, and by which edition of the bundles; for subclasses. It ends in the same step as the library's call. */
+  async _judged(name, given, now) {
+    const token = tokenOf(given);
+    if (now !== undefined) seconds(now);
+    for (;;) {
+      const edition = this.#editions, asked = this._library.ask(token);
+      const found = asked ? await this.#verifier.first(asked) : {};
+      // (the question may be of a key that is not there any more)
+      if (edition !== this.#editions) continue;
+      try {
+        const accepted = this._library[name](seconds(now), token, found.row?.question ?? null);
+        return { accepted: acceptedOf(accepted), edition };
+      } catch (why) {
+        throw why instanceof Refusal && why.name === NO_SIGNATURE && found.unverifiable ? found.unverifiable : why;
+      }
+    }
+  }
+
+  /** Withdraws a token until it expires. */
+  async withdraw(token, now) {
+    const { key, expires } = this._library.says(tokenOf(token));
+    return this.withdrawKey(key, expires, now);
+  }
+
+  /** Withdraws the token with this key, which expires then. */
+  async withdrawKey(key, expires, now) {
+    const use = this._library.withdraw(seconds(now), keyOf(key), limit("expires", expires));
+    return { ...use, message: await withdrawalOf(use) };
+  }
+
+  /** What a token says. Nobody has vouched for it. */
+  says(token) {
+    return this._library.says(tokenOf(token));
+  }
+
+  /** Whether a pattern allows a SPIFFE ID. */
+  allows(pattern, spiffeId) {
+    return this._library.allows(nameOf("pattern", pattern), nameOf("spiffeId", spiffeId));
+  }
+
+  /** The one bearer token of a request: `{ token }`, or `{ spelling }` where it has none. */
+  bearer(values) {
+    return this._library.bearer(values.length, values.length ? bytesOfHeader(values[0]) : new Uint8Array());
+  }
+
+  /** Advances the record, and drops what has expired. */
+  tick(now) {
+    this._library.tick(seconds(now));
+  }
+
+  /** Takes messages of other validators, or a record that was saved. */
+  take(messages, now) {
+    this._library.take(seconds(now), bytesOf("messages", messages));
+  }
+
+  /** The record as messages, in pieces. */
+  parts(size = PIECE) {
+    if (!Number.isInteger(size) || size < BATCH) throw new RangeError(`size is a number of bytes from ${BATCH} on`);
+    return this._library.parts(size);
+  }
+
+  /** The whole record as messages. */
+  record() {
+    return joined([...this.parts()]);
+  }
+
+  /** The moment of the record, and how many uses it has. */
+  size() {
+    return this._library.size();
+  }
+
+  /** A message of 8,205 bytes, for a validator that is to `answer` what is missing here. */
+  summary() {
+    return this._library.summary();
+  }
+
+  /** Answers the summary of another validator. */
+  answer(summary, now) {
+    return this._library.answer(seconds(now), bytesOf("summary", summary));
+  }
+
+  /** What the record holds, as `svid report` prints it. */
+  report() {
+    return this._library.report(this.record());
+  }
+
+  /** Replaces the bundles. The record stays. */
+  renew(bundles) {
+    this._library.renew(bundlesText(bundles));
+    this.#editions += 1;
+    this.#verifier.forget();
+  }
+}
+
+/** Judges tokens by bundles, without a record. */
+export class Bundles {
+  #library;
+  #verifier;
+  #terms;
+
+  /** Reads bundles. */
+  static async open(options) {
+    const own = audiences(options.audiences), longest = limit("longest", options.longest), bundles = bundlesText(options.bundles);
+    return opened((library) => {
+      const verifier = verifierOf(library, options);
+      library.openBundles(bundles);
+      return new Bundles({ library, verifier, terms: { own, longest } });
+    });
+  }
+
+  /** Takes what `open` has made: call that instead. */
+  constructor(ready) {
+    if (!ready?.library) throw new TypeError("call `await Bundles.open(..)`");
+    this.#library = ready.library;
+    this.#verifier = ready.verifier;
+    this.#terms = ready.terms;
+  }
+
+  /** Frees the bundles. Closing twice does nothing. */
+  close() {
+    this.#library.close();
+  }
+
+  /** Answers what a validator with an empty record would. */
+  async judge(given, now) {
+    const token = tokenOf(given);
+    if (now !== undefined) seconds(now);
+    const asked = this.#library.ask(token);
+    const found = asked ? await this.#verifier.first(asked) : {};
+    const question = found.row ? this.#library.question(token, found.number) : null;
+    try {
+      return acceptedOf(this.#library.judgeBy({ ...this.#terms, now: seconds(now) }, token, question));
+    } catch (why) {
+      throw why instanceof Refusal && why.name === NO_SIGNATURE && found.unverifiable ? found.unverifiable : why;
+    }
+  }
+
+  /** What a token says. Nobody has vouched for it. */
+  says(token) {
+    return this.#library.says(tokenOf(token));
+  }
+
+  /** The one bearer token of a request: `{ token }`, or `{ spelling }` where it has none. */
+  bearer(values) {
+    return this.#library.bearer(values.length, values.length ? bytesOfHeader(values[0]) : new Uint8Array());
+  }
+}
+
+if (Symbol.dispose) {
+  // (`close` is looked up then: that of a subclass)
+  const value = function dispose() {
+    this.close();
+  };
+  for (const it of [Validator, Bundles]) Object.defineProperty(it.prototype, Symbol.dispose, { value, configurable: true, writable: true });
+}
+
+// A withdrawal as a message: what a validator tells that has seen nothing else.
+async function withdrawalOf({ at, key, expires, validatorId: by }) {
+  const library = await Library.start();
+  try {
+    library.openValidator({ longest: ANY, ahead: ANY, step: ANY, validatorId: by }, [], utf8("{}"));
+    library.withdraw(at, key, expires);
+    return joined([...library.parts(BATCH)]);
+  } finally {
+    library.close();
+  }
+}
+
+/** Bytes, one directly behind the other. */
+export function joined(pieces) {
+  const all = new Uint8Array(pieces.reduce((sum, it) => sum + it.length, 0));
+  let at = 0;
+  for (const it of pieces) {
+    all.set(it, at);
+    at += it.length;
+  }
+  return all;
+}
+
+// The bytes of a header's value, of which Node makes a character each.
+function bytesOfHeader(value) {
+  return Uint8Array.from(value, (it) => (it.charCodeAt(0) < 256 ? it.charCodeAt(0) : 0x3f));
+}

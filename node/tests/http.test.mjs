@@ -1,0 +1,145 @@
+// Middleware over real servers: Express, and node:http alone.
+
+import assert from "node:assert/strict";
+import { createServer, request } from "node:http";
+import { createRequire } from "node:module";
+import { test } from "node:test";
+import { imported, issuer, now, token } from "./making.mjs";
+
+const { Member, MemoryLog, Validator, guard, protect } = await imported();
+// (Debian's packages stand where only `require` looks)
+const express = createRequire("/usr/share/nodejs/")("express");
+
+const one = issuer(), terms = { audiences: "ledger", bundles: one.bundles };
+
+const hello = (req, res) => res.end(`hello ${req.svid.spiffeId}`);
+const app = (validator, options) => {
+  const it = express();
+  it.use((req, _res, next) => {
+    req.svid = { spiffeId: "spiffe://example.org/forged" };
+    next();
+  });
+  it.use(guard(validator, options));
+  it.get("/", hello);
+  it.use((_why, _req, res, _next) => res.status(500).end("failed"));
+  return it;
+};
+const SERVERS = { Express: app, "node:http": (validator, options) => protect(validator, hello, options) };
+
+// What a server answers to requests with these headers, each a list of values of Authorization.
+async function answers(listener, requests) {
+  const server = createServer(listener);
+  await new Promise((resolve) => server.listen(0, "127.0.0.1", resolve));
+  const said = [];
+  try {
+    for (const values of requests) {
+      said.push(await new Promise((resolve, reject) => {
+        const headers = values.length ? { authorization: values.length === 1 ? values[0] : values } : {};
+        const sent = request({ port: server.address().port, host: "127.0.0.1", agent: false, headers }, (res) => {
+          let text = "";
+          res.setEncoding("utf8");
+          res.on("data", (it) => (text += it));
+          res.on("end", () => resolve([res.statusCode, res.headers["www-authenticate"] ?? text]));
+        });
+        sent.on("error", reject);
+        sent.end();
+      }));
+    }
+  } finally {
+    await new Promise((resolve) => server.close(resolve));
+  }
+  return said;
+}
+
+for (const [name, listener] of Object.entries(SERVERS)) {
+  test(`${name}: a good token is let in once, and all else is answered with a challenge`, async () => {
+    const validator = await Validator.open(terms), good = token(one), another = token(one);
+    const said = await answers(listener(validator), [
+      [`Bearer ${good}`], [`bearer  ${good} `], [], ["Basic YTpi"], ["Bearer"], ["Bearer a b"], [`Bearer ${another}`, `Bearer ${another}`],
+      [`Bearer ${token(one, { exp: now() - 1 })}`], [`Bearer ${another}`],
+    ]);
+    const invalid = (why) => [401, `Bearer error="invalid_token", error_description="${why}"`];
+    const misspelt = [401, 'Bearer error="invalid_request", error_description="NotBearer"'];
+    const hello = [200, "hello spiffe://example.org/billing/api"];
+    assert.deepEqual(said, [hello, invalid("Replayed"), [401, "Bearer"], [401, "Bearer"], misspelt, misspelt, [401, "Bearer"], invalid("Expired"), hello]);
+    validator.close();
+  });
+
+  test(`${name}: a caller that no pattern allows gets 403, and its token is not used up`, async () => {
+    const validator = await Validator.open(terms), good = token(one);
+    const closed = listener(validator, { allow: ["spiffe://example.org/other", "spiffe://example.com"] });
+    const opened = listener(validator, { allow: ["spiffe://example.com", "spiffe://example.org/billing/*"] });
+    const notAllowed = [403, 'Bearer error="insufficient_scope", error_description="NotAllowed"'];
+    const spoilt = `${good.slice(0, -6)}AAAAAA`, invalid = (why) => [401, `Bearer error="invalid_token", error_description="${why}"`];
+    const all = [good, good, spoilt, "a"].map((it) => [`Bearer ${it}`]);
+    assert.deepEqual(await answers(closed, all), [notAllowed, notAllowed, invalid("BadSignature"), invalid("NotThreeParts")]);
+    assert.deepEqual(await answers(opened, all.slice(1)), [[200, "hello spiffe://example.org/billing/api"], invalid("BadSignature"), invalid("NotThreeParts")]);
+    assert.deepEqual(await answers(closed, all.slice(1, 2)), [invalid("Replayed")]);
+    for (const allow of ["example.org", ["spiffe://example.org", "*"]]) assert.throws(() => listener(validator, { allow }), /no pattern of SPIFFE IDs/);
+    assert.throws(() => listener(validator, { allow: [] }), { name: "RangeError", message: /leave it out to let all call/ });
+    assert.throws(() => validator.allows("spiffe://example.org", "a"), /no SPIFFE ID/);
+    assert.throws(() => validator.allows(1, "a"), TypeError);
+    validator.close();
+  });
+
+  test(`${name}: where nothing can be said, the status is 503, and the reason is told`, async () => {
+    const told = [], onError = (why, req) => {
+      told.push([why.name, typeof req.url]);
+      throw new Error("no logger");
+    };
+    const validator = await Validator.open({ ...terms, verify: () => Promise.reject(new Error("no such key")) });
+    const log = new MemoryLog(), member = await Member.open({ ...terms, longest: 3600, log, wait: 0.05, onWarning: () => {} });
+    log.append = () => Promise.reject(new Error("no route"));
+    for (const it of [validator, member]) assert.deepEqual(await answers(listener(it, { onError }), [[`Bearer ${token(one)}`]]), [[503, ""]]);
+    validator.close();
+    assert.deepEqual(await answers(listener(validator, { onError }), [[`Bearer ${token(one)}`]]), [[503, ""]]);
+    assert.deepEqual(told, [["Unverifiable", "string"], ["Unavailable", "string"], ["Closed", "string"]]);
+    await member.close();
+  });
+
+  test(`${name}: a member lets a token in once, however many send it at once`, async () => {
+    const member = await Member.open({ ...terms, longest: 3600, wait: 60, log: new MemoryLog() }), text = token(one);
+    const said = (await Promise.all([1, 2, 3, 4].map(() => answers(listener(member), [[`Bearer ${text}`]])))).flat();
+    assert.deepEqual(said.map(([status]) => status).sort(), [200, 401, 401, 401]);
+    await member.close();
+  });
+}
+
+test("what stood in req.svid is gone where a request is not let in", async () => {
+  const validator = await Validator.open(terms), req = { svid: "forged", rawHeaders: [] };
+  await guard(validator)(req, { setHeader() {}, end() {} }, () => assert.fail("it was let in"));
+  assert.ok(!("svid" in req));
+  validator.close();
+});
+
+test("a request that was answered while its check waited, and who is told in vain, end no process", async () => {
+  const unhandled = [], note = (why) => unhandled.push(why.message);
+  process.on("unhandledRejection", note);
+  try {
+    let fail;
+    const validator = await Validator.open({ ...terms, verify: () => new Promise((_resolve, reject) => (fail = reject)) });
+    const answered = (req, res) => {
+      const later = protect(validator, hello, { onError: () => Promise.reject(new Error("no logger")) })(req, res);
+      const wait = () => (fail ? (res.writeHead(504).end("late"), later.catch(note), fail(new Error("no such key"))) : setImmediate(wait));
+      wait();
+    };
+    assert.deepEqual(await answers(answered, [[`Bearer ${token(one)}`]]), [[504, "late"]]);
+    await new Promise((resolve) => setImmediate(resolve));
+    assert.deepEqual(unhandled, []);
+    validator.close();
+  } finally {
+    process.off("unhandledRejection", note);
+  }
+});
+
+test("a fault of the service behind is its own", async () => {
+  const validator = await Validator.open(terms), fails = () => {
+    throw new Error("of the service");
+  };
+  const req = { rawHeaders: ["authorization", `Bearer ${token(one)}`] }, res = { setHeader: () => assert.fail("it was answered") };
+  await assert.rejects(guard(validator)(req, res, fails), /of the service/);
+  await assert.rejects(protect(validator, fails)({ rawHeaders: ["Authorization", `Bearer ${token(one)}`] }, res), /of the service/);
+  assert.throws(() => guard({}), TypeError);
+  assert.throws(() => protect(undefined, hello), TypeError);
+  validator.close();
+});

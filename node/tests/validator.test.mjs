@@ -1,0 +1,417 @@
+// What a validator does beside the vectors: many checks at once, withdrawals, messages, bundles, times, and want of memory.
+
+import assert from "node:assert/strict";
+import { test } from "node:test";
+import { PACKAGE, counted, digest, exhausted, hex, imported, issuer, now, read, said, seen, token } from "./making.mjs";
+
+const { Bundles, REFUSALS, Refusal, SvidError, Validator } = await imported();
+
+const one = issuer(), bundles = one.bundles;
+const terms = { audiences: ["ledger"], bundles };
+
+test("1,000 tokens, each sent four times at once, are each accepted once", async () => {
+  const validator = await Validator.open(terms);
+  const tokens = Array.from({ length: 1000 }, () => token(one));
+  const answers = await Promise.all([0, 1, 2, 3].flatMap(() => tokens.map(async (it) => [it, await said(validator.check(it))])));
+  assert.deepEqual(counted(answers.map(([, it]) => it)), { accepted: 1000, Replayed: 3000 });
+  assert.equal(new Set(answers.filter(([, it]) => it === "accepted").map(([it]) => it)).size, 1000);
+  assert.equal(validator.size().uses, 1000);
+  validator.close();
+});
+
+test("an acceptance has all that it says", async () => {
+  const validatorId = Uint8Array.from({ length: 16 }, (_, n) => n);
+  const validator = await Validator.open({ ...terms, validatorId }), time = now();
+  const accepted = await validator.check(token(one, { exp: time + 60 }), time);
+  assert.deepEqual(
+    [accepted.spiffeId, accepted.trustDomain, accepted.path, accepted.expires],
+    ["spiffe://example.org/billing/api", "example.org", "/billing/api", BigInt(time + 60)],
+  );
+  const { use } = accepted;
+  assert.deepEqual([use.expires, use.at, use.withdrawn, hex(use.validatorId)], [BigInt(time + 60), BigInt(time), false, hex(validatorId)]);
+  assert.equal(hex(use.message), hex(validator.record()));
+  assert.deepEqual(validator.size(), { moment: BigInt(time), uses: 1 });
+  const bare = await validator.check(token(one, { sub: "spiffe://example.org" }), time);
+  assert.deepEqual([bare.trustDomain, bare.path], ["example.org", ""]);
+  validator.close();
+});
+
+test("a refusal has a name and a sentence, and nothing of the token", async () => {
+  const validator = await Validator.open(terms), text = token(one);
+  await validator.check(text);
+  const why = await validator.check(text).catch((it) => it);
+  assert.ok(why instanceof Refusal && why instanceof SvidError && why instanceof Error);
+  assert.equal(String(why), "Replayed: The token was accepted before, here or by a validator whose messages were taken.");
+  assert.ok(!JSON.stringify({ ...why }).includes(text.slice(0, 10)));
+  assert.equal(REFUSALS.length, 25);
+  assert.equal(REFUSALS.at(-1), "Replayed");
+  validator.close();
+});
+
+test("judge uses nothing up", async () => {
+  const validator = await Validator.open(terms), text = token(one);
+  for (let n = 0; n < 3; n++) assert.equal(await said(validator.judge(text)), "accepted");
+  assert.equal(await said(validator.check(text)), "accepted");
+  assert.equal(await said(validator.judge(text)), "Replayed");
+  validator.close();
+});
+
+test("a token is a text or bytes, and no other thing", async () => {
+  const validator = await Validator.open(terms), text = token(one);
+  assert.equal(await said(validator.check(Buffer.from(text))), "accepted");
+  assert.equal(await said(validator.check(text)), "Replayed");
+  for (const it of [undefined, null, 1, {}, [], new ArrayBuffer(3)]) assert.equal(await said(validator.check(it)), "TypeError");
+  for (const it of ["", "a", "\ud800.\ud800.\ud800", "ü".repeat(10), `${text}\n`, ` ${text}`]) {
+    assert.ok(REFUSALS.includes(await said(validator.check(it))), it);
+  }
+  validator.close();
+});
+
+test("a token of any length takes no memory for more than 65,536 bytes", async () => {
+  const { validator, memory } = await watched();
+  const before = memory.buffer.byteLength;
+  for (const it of ["a", "€", "😀"]) assert.equal(await said(validator.check(it.repeat(3_000_000))), "TooLong", it);
+  assert.equal(await said(validator.check(Buffer.alloc(30_000_000, "a"))), "TooLong");
+  assert.equal(await said(validator.check("a".repeat(65_536))), "NotThreeParts");
+  assert.equal(await said(validator.check("a".repeat(65_537))), "TooLong");
+  assert.equal(memory.buffer.byteLength, before);
+  validator.close();
+});
+
+test("bytes that change while their signature is verified are judged as they were", async () => {
+  // (a forged token of the same length)
+  const claims = (name) => ({ sub: `spiffe://example.org/${name}`, exp: now() + 300 });
+  for (const kind of [Validator, Bundles]) {
+    const verified = gate(), it = await kind.open({ ...terms, verify: () => verified.passed });
+    const bytes = Buffer.from(token(one, claims("good"))), forged = Buffer.from(token(issuer(), claims("evil")));
+    assert.equal(bytes.length, forged.length);
+    const judged = it.judge(bytes);
+    bytes.set(forged);
+    verified.open(true);
+    assert.equal((await judged).path, "/good", kind.name);
+    it.close();
+  }
+});
+
+test("a renewal while a signature is verified decides by the new bundles", async () => {
+  const other = issuer("k1"), verified = gate();
+  const validator = await Validator.open({ ...terms, verify: () => verified.passed });
+  const checked = said(validator.check(token(one)));
+  validator.renew(other.bundles);
+  verified.open(true);
+  // (the answer of yes was to a question about the key that is gone: the token is asked about anew)
+  assert.equal(await checked, "accepted");
+  assert.equal(verified.asked, 2);
+  validator.close();
+  const strict = await Validator.open(terms), text = token(one);
+  const answer = said(strict.check(text));
+  strict.renew(other.bundles);
+  assert.equal(await answer, "BadSignature");
+  strict.renew(bundles);
+  assert.equal(await said(strict.check(text)), "accepted");
+  strict.close();
+});
+
+test("bundles that are refused leave those that were there", async () => {
+  const validator = await Validator.open(terms);
+  for (const it of ["", "[]", "{", '{"example.org":{}}', { "example.org": "{}" }, { "Example": { keys: [] } }, Buffer.from([0xff])]) {
+    assert.throws(() => validator.renew(it), { name: "BadBundles" }, String(it));
+  }
+  assert.throws(() => validator.renew(null), TypeError);
+  assert.throws(() => validator.renew([]), TypeError);
+  assert.equal(await said(validator.check(token(one))), "accepted");
+  for (const it of ["", "[]"]) await assert.rejects(Validator.open({ ...terms, bundles: it }), { name: "BadBundles" });
+  await assert.rejects(Bundles.open({ ...terms, bundles: "[]" }), { name: "BadBundles" });
+  validator.close();
+});
+
+test("the text of a bundle can't bring another trust domain with it", async () => {
+  const other = issuer("k1", "P-256", "other.org");
+  const text = `{"keys":[]},"other.org":${JSON.stringify(other.bundles["other.org"])}`;
+  for (const it of [text, Buffer.from(text)]) {
+    await assert.rejects(Validator.open({ ...terms, bundles: { "example.org": it } }), { name: "BadBundles" });
+  }
+  await assert.rejects(Validator.open({ ...terms, bundles: { "example.org": Buffer.from('\ufeff{"keys":[]}') } }), { name: "BadBundles" });
+  const texts = { "example.org": JSON.stringify(bundles["example.org"]), "other.org": Buffer.from(JSON.stringify(other.bundles["other.org"])) };
+  const validator = await Validator.open({ ...terms, bundles: texts });
+  for (const it of [one, other]) assert.equal(await said(validator.check(token(it))), "accepted");
+  validator.close();
+});
+
+test("a withdrawn token is refused, here and by whoever takes the message", async () => {
+  const [validator, other] = await Promise.all([Validator.open(terms), Validator.open(terms)]), text = token(one);
+  const use = await validator.withdraw(text);
+  assert.ok(use.withdrawn);
+  assert.equal(hex(use.message), hex(validator.record()));
+  other.take(use.message);
+  for (const it of [validator, other]) assert.equal(await said(it.check(text)), "Withdrawn");
+  const again = await validator.withdrawKey(use.key, use.expires);
+  assert.equal(hex(again.key), hex(use.key));
+  assert.equal(await said(validator.withdraw(token(one, { exp: now() - 1 }))), "Gone");
+  assert.equal(await said(validator.withdraw("a.b")), "NotThreeParts");
+  assert.equal(await said(validator.withdrawKey(new Uint8Array(31), 1)), "TypeError");
+  for (const it of [validator, other]) it.close();
+});
+
+test("validators that hear of a use refuse the token", async () => {
+  const [validator, other, late] = await Promise.all([0, 1, 2].map(() => Validator.open(terms))), text = token(one), time = now();
+  const { use } = await validator.check(text, time);
+  other.take(use.message, time);
+  other.take(use.message, time);
+  assert.equal(await said(other.check(text, time)), "Replayed");
+  late.take(validator.answer(late.summary(), time), time);
+  assert.equal(await said(late.check(text, time)), "Replayed");
+  assert.equal(late.report(), validator.report());
+  assert.throws(() => late.take(use.message.slice(0, 81)), { name: "BadMessages", reason: "Truncated", number: 1 });
+  assert.throws(() => late.take("text"), TypeError);
+  assert.throws(() => late.answer(use.message), { name: "BadMessages", reason: "NotSummary" });
+  for (const it of [validator, other, late]) it.close();
+});
+
+test("a record is saved and put back, in one piece or in many", async () => {
+  const validator = await Validator.open(terms), tokens = Array.from({ length: 300 }, () => token(one)), time = now();
+  await Promise.all(tokens.map((it) => validator.check(it, time)));
+  const whole = await Validator.open(terms), pieces = await Validator.open(terms);
+  whole.take(validator.record(), time);
+  const parts = [...validator.parts(82)];
+  assert.equal(parts.length, 300);
+  for (const it of parts) pieces.take(it, time);
+  for (const it of [whole, pieces]) {
+    assert.equal(digest(it.report()), digest(validator.report()));
+    assert.equal(await said(it.check(tokens[7], time)), "Replayed");
+    it.close();
+  }
+  for (const it of [81, 0, 1.5, "82"]) assert.throws(() => validator.parts(it), RangeError);
+  validator.close();
+});
+
+test("a validator that is closed says so, also to a check that is on its way", async () => {
+  const verified = gate();
+  const validator = await Validator.open({ ...terms, verify: () => verified.passed }), text = token(one);
+  const checked = said(validator.check(text));
+  validator.close();
+  validator.close();
+  verified.open(true);
+  assert.equal(await checked, "Closed");
+  for (const name of ["check", "judge", "withdraw"]) assert.equal(await said(() => validator[name](text)), "Closed", name);
+  for (const name of ["tick", "size", "summary", "record", "report"]) assert.throws(() => validator[name](), { name: "Closed" }, name);
+  assert.throws(() => validator.take(new Uint8Array()), { name: "Closed" });
+  assert.throws(() => validator.renew(bundles), { name: "Closed" });
+  assert.throws(() => validator.bearer(["Bearer a"]), { name: "Closed" });
+  const judge = await Bundles.open(terms);
+  judge.close();
+  assert.equal(await said(judge.judge(text)), "Closed");
+  if (!Symbol.dispose) return;
+  for (const kind of [Validator, Bundles]) {
+    const it = await kind.open(terms);
+    it[Symbol.dispose]();
+    assert.equal(await said(it.judge(text)), "Closed", kind.name);
+  }
+});
+
+test("times are seconds, and milliseconds are refused", async () => {
+  const validator = await Validator.open({ ...terms, step: 1000 }), time = now(), text = token(one, { exp: time + 300 });
+  for (const it of [Date.now(), 1e11, 10n ** 11n]) assert.equal(await said(validator.check(text, it)), "RangeError");
+  for (const it of [-1, NaN, Infinity, "1", -1n, null, {}]) assert.equal(await said(validator.check(text, it)), "TypeError", String(it));
+  assert.equal(await said(validator.check(text, time + 0.9)), "accepted");
+  assert.equal(validator.size().moment, BigInt(time));
+  assert.equal(await said(validator.check(text, time + 1001)), "Jump");
+  assert.throws(() => validator.tick(BigInt(time + 1001)), { name: "Jump" });
+  assert.equal(await said(validator.check(text, 5)), "Replayed");
+  validator.tick(time + 400);
+  assert.equal(validator.size().uses, 0);
+  validator.close();
+});
+
+test("options that can't be are refused", async () => {
+  const wrong = [
+    { audiences: [] }, { audiences: "" }, { audiences: ["ledger", ""] }, { audiences: undefined }, { audiences: [1] },
+    { bundles: undefined }, { bundles: 1 }, { longest: -1 }, { longest: "60" }, { ahead: NaN }, { step: -1n },
+    { validatorId: new Uint8Array(15) }, { validatorId: "x" }, { rsaBits: 1024 }, { rsaBits: 16385 }, { rsaBits: "4096" }, { verify: 1 },
+    { longest: 2n ** 64n },
+  ];
+  for (const it of wrong) {
+    const name = await said(Validator.open({ ...terms, ...it }));
+    assert.ok(name === "TypeError" || name === "RangeError", `${Object.keys(it)[0]}: ${name}`);
+  }
+  assert.throws(() => new Validator(), TypeError);
+  assert.throws(() => new Bundles(), TypeError);
+});
+
+test("audiences may have any characters", async () => {
+  for (const name of ["a\nb", "\u0000", "ü", " ledger "]) {
+    const validator = await Validator.open({ ...terms, audiences: [name, "other"] });
+    assert.equal(await said(validator.check(token(one, { aud: name }))), "accepted");
+    for (const it of ["a", "b", "", "ledger"]) assert.equal(await said(validator.check(token(one, { aud: it }))), "NotAudience");
+    validator.close();
+  }
+});
+
+test("longest bounds how long a token may live", async () => {
+  for (const kind of [Validator, Bundles]) {
+    const it = await kind.open({ ...terms, longest: 60 }), time = now();
+    const judge = (exp) => said(it.judge(token(one, { exp }), time));
+    assert.deepEqual([await judge(time + 60), await judge(time + 61)], ["accepted", "TooLongLived"]);
+    it.close();
+  }
+});
+
+test("bundles judge without a record, and at any time", async () => {
+  const judge = await Bundles.open(terms), time = now(), text = token(one, { exp: time + 300 });
+  for (let n = 0; n < 3; n++) assert.equal(await said(judge.judge(text)), "accepted");
+  assert.equal(await said(judge.judge(text, time + 300)), "Expired");
+  assert.equal(await said(judge.judge(text, time)), "accepted");
+  assert.equal((await judge.judge(text)).use.expires, BigInt(time + 300));
+  assert.equal(await said(judge.judge(token(issuer()))), "BadSignature");
+  assert.equal(await said(judge.judge(token(one, { aud: "other" }))), "NotAudience");
+  judge.close();
+});
+
+test("a token says what it says, with no one's word for it", async () => {
+  const validator = await Validator.open(terms), audiences = Array.from({ length: 40 }, (_, n) => `service-${n}-${"x".repeat(n * 60)}`);
+  const says = validator.says(token(issuer("other"), { aud: audiences, exp: 5 }));
+  assert.deepEqual(
+    [says.alg, says.spiffeId, says.trustDomain, says.keyId, says.audiences, says.expires, says.key.length],
+    ["ES256", "spiffe://example.org/billing/api", "example.org", "other", audiences, 5n, 32],
+  );
+  assert.throws(() => validator.says("a.b"), { name: "NotThreeParts" });
+  validator.close();
+});
+
+test("what can't be verified is an error, and never let in", async () => {
+  const fails = () => Promise.reject(new Error("no such algorithm"));
+  for (const kind of [Validator, Bundles]) {
+    const it = await kind.open({ ...terms, verify: fails });
+    const why = await it.judge(token(one)).catch((error) => error);
+    assert.deepEqual([why.name, why.cause.message], ["Unverifiable", "no such algorithm"]);
+    // (what needs no signature to be refused is refused all the same)
+    assert.equal(await said(it.judge(token(one, { exp: 1 }))), "Expired");
+    it.close();
+  }
+  // Another key that fits is asked all the same.
+  const keys = [issuer("a"), issuer("b")], text = token({ ...keys[1], kid: undefined });
+  const both = { "example.org": { keys: keys.map((it) => it.entry) } };
+  const verify = (_alg, key) => (key.includes(keys[0].entry.x) ? fails() : true);
+  const validator = await Validator.open({ audiences: "ledger", bundles: both, verify });
+  assert.equal(await said(validator.check(text)), "accepted");
+  validator.close();
+  for (const it of [() => false, async () => false, () => undefined, () => 1, () => "no", () => ({ valid: false })]) {
+    const never = await Validator.open({ ...terms, verify: it });
+    assert.equal(await said(never.check(token(one))), "BadSignature");
+    never.close();
+  }
+});
+
+test("a verifier of one's own is given what is signed, and the key", async () => {
+  const given = [];
+  const validator = await Validator.open({ ...terms, verify: (...it) => given.push(it) > 0 }), text = token(one);
+  await validator.check(text);
+  const [alg, key, signed, signature] = given[0], period = text.lastIndexOf(".");
+  assert.deepEqual([alg, JSON.parse(key), given.length], ["ES256", one.entry, 1]);
+  assert.equal(Buffer.from(signed).toString(), text.slice(0, period));
+  assert.equal(Buffer.from(signature).toString("base64url"), text.slice(period + 1));
+  validator.close();
+});
+
+test("a key that WebCrypto does not read made no signature, and a fault of WebCrypto is no answer", async () => {
+  const point = { ...one.entry, x: one.entry.y, y: one.entry.x };
+  const off = await Validator.open({ ...terms, bundles: { "example.org": { keys: [point] } } });
+  assert.equal(await said(off.check(token(one))), "BadSignature");
+  off.close();
+  const { subtle } = globalThis.crypto ?? (await import("node:crypto")).webcrypto;
+  for (const name of ["importKey", "verify"]) {
+    const before = subtle[name], validator = await Validator.open(terms), text = token(one);
+    subtle[name] = () => Promise.reject(new DOMException("not here", "NotSupportedError"));
+    try {
+      assert.equal(await said(validator.check(text)), "Unverifiable", name);
+    } finally {
+      subtle[name] = before;
+    }
+    assert.equal(await said(validator.check(text)), "accepted", name);
+    validator.close();
+  }
+});
+
+test("no memory is answered, and accepts nothing", async () => {
+  const { validator, calls } = await watched();
+  const spare = exhausted(calls), text = token(one);
+  assert.equal(calls.room(1n), 0n);
+  // (all that a check lends stands ready, so that the library itself lacks memory)
+  assert.equal(await said(validator.check(text)), "OutOfMemory");
+  assert.throws(() => validator.take(new Uint8Array(5)), { name: "OutOfMemory" });
+  assert.throws(() => validator.renew(bundles), { name: "OutOfMemory" });
+  assert.throws(() => validator.bearer(["Bearer a"]), { name: "OutOfMemory" });
+  assert.throws(() => validator.says(text), { name: "OutOfMemory" });
+  assert.throws(() => validator.record(), { name: "OutOfMemory" });
+  for (const it of spare) calls.free_room(it);
+  assert.equal(validator.size().uses, 0);
+  assert.equal(await said(validator.check(text)), "accepted");
+  assert.equal(await said(validator.check(text)), "Replayed");
+  validator.close();
+});
+
+test("memory that grows is looked at anew", async () => {
+  const { validator, memory, calls } = await watched(), before = memory.buffer;
+  const tokens = Array.from({ length: 50 }, () => token(one)), messages = [], time = now();
+  for (const [n, it] of tokens.entries()) {
+    messages.push((await validator.check(it, time)).use.message);
+    if (n % 10 === 0) calls.room(BigInt(memory.buffer.byteLength)); // (it has grown behind the back of the package)
+  }
+  assert.equal(before.byteLength, 0); // (the first buffer is detached)
+  const again = await Validator.open(terms);
+  messages.forEach((it) => again.take(it, time));
+  assert.equal(digest(again.report()), digest(validator.report()));
+  for (const it of [again, validator]) it.close();
+});
+
+test("a library that has stopped says so, and takes no other with it", async () => {
+  const { validator, calls } = await watched(), other = await Validator.open(terms), text = token(one);
+  // (a pointer beyond the memory is what a damaged program would give)
+  assert.throws(() => calls.svid_validator_tick(2n ** 32n - 8n, 1n, 2n ** 32n - 8n), WebAssembly.RuntimeError);
+  assert.equal(await said(validator.check(text)), "Stopped");
+  assert.throws(() => validator.size(), { name: "Stopped" });
+  assert.equal(await said(other.check(text)), "accepted");
+  for (const it of [validator, other]) it.close();
+});
+
+test("a module of another build is refused by name", async () => {
+  const before = WebAssembly.Module.exports;
+  WebAssembly.Module.exports = (code) => before(code).filter((it) => it.name !== "svid_token_says");
+  try {
+    await assert.rejects(Validator.open(terms), /lacks svid_token_says/);
+  } finally {
+    WebAssembly.Module.exports = before;
+  }
+  const start = WebAssembly.instantiate;
+  WebAssembly.instantiate = async (...given) => ({ exports: { ...(await start(...given)).exports, svid_version: () => 30100 } });
+  try {
+    await assert.rejects(Validator.open(terms), /has version 30100, and this package needs 2xxxx/);
+  } finally {
+    WebAssembly.instantiate = start;
+  }
+});
+
+test("JavaScript names nothing of tokens, keys and messages", () => {
+  const files = ["index.js", "redis.js", ...["errors", "given", "http", "library", "member", "memory-log", "signatures", "validator"].map((it) => `src/${it}.js`)];
+  // (what the library answers is written in errors.js by tools/lists, in sentences; an example of an ID is no rule)
+  const code = files.map((it) => read(`node/${it}`).replace(/lists:begin[^]*?lists:end/g, "").replace(/(^|\s)\/\/.*|\/\*[^]*?\*\//gm, "")).join("\n");
+  for (const it of [/\bkty\b/, /\bcrv\b/, /\bkid\b/, /\bjti\b/, /\baud\b/, /\bexp\b/, /\bnbf\b/, /jwt-svid/, /base64url/, /\bJSR\b/, /spiffe:(?!\/\/(example\.org|DOMAIN))/, /"jwk"/]) {
+    assert.doesNotMatch(code, it);
+  }
+});
+
+// A verifier that waits.
+function gate() {
+  const it = { asked: 0 };
+  const passed = new Promise((resolve) => (it.open = resolve));
+  Object.defineProperty(it, "passed", { get: () => (it.asked++, passed) });
+  return it;
+}
+
+// A validator whose instance the test sees.
+async function watched() {
+  const [validator, calls] = await seen(() => Validator.open(terms));
+  return { validator, calls, memory: calls.memory };
+}
+
+assert.ok(PACKAGE, "SVID_PACKAGE names the package");

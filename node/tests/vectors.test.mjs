@@ -1,0 +1,218 @@
+// The vectors of vectors/, which say where their answers come from: those that the Python package reads too.
+
+import assert from "node:assert/strict";
+import { test } from "node:test";
+import { bytesOf, hex, imported, read } from "./making.mjs";
+
+const { BadBundles, BadMessages, Bundles, Refusal, SvidError, Validator, guard } = await imported();
+const { Library } = await imported("src/library.js");
+
+const ANY = 2n ** 64n - 1n;
+const READER = "python";
+const FATES = { 0: "Accepted", 1: "First", 2: "Withdrawal", 8: "TooFarAhead", 118: "Expired", 124: "Withdrawn", 125: "Replayed" };
+const ORDERS = ["Again", "Next", "Gap"];
+
+function vectorsOf(name) {
+  const file = JSON.parse(read(`vectors/${name}.json`));
+  const vectors = file.vectors.filter((it) => it.readers.split(" ").includes(READER));
+  assert.equal(vectors.length, file.counts[READER]);
+  assert.ok(vectors.length > 0);
+  return { ...file, vectors };
+}
+
+async function verdict(call) {
+  try {
+    const accepted = await call();
+    assert.equal(accepted.spiffeId, `spiffe://${accepted.trustDomain}${accepted.path}`);
+    assert.ok(!accepted.trustDomain.includes("/"));
+    return `accepted ${accepted.spiffeId} ${accepted.expires}`;
+  } catch (why) {
+    if (why instanceof Refusal) return `refused ${why.name}`;
+    if (why instanceof BadMessages && why.number) return `${why.reason} ${why.number} ${why.offset}`;
+    if (why instanceof SvidError) return why.name;
+    throw why;
+  }
+}
+
+async function using(opened, body) {
+  const it = await opened;
+  try {
+    return await body(it);
+  } finally {
+    it.close();
+  }
+}
+
+for (const name of ["keys", "signatures"]) {
+  test(name, async () => {
+    const file = vectorsOf(name), { now } = file.setting;
+    for (const vector of file.vectors) {
+      const terms = { audiences: "ledger", bundles: { "example.org": `{"keys":[${vector.keys.join(",")}]}` }, rsaBits: vector.rsa_bits };
+      await using(Validator.open(terms), async (validator) => {
+        assert.equal(await verdict(() => validator.judge(vector.token, now)), vector.answer, vector.name);
+        assert.equal(await verdict(() => validator.check(Buffer.from(vector.token), now)), vector.answer, vector.name);
+      });
+      await using(Bundles.open(terms), async (bundles) => {
+        assert.equal(await verdict(() => bundles.judge(vector.token, now)), vector.answer, vector.name);
+      });
+    }
+  });
+}
+
+// The call of a vector of tokens.json.
+async function called(validator, call) {
+  const now = call.now === undefined ? undefined : BigInt(call.now);
+  switch (call.call) {
+    case "check":
+    case "judge":
+      return verdict(() => validator[call.call](call.token, now));
+    case "tell":
+      return hex(validator.record());
+    default: {
+      const calls = {
+        withdraw: () => validator.withdrawKey(bytesOf(call.key), BigInt(call.exp), now).then(() => "withdrawn"),
+        take: async () => validator.take(bytesOf(call.messages), now) ?? "taken",
+        tick: async () => validator.tick(now) ?? "ticked",
+      };
+      return calls[call.call]().catch((why) => verdict(() => Promise.reject(why)));
+    }
+  }
+}
+
+test("calls of a validator", async () => {
+  const file = vectorsOf("tokens");
+  for (const vector of file.vectors) {
+    const given = { ...file.setting, ...vector.setting };
+    const limit = (it) => (it === null ? undefined : BigInt(it));
+    const terms = {
+      audiences: given.audiences,
+      bundles: file.bundles[given.bundles],
+      longest: limit(given.longest),
+      ahead: given.ahead === null ? ANY : BigInt(given.ahead),
+      step: limit(given.step),
+      validatorId: bytesOf(given.validator_id),
+    };
+    await using(Validator.open(terms), async (validator) => {
+      for (const call of vector.calls) assert.equal(await called(validator, call), call.answer, `${vector.name}: ${call.call}`);
+    });
+  }
+});
+
+test("bundles", async () => {
+  const file = vectorsOf("bundles");
+  const faults = ["NotObject", "Domain", "Keys", "BadBundles"];
+  let read = 0;
+  for (const vector of file.vectors) {
+    if (vector.form === "workload") continue; // (this package takes no bundles of that form)
+    read += 1;
+    const text = "text" in vector ? vector.text : bytesOf(vector.hex);
+    const bundles = vector.form === "document" ? { [vector.domain]: text } : text;
+    let fault = false;
+    try {
+      await using(Validator.open({ audiences: "ledger", bundles }), async (validator) => {
+        assert.equal(await verdict(() => validator.check(vector.token, file.setting.now)), vector.answer, vector.name);
+      });
+      await using(Bundles.open({ audiences: "ledger", bundles }), async (it) => {
+        assert.equal(await verdict(() => it.judge(vector.token, file.setting.now)), vector.answer, vector.name);
+      });
+    } catch (why) {
+      if (!(why instanceof BadBundles)) throw why;
+      fault = true;
+    }
+    assert.equal(fault, faults.includes(vector.answer.split(" ")[0]), vector.name);
+  }
+  assert.ok(read >= 60, `${read} vectors were read`);
+});
+
+test("headers", async () => {
+  const file = vectorsOf("headers");
+  for (const vector of file.vectors) {
+    await using(Validator.open({ audiences: "ledger", bundles: file.setting.bundles }), async (validator) => {
+      const answer = {};
+      const res = { setHeader: (name, value) => (answer[name] = value), end: () => (answer.ended = true) };
+      const req = { rawHeaders: vector.values.flatMap((it) => ["AuthoriZation", it]) };
+      const atOneTime = { bearer: (values) => validator.bearer(values), check: (token) => validator.check(token, file.setting.now) };
+      let isLetIn = false;
+      await guard(atOneTime)(req, res, () => (isLetIn = true));
+      if (vector.answer === "refused") {
+        assert.deepEqual([isLetIn, res.statusCode, answer.ended], [false, 401, true], vector.name);
+        assert.match(answer["WWW-Authenticate"], /^Bearer\b/, vector.name);
+      } else {
+        assert.equal(req.svid?.spiffeId, vector.answer.split(" ")[1], vector.name);
+        assert.ok(isLetIn);
+      }
+    });
+  }
+});
+
+const empty = () => Validator.open({ audiences: "ledger", bundles: "{}", ahead: ANY });
+
+test("messages", async () => {
+  for (const vector of vectorsOf("messages").vectors) {
+    await using(empty(), async (validator) => {
+      const messages = bytesOf(vector.messages);
+      if (vector.fault) {
+        const { reason, message, offset } = vector.fault;
+        assert.throws(() => validator.take(messages, 0), { name: "BadMessages", reason, number: message, offset }, vector.name);
+        return;
+      }
+      validator.take(messages, 0);
+      if (vector.now) validator.tick(vector.now);
+      assert.equal(hex(validator.record()), vector.record, vector.name);
+      assert.equal(validator.report(), vector.report, vector.name);
+      assert.equal(hex(Buffer.concat([...validator.parts(82)])).length > 0, true);
+    });
+  }
+});
+
+test("summaries", async () => {
+  for (const vector of vectorsOf("summaries").vectors) {
+    await using(empty(), async (validator) => {
+      validator.take(bytesOf(vector.messages), 0);
+      const summary = bytesOf(vector.summary);
+      if (vector.call === "summary") assert.equal(hex(validator.summary()), vector.summary, vector.name);
+      else if (vector.fault) assert.throws(() => validator.answer(summary, 0), { name: "BadMessages", message: vector.fault }, vector.name);
+      else assert.equal(hex(validator.answer(summary, 0)), vector.answer, vector.name);
+    });
+  }
+});
+
+// What each call on a log answers.
+const ANSWERS = { read: ["order", "fates", "fault"], mark: ["passed", "deaf", "accepts"], beside: ["messages"], go_on: [] };
+
+function readOn(library, call) {
+  switch (call.call) {
+    case "read": {
+      const read = library.read(BigInt(call.now), BigInt(call.position), bytesOf(call.value));
+      assert.ok(read.isWhole && !read.lacksMemory);
+      const fault = read.fault ? { fault: `${read.fault.reason} ${read.fault.offset}` } : {};
+      return { order: ORDERS[Number(read.order)], fates: read.fates.map((it) => FATES[it.fate]), ...fault };
+    }
+    case "mark": {
+      const { passed, deaf, accepts } = library.mark();
+      return { passed: Number(passed), deaf: Number(deaf), accepts };
+    }
+    case "beside":
+      return { messages: hex(library.beside()) };
+    default:
+      library.goOn();
+      return {};
+  }
+}
+
+test("logs", async () => {
+  const file = vectorsOf("logs"), { setting } = file;
+  for (const vector of file.vectors) {
+    await using(Library.start(), (library) => {
+      const terms = { longest: ANY, ahead: BigInt(setting.ahead), step: ANY, validatorId: bytesOf(setting.validator_id) };
+      library.openValidator(terms, ["ledger"], Buffer.from("{}"));
+      library.tick(BigInt(setting.now));
+      const { passed, ready, lasts, deaf, beside } = vector.log;
+      library.log({ passed: BigInt(passed), deaf: BigInt(deaf) }, BigInt(ready), BigInt(lasts), bytesOf(beside));
+      for (const call of vector.calls) {
+        const want = Object.fromEntries(ANSWERS[call.call].filter((it) => it in call).map((it) => [it, call[it]]));
+        assert.deepEqual(readOn(library, call), want, `${vector.name}: ${call.call}`);
+      }
+    });
+  }
+});

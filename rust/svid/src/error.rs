@@ -1,0 +1,234 @@
+//! What a call answers that does not do what it was asked for.
+
+use std::fmt;
+
+use crate::ffi::{self, Told};
+use crate::refusal::Refusal;
+
+/// Why a call did nothing. Whatever the error of a check is, the token was not accepted.
+///
+/// Each method lists the errors that it may return.
+#[derive(Debug, Clone, Copy, PartialEq, Eq)]
+#[non_exhaustive]
+pub enum Error {
+    /// The token is refused. This is an answer about the token, and all others say that there is none.
+    Refused(Refusal),
+    /// There is no memory for the call. Nothing was accepted: you can make the call again.
+    NoMemory,
+    /// `now` is more than `step` seconds past the record's moment. If the clock is right, the validator was idle for longer than `step`:
+    /// take its record into a new one.
+    Jump,
+    /// The messages tell of a time more than `ahead` seconds past `now`. None of them was taken.
+    TooFar,
+    /// The token has expired, so there is nothing to withdraw.
+    Gone,
+    /// The verifier can't verify with this algorithm or by this key, and no other key made the signature. Use another verifier.
+    Unsupported,
+    /// The trust bundles can't be read. A validator keeps those that it has.
+    Bundles(BundlesFault),
+    /// The bytes are no messages. None of them was taken.
+    Messages(MessagesError),
+    /// The bytes are messages, but not one summary.
+    NotSummary,
+    /// The bytes are more than 67,108,864: cut the messages.
+    TooMuch,
+    /// The room is too short for any piece of a record: give it [`PIECE_LEAST`](crate::PIECE_LEAST) bytes or more.
+    TooShort,
+    /// The system's clock is before 1970.
+    NoClock,
+    /// The system gives no random bytes for a validator ID.
+    NoRandom,
+    /// The library answered what this crate does not know: it is of another version.
+    Unexpected(Unexpected),
+}
+
+impl Error {
+    /// Why the token is refused, if this is a refusal.
+    pub fn refusal(self) -> Option<Refusal> {
+        match self {
+            Error::Refused(why) => Some(why),
+            _ => None,
+        }
+    }
+
+    /// The error of a status that is not OK.
+    pub(crate) fn of(status: u32, told: &Told) -> Error {
+        if let Some(why) = Refusal::of_status(status) {
+            return Error::Refused(why);
+        }
+        if let Some(row) = MessageFault::ROWS.iter().find(|row| row.1 == status) {
+            return Error::Messages(MessagesError { fault: row.0, message: told.message, offset: told.offset });
+        }
+        match status {
+            ffi::NO_MEMORY => Error::NoMemory,
+            ffi::TOO_MUCH => Error::TooMuch,
+            ffi::TOO_SHORT => Error::TooShort,
+            ffi::NOT_SUMMARY => Error::NotSummary,
+            ffi::GONE => Error::Gone,
+            ffi::TOO_FAR => Error::TooFar,
+            ffi::JUMP => Error::Jump,
+            ffi::BUNDLES_NOT_OBJECT => Error::Bundles(BundlesFault::NotObject),
+            ffi::BUNDLES_DOMAIN => Error::Bundles(BundlesFault::Domain { number: told.offset }),
+            ffi::BUNDLES_KEYS => Error::Bundles(BundlesFault::Keys { number: told.offset }),
+            _ => Error::unexpected(status),
+        }
+    }
+
+    pub(crate) fn unexpected(status: u32) -> Error {
+        Error::Unexpected(Unexpected::new(status))
+    }
+}
+
+impl From<Refusal> for Error {
+    fn from(why: Refusal) -> Error {
+        Error::Refused(why)
+    }
+}
+
+impl fmt::Display for Error {
+    fn fmt(&self, f: &mut fmt::Formatter<'_>) -> fmt::Result {
+        match self {
+            Error::Refused(why) => why.fmt(f),
+            Error::NoMemory => f.write_str("there is no memory: make the call again"),
+            Error::Jump => f.write_str("now is more than `step` seconds past the record's moment: set the clock, or make a new validator"),
+            Error::TooFar => f.write_str("the messages tell of a time more than `ahead` seconds past now: set the clocks"),
+            Error::Gone => f.write_str("the token has expired: there is nothing to withdraw"),
+            Error::Unsupported => f.write_str("the verifier can't verify with this algorithm or by this key: use another one"),
+            Error::Bundles(why) => why.fmt(f),
+            Error::Messages(why) => why.fmt(f),
+            Error::NotSummary => f.write_str("the bytes are messages, but not one summary"),
+            Error::TooMuch => f.write_str("the bytes are more than 67,108,864: cut the messages"),
+            Error::TooShort => f.write_str("the room is too short for any piece of a record: give it 82 bytes or more"),
+            Error::NoClock => f.write_str("the system's clock is before 1970: set it"),
+            Error::NoRandom => f.write_str("the system gives no random bytes: read them from another source, and choose a validator ID"),
+            Error::Unexpected(why) => why.fmt(f),
+        }
+    }
+}
+
+impl std::error::Error for Error {
+    fn source(&self) -> Option<&(dyn std::error::Error + 'static)> {
+        match self {
+            Error::Refused(why) => Some(why),
+            Error::Bundles(why) => Some(why),
+            Error::Messages(why) => Some(why),
+            Error::Unexpected(why) => Some(why),
+            _ => None,
+        }
+    }
+}
+
+/// Why trust bundles can't be read. Names are counted from 0, in the rising order of their bytes.
+#[derive(Debug, Clone, Copy, PartialEq, Eq)]
+#[non_exhaustive]
+pub enum BundlesFault {
+    /// They are no JSON object.
+    NotObject,
+    /// A name is no trust domain name.
+    Domain {
+        /// The number of the name.
+        number: usize,
+    },
+    /// A trust domain has no list `keys`.
+    Keys {
+        /// The number of its name.
+        number: usize,
+    },
+}
+
+impl fmt::Display for BundlesFault {
+    fn fmt(&self, f: &mut fmt::Formatter<'_>) -> fmt::Result {
+        match self {
+            BundlesFault::NotObject => f.write_str("the bundles are no JSON object"),
+            BundlesFault::Domain { number } => {
+                write!(f, "the name of a trust domain is none: number {number} (from 0) of the names in rising order")
+            }
+            BundlesFault::Keys { number } => {
+                write!(f, "a trust domain has no list `keys`: number {number} (from 0) of the names in rising order")
+            }
+        }
+    }
+}
+
+impl std::error::Error for BundlesFault {}
+
+/// Where bytes stop being messages, and why.
+#[derive(Debug, Clone, Copy, PartialEq, Eq)]
+#[non_exhaustive]
+pub struct MessagesError {
+    /// What is wrong.
+    pub fault: MessageFault,
+    /// Which of the messages, counted from 1. It is 0 for a value of a log, and for the claims beside a record.
+    pub message: usize,
+    /// Which byte of that message, counted from 0.
+    pub offset: usize,
+}
+
+impl fmt::Display for MessagesError {
+    fn fmt(&self, f: &mut fmt::Formatter<'_>) -> fmt::Result {
+        let MessagesError { fault, message, offset } = self;
+        write!(f, "{fault}: message {message} at byte {offset}")
+    }
+}
+
+impl std::error::Error for MessagesError {}
+
+/// What is wrong with bytes that are no messages.
+#[derive(Debug, Clone, Copy, PartialEq, Eq, Hash)]
+#[non_exhaustive]
+// lists:begin messages (written by tools/lists from lists/statuses.toml)
+pub enum MessageFault {
+    /// The first four bytes are those of no version.
+    Magic,
+    /// The fifth byte is that of no kind of message of the version.
+    Kind,
+    /// A batch tells of too many uses.
+    Count,
+    /// The last byte of a use is neither 0 nor 1.
+    UseKind,
+    /// A use expires at its batch's moment or before it.
+    UseExpired,
+    /// A use was made after its batch's moment.
+    UseFuture,
+    /// A use is not greater than the one before it.
+    UseOrder,
+    /// The bytes end before the message does.
+    Truncated,
+}
+
+impl MessageFault {
+    // Each with its number, its name and what it says.
+    pub(crate) const ROWS: [(MessageFault, u32, &'static str, &'static str); 8] = [
+        (MessageFault::Magic, ffi::MAGIC, "Magic", "the first four bytes are those of no version"),
+        (MessageFault::Kind, ffi::KIND, "Kind", "the fifth byte is that of no kind of message of the version"),
+        (MessageFault::Count, ffi::COUNT, "Count", "a batch tells of too many uses"),
+        (MessageFault::UseKind, ffi::USE_KIND, "UseKind", "the last byte of a use is neither 0 nor 1"),
+        (MessageFault::UseExpired, ffi::USE_EXPIRED, "UseExpired", "a use expires at its batch's moment or before it"),
+        (MessageFault::UseFuture, ffi::USE_FUTURE, "UseFuture", "a use was made after its batch's moment"),
+        (MessageFault::UseOrder, ffi::USE_ORDER, "UseOrder", "a use is not greater than the one before it"),
+        (MessageFault::Truncated, ffi::TRUNCATED, "Truncated", "the bytes end before the message does"),
+    ];
+}
+// lists:end
+
+named!(MessageFault);
+
+/// An answer of the library that this crate does not know.
+#[derive(Debug, Clone, Copy, PartialEq, Eq)]
+pub struct Unexpected {
+    status: u32,
+}
+
+impl Unexpected {
+    pub(crate) fn new(status: u32) -> Unexpected {
+        Unexpected { status }
+    }
+}
+
+impl fmt::Display for Unexpected {
+    fn fmt(&self, f: &mut fmt::Formatter<'_>) -> fmt::Result {
+        write!(f, "libsvid answered {}, which this crate does not know: link the libsvid.a of its release", self.status)
+    }
+}
+
+impl std::error::Error for Unexpected {}

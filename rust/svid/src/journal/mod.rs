@@ -1,0 +1,532 @@
+//! A state folder: a record, kept over restarts and crashes.
+//!
+//! The library decides what the bytes of a file are, which call of the system comes next, and what is read of a file that a crash left
+//! (svid.h, "A state folder"). This module makes the calls, and tells the library how they went.
+
+mod error;
+mod file;
+mod folder;
+#[cfg(test)]
+mod tests;
+
+use std::io::ErrorKind;
+use std::path::{Path, PathBuf};
+use std::sync::{Arc, Condvar, Mutex, MutexGuard, PoisonError};
+use std::thread::{self, JoinHandle};
+use std::time::{Duration, Instant};
+
+pub use self::error::JournalError;
+use self::file::{front, Contents, End};
+use self::folder::{journal_name, Folder, Growing, Numbers, FRAMES, ID_FILE, SNAPSHOT, UNFINISHED};
+use crate::error::Error;
+use crate::ffi;
+use crate::member::LogPosition;
+use crate::record::ValidatorId;
+use crate::validator::Parts;
+
+/// What a journal grows by: to force a new length to the disk takes longer than the bytes.
+static GROWTH: [u8; 262_144] = [0; 262_144];
+/// How long nobody appends until a mark is worth its write.
+const QUIET: Duration = Duration::from_secs(1);
+/// So many journals of starts are worth a snapshot.
+const MANY_JOURNALS: usize = 8;
+/// Journals of so many bytes are worth none.
+const SMALL: u64 = 8 << 20;
+/// How long after a snapshot that failed the next one is due.
+const PAUSE: Duration = Duration::from_secs(60);
+/// How many bytes of a record are written at once: for so long the validator is asked for them.
+const PIECE: usize = 256 * 1024;
+/// The most bytes of messages that one write takes.
+const MOST: usize = ffi::PAYLOAD_MOST - ffi::LOG_POSITION;
+
+type Bears = dyn Fn() -> Option<LogPosition> + Send + Sync;
+
+/// The state folder of one validator: what it accepted is found again behind a restart, a crash or a loss of power.
+///
+/// ```
+/// # #[cfg(feature = "openssl")] {
+/// # let bundles = include_bytes!(concat!(env!("CARGO_MANIFEST_DIR"), "/../../examples/bundles.json"));
+/// # let token = include_str!(concat!(env!("CARGO_MANIFEST_DIR"), "/../../examples/token.txt")).trim();
+/// # let folder = std::env::temp_dir().join(format!("svid-doc-{}", std::process::id()));
+/// use std::time::Duration;
+/// use svid::{Guard, Journal, OpenSsl, Options};
+///
+/// let mut journal = Journal::open(&folder)?;
+/// let options = Options::new(["ledger"]).validator_id(journal.validator_id());
+/// let guard = Guard::open(&options, bundles, OpenSsl::new())?;
+/// journal.load(|messages| guard.validator().take(svid::now()?, messages))?;
+///
+/// let accepted = guard.check(token)?;
+/// journal.append(&accepted.used().message()?, Duration::from_secs(2))?; // answer the request behind this line
+///
+/// if journal.wants_snapshot() {
+///     journal.snapshot(|parts, room| guard.validator().piece(parts, room))?;
+/// }
+/// # drop(journal);
+/// # std::fs::remove_dir_all(&folder)?;
+/// # }
+/// # Ok::<(), Box<dyn std::error::Error>>(())
+/// ```
+///
+/// `svidd` and the package for Python write the same files (docs/FORMATS.md, "State folder"), so any of them can go on with the folder of another
+/// one. One process holds a folder at a time, and any number of its threads may use the journal. To drop it waits for what is under way.
+pub struct Journal {
+    keeper: Arc<Keeper>,
+    writer: Option<JoinHandle<()>>,
+    validator_id: ValidatorId,
+    torn: Vec<PathBuf>,
+    log_position: Option<LogPosition>,
+    found: Vec<Contents>,
+}
+
+/// What the threads of a journal share.
+struct Keeper {
+    folder: Folder,
+    /// Held over a snapshot.
+    switch: Mutex<Switch>,
+    /// Held over a write. A thread that has the switch may take it; never the other way round.
+    writing: Mutex<Writing>,
+    /// Guards what the next write takes. No other lock but that of its messages is taken with it held.
+    gate: Mutex<Gate>,
+    /// The next write has something to take, or the journal is being closed.
+    comes: Condvar,
+    bears: Mutex<Option<Arc<Bears>>>,
+}
+
+struct Switch {
+    wants: bool,
+    /// How many bytes the snapshot has.
+    kept: u64,
+    /// Until when none is due.
+    pause: Option<Instant>,
+}
+
+struct Writing {
+    numbers: Numbers,
+    /// The journal that grows.
+    file: Option<Growing>,
+    /// The one that is to grow.
+    next: Option<Growing>,
+    /// The length of the one that grows.
+    room: u64,
+    /// How many bytes of frames older journals have.
+    older: u64,
+    /// Its last frame is a mark, or it has none.
+    is_marked: bool,
+    frame: Vec<u8>,
+}
+
+struct Gate {
+    commit: Option<Arc<Commit>>,
+    is_closing: bool,
+}
+
+/// The messages that one write takes to the disk, and what came of it.
+struct Commit {
+    messages: Mutex<Vec<u8>>,
+    result: Mutex<Option<Result<(), JournalError>>>,
+    ended: Condvar,
+}
+
+impl Journal {
+    /// Opens the folder, and begins a new journal in it. Makes the folder where its parent is there.
+    ///
+    /// # Errors
+    ///
+    /// [`JournalError::Held`], [`JournalError::Damaged`], [`JournalError::OtherFormat`], [`JournalError::Old`], [`JournalError::NoValidatorId`],
+    /// [`JournalError::BadValidatorId`], [`JournalError::Io`], [`JournalError::NoMemory`].
+    pub fn open(folder: impl AsRef<Path>) -> Result<Journal, JournalError> {
+        Journal::open_by(Folder::hold(folder.as_ref())?)
+    }
+
+    fn open_by(folder: Folder) -> Result<Journal, JournalError> {
+        for name in [SNAPSHOT, ID_FILE, FRAMES] {
+            let name = format!("{name}{UNFINISHED}");
+            folder.remove(&name).map_err(|why| JournalError::io(folder.path(&name), why))?;
+        }
+        let frames = folder.path(FRAMES);
+        if frames.symlink_metadata().is_ok() {
+            return Err(JournalError::Old { file: frames });
+        }
+        let (known, journals) = (folder.validator_id()?, folder.journals().map_err(|why| JournalError::io(folder.path(""), why))?);
+        let names = std::iter::once((0, SNAPSHOT.to_owned())).chain(journals.iter().map(|it| (*it, journal_name(*it))));
+        let mut switch = Switch { wants: journals.len() >= MANY_JOURNALS, kept: 0, pause: None };
+        let (mut found, mut torn, mut log_position, mut older) = (Vec::new(), Vec::new(), None, 0);
+        for (number, name) in names {
+            let file = folder.path(&name);
+            let content = match folder.read(&name) {
+                Ok(content) => content,
+                Err(why) if number == 0 && why.kind() == ErrorKind::NotFound => {
+                    switch.wants = true;
+                    continue;
+                }
+                Err(why) => return Err(JournalError::io(file, why)),
+            };
+            let read = Contents::read(content, number, known.unwrap_or(ValidatorId([0; 16])))?;
+            if let Some(why) = read.fault(file.clone(), known.is_some()) {
+                return Err(why);
+            }
+            if read.end == End::Tear {
+                torn.push(file);
+            }
+            log_position = read.log_position.or(log_position);
+            match number {
+                0 => switch.kept = read.at,
+                _ => older += read.at,
+            }
+            found.push(read);
+        }
+        let validator_id = known.map_or_else(|| folder.make_validator_id(), Ok)?;
+        let (oldest, newest) = (journals.first().copied().unwrap_or(1), journals.last().copied().unwrap_or(0));
+        let writing = Writing {
+            numbers: Numbers::open(validator_id, oldest, newest)?,
+            file: None,
+            next: None,
+            room: 0,
+            older,
+            is_marked: true,
+            frame: Vec::new(),
+        };
+        let keeper = Arc::new(Keeper {
+            folder,
+            switch: Mutex::new(switch),
+            writing: Mutex::new(writing),
+            gate: Mutex::new(Gate { commit: None, is_closing: false }),
+            comes: Condvar::new(),
+            bears: Mutex::new(None),
+        });
+        keeper.make_calls(&mut lock(&keeper.switch), None)?;
+        let works = Arc::clone(&keeper);
+        let writer = thread::Builder::new().name("svid-journal".to_owned()).spawn(move || works.work());
+        let writer = Some(writer.map_err(|why| JournalError::io(keeper.folder.path(""), why))?);
+        Ok(Journal { keeper, writer, validator_id, torn, log_position, found })
+    }
+
+    /// The validator ID that was made with the folder, and stands in its file `place`.
+    pub fn validator_id(&self) -> ValidatorId {
+        self.validator_id
+    }
+
+    /// The journals at whose end a crash cut off a write. Nobody was told that it was kept. They are worth a line in a log.
+    pub fn torn(&self) -> &[PathBuf] {
+        &self.torn
+    }
+
+    /// Where the member was in its log when the folder was written last, if it says so.
+    pub fn log_position(&self) -> Option<LogPosition> {
+        self.log_position
+    }
+
+    /// Lets each write from now on say where the member is in its log, as `position` does. It gives `None` where there is no log.
+    pub fn bear(&self, position: impl Fn() -> Option<LogPosition> + Send + Sync + 'static) {
+        *lock(&self.keeper.bears) = Some(Arc::new(position));
+    }
+
+    /// Gives all messages that were found to `take` of a validator, some at a time. Only the first call that succeeds does.
+    ///
+    /// # Errors
+    ///
+    /// What `take` answers. The messages are still here then.
+    pub fn load<E>(&mut self, mut take: impl FnMut(&[u8]) -> Result<(), E>) -> Result<(), E> {
+        self.found.iter().flat_map(Contents::messages).try_for_each(&mut take)?;
+        self.found = Vec::new();
+        Ok(())
+    }
+
+    /// Returns once the messages are on the disk. Threads that come meanwhile share a write.
+    ///
+    /// No messages are fine if [`bear`](Journal::bear) was called: what is written then is where the member is in its log.
+    ///
+    /// # Errors
+    ///
+    /// [`JournalError::Late`] after `wait`: the disk may have them now, or later, or never. [`JournalError::Io`] if the write fails: a later one
+    /// may succeed. [`JournalError::Ended`], [`JournalError::Full`], [`JournalError::TooLong`], [`JournalError::NoMemory`].
+    pub fn append(&self, messages: &[u8], wait: Duration) -> Result<(), JournalError> {
+        let commit = self.keeper.join(messages)?;
+        let waits = commit.ended.wait_timeout_while(lock(&commit.result), wait, |it| it.is_none());
+        let (result, _) = waits.unwrap_or_else(PoisonError::into_inner);
+        result.clone().unwrap_or(Err(JournalError::Late))
+    }
+
+    /// Lets the messages go to the disk with the next write, and does not wait for that.
+    ///
+    /// # Errors
+    ///
+    /// [`JournalError::Full`], [`JournalError::TooLong`], [`JournalError::NoMemory`].
+    pub fn append_soon(&self, messages: &[u8]) -> Result<(), JournalError> {
+        self.keeper.join(messages).map(drop)
+    }
+
+    /// Whether a snapshot is due: there is none, or the journals are many or long. It is not while one is being taken, nor for a minute after
+    /// one that failed.
+    pub fn wants_snapshot(&self) -> bool {
+        let switch = match self.keeper.switch.try_lock() {
+            Ok(switch) => switch,
+            Err(_) => return false,
+        };
+        if switch.pause.map_or(false, |until| Instant::now() < until) {
+            return false;
+        }
+        let writing = lock(&self.keeper.writing);
+        switch.wants || writing.older.saturating_add(writing.numbers.end()) > switch.kept.max(SMALL)
+    }
+
+    /// Replaces the snapshot by the record of the validator, and drops the journals before it. `piece` is `piece` of the validator, and is
+    /// called until the record is written. Threads may append all the while.
+    ///
+    /// A use must be in the record before it is appended, as a check does it.
+    ///
+    /// # Errors
+    ///
+    /// [`JournalError::Io`], [`JournalError::Ended`], [`JournalError::NoMemory`], [`JournalError::Record`]. Nothing is lost then.
+    pub fn snapshot(&self, mut piece: impl FnMut(&mut Parts, &mut [u8]) -> Result<usize, Error>) -> Result<(), JournalError> {
+        let mut switch = lock(&self.keeper.switch);
+        lock(&self.keeper.writing).numbers.begin()?;
+        switch.pause = Instant::now().checked_add(PAUSE);
+        self.keeper.make_calls(&mut switch, Some(&mut piece))?;
+        (switch.wants, switch.pause) = (false, None);
+        Ok(())
+    }
+}
+
+impl Drop for Journal {
+    fn drop(&mut self) {
+        lock(&self.keeper.gate).is_closing = true;
+        self.keeper.comes.notify_all();
+        if let Some(writer) = self.writer.take() {
+            // (it panics nowhere; if it did, there would be nothing left to wait for)
+            let _ = writer.join();
+        }
+    }
+}
+
+impl std::fmt::Debug for Journal {
+    fn fmt(&self, f: &mut std::fmt::Formatter<'_>) -> std::fmt::Result {
+        f.debug_struct("Journal")
+            .field("folder", &self.keeper.folder.path(""))
+            .field("validator_id", &self.validator_id)
+            .finish_non_exhaustive()
+    }
+}
+
+type Piece<'a> = &'a mut dyn FnMut(&mut Parts, &mut [u8]) -> Result<usize, Error>;
+
+impl Keeper {
+    /// Adds messages to what the next write takes.
+    fn join(&self, messages: &[u8]) -> Result<Arc<Commit>, JournalError> {
+        if messages.len() > MOST {
+            return Err(JournalError::TooLong);
+        }
+        let mut gate = lock(&self.gate);
+        let commit = gate
+            .commit
+            .get_or_insert_with(|| Arc::new(Commit { messages: Mutex::new(Vec::new()), result: Mutex::new(None), ended: Condvar::new() }));
+        let commit = Arc::clone(commit);
+        let mut all = lock(&commit.messages);
+        if all.len() + messages.len() > MOST {
+            return Err(JournalError::Full);
+        }
+        all.try_reserve(messages.len()).map_err(|_| JournalError::NoMemory)?;
+        all.extend_from_slice(messages);
+        drop(all);
+        self.comes.notify_all();
+        Ok(commit)
+    }
+
+    /// Takes to the disk what threads append, one write after the other, until the journal is closed.
+    fn work(&self) {
+        let mut is_quiet = true;
+        loop {
+            let mut gate = lock(&self.gate);
+            while gate.commit.is_none() && !gate.is_closing {
+                if is_quiet {
+                    gate = self.comes.wait(gate).unwrap_or_else(PoisonError::into_inner);
+                    continue;
+                }
+                let (got, waited) = self.comes.wait_timeout(gate, QUIET).unwrap_or_else(PoisonError::into_inner);
+                gate = got;
+                if waited.timed_out() {
+                    break;
+                }
+            }
+            let (commit, is_closing) = (gate.commit.take(), gate.is_closing);
+            drop(gate);
+            match commit {
+                Some(commit) => {
+                    is_quiet = false;
+                    let result = self.put_commit(&commit);
+                    *lock(&commit.result) = Some(result);
+                    commit.ended.notify_all();
+                }
+                None if is_closing => break,
+                None => {
+                    is_quiet = true;
+                    lock(&self.writing).mark();
+                }
+            }
+        }
+        lock(&self.writing).mark();
+    }
+
+    fn put_commit(&self, commit: &Commit) -> Result<(), JournalError> {
+        let mut writing = lock(&self.writing);
+        let mut payload = self.front()?;
+        let messages = lock(&commit.messages);
+        payload.try_reserve_exact(messages.len()).map_err(|_| JournalError::NoMemory)?;
+        payload.extend_from_slice(&messages);
+        match payload.is_empty() {
+            true => Ok(()),
+            false => writing.put(&payload, &self.folder),
+        }
+    }
+
+    /// What a payload begins with.
+    fn front(&self) -> Result<Vec<u8>, JournalError> {
+        let bears = lock(&self.bears).clone();
+        match bears.and_then(|position| position()) {
+            Some(position) => ffi::copied(&front(position)?).map_err(|_| JournalError::NoMemory),
+            None => Ok(Vec::new()),
+        }
+    }
+
+    /// Makes the calls of the system that are due, until one fails.
+    fn make_calls(&self, switch: &mut Switch, mut piece: Option<Piece<'_>>) -> Result<(), JournalError> {
+        let unfinished = format!("{SNAPSHOT}{UNFINISHED}");
+        let mut beside = None;
+        loop {
+            let (call, journal) = lock(&self.writing).numbers.due()?;
+            let name = journal_name(journal);
+            let io = |name: &str, result: std::io::Result<()>| result.map_err(|why| JournalError::io(self.folder.path(name), why));
+            let made = match (call, &mut piece) {
+                (ffi::CALL_NOTHING, _) => break,
+                (ffi::CALL_CREATE_JOURNAL, _) => io(&name, self.folder.create(&name).map(|file| lock(&self.writing).next = Some(file))),
+                (ffi::CALL_SYNC_FOLDER, _) => io("", self.folder.sync()),
+                (ffi::CALL_WRITE_SNAPSHOT, Some(piece)) => self.write_snapshot(switch, &unfinished, &mut beside, piece),
+                (ffi::CALL_SYNC_SNAPSHOT, _) => io(&unfinished, beside.as_ref().map_or(Ok(()), Growing::sync)),
+                (ffi::CALL_RENAME_SNAPSHOT, _) => io(SNAPSHOT, self.folder.rename(&unfinished, SNAPSHOT)),
+                (ffi::CALL_REMOVE_JOURNAL, _) => io(&name, self.folder.remove(&name)),
+                _ => Err(JournalError::of(ffi::OK)),
+            };
+            let answered = self.answer(call, made.is_ok());
+            if let Err(why) = made.and(answered) {
+                lock(&self.writing).next = None;
+                if beside.is_some() {
+                    // (its room may be needed)
+                    let _ = self.folder.remove(&unfinished);
+                }
+                return Err(why);
+            }
+        }
+        Ok(())
+    }
+
+    /// Writes a snapshot: where the member is in its log, each piece of the record, and a mark.
+    fn write_snapshot(&self, switch: &mut Switch, name: &str, beside: &mut Option<Growing>, piece: Piece<'_>) -> Result<(), JournalError> {
+        let made = self.folder.create(name).map_err(|why| JournalError::io(self.folder.path(name), why))?;
+        let file = beside.insert(made);
+        let (mut parts, mut at, mut frame, mut room) = (Parts::new(), 0u64, Vec::new(), Vec::new());
+        let mut write = |payload: &[u8]| {
+            let len = lock(&self.writing).numbers.piece(payload, &mut frame)?;
+            let text = frame.get(..len).unwrap_or_default();
+            file.write(text, at).map_err(|why| JournalError::io(self.folder.path(name), why))?;
+            at += len as u64;
+            Ok::<(), JournalError>(())
+        };
+        let front = self.front()?;
+        if !front.is_empty() {
+            write(&front)?;
+        }
+        ffi::grow(&mut room, PIECE).map_err(|_| JournalError::NoMemory)?;
+        while !parts.is_done() {
+            let len = piece(&mut parts, &mut room)?;
+            let text = room.get(..len).unwrap_or_default();
+            if text.is_empty() {
+                // (a piece of a record has a batch: so this is none)
+                return Err(JournalError::of(ffi::OK));
+            }
+            write(text)?;
+        }
+        write(b"")?;
+        switch.kept = at;
+        Ok(())
+    }
+
+    /// Tells how a call went, and lets the next journal grow if that comes then.
+    fn answer(&self, call: u64, went_well: bool) -> Result<(), JournalError> {
+        let mut writing = lock(&self.writing);
+        if went_well && call == ffi::CALL_SYNC_FOLDER && writing.next.is_some() {
+            writing.mark(); // the journal is closed
+        }
+        let before = writing.numbers.newest();
+        writing.numbers.answer(went_well)?;
+        if writing.numbers.newest() != before {
+            if writing.file.is_some() {
+                writing.older = 0;
+            }
+            writing.file = writing.next.take();
+            (writing.room, writing.is_marked) = (0, true);
+        }
+        Ok(())
+    }
+}
+
+impl Writing {
+    /// Ends the journal by a mark, by which damage in front of it is seen. (Nobody waits for it: where that fails, there is none.)
+    fn mark(&mut self) {
+        if !self.is_marked && !self.numbers.has_ended() {
+            let _ = self.put_frame(b"");
+        }
+    }
+
+    /// Takes a payload to the disk.
+    fn put(&mut self, payload: &[u8], folder: &Folder) -> Result<(), JournalError> {
+        self.put_frame(payload).map_err(|why| match why {
+            Fault::Of(why) => why,
+            Fault::Io(why) => JournalError::io(folder.path(&journal_name(self.numbers.newest())), why),
+        })
+    }
+
+    fn put_frame(&mut self, payload: &[u8]) -> Result<(), Fault> {
+        let (at, mut frame) = (self.numbers.end(), std::mem::take(&mut self.frame));
+        let put = self.numbers.put(payload, &mut frame).map_err(Fault::Of).and_then(|len| self.write(&frame[..len.min(frame.len())], at));
+        if frame.len() <= GROWTH.len() {
+            self.frame = frame;
+        }
+        put?;
+        self.is_marked = payload.is_empty();
+        Ok(())
+    }
+
+    /// Writes a frame, and forces it to the disk.
+    fn write(&mut self, frame: &[u8], at: u64) -> Result<(), Fault> {
+        let file = match &self.file {
+            Some(file) => file,
+            None => return Err(Fault::Of(JournalError::Ended)),
+        };
+        let end = at.saturating_add(frame.len() as u64);
+        if let Err(why) = file.write(frame, at) {
+            self.numbers.unwritten();
+            return Err(Fault::Io(why));
+        }
+        if end > self.room {
+            // (the file grows by zeros, if the disk has room for that)
+            let grown = file.write(&GROWTH, end);
+            self.room = if grown.is_ok() { end.saturating_add(GROWTH.len() as u64) } else { end };
+        }
+        if file.sync().is_err() {
+            self.numbers.failed();
+            return Err(Fault::Of(JournalError::Ended));
+        }
+        self.numbers.synced().map_err(Fault::Of)
+    }
+}
+
+enum Fault {
+    Of(JournalError),
+    Io(std::io::Error),
+}
+
+/// A lock, even if a thread panicked that had it: what it guards is whole behind each line.
+fn lock<T>(of: &Mutex<T>) -> MutexGuard<'_, T> {
+    of.lock().unwrap_or_else(PoisonError::into_inner)
+}

@@ -1,0 +1,324 @@
+//! State folders: the vectors of vectors/, and a disk that fails.
+
+#[path = "../../tests/common/mod.rs"]
+mod common;
+
+use std::fs;
+use std::sync::atomic::{AtomicBool, AtomicUsize, Ordering};
+use std::sync::Barrier;
+
+use self::common::*;
+use super::file::frames;
+use super::*;
+use crate::record::{TokenKey, Use};
+use crate::validator::Validator;
+
+const WAIT: Duration = Duration::from_secs(60);
+const NOW: u64 = 1_767_225_600;
+
+/// A use of the token of this number.
+fn entry(number: u64) -> Use {
+    let mut key = [0; 32];
+    key[..8].copy_from_slice(&number.to_be_bytes());
+    Use { expires: NOW + 3600, key: TokenKey(key), validator_id: ValidatorId([7; 16]), at: NOW, withdrawn: false }
+}
+
+/// A validator with the record of a folder.
+fn loaded(journal: &mut Journal) -> Validator {
+    let mut validator = empty();
+    journal.load(|messages| validator.take(NOW, messages)).expect("the messages are good");
+    validator
+}
+
+fn uses(validator: &mut Validator) -> usize {
+    validator.size().expect("it is open").uses
+}
+
+/// A journal whose calls of the system can be let fail, and how.
+fn failing(room: &Room) -> (Journal, folder::Faults) {
+    let folder = Folder::hold(&room.0).expect("nobody has it");
+    let faults = folder.faults.clone();
+    (Journal::open_by(folder).expect("it is new"), faults)
+}
+
+fn let_fail(faults: &folder::Faults, calls: &[&'static str]) {
+    faults.0.lock().unwrap().extend(calls);
+}
+
+#[test]
+fn files_of_vectors() {
+    each("files", |_, it| {
+        let (content, mut payloads) = (bytes_of(it, "content"), Vec::new());
+        let (end, at) = frames(&content, number_of(it, "journal"), validator_id_of(it, "folder_id"), |range| {
+            payloads.push(hex(&content[range]));
+            Ok(())
+        })
+        .map_err(|why| why.to_string())?;
+        let due: Vec<&str> = list_of(it, "payloads").iter().map(|it| it.as_str().expect("a text")).collect();
+        same(payloads.iter().map(String::as_str).collect::<Vec<_>>(), due)?;
+        let (name, format) = match end {
+            End::Nothing => ("end", None),
+            End::Tear => ("tear", None),
+            End::Damage => ("damage", None),
+            End::Other(format) => ("format", Some(format)),
+        };
+        same((name, format, at), (text_of(it, "end"), it["format"].as_u64(), number_of(it, "at")))
+    });
+}
+
+#[test]
+fn folders_of_vectors() {
+    each("folders", |_, it| {
+        let room = Room::new("folder");
+        for (name, content) in it["files"].as_object().expect("files by their names") {
+            fs::write(room.0.join(name), from_hex(content.as_str().expect("a text"))).map_err(|why| why.to_string())?;
+        }
+        let file = |name: &str| room.0.join(text_of(it, name));
+        match Journal::open(&room.0) {
+            Ok(mut journal) => {
+                let mut due = empty();
+                due.take(0, bytes_of(it, "record")).map_err(fault)?;
+                let mut validator = empty();
+                journal.load(|messages| validator.take(0, messages)).map_err(fault)?;
+                // (the moment of a record may be later than that of its uses)
+                let moment = due.size().and_then(|due| Ok(due.moment.max(validator.size()?.moment))).map_err(fault)?;
+                due.tick(moment).and_then(|()| validator.tick(moment)).map_err(fault)?;
+                same(validator.tell(), due.tell())
+            }
+            Err(JournalError::Damaged { file: damaged, at }) => same((damaged, at), (file("damaged"), number_of(it, "at"))),
+            Err(JournalError::OtherFormat { file: other, format }) => same((other, format), (file("of_format"), number_of(it, "format"))),
+            Err(why) => Err(why.to_string()),
+        }
+    });
+}
+
+#[test]
+fn what_was_appended_is_found_again() {
+    let room = Room::new("found");
+    let folder = room.0.join("state");
+    let mut journal = Journal::open(&folder).expect("its parent is there");
+    let id = journal.validator_id();
+    assert_eq!(uses(&mut loaded(&mut journal)), 0);
+    assert!(journal.wants_snapshot());
+    for number in 0..3 {
+        journal.append(&entry(number).message().unwrap(), WAIT).expect("it is kept");
+    }
+    journal.append_soon(&entry(3).message().unwrap()).expect("there is room");
+    drop(journal);
+
+    let mut journal = Journal::open(&folder).expect("nobody has it");
+    assert_eq!((journal.validator_id(), journal.torn().len()), (id, 0));
+    assert_eq!(uses(&mut loaded(&mut journal)), 4);
+}
+
+#[test]
+fn a_snapshot_takes_the_place_of_journals() {
+    let room = Room::new("snapshot");
+    let mut journal = Journal::open(&room.0).expect("it is empty");
+    let mut validator = loaded(&mut journal);
+    for number in 0..20_000 {
+        validator.take(NOW, entry(number).message().expect("it is a message")).expect("it is taken");
+    }
+    journal.append(&entry(0).message().unwrap(), WAIT).expect("it is kept");
+    journal.snapshot(|parts, out| validator.piece(parts, out)).expect("the disk is well");
+    assert!(!journal.wants_snapshot());
+    assert!(!room.0.join("journal.1").exists());
+    validator.take(NOW, entry(20_000).message().expect("it is a message")).expect("it is taken");
+    journal.append(&entry(20_000).message().unwrap(), WAIT).expect("it is kept");
+    drop(journal);
+
+    let mut journal = Journal::open(&room.0).expect("nobody has it");
+    assert!(!journal.wants_snapshot());
+    assert_eq!(uses(&mut loaded(&mut journal)), 20_001);
+}
+
+#[test]
+fn threads_append_while_a_snapshot_is_taken() {
+    let room = Room::new("threads");
+    let journal = Journal::open(&room.0).expect("it is empty");
+    let validator = Mutex::new(empty());
+    let (begun, is_done, count) = (Barrier::new(5), AtomicBool::new(false), AtomicUsize::new(0));
+    thread::scope(|scope| {
+        for thread in 0..4u64 {
+            let (journal, validator, begun, is_done, count) = (&journal, &validator, &begun, &is_done, &count);
+            scope.spawn(move || {
+                begun.wait();
+                for number in 0.. {
+                    let used = entry(thread * 1_000_000 + number);
+                    validator.lock().unwrap().take(NOW, used.message().expect("it is a message")).expect("it is taken");
+                    journal.append(&used.message().unwrap(), WAIT).expect("it is kept");
+                    count.fetch_add(1, Ordering::Relaxed);
+                    if is_done.load(Ordering::Acquire) {
+                        break;
+                    }
+                }
+            });
+        }
+        begun.wait();
+        let taken = (0..3).try_for_each(|_| journal.snapshot(|parts, out| validator.lock().unwrap().piece(parts, out)));
+        is_done.store(true, Ordering::Release);
+        taken.expect("the disk is well");
+    });
+    assert_eq!(uses(&mut validator.lock().unwrap()), count.into_inner());
+    drop(journal);
+    let mut journal = Journal::open(&room.0).expect("nobody has it");
+    assert_eq!(uses(&mut loaded(&mut journal)), uses(&mut validator.lock().unwrap()));
+}
+
+#[test]
+fn one_process_holds_a_folder() {
+    let room = Room::new("held");
+    let journal = Journal::open(&room.0).expect("it is empty");
+    match Journal::open(&room.0) {
+        Err(JournalError::Held { folder, holder }) => {
+            assert_eq!(folder, room.0);
+            assert!(holder.starts_with(&format!("process {} on ", std::process::id())), "{holder}");
+        }
+        other => panic!("{other:?}"),
+    }
+    drop(journal);
+    Journal::open(&room.0).expect("it is free again");
+}
+
+#[test]
+fn a_write_that_fails_is_told_and_ends_nothing() {
+    let room = Room::new("write");
+    let (journal, faults) = failing(&room);
+    let_fail(&faults, &["write"]);
+    assert!(
+        matches!(journal.append(&entry(1).message().unwrap(), WAIT), Err(JournalError::Io { file, .. }) if file == room.0.join("journal.1"))
+    );
+    journal.append(&entry(2).message().unwrap(), WAIT).expect("the disk is well again");
+    drop(journal);
+    let mut journal = Journal::open(&room.0).expect("nobody has it");
+    assert_eq!(uses(&mut loaded(&mut journal)), 1);
+}
+
+#[test]
+fn a_sync_that_fails_ends_all() {
+    let room = Room::new("sync");
+    let (journal, faults) = failing(&room);
+    journal.append(&entry(1).message().unwrap(), WAIT).expect("the disk is well");
+    let_fail(&faults, &["sync"]);
+    assert!(matches!(journal.append(&entry(2).message().unwrap(), WAIT), Err(JournalError::Ended)));
+    assert!(matches!(journal.append(&entry(3).message().unwrap(), WAIT), Err(JournalError::Ended)));
+    let mut validator = empty();
+    assert!(matches!(journal.snapshot(|parts, out| validator.piece(parts, out)), Err(JournalError::Ended)));
+    drop(journal);
+    let mut journal = Journal::open(&room.0).expect("nobody has it");
+    let found = uses(&mut loaded(&mut journal));
+    assert!((1..=2).contains(&found), "{found}");
+}
+
+#[test]
+fn a_snapshot_that_fails_loses_nothing() {
+    // The calls of a snapshot in their order (docs/FORMATS.md, "Order of the calls"), and whether the folder ends with each.
+    for (call, ends) in [("create", false), ("sync folder", true), ("write", false), ("sync", false), ("rename", false), ("remove", false)]
+    {
+        let room = Room::new("failing");
+        let (journal, faults) = failing(&room);
+        let mut validator = empty();
+        validator.take(NOW, entry(1).message().expect("it is a message")).expect("it is taken");
+        journal.append(&entry(1).message().unwrap(), WAIT).expect("the disk is well");
+        // (the mark of the journal that is closed is written and synced before those of the snapshot)
+        journal.append_soon(b"").expect("there is room");
+        let mut calls = 0;
+        let is_first = |it: &str| it == "write" || it == "sync";
+        if !is_first(call) {
+            let_fail(&faults, &[call]);
+        }
+        let taken = journal.snapshot(|parts, out| {
+            calls += 1;
+            if is_first(call) {
+                let_fail(&faults, &[call]);
+            }
+            validator.piece(parts, out)
+        });
+        assert!(taken.is_err(), "{call}");
+        assert_eq!(journal.append(&entry(2).message().unwrap(), WAIT).is_err(), ends, "{call}");
+        assert!(!journal.wants_snapshot(), "{call}: not for a minute");
+        drop(journal);
+        let mut journal = Journal::open(&room.0).expect("nobody has it");
+        assert_eq!(uses(&mut loaded(&mut journal)), if ends { 1 } else { 2 }, "{call}");
+    }
+}
+
+#[test]
+fn a_record_that_is_not_given_is_told() {
+    let room = Room::new("record");
+    let journal = Journal::open(&room.0).expect("it is empty");
+    let why = journal.snapshot(|_, _| Err(Error::NoMemory)).unwrap_err();
+    assert!(matches!(why, JournalError::Record(Error::NoMemory)));
+    assert!(journal.snapshot(|_, _| Ok(0)).is_err());
+    assert!(!room.0.join("snapshot").exists());
+    assert!(!room.0.join("snapshot.new").exists());
+}
+
+#[test]
+fn each_write_says_where_the_member_is_in_its_log() {
+    let room = Room::new("log");
+    let journal = Journal::open(&room.0).expect("it is empty");
+    let position = LogPosition { passed: 17, begun: 2, deaf: NOW };
+    journal.append(&entry(1).message().unwrap(), WAIT).expect("it is kept");
+    journal.bear(move || Some(position));
+    journal.append(b"", WAIT).expect("it is kept");
+    let mut validator = empty();
+    validator.take(NOW, entry(1).message().expect("it is a message")).expect("it is taken");
+    drop(journal);
+    let mut journal = Journal::open(&room.0).expect("nobody has it");
+    assert_eq!((journal.log_position(), uses(&mut loaded(&mut journal))), (Some(position), 1));
+    journal.bear(move || Some(LogPosition { passed: 18, ..position }));
+    journal.snapshot(|parts, out| validator.piece(parts, out)).expect("the disk is well");
+    drop(journal);
+    let mut journal = Journal::open(&room.0).expect("nobody has it");
+    assert_eq!((journal.log_position().map(|it| it.passed), uses(&mut loaded(&mut journal))), (Some(18), 1));
+}
+
+#[test]
+fn what_can_not_be_read_is_told() {
+    let with_an_id = || {
+        let room = Room::new("unfit");
+        drop(Journal::open(&room.0).expect("it is empty"));
+        room
+    };
+    let room = with_an_id();
+    fs::write(room.0.join("place"), "0123").unwrap();
+    assert!(matches!(Journal::open(&room.0), Err(JournalError::BadValidatorId { .. })));
+
+    let room = with_an_id();
+    fs::write(room.0.join("journal.9"), b"JSR\x02\x01").unwrap();
+    assert!(matches!(Journal::open(&room.0), Err(JournalError::Old { file }) if file == room.0.join("journal.9")));
+
+    let room = with_an_id();
+    fs::write(room.0.join("frames"), "3\n").unwrap();
+    assert!(matches!(Journal::open(&room.0), Err(JournalError::Old { file }) if file == room.0.join("frames")));
+
+    let room = Room::new("unfit");
+    fs::write(room.0.join("journal.1"), b"anything").unwrap();
+    assert!(matches!(Journal::open(&room.0), Err(JournalError::NoValidatorId { file }) if file == room.0.join("journal.1")));
+
+    let room = with_an_id();
+    fs::create_dir(room.0.join("snapshot")).unwrap();
+    assert!(matches!(Journal::open(&room.0), Err(JournalError::Io { file, .. }) if file == room.0.join("snapshot")));
+
+    let room = Room::new("unfit");
+    assert!(matches!(Journal::open(room.0.join("none/state")), Err(JournalError::Io { .. })));
+}
+
+#[test]
+fn messages_of_any_length() {
+    let room = Room::new("long");
+    let journal = Journal::open(&room.0).expect("it is empty");
+    assert!(matches!(journal.append(&vec![0; MOST + 1], WAIT), Err(JournalError::TooLong)));
+    journal.append(&[], WAIT).expect("nothing is kept at once");
+    journal.append(&vec![7; MOST], WAIT).expect("it is kept");
+    drop(journal);
+    let mut journal = Journal::open(&room.0).expect("nobody has it");
+    let mut found = 0;
+    let counted = journal.load(|it| {
+        found += it.len();
+        Ok::<(), ()>(())
+    });
+    assert_eq!(counted, Ok(()));
+    assert_eq!(found, MOST);
+}

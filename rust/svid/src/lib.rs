@@ -1,0 +1,108 @@
+//! `svid` checks SPIFFE JWT-SVIDs, the bearer tokens by which workloads identify themselves, and accepts each of them once. It verifies the
+//! signature, the audience and the times, and it remembers which tokens were used until they expire.
+//!
+//! This crate is over a C library whose functions are proved to meet their contracts. It carries bytes, waits, and calls the library; the
+//! library decides. Signatures are verified by OpenSSL (feature `openssl`) or ring (feature `ring`), or by a [`Verify`] of your own.
+//!
+//! - [`Guard`] is what a service has: a validator for any number of threads, with a verifier.
+//! - [`Validator`] is for one thread. [`Member`] is one whose group shares a log, so that the whole group accepts a token once.
+//! - [`Journal`] keeps a record over restarts and crashes.
+//! - [`Refusal`] says why a token is refused, and [`Error`] why there is no answer.
+//!
+//! ```
+//! # #[cfg(feature = "openssl")] {
+//! # let bundles = include_bytes!(concat!(env!("CARGO_MANIFEST_DIR"), "/../../examples/bundles.json"));
+//! # let token = include_str!(concat!(env!("CARGO_MANIFEST_DIR"), "/../../examples/token.txt")).trim();
+//! use svid::{Error, Guard, OpenSsl, Options, Refusal};
+//!
+//! let guard = Guard::open(&Options::new(["ledger"]), bundles, OpenSsl::new())?;
+//! assert_eq!(guard.check(token)?.spiffe_id(), "spiffe://example.org/billing/api");
+//! assert_eq!(guard.check(token), Err(Error::Refused(Refusal::Replayed)));
+//! # }
+//! # Ok::<(), svid::Error>(())
+//! ```
+//!
+//! It needs Linux on x86-64 or aarch64, where the C library is in the crate. Elsewhere `LIBSVID_DIR` names the folder of a `libsvid.a`.
+//!
+//! No call panics, whatever it is given. A call that has no memory says so, except where [`Options`] and `Debug` make texts, and within
+//! OpenSSL's and ring's crates.
+#![deny(missing_docs)]
+#![deny(unsafe_op_in_unsafe_fn)]
+#![deny(clippy::undocumented_unsafe_blocks)]
+#![warn(missing_debug_implementations)]
+#![cfg_attr(docsrs, feature(doc_auto_cfg))]
+
+#[cfg(test)]
+extern crate self as svid;
+
+#[macro_use]
+mod named;
+
+mod bearer;
+mod bundles;
+mod error;
+mod ffi;
+mod guard;
+mod handle;
+mod id;
+mod journal;
+mod key;
+mod member;
+pub mod messages;
+mod options;
+mod pattern;
+mod record;
+mod refusal;
+mod token;
+mod validator;
+mod verify;
+
+pub use crate::bearer::{bearer_token, BearerFault, Denied};
+pub use crate::bundles::Bundles;
+pub use crate::error::{BundlesFault, Error, MessageFault, MessagesError, Unexpected};
+pub use crate::guard::Guard;
+pub use crate::id::{IdError, IdFault, SpiffeId};
+pub use crate::journal::{Journal, JournalError};
+pub use crate::key::{Algorithm, Candidate, Candidates, Hash, KeyError, KeyFault, Spki};
+pub use crate::member::{Fate, LogPosition, LogStart, Member, Order, Reading};
+pub use crate::options::Options;
+pub use crate::pattern::{Pattern, PatternError};
+pub use crate::record::{Accepted, Question, Size, TokenKey, Use, ValidatorId};
+pub use crate::refusal::Refusal;
+pub use crate::token::Said;
+pub use crate::validator::{Parts, Validator};
+pub use crate::verify::{Unverified, Verify};
+
+#[cfg(feature = "openssl")]
+pub use crate::verify::openssl::OpenSsl;
+#[cfg(feature = "ring")]
+pub use crate::verify::ring::Ring;
+
+/// How many keys are tried for a token (docs/FORMATS.md, "Candidates").
+pub const MOST_CANDIDATES: usize = ffi::MOST_CANDIDATES;
+
+/// How many bits an RSA key may have, unless a verifier is told otherwise.
+pub const USUAL_RSA_BITS: usize = ffi::USUAL_RSA_BITS;
+
+/// How many bytes a piece of a record has at the least: those of a batch of one use.
+pub const PIECE_LEAST: usize = ffi::BATCH_OF_LEN;
+
+/// The time of the system's clock, in whole seconds since 1970.
+///
+/// # Errors
+///
+/// [`Error::NoClock`] if it is before 1970.
+pub fn now() -> Result<u64, Error> {
+    let since = std::time::SystemTime::now().duration_since(std::time::UNIX_EPOCH);
+    since.map(|it| it.as_secs()).map_err(|_| Error::NoClock)
+}
+
+/// Whether the library that was linked is of the version that this crate knows.
+fn same_version() -> Result<(), Error> {
+    // SAFETY: the call takes nothing.
+    let version = unsafe { ffi::svid_version() };
+    match version / 10_000 {
+        ffi::MAJOR => Ok(()),
+        _ => Err(Error::unexpected(version)),
+    }
+}

@@ -1,0 +1,23 @@
+//! What all enums share that are written from a list of statuses.
+
+/// Gives an enum with `ROWS` its names, its sentences, and the traits of an error.
+macro_rules! named {
+    ($kind:ident) => {
+        impl $kind {
+            /// The name in docs/FORMATS.md.
+            pub fn name(self) -> &'static str {
+                // (each has its row: they are written from one list)
+                Self::ROWS.iter().find(|row| row.0 == self).map_or("", |row| row.2)
+            }
+        }
+
+        impl std::fmt::Display for $kind {
+            fn fmt(&self, f: &mut std::fmt::Formatter<'_>) -> std::fmt::Result {
+                let says = Self::ROWS.iter().find(|row| row.0 == *self).map_or("", |row| row.3);
+                write!(f, "{}: {says}", self.name())
+            }
+        }
+
+        impl std::error::Error for $kind {}
+    };
+}

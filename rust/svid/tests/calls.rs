@@ -1,0 +1,282 @@
+//! What the vectors don't have: the order of reasons where a signature is verified, messages, a log's long values, answers to requests.
+
+mod common;
+
+use std::sync::atomic::{AtomicUsize, Ordering};
+use std::sync::{Arc, Mutex};
+
+use common::*;
+use svid::{
+    bearer_token, Bundles, BundlesFault, Candidate, Denied, Error, Fate, Guard, LogStart, Member, Options, Parts, Question, Refusal, Said,
+    SpiffeId, TokenKey, Unverified, Use, Validator, ValidatorId, Verify,
+};
+
+const NOW: u64 = 1_767_225_600;
+
+fn bundles() -> Vec<u8> {
+    std::fs::read(top().join("examples/bundles.json")).expect("the bundles of the examples")
+}
+
+fn tokens() -> Vec<String> {
+    let text = std::fs::read_to_string(top().join("examples/tokens.txt")).expect("the tokens of the examples");
+    text.lines().map(str::to_owned).collect()
+}
+
+fn opened() -> Validator {
+    Validator::open(&ledger(), &bundles()).expect("it opens")
+}
+
+/// Answers always the same, and counts how often it was asked.
+struct Always(Result<bool, Unverified>, AtomicUsize);
+
+impl Always {
+    fn new(answer: Result<bool, Unverified>) -> Always {
+        Always(answer, AtomicUsize::new(0))
+    }
+}
+
+impl Verify for Always {
+    fn verify(&self, _: &Candidate<'_>, signed: &[u8], signature: &[u8]) -> Result<bool, Unverified> {
+        assert!(!signed.is_empty() && !signature.is_empty());
+        self.1.fetch_add(1, Ordering::Relaxed);
+        self.0
+    }
+}
+
+fn refused(why: Refusal) -> Error {
+    Error::Refused(why)
+}
+
+#[test]
+fn the_first_reason_counts() {
+    let (tokens, good) = (tokens(), Always::new(Ok(true)));
+    let late = 4_102_444_800;
+    let guard = Guard::open(&ledger(), &bundles(), Always::new(Ok(true))).expect("it opens");
+    // (its trust domain is unknown, and it has expired: that comes first)
+    for token in [&tokens[4], &tokens[5]] {
+        assert_eq!(opened().check(late, token, &good).unwrap_err(), refused(Refusal::Expired));
+        assert_eq!(guard.check_at(late, token).unwrap_err(), refused(Refusal::Expired));
+    }
+    assert_eq!(opened().check(NOW, &tokens[4], &good).unwrap_err(), refused(Refusal::NoKey));
+    assert_eq!(opened().check(NOW, &tokens[5], &good).unwrap_err(), refused(Refusal::UnknownDomain));
+    assert_eq!(good.1.load(Ordering::Relaxed), 0, "no signature was verified");
+    // A refusal by the keys advances the record, as any other does.
+    let mut validator = opened();
+    validator.check(NOW, &tokens[5], &good).unwrap_err();
+    assert_eq!(validator.size().unwrap().moment, NOW);
+}
+
+#[test]
+fn what_a_verifier_answers() {
+    let token = &tokens()[0];
+    for (answer, due) in [
+        (Ok(false), refused(Refusal::BadSignature)),
+        (Err(Unverified::NoMemory), Error::NoMemory),
+        (Err(Unverified::Unsupported), Error::Unsupported),
+    ] {
+        let verifier = Arc::new(Always::new(answer));
+        let mut validator = opened();
+        assert_eq!(validator.check(NOW, token, &verifier), Err(due));
+        assert_eq!(validator.judge(NOW, token, &verifier), Err(due));
+        let guard = Guard::open(&ledger(), &bundles(), Arc::clone(&verifier)).expect("it opens");
+        assert_eq!(guard.check_at(NOW, token), Err(due));
+        assert_eq!(validator.size().unwrap().uses, 0);
+    }
+    // What comes before a signature is told of a token that nobody can verify.
+    let verifier = Always::new(Err(Unverified::Unsupported));
+    assert_eq!(opened().check(4_102_444_800, token, &verifier), Err(refused(Refusal::Expired)));
+}
+
+#[test]
+fn a_question_is_of_one_token() {
+    let tokens = tokens();
+    let mut validator = opened();
+    let yes: Vec<Question> = validator.ask(&tokens[0]).unwrap().iter().map(|it| it.unwrap().question().unwrap()).collect();
+    assert_eq!(validator.check_answered(NOW, &yes, &tokens[1]), Err(refused(Refusal::BadSignature)));
+    let by_bundles = Bundles::read(&bundles()).unwrap().verify(&tokens[0], &Always::new(Ok(true))).unwrap();
+    assert_eq!(by_bundles, yes.first().copied());
+    let accepted = validator.check_answered(NOW, &yes, &tokens[0]).unwrap();
+    assert_eq!((accepted.trust_domain(), accepted.path(), accepted.expires()), ("example.org", "/billing/api", 4_102_444_800));
+    assert_eq!(accepted.used().key, Said::of(&tokens[0]).unwrap().key());
+    assert_eq!(validator.judge_again(NOW, accepted.used()), Err(refused(Refusal::Replayed)));
+}
+
+#[test]
+fn a_withdrawal_reaches_others() {
+    let (tokens, good) = (tokens(), Always::new(Ok(true)));
+    let (mut here, mut there) = (opened(), opened());
+    let said = Said::of(&tokens[0]).unwrap();
+    let gone = here.withdraw(NOW, said.key(), said.expires()).unwrap();
+    assert!(gone.withdrawn);
+    there.take(NOW, gone.message().unwrap()).unwrap();
+    assert_eq!(there.check(NOW, &tokens[0], &good), Err(refused(Refusal::Withdrawn)));
+    assert_eq!(here.tell(), there.tell());
+
+    let used = *here.check(NOW, &tokens[1], &good).unwrap().used();
+    there.take(NOW, used.message().unwrap()).unwrap();
+    assert_eq!(there.check(NOW, &tokens[1], &good), Err(refused(Refusal::Replayed)));
+    assert_eq!(here.withdraw(NOW, TokenKey([7; 32]), NOW), Err(Error::Gone));
+}
+
+#[test]
+fn summaries_are_answered() {
+    let (mut here, mut there) = (opened(), opened());
+    for number in 0..100 {
+        here.withdraw(NOW, TokenKey([number; 32]), NOW + 100).unwrap();
+    }
+    let answer = here.answer(NOW, there.summary().unwrap()).unwrap();
+    there.take(NOW, answer).unwrap();
+    assert_eq!(here.tell(), there.tell());
+    let record = here.tell().unwrap();
+    assert_eq!(here.answer(NOW, record), Err(Error::NotSummary));
+}
+
+#[test]
+fn a_piece_has_room_for_a_use() {
+    let mut validator = opened();
+    let mut parts = Parts::new();
+    assert_eq!(validator.piece(&mut parts, &mut [0; svid::PIECE_LEAST - 1]), Err(Error::TooShort));
+    assert!(!parts.is_done());
+    assert!(validator.piece(&mut parts, &mut [0; svid::PIECE_LEAST]).is_ok());
+    assert!(parts.is_done());
+}
+
+#[test]
+fn a_clock_that_jumps() {
+    let mut validator = Validator::open(&ledger().step(60), &bundles()).unwrap();
+    validator.tick(NOW).unwrap();
+    assert_eq!(validator.tick(NOW + 61), Err(Error::Jump));
+    assert_eq!(validator.check(NOW + 61, &tokens()[0], &Always::new(Ok(true))), Err(Error::Jump));
+    let mut late = Validator::open(&ledger(), b"{}").unwrap();
+    late.tick(NOW + 100).unwrap();
+    assert_eq!(validator.take(NOW, late.tell().unwrap()), Err(Error::TooFar));
+}
+
+/// A value of more uses than are read at once.
+#[test]
+fn a_long_value_of_a_log() {
+    let mut member = Member::open(&ledger(), b"{}", &LogStart::of_empty_log(3620)).unwrap();
+    let uses: Vec<Use> = (0..200u8)
+        .map(|number| Use {
+            expires: NOW + 100,
+            key: TokenKey([number; 32]),
+            validator_id: ValidatorId([9; 16]),
+            at: NOW,
+            withdrawn: false,
+        })
+        .collect();
+    let value: Vec<u8> = uses.iter().flat_map(|it| it.message().unwrap()).collect();
+    let (mut fates, mut calls) = (Vec::new(), 0);
+    loop {
+        let from = fates.len();
+        let read = member.read(NOW, 1, &value, &mut fates).unwrap();
+        assert_eq!((read.from, read.fault), (from, None));
+        calls += 1;
+        if read.is_whole {
+            break;
+        }
+    }
+    assert!(calls > 1);
+    assert_eq!(fates, uses.into_iter().map(|it| (it, Fate::First)).collect::<Vec<_>>());
+    assert_eq!(member.size().unwrap().uses, 200);
+    assert_eq!(member.log_position().unwrap().passed, 1);
+}
+
+#[test]
+fn a_member_is_made_of_a_validator() {
+    let (tokens, good) = (tokens(), Always::new(Ok(true)));
+    let mut validator = opened();
+    validator.check(NOW, &tokens[0], &good).unwrap();
+    let start = LogStart { beside: b"none", ..LogStart::of_empty_log(3620) };
+    let (validator, why) = Member::from_validator(validator, &start).unwrap_err();
+    assert!(matches!(why, Error::Messages(_)), "{why}");
+    let mut member = Member::from_validator(validator, &LogStart::of_empty_log(3620)).unwrap();
+    assert_eq!(member.judge(NOW, &tokens[0], &good), Err(refused(Refusal::Replayed)));
+    let claim = member.judge(NOW, &tokens[1], &good).unwrap();
+    let mut fates = Vec::new();
+    member.read(NOW, 1, &claim.used().message().unwrap(), &mut fates).unwrap();
+    assert_eq!(fates, [(*claim.used(), Fate::Accepted)]);
+    assert_eq!(member.judge(NOW, &tokens[1], &good), Err(refused(Refusal::Replayed)));
+}
+
+#[test]
+fn bundles_of_several_trust_domains() {
+    let joined = Bundles::join([("a.example", r#"{"keys":[]}"#), ("b.example", r#" {"keys":[],"spiffe_sequence":1} "#)]).unwrap();
+    assert!(Bundles::read(&joined).is_ok());
+    assert_eq!(Bundles::join::<&str, &str>([]), Ok(b"{}".to_vec()));
+    for bundle in ["", "[]", "{", r#"{},"other.org":{"keys":[]}"#, "{} {}", "null"] {
+        assert_eq!(Bundles::join([("a.example", bundle)]), Err(Error::Bundles(BundlesFault::NotObject)), "{bundle}");
+    }
+    for name in ["a\"b", "a\\b", "a\nb", "", "\u{e9}"] {
+        let text = Bundles::join([(name, r#"{"keys":[]}"#)]).unwrap();
+        assert_eq!(Bundles::read(&text).unwrap_err(), Error::Bundles(BundlesFault::Domain { number: 0 }), "{name}");
+    }
+}
+
+#[test]
+fn answers_to_requests() {
+    let busy = Denied::from(Error::NoMemory);
+    assert_eq!((busy.status(), busy.challenge()), (503, None));
+    assert_eq!(Denied::from(Error::Unsupported).status(), 503);
+    for why in Refusal::all() {
+        let denied = Denied::from(Error::Refused(why));
+        let challenge = format!("Bearer error=\"invalid_token\", error_description=\"{}\"", why.name());
+        assert_eq!((denied.status(), denied.challenge()), (401, Some(challenge.as_str())));
+    }
+    let guard = Guard::open(&ledger(), &bundles(), Always::new(Ok(true))).unwrap();
+    let header = format!("bearer  {}", tokens()[0]);
+    assert_eq!(guard.admit([&header]).unwrap().path(), "/billing/api");
+    assert_eq!(guard.admit([&header]).unwrap_err(), Denied::Refused(Refusal::Replayed));
+    assert_eq!(bearer_token([&header, &header]).unwrap_err().challenge(), Some("Bearer"));
+}
+
+/// No call panics, whatever it is given.
+#[test]
+fn bytes_of_any_kind() {
+    let mut state = 1u64;
+    let mut next = || {
+        // (Marsaglia's xorshift)
+        state ^= state << 13;
+        state ^= state >> 7;
+        state ^= state << 17;
+        state
+    };
+    let (good, token, record) = (Always::new(Ok(true)), tokens().remove(0), opened().tell().unwrap());
+    let mut validator = opened();
+    let mut member = Member::open(&ledger(), b"{}", &LogStart::of_empty_log(3620)).unwrap();
+    for round in 0..3000u64 {
+        let mut bytes = match round % 4 {
+            0 => token.clone().into_bytes(),
+            1 => record.clone(),
+            2 => bundles(),
+            _ => Vec::new(),
+        };
+        for _ in 0..=next() % 4 {
+            let at = next() as usize % (bytes.len() + 1);
+            bytes.insert(at, next() as u8);
+            bytes.truncate(bytes.len() - next() as usize % (bytes.len() / 8 + 1));
+        }
+        let _ = (validator.check(0, &bytes, &good), validator.judge(0, &bytes, &good), validator.ask(&bytes), Said::of(&bytes));
+        let _ = (validator.take(0, &bytes), validator.answer(0, &bytes), Bundles::read(&bytes), Bundles::join([("a", &bytes)]));
+        let _ = (bearer_token([&bytes]), SpiffeId::parse(&String::from_utf8_lossy(&bytes)).map(|id| id.path().len()));
+        let _ = (member.read(0, round, &bytes, &mut Vec::new()), svid::messages::report(&bytes, next()));
+    }
+}
+
+/// What goes to another thread, and what threads share.
+#[test]
+fn types_of_threads() {
+    fn goes<T: Send>() {}
+    fn is_shared<T: Send + Sync>() {}
+    goes::<Validator>();
+    goes::<Member>();
+    goes::<Bundles>();
+    is_shared::<Mutex<Validator>>();
+    is_shared::<Guard<Always>>();
+    is_shared::<svid::Journal>();
+    is_shared::<Options>();
+    #[cfg(feature = "openssl")]
+    is_shared::<svid::OpenSsl>();
+    #[cfg(feature = "ring")]
+    is_shared::<svid::Ring>();
+}

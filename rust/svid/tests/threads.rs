@@ -1,0 +1,131 @@
+//! Threads that share a validator.
+#![cfg(any(feature = "openssl", feature = "ring"))]
+
+mod common;
+
+use std::sync::{Arc, Barrier, Mutex};
+use std::thread;
+
+use common::*;
+use serde_json::Value;
+use svid::{Error, Guard, Refusal, Validator};
+
+#[cfg(feature = "openssl")]
+type Verifier = svid::OpenSsl;
+#[cfg(not(feature = "openssl"))]
+type Verifier = svid::Ring;
+
+const THREADS: usize = 8;
+
+/// Good tokens of one bundle, and their time: those that this verifier can verify.
+fn tokens() -> (String, Vec<String>, u64) {
+    let Vectors { file, vectors } = read("signatures");
+    let now = number_of(&file["setting"], "now");
+    let (mut keys, mut tokens, mut known) = (Vec::<&str>::new(), Vec::new(), Vec::new());
+    let is_good = |it: &&Value| text_of(it, "answer").starts_with("accepted");
+    for it in vectors.iter().filter(is_good) {
+        let (token, given) = (text_of(it, "token"), list_of(it, "keys"));
+        let (said, key) = (svid::Said::of(token).expect("it is a token"), given[0].as_str().expect("a text"));
+        // (of each type and curve one key, since only the first three that fit are tried)
+        let kind = |key: &str| key.split("\"crv\"").nth(1).map(|it| it[..8].to_owned());
+        let is_fit = keys.iter().all(|other| *other == key || kind(other) != kind(key));
+        if given.len() == 1 && is_fit && !Verifier::CANT.contains(&said.algorithm().name()) && !known.contains(&said.key()) {
+            if !keys.contains(&key) {
+                keys.push(key);
+            }
+            known.push(said.key());
+            tokens.push(token.to_owned());
+        }
+    }
+    assert!(tokens.len() >= 4, "{}", tokens.len());
+    (format!(r#"{{"example.org":{{"keys":[{}]}}}}"#, keys.join(",")), tokens, now)
+}
+
+/// Lets all threads check all tokens at once: each token is accepted once, and refused as used by all others.
+fn each_once(tokens: &[String], check: impl Fn(&str) -> Result<svid::Accepted, Error> + Sync) {
+    let (begun, accepted) = (Barrier::new(THREADS), Mutex::new(vec![0; tokens.len()]));
+    thread::scope(|scope| {
+        for _ in 0..THREADS {
+            scope.spawn(|| {
+                begun.wait();
+                for (number, token) in tokens.iter().enumerate() {
+                    match check(token) {
+                        Ok(it) => {
+                            assert_eq!(it.spiffe_id(), "spiffe://example.org/billing/api");
+                            accepted.lock().unwrap()[number] += 1;
+                        }
+                        Err(why) => assert_eq!(why, Error::Refused(Refusal::Replayed)),
+                    }
+                }
+            });
+        }
+    });
+    assert_eq!(accepted.into_inner().unwrap(), vec![1; tokens.len()]);
+}
+
+#[test]
+fn a_validator_behind_a_mutex() {
+    let (bundles, tokens, now) = tokens();
+    let validator = Mutex::new(Validator::open(&ledger(), bundles.as_bytes()).expect("it opens"));
+    let verifier = Verifier::default();
+    each_once(&tokens, |token| validator.lock().unwrap().check(now, token, &verifier));
+}
+
+#[test]
+fn a_guard() {
+    let (bundles, tokens, now) = tokens();
+    let guard = Arc::new(Guard::open(&ledger(), bundles.as_bytes(), Verifier::default()).expect("it opens"));
+    each_once(&tokens, |token| guard.check_at(now, token));
+    assert_eq!(guard.validator().size().unwrap().uses, tokens.len());
+}
+
+/// While the bundles are renewed, each token is accepted once and refused as used behind that: the old and the new ones have its key.
+#[test]
+fn a_guard_that_is_renewed() {
+    let (bundles, tokens, now) = tokens();
+    let guard = Guard::open(&ledger(), bundles.as_bytes(), Verifier::default()).expect("it opens");
+    let others = bundles.replacen("{\"example.org\"", "{\"other.org\":{\"keys\":[]},\"example.org\"", 1);
+    thread::scope(|scope| {
+        let renews = scope.spawn(|| {
+            for _ in 0..1000 {
+                guard.renew(others.as_bytes()).expect("they are good");
+                guard.renew(bundles.as_bytes()).expect("they are good");
+            }
+        });
+        for token in &tokens {
+            assert!(guard.check_at(now, token).is_ok());
+        }
+        // (a bad signature would come before a token that was used)
+        while !renews.is_finished() {
+            for token in &tokens {
+                assert_eq!(guard.check_at(now, token), Err(Error::Refused(Refusal::Replayed)));
+            }
+        }
+    });
+}
+
+#[test]
+fn a_guard_takes_other_keys() {
+    let (bundles, tokens, now) = tokens();
+    let guard = Guard::open(&ledger(), b"{}", Verifier::default()).expect("it opens");
+    assert_eq!(guard.check_at(now, &tokens[0]), Err(Error::Refused(Refusal::UnknownDomain)));
+    guard.renew(bundles.as_bytes()).expect("they are good");
+    assert!(guard.check_at(now, &tokens[0]).is_ok());
+    assert!(matches!(guard.renew(b"[]"), Err(Error::Bundles(_))));
+    assert!(guard.check_at(now, &tokens[1]).is_ok());
+    assert_eq!(guard.check_at(now, &tokens[0]), Err(Error::Refused(Refusal::Replayed)));
+}
+
+/// A thread that panics with the validator in its hands takes it from nobody.
+#[test]
+fn a_thread_that_panics() {
+    let (bundles, tokens, now) = tokens();
+    let guard = Arc::new(Guard::open(&ledger(), bundles.as_bytes(), Verifier::default()).expect("it opens"));
+    let other = Arc::clone(&guard);
+    let panics = thread::spawn(move || {
+        let _held = other.validator();
+        std::panic::panic_any("a test");
+    });
+    assert!(panics.join().is_err());
+    assert!(guard.check_at(now, &tokens[0]).is_ok());
+}

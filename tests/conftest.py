@@ -1,0 +1,86 @@
+"""What the tests stand on: the program, the test driver and the C library of these sources, and folders to work in."""
+
+import os
+import shutil
+import subprocess
+import tempfile
+from pathlib import Path
+
+import pytest
+
+TOP = Path(__file__).resolve().parent.parent
+
+
+def pytest_addoption(parser):
+    parser.addoption("--program", help="the program svid to run; else the one that ./svid runs")
+    parser.addoption("--brief", action="store_true", help="leaves out records of 64 MiB, which take long under an emulator")
+    parser.addoption("--driver", help="the program svid_script; else the one of these sources")
+    parser.addoption("--seed", type=int, default=1, help="chooses what is random")
+    parser.addoption("--rounds", type=int, default=3000, help="how many random texts of each kind are read")
+    parser.addoption("--events", type=int, default=100_000, help="how many events the simulated groups have")
+    parser.addoption("--tokens", type=int, default=400, help="how many tokens the six readers are given")
+    parser.addoption("--kills", type=int, default=20, help="how many recipes are killed")
+
+
+def pytest_terminal_summary(terminalreporter):
+    """A line for each skipped test, by which ./test knows of it."""
+    for report in terminalreporter.stats.get("skipped", []):
+        terminalreporter.write_line(f"{report.nodeid}: skipped: {report.longrepr[2].removeprefix('Skipped: ')}")
+
+
+def tool(*words):
+    """What a tool of the checkout prints."""
+    ran = subprocess.run([TOP / words[0], *words[1:]], stdin=subprocess.DEVNULL, stdout=subprocess.PIPE, text=True)
+    assert ran.returncode == 0, f"{words}: status {ran.returncode}"
+    return ran.stdout.strip()
+
+
+def needs(command):
+    """Skips the test where a command is not there."""
+    if not shutil.which(command):
+        pytest.skip(f"the command {command} is not there")
+
+
+@pytest.fixture(scope="session")
+def session(pytestconfig):
+    """A folder for the whole run, which anybody may read."""
+    with tempfile.TemporaryDirectory(prefix="svid-tests-", dir=os.environ.get("SVID_TESTS")) as name:
+        os.chmod(name, 0o755)
+        yield Path(name).resolve()
+
+
+@pytest.fixture(scope="session")
+def program(pytestconfig):
+    """The program, without the script around it, which looks at all sources in each run."""
+    named = pytestconfig.getoption("--program") or os.environ.get("SVID")
+    return Path(named).resolve() if named else TOP / tool("tools/dist", "program")
+
+
+@pytest.fixture(scope="session")
+def driver(pytestconfig):
+    """The test driver svid_script, which makes any public call."""
+    named = pytestconfig.getoption("--driver")
+    return Path(named).resolve() if named else Path(tool("tools/dist", "driver"))
+
+
+@pytest.fixture(scope="session")
+def archive(session):
+    """The C library as an archive."""
+    tool("tools/dist", "archive", session / "libsvid.a")
+    return session / "libsvid.a"
+
+
+@pytest.fixture(scope="session")
+def shared(session):
+    """The C library as a shared library."""
+    tool("tools/dist", "shared", session / "libsvid.so")
+    return session / "libsvid.so"
+
+
+@pytest.fixture(scope="session")
+def failmalloc(session):
+    """The library that refuses allocations of the program that it is preloaded to."""
+    needs("cc")
+    made = session / "failmalloc.so"
+    subprocess.run(["cc", "-O2", "-fno-builtin", "-fPIC", "-shared", "-o", made, TOP / "tests/c/failmalloc.c"], check=True)
+    return made

@@ -1,0 +1,218 @@
+"""include/svid.h is what the sources of the C library export: each function with its parameters, each structure with its fields in their order, and
+the number of each status; so are the structures in the example in Python and in the crate for Rust. (tools/lists writes the names and
+numbers of all languages.)"""
+
+import re
+
+import pytest
+from conftest import TOP
+
+SOURCES = TOP / "crates/svid_c/src"
+# What a type of Rattle is in C, in Python and in Rust.
+TYPES = {
+    "usize": ("size_t {}", "c_size_t", "usize"),
+    "u32": ("uint32_t {}", "c_uint32", "u32"),
+    "u64": ("uint64_t {}", "c_uint64", "u64"),
+    "[u8; 16]": ("uint8_t {}[16]", "c_uint8 * 16", "[u8; 16]"),
+    "[u8; 32]": ("uint8_t {}[32]", "c_uint8 * 32", "[u8; 32]"),
+    "SvidUse": ("svid_use {}", "Use", "Use"),
+    "SvidMark": ("svid_mark {}", "Mark", "Mark"),
+}
+# What the header puts before a name of these lists.
+PREFIXES = {"IdFault": "ID_", "BundleFault": "BUNDLES_", "Fault": "FOLDER_", "Next": "FILE_", "NoBearer": "BEARER_", "KeyFault": "KEY_"}
+LISTS = ("Reason", "Refusal", *PREFIXES)
+# What stands in these lists but has the name or the number of another one.
+OTHER_NAMES = {("Next", "Unfit"), ("NoBearer", "TooLong")}
+# What stands in no list.
+OWN = {
+    "SVID_OK": 0,
+    "SVID_TOO_SHORT": 1,
+    "SVID_NO_MEMORY": 2,
+    "SVID_TOO_MUCH": 3,
+    "SVID_NOT_SUMMARY": 4,
+    "SVID_CLOSED": 5,
+    "SVID_IS_OPEN": 6,
+    "SVID_GONE": 7,
+    "SVID_TOO_FAR": 8,
+    "SVID_JUMP": 9,
+    "SVID_HAS_LOG": 10,
+    "SVID_NO_LOG": 19,
+    "SVID_TABLE_LINE": 34,
+    "SVID_OWN_NOT_UTF8": 35,
+    "SVID_OWN_LENGTHS": 36,
+    "SVID_NO_ALGORITHM": 70,
+    "SVID_NOT_ALLOWED": 91,
+}
+
+
+def text_of(path):
+    return (TOP / path).read_text()
+
+
+def snake(name):
+    return re.sub(r"(?<=.)([A-Z])", r"_\1", name).lower()
+
+
+SOURCE = "\n".join(path.read_text() for path in sorted(SOURCES.glob("*.rt")))
+# (without its comments)
+HEADER = re.sub(r"/\*.*?\*/", "", text_of("include/svid.h"), flags=re.S)
+PYTHON = text_of("examples/embed/svid.py")
+RUST = text_of("rust/svid/src/ffi.rs")
+# The structures that C sees, each with its fields, in their order, and their types.
+STRUCTURES = {
+    name: re.findall(r"^    pub (\w+): (.*),$", body, re.M)
+    for name, body in re.findall(r"#\[repr\(C\)\]\n#\[derive\(Drop\)\]\npub struct (\w+) \{\n(.*?)\n\}", SOURCE, re.S)
+}
+# Other languages have a question as its bytes.
+OF_ALL = [name for name in STRUCTURES if name != "SvidQuestion"]
+DECLARED = dict(re.findall(r"^(?:uint32_t|void) (svid_\w+)\(([^)]*)\);", HEADER, re.M))
+EXPORTED = dict(re.findall(r"#\[unsafe\(no_mangle\)\]\npub extern \"C\" fn (\w+)\(([^)]*)\)(?: -> u32)?\n", SOURCE))
+
+
+def defined(name):
+    return re.search(rf"#define {name} (\d+)", HEADER)[1]
+
+
+def test_each_structure_is_in_the_header():
+    handles = ["svid_validator", "svid_bundles"]
+    assert sorted(re.findall(r"\} (\w+);", HEADER)) == sorted([*map(snake, STRUCTURES), *handles])
+
+
+@pytest.mark.parametrize("handle", ["Handle", "TrustHandle"])
+def test_what_a_handle_is(handle):
+    assert f"word: u64,\n    pub handle: {handle}," in SOURCE
+    assert re.search(rf"pub struct {handle} \{{\n(?:    //.*\n)*    ptr: \*mut \(\),\n    alloc: Global,", SOURCE)
+
+
+@pytest.mark.parametrize("name", STRUCTURES)
+def test_a_structure_in_c(name):
+    body = re.search(r"typedef struct \{([^}]*)\} " + snake(name) + ";", HEADER)
+    assert re.findall(r"\S.*(?=;)", body[1]) == [TYPES[kind][0].format(field) for field, kind in STRUCTURES[name]]
+
+
+@pytest.mark.parametrize("name", OF_ALL)
+def test_a_structure_in_python(name):
+    body = re.search(rf"class {name.removeprefix('Svid')}\(c\.Structure\):\n    _fields_ = \[(.*)\]\n", PYTHON)
+    due = [f'("{field}", {"" if kind.startswith("Svid") else "c."}{TYPES[kind][1]})' for field, kind in STRUCTURES[name]]
+    assert body and body[1] == ", ".join(due)
+
+
+@pytest.mark.parametrize("name", OF_ALL)
+def test_a_structure_in_rust(name):
+    body = re.search(rf"#\[repr\(C\)\]\n#\[derive\(.*\)\]\npub struct {name.removeprefix('Svid')} \{{(.*?)\n\}}", RUST, re.S)
+    assert body and re.findall(r"pub (\w+): (.*),", body[1]) == [(field, TYPES[kind][2]) for field, kind in STRUCTURES[name]]
+
+
+def test_each_function_is_in_the_header():
+    assert sorted(DECLARED) == sorted(EXPORTED)
+
+
+def in_c(field, kind):
+    """What a parameter is in C: lent bytes and lists are a pointer and a length, and the allocator that the code is given is none."""
+    const = "" if "mut" in kind else "const "
+    lists = {"[u8]": "uint8_t", "[usize]": "size_t", "[[u8; 32]]": "svid_question"}
+    lent = kind.removeprefix("&").removeprefix("mut ")
+    if kind == "Global":
+        return []
+    if not kind.startswith("&"):
+        return [TYPES[kind][0].format(field)]
+    if lent in lists or lent.startswith("[Svid"):
+        return [f"{const}{lists.get(lent) or snake(lent[1:-1])} *{field}", f"size_t {field}_len"]
+    return [f"{const}{snake(lent)} *{field}"]
+
+
+@pytest.mark.parametrize("name", EXPORTED)
+def test_the_parameters_of_a_function(name):
+    due = [it for field, kind in re.findall(r"(\w+): ([^,]+)", EXPORTED[name]) for it in in_c(field, kind)]
+    assert [" ".join(it.split()) for it in DECLARED[name].split(",")] == (due or ["void"])
+
+
+def numbers():
+    """The header's names and their numbers."""
+    found, number = {}, -1
+    for name, given in re.findall(r"\b(SVID_\w+)(?: = (\d+))?,?", re.search(r"enum svid_status \{(.*?)\}", HEADER, re.S)[1]):
+        number = int(given) if given else number + 1
+        found[name] = number
+    return found
+
+
+def test_the_numbers_are_those_of_the_sources():
+    due = dict(OWN)
+    # (this one is answered at the end of a block)
+    other = "".join(
+        f"Next::Other => {it}," for it in re.findall(r"Next::Other\(\w+\) => \{.*?^            (\d+)\n        \}", SOURCE, re.M | re.S)
+    )
+    # The faults of a pattern are those of the ID in it, with numbers of their own.
+    patterns = text_of("crates/svid_c/src/id_allows.rt")
+    for name, number in re.findall(r"IdFault::(\w+)(?:\(_\))? => (\d+),", patterns):
+        if name != "OutOfMemory":
+            due["SVID_PATTERN_" + snake(name).upper()] = int(number)
+    for kind, name, number in re.findall(r"(\w+)::(\w+)(?:\(_\))? => (\d+),", SOURCE.replace(patterns, "") + other):
+        if kind in LISTS and number not in ("0", "1", "2") and (kind, name) not in OTHER_NAMES:
+            prefix = PREFIXES.get(kind, "")
+            due["SVID_" + prefix + snake(name).upper().removeprefix(prefix)] = int(number)
+    assert numbers() == due
+
+
+def test_no_two_have_one_number():
+    assert len({*numbers().values()}) == len(numbers())
+
+
+@pytest.mark.parametrize(
+    "fault, number",
+    {"ToolFault::TooMuch": 3, "ToolFault::NotSummary": 4, "ToolFault::Table": 34, "OwnFault::NotUtf8": 35, "OwnFault::Lengths": 36}.items(),
+)
+def test_the_number_of_a_fault_of_its_own(fault, number):
+    assert re.findall(rf"{fault}(?:\(_\)| \{{ \.\. \}})? => (\d+),", SOURCE) == [str(number)]
+
+
+def test_each_number_has_its_name():
+    assert re.findall(r'case (\w+): return "(\w+)";', HEADER) == [(name, name) for name in numbers()]
+
+
+def test_the_version():
+    major, minor, patch, whole = (int(defined(f"SVID_VERSION{word}")) for word in ("_MAJOR", "_MINOR", "_PATCH", ""))
+    assert whole == major * 10000 + minor * 100 + patch
+    assert re.findall(r"fn svid_version\(\) -> u32\n.*result ≡ (\d+)", SOURCE) == [str(whole)]
+
+
+@pytest.mark.parametrize(
+    "path, form",
+    [
+        ("tools/dist", r"^soname=libsvid\.so\.(\d+)$"),
+        ("python/svid/_library.py", r'"libsvid\.so\.(\d+)"'),
+        ("python/svid/_library.py", r"^_MAJOR = (\d+)$"),
+    ],
+)
+def test_the_name_of_the_shared_library_has_the_major_number(path, form):
+    assert re.findall(form, text_of(path), re.M) == [defined("SVID_VERSION_MAJOR")]
+
+
+@pytest.mark.parametrize(
+    "path, form, name",
+    [
+        ("python/svid/_library.py", r"^MOST_CANDIDATES = (\d+)$", "SVID_MOST_CANDIDATES"),
+        ("page/src/library.js", r"^export const MOST_CANDIDATES = (\d+)n;$", "SVID_MOST_CANDIDATES"),
+        ("page/tests/native.py", r"^MOST_CANDIDATES = (\d+)$", "SVID_MOST_CANDIDATES"),
+        ("node/src/library.js", r"^const MOST_CANDIDATES = (\d+)n;$", "SVID_MOST_CANDIDATES"),
+        ("node/src/library.js", r"^export const USUAL_RSA_BITS = (\d+), ", "SVID_USUAL_RSA_BITS"),
+        ("node/src/library.js", r"^const SPKI_ROOM = (\d+);$", "SVID_SPKI_ROOM"),
+        ("examples/embed/svid.py", r"^OK, .*\nMOST_CANDIDATES = (\d+)", "SVID_MOST_CANDIDATES"),
+        ("rust/svid/src/ffi.rs", r"^pub const MOST_CANDIDATES: usize = (\d+);$", "SVID_MOST_CANDIDATES"),
+        ("docs/FORMATS.md", r"at most the first (\d+) candidates", "SVID_MOST_CANDIDATES"),
+        ("vectors/source/checks.py", r"^MOST_CANDIDATES = (\d+)\b", "SVID_MOST_CANDIDATES"),
+        ("python/svid/_library.py", r"^USUAL_RSA_BITS = (\d+)$", "SVID_USUAL_RSA_BITS"),
+        ("page/src/library.js", r"^export const MOST_RSA_BITS = (\d+)n;$", "SVID_USUAL_RSA_BITS"),
+        ("rust/svid/src/ffi.rs", r"^pub const SPKI_ROOM: usize = (\d+);$", "SVID_SPKI_ROOM"),
+        ("rust/svid/src/ffi.rs", r"^pub const USUAL_RSA_BITS: usize = (\d+);$", "SVID_USUAL_RSA_BITS"),
+        ("examples/embed/svid.py", r"^SPKI_ROOM, USUAL_RSA_BITS = \d+, (\d+)", "SVID_USUAL_RSA_BITS"),
+        ("examples/embed/svid.py", r"^SPKI_ROOM, USUAL_RSA_BITS = (\d+), \d+", "SVID_SPKI_ROOM"),
+        ("python/svid/_library.py", r"^SPKI_ROOM = (\d+)$", "SVID_SPKI_ROOM"),
+    ],
+)
+def test_a_bound_of_the_header_elsewhere(path, form, name):
+    assert re.findall(form, text_of(path), re.M) == [defined(name)]
+
+
+def test_the_most_candidates_in_go():
+    assert re.findall(r"^const MaxCandidates = (C\.SVID_MOST_CANDIDATES)$", text_of("go/svid/keyring.go"), re.M)
