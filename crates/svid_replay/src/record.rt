@@ -63,6 +63,13 @@ impl<S: UseStore> Record<S> {
         self.moment
     }
 
+    /// The store of the record's uses, for questions that only stores of its kind answer. No memory is taken.
+    pub fn store(&self) -> &S
+        ensures { S.content result.now ≡ self.now.uses }
+    {
+        &self.store
+    }
+
     /// How many uses the record has.
     pub fn len(&self) -> usize
         ensures { result ≡ count self.now.uses }
