@@ -15,13 +15,13 @@ _svid() {
   case $COMP_CWORD,${COMP_WORDS[1]} in
     1,-*) options='-h --help -V --version' ;;
     1,* | 2,help) COMPREPLY=($(compgen -W "$commands" -- "$current")) ;;
-    *,check) options='--bundles --table --now --validator-id --record --out --longest --explain -h --help' ;;
+    *,check) options='--bundles --trust-domain --table --now --validator-id --record --out --longest --explain -h --help' ;;
     *,id) options='--explain -h --help' ;;
     *,report) options='--now --explain -h --help' files=yes ;;
     *,merge) options='--now --explain -h --help' files=yes ;;
     *,summary) options='--explain -h --help' files=yes ;;
     *,answer) options='--summary --explain -h --help' files=yes ;;
-    *,candidates) options='--bundles --explain -h --help' ;;
+    *,candidates) options='--bundles --trust-domain --explain -h --help' ;;
     *,refusals) options='--json --explain -h --help' ;;
   esac
   # Behind `--` there are no options, and each option stands once, but for those that may be repeated.
@@ -38,7 +38,7 @@ _svid() {
   done
   case $before in
     --bundles | --table | --record | --out | --summary) options='' files=yes ;;
-    --now | --validator-id | --longest) options='' files='' ;;
+    --trust-domain | --now | --validator-id | --longest) options='' files='' ;;
   esac
   # What may be a file is one, unless it begins as an option does.
   if [ -n "$values" ]; then

@@ -26,6 +26,7 @@ complete -c svid -n __svid_begins -a candidates -d 'Print one question for each 
 complete -c svid -n __svid_begins -a refusals -d 'Print why tokens are refused, in the order in which a check looks for it'
 complete -c svid -n __svid_begins -a help -d 'Print this message or the help of the given subcommand(s)'
 complete -c svid -n '__svid_is check' -l bundles -r -F -d 'A file of trust bundles, as JSON'
+complete -c svid -n '__svid_is check' -l trust-domain -x -d 'The trust domain whose bundle the file of --bundles is, as SPIRE prints it; else it has the bundles of each by name'
 complete -c svid -n '__svid_is check' -l table -r -F -d 'A file of the questions that your verifier answered with yes'
 complete -c svid -n '__svid_is check' -l now -x -d 'The current time, in seconds since 1970'
 complete -c svid -n '__svid_is check' -l validator-id -x -d 'The ID of this validator: 32 hexadecimal digits that no other validator has'
@@ -46,6 +47,7 @@ complete -c svid -n '__svid_is answer' -l summary -r -F -d 'The file with the ot
 complete -c svid -n '__svid_is answer' -l explain -d 'Behind a fault line on standard error, say in words what is wrong and what to do'
 complete -c svid -n '__svid_is answer' -F
 complete -c svid -n '__svid_is candidates' -l bundles -r -F -d 'A file of trust bundles, as JSON'
+complete -c svid -n '__svid_is candidates' -l trust-domain -x -d 'The trust domain whose bundle the file of --bundles is, as SPIRE prints it; else it has the bundles of each by name'
 complete -c svid -n '__svid_is candidates' -l explain -d 'Behind a fault line on standard error, say in words what is wrong and what to do'
 complete -c svid -n '__svid_is refusals' -l json -d 'Print a list of JSON objects with the members number, name and sentence'
 complete -c svid -n '__svid_is refusals' -l explain -d 'Behind a fault line on standard error, say in words what is wrong and what to do'

@@ -105,6 +105,11 @@ enum svid_status {
     SVID_OWN_NOT_UTF8 = 35,       /* an audience of the validator's own is not UTF-8 */
     SVID_OWN_LENGTHS = 36,        /* the lengths of the audiences do not add up to the length of `own` */
 
+    /* what svid_bundles_join answers beside SVID_BUNDLES_NOT_OBJECT to _KEYS; told: input, the number of the document, counted from 1; offset */
+    SVID_BUNDLES_UNNAMED = 37, /* the bundle of one trust domain, without its name */
+    SVID_BUNDLES_TWICE = 38,   /* an earlier document has a bundle of this trust domain */
+    SVID_BUNDLES_LENGTHS = 39, /* the lengths of the documents do not add up to the length of `bytes`; nothing is told beside it */
+
     /* why a state folder takes no call; nothing happened */
     SVID_FOLDER_UNFIT = 41,       /* the numbers are not those of a folder, or of the file that is read */
     SVID_FOLDER_ENDED = 42,       /* a sync failed; nobody knows what the disk holds until the next start */
@@ -408,6 +413,26 @@ uint32_t svid_validator_summary(svid_validator *v, uint8_t *out, size_t out_len,
 uint32_t svid_validator_answer(svid_validator *v, uint64_t now, const uint8_t *summary, size_t summary_len,
                                uint8_t *out, size_t out_len, svid_told *told);
 
+/* The digests of the 256 buckets of a record at a moment. A bucket has the uses whose keys begin with its number. */
+typedef struct {
+    uint64_t moment;          /* in seconds: set it before the first call */
+    uint8_t digests[256][32];
+} svid_digests;
+
+/* The summary of a large record, bucket by bucket, so that no call keeps the lock for long. svid_validator_digest puts the digest of one bucket
+ * at `digests->moment` into its place, and `told->len` is how many uses it is of. It looks at the uses of this bucket alone. Call it for each
+ * of 0 to 255, and then svid_summary_of, which writes their summary: SVID_SUMMARY_LEN bytes. It is the summary that the record has once it is
+ * advanced to that moment. You may make other calls in between: what they add may be in the summary or not, which makes an answer longer,
+ * and never wrong. A moment before that of the record summarizes what the record still has. */
+uint32_t svid_validator_digest(svid_validator *v, uint8_t bucket, svid_digests *digests, svid_told *told);
+uint32_t svid_summary_of(const svid_digests *digests, uint8_t *out, size_t out_len, svid_told *told);
+
+/* Writes what one bucket answers to the summary of another validator: messages with its uses that expire after the summary's moment, or no
+ * bytes if the summary has their digest. The answers of all 256 buckets together tell what svid_validator_answer tells. The record stays as it
+ * is. SVID_NOT_SUMMARY; SVID_TOO_MUCH and SVID_MAGIC to SVID_TRUNCATED. */
+uint32_t svid_validator_answer_bucket(svid_validator *v, uint8_t bucket, const uint8_t *summary, size_t summary_len,
+                                      uint8_t *out, size_t out_len, svid_told *told);
+
 /* ---- A validator that reads a group's log ----
  *
  * Validators that read one log accept a token once in the whole group. A *log* is a list of values in one order, the same for all; a *value*
@@ -513,6 +538,25 @@ uint32_t svid_validator_beside(svid_validator *v, uint8_t *out, size_t out_len, 
  * it. Only the exchange needs the validator's lock, and its time does not depend on the bundles. */
 typedef struct { uint64_t word; void *held; } svid_bundles;
 #define SVID_BUNDLES_CLOSED { 0, NULL }
+
+/* A document of trust bundles: how long its name and its text are, and what the text is. */
+typedef struct {
+    size_t name_len;    /* of the name of its trust domain, `example.org` or `spiffe://example.org`; 0 if the text is an object from trust
+                           domain names to JWK Sets */
+    size_t text_len;
+    uint64_t keys;      /* if it has a name: 0 if the text is the bundle of that trust domain (SPIFFE Trust Domain and Bundle, section 4), as
+                           SPIRE prints it; 1 if it has keys for JWT-SVIDs alone, which need no `use` (SPIFFE Workload API, section 6.2.2) */
+} svid_document;
+
+/* Joins documents of trust bundles to one JSON text, as the other calls take bundles: an object from trust domain names to JWK Sets.
+ * `bytes` are the name and the text of each document, one after the other.
+ *
+ * SVID_BUNDLES_LENGTHS if the lengths of the documents do not add up to `bytes_len`. SVID_BUNDLES_NOT_OBJECT: a document is no JSON object.
+ * SVID_BUNDLES_UNNAMED: it is the bundle of one trust domain, and has no name. SVID_BUNDLES_DOMAIN, SVID_BUNDLES_KEYS and SVID_BUNDLES_TWICE:
+ * one of its names is no trust domain name, has no list of keys, or is in an earlier document. `told->input` is the number of the first
+ * faulty document, counted from 1, and `told->offset` that of the name among all its names in rising order of their bytes, counted from 0. */
+uint32_t svid_bundles_join(const uint8_t *bytes, size_t bytes_len, const svid_document *documents, size_t documents_len,
+                           uint8_t *out, size_t out_len, svid_told *told);
 
 /* Opens a closed handle: reads trust bundles, as for svid_validator_open. SVID_IS_OPEN: the handle stays as it was. SVID_TOO_MUCH and
  * SVID_BUNDLES_NOT_OBJECT to SVID_BUNDLES_KEYS: the handle stays closed. */
@@ -859,6 +903,9 @@ static inline const char *svid_strstatus(uint32_t status) {
     case SVID_TABLE_LINE: return "SVID_TABLE_LINE";
     case SVID_OWN_NOT_UTF8: return "SVID_OWN_NOT_UTF8";
     case SVID_OWN_LENGTHS: return "SVID_OWN_LENGTHS";
+    case SVID_BUNDLES_UNNAMED: return "SVID_BUNDLES_UNNAMED";
+    case SVID_BUNDLES_TWICE: return "SVID_BUNDLES_TWICE";
+    case SVID_BUNDLES_LENGTHS: return "SVID_BUNDLES_LENGTHS";
     case SVID_FOLDER_UNFIT: return "SVID_FOLDER_UNFIT";
     case SVID_FOLDER_ENDED: return "SVID_FOLDER_ENDED";
     case SVID_FOLDER_NOT_GROWING: return "SVID_FOLDER_NOT_GROWING";
@@ -966,6 +1013,9 @@ static inline const char *svid_strsentence(uint32_t status) {
     case SVID_TABLE_LINE: return "A line of the table is neither empty nor a question.";
     case SVID_OWN_NOT_UTF8: return "An audience of the validator's own is not UTF-8.";
     case SVID_OWN_LENGTHS: return "The lengths of the audiences do not add up to the length of own.";
+    case SVID_BUNDLES_UNNAMED: return "The document is the bundle of one trust domain, without its name.";
+    case SVID_BUNDLES_TWICE: return "An earlier document has a bundle of this trust domain.";
+    case SVID_BUNDLES_LENGTHS: return "The lengths of the documents do not add up to the length of bytes.";
     case SVID_FOLDER_UNFIT: return "The numbers are not those of a folder, or of the file that is read.";
     case SVID_FOLDER_ENDED: return "A sync failed.";
     case SVID_FOLDER_NOT_GROWING: return "No journal grows yet.";

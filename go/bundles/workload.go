@@ -2,13 +2,14 @@ package bundles
 
 import (
 	"context"
+	"encoding/json"
 	"errors"
 	"fmt"
 	"sort"
 	"strings"
 	"time"
 
-	"svid.example/go/v2/internal/jwks"
+	"svid.example/go/v2/svid"
 )
 
 // Between two attempts to reach a Workload API.
@@ -75,7 +76,7 @@ func (w *Watcher) adopt(s Spec, bundles map[string][]byte) {
 		there[s.of(domain)] = true
 		text, err := bundles[name], checkDomain(domain)
 		if err == nil {
-			text, err = mended(text, &room)
+			text, err = mended(domain, text, &room)
 		}
 		_, now := w.judge(domain, s.of(domain), text, err)
 		changed = now || changed
@@ -87,13 +88,17 @@ func (w *Watcher) adopt(s Spec, bundles map[string][]byte) {
 
 // mended is a bundle of a Workload API as the validator wants it, if there is room for it among the bytes that all of them may
 // have. It takes what it needs of that.
-func mended(text []byte, room *int) ([]byte, error) {
+func mended(domain string, text []byte, room *int) ([]byte, error) {
 	if err := fits(len(text), *room); err != nil {
 		return nil, err
 	}
-	whole, err := jwks.ForTokens(text)
-	if err != nil {
-		whole = text // (judge says what is wrong)
+	whole := json.RawMessage(text) // (where it can't be joined, judge says what is wrong)
+	if joined, err := svid.JoinBundles(map[string][]byte{domain: text}); err == nil {
+		var of map[string]json.RawMessage
+		if err := json.Unmarshal(joined, &of); err != nil {
+			return nil, err
+		}
+		whole = of[domain]
 	}
 	if err := fits(len(whole), *room); err != nil {
 		return nil, err

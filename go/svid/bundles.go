@@ -1,39 +1,60 @@
 package svid
 
+// #include "svid.h"
+import "C"
+
 import (
-	"encoding/json"
 	"fmt"
 	"sort"
-	"strings"
-
-	"svid.example/go/v2/internal/jwks"
 )
 
 // JoinBundles makes trust bundles of JWK sets by trust domain, named example.org or spiffe://example.org. The result is for
 // NewKeyring, Options.Bundles and SetBundles.
 //
 // The sets have keys for JWT-SVIDs alone, as those that a SPIFFE Workload API gives, and those of go-spiffe
-// (jwtbundle.Bundle.Marshal). So a key that names no use gets the use jwt-svid, without which it would be passed over. A
-// SPIFFE bundle document names the use of each key, and stays as it is.
+// (jwtbundle.Bundle.Marshal). So a key that names no use gets the use jwt-svid, without which it would be passed over. A key of
+// a SPIFFE bundle document names its use, and stays as it is.
 //
-// The error wraps ErrBundles: a set is no JSON object with a list "keys", or a trust domain is named twice.
+// The error wraps ErrBundles, or is ErrNoMemory: a set is no JSON object with a list "keys", a name is no trust domain name, or a
+// trust domain is named twice.
 func JoinBundles(sets map[string][]byte) ([]byte, error) {
 	names := make([]string, 0, len(sets))
 	for name := range sets {
 		names = append(names, name)
 	}
 	sort.Strings(names) // so of several faults it is always the same one
-	domains := make(map[string]json.RawMessage, len(sets))
+	var texts []byte
+	documents := make([]C.svid_document, 0, len(sets))
 	for _, name := range names {
-		domain := strings.TrimPrefix(name, "spiffe://")
-		if _, twice := domains[domain]; twice {
-			return nil, fmt.Errorf("%w: %s is named twice", ErrBundles, domain)
+		domain, set := name, sets[name]
+		if domain == "" {
+			domain = "spiffe://" // (to the library, a document without a name has the names of its trust domains)
 		}
-		set, err := jwks.ForTokens(sets[name])
-		if err != nil {
-			return nil, fmt.Errorf("%w: %s: %v", ErrBundles, domain, err)
-		}
-		domains[domain] = set
+		texts = append(append(texts, domain...), set...)
+		documents = append(documents, C.svid_document{name_len: C.size_t(len(domain)), text_len: C.size_t(len(set)), keys: 1})
 	}
-	return json.Marshal(domains)
+	out, told, status := join(texts, documents)
+	switch {
+	case status == C.SVID_OK:
+		return out, nil
+	case status == C.SVID_NO_MEMORY || told.input == 0:
+		return nil, failure(status, &told)
+	}
+	return nil, fmt.Errorf("%w: %s: %s", ErrBundles, names[told.input-1], C.GoString(C.svid_strsentence(status)))
+}
+
+// join calls svid_bundles_join with as much room as it needs.
+func join(texts []byte, documents []C.svid_document) (out []byte, told C.svid_told, status C.uint32_t) {
+	var first *C.svid_document
+	if len(documents) > 0 {
+		first = &documents[0]
+	}
+	out = make([]byte, 2*len(texts)+64)
+	for {
+		status = C.svid_bundles_join(start(texts), C.size_t(len(texts)), first, C.size_t(len(documents)), start(out), C.size_t(len(out)), &told)
+		if status != C.SVID_TOO_SHORT {
+			return out[:told.len], told, status
+		}
+		out = make([]byte, told.len)
+	}
 }

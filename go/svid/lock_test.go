@@ -141,7 +141,7 @@ func TestEachCallOfAValidatorHoldsItsLock(t *testing.T) {
 		"Summary":      func() { _, _ = v.Summary() },
 		"Take":         func() { _ = v.Take(now, batchOf(judged.Use)) },
 		"Tick":         func() { _ = v.Tick(now) },
-		"WalkAnswer":   func() { _, _ = v.WalkAnswer(now, 10, summary, 1000) },
+		"WalkAnswer":   func() { _, _ = v.WalkAnswer(summary, 1000) },
 		"WalkSummary":  func() { _, _ = v.WalkSummary(0) },
 		"Withdraw":     func() { _, _ = v.Withdraw(now, judged.Use.Key, now+300) },
 	}

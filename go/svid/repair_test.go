@@ -3,7 +3,9 @@ package svid_test
 import (
 	"bytes"
 	"encoding/binary"
+	"fmt"
 	"math/rand"
+	"reflect"
 	"testing"
 
 	"svid.example/go/v2/svid"
@@ -20,6 +22,20 @@ func fill(t testing.TB, v *svid.Validator, seed int64, n int) {
 			t.Fatal(err)
 		}
 	}
+}
+
+// uses are those that messages tell, by their keys.
+func uses(t *testing.T, messages []byte) map[svid.TokenKey]svid.Use {
+	t.Helper()
+	told, err := svid.Uses(messages)
+	if err != nil {
+		t.Fatal(err)
+	}
+	all := make(map[svid.TokenKey]svid.Use, len(told))
+	for _, u := range told {
+		all[u.Key] = u
+	}
+	return all
 }
 
 // The summary of a walk is the core's own, byte for byte.
@@ -61,7 +77,7 @@ func TestWalkAnswerBringsWhatIsMissing(t *testing.T) {
 		if err != nil {
 			t.Fatal(err)
 		}
-		answer, err := to.WalkAnswer(moment, 10, summary, most)
+		answer, err := to.WalkAnswer(summary, most)
 		if err != nil {
 			t.Fatal(err)
 		}
@@ -80,8 +96,8 @@ func TestWalkAnswerBringsWhatIsMissing(t *testing.T) {
 	if err != nil {
 		t.Fatal(err)
 	}
-	if walked := ask(here, there, all); len(walked) < 40*65 || len(walked)-len(core) > 17 {
-		t.Errorf("an answer of %d bytes; the core's has %d", len(walked), len(core))
+	if walked := ask(here, there, all); len(uses(t, walked)) < 40 || !reflect.DeepEqual(uses(t, walked), uses(t, core)) {
+		t.Errorf("an answer of %d uses; the core's has %d", len(uses(t, walked)), len(uses(t, core)))
 	}
 	if !bytes.Equal(save(t, here), save(t, both)) {
 		t.Error("something is missing")
@@ -119,25 +135,29 @@ func TestWalkAnswerRefusesWhatIsNoSummary(t *testing.T) {
 	for _, row := range []struct {
 		what    string
 		summary []byte
-		want    error
+		want    string
 	}{
-		{"nothing", nil, svid.ErrNotSummary},
-		{"a batch", batchOf(svid.Use{Expires: 2, At: 1}), svid.ErrNotSummary},
-		{"a byte more", append(at(moment), 0), svid.ErrNotSummary},
-		{"too far", at(moment + 11), svid.ErrTooFar},
-		{"the greatest moment", at(^uint64(0)), svid.ErrTooFar},
-		{"just not too far", at(moment + 10), nil},
-		{"long ago", at(0), nil},
+		{"nothing", nil, svid.ErrNotSummary.Error()},
+		{"a batch", batchOf(svid.Use{Expires: 2, At: 1}), svid.ErrNotSummary.Error()},
+		{"two summaries", append(at(moment), summary...), svid.ErrNotSummary.Error()},
+		{"a byte more", append(at(moment), 'J'), "svid: message 2, byte 1: Truncated"},
+		{"a byte less", summary[:len(summary)-1], "svid: message 1, byte 8204: Truncated"},
+		{"the greatest moment", at(^uint64(0)), ""},
+		{"long ago", at(0), ""},
 	} {
-		if _, err := v.WalkAnswer(moment, 10, row.summary, 1000); err != row.want {
+		_, err := v.WalkAnswer(row.summary, 1000)
+		if got := fmt.Sprint(err); got != row.want && (err != nil || row.want != "") {
 			t.Errorf("%s: %v", row.what, err)
 		}
+	}
+	if size, err := v.Size(); err != nil || size.Moment != 0 {
+		t.Errorf("answers of buckets raise the record: %+v, %v", size, err)
 	}
 	v.Close()
 	if _, err := v.WalkSummary(0); err != svid.ErrClosed {
 		t.Errorf("closed: %v", err)
 	}
-	if _, err := v.WalkAnswer(moment, 10, summary, 1000); err != svid.ErrClosed {
+	if _, err := v.WalkAnswer(summary, 1000); err != svid.ErrClosed {
 		t.Errorf("closed: %v", err)
 	}
 }
@@ -165,7 +185,7 @@ func TestWhatAWalkAnswers(t *testing.T) {
 	}
 	buckets := map[byte]bool{}
 	for round := 0; round < 200 && len(buckets) < 10; round++ {
-		answer, err := v.WalkAnswer(moment, 10, summary, 1)
+		answer, err := v.WalkAnswer(summary, 1)
 		if err != nil {
 			t.Fatal(err)
 		}

@@ -877,6 +877,7 @@ func TestJoinBundles(t *testing.T) {
 		{joined(t, "spiffe://example.org", text), nil},
 		{joined(t, "example.org", text), nil},
 		{joined(t, "example.org", example.JWKSet()), nil},
+		{joined(t, "example.org", bytes.ReplaceAll(example.JWKSet(), []byte("jwt-svid"), []byte("x509-svid"))), svid.NoKey},
 	} {
 		keyring, err := svid.NewKeyring(c.bundles)
 		if err != nil {
@@ -891,6 +892,9 @@ func TestJoinBundles(t *testing.T) {
 		"no JSON":       {"example.org": []byte("{")},
 		"no keys":       {"example.org": []byte("{}")},
 		"two of a name": {"example.org": text, "spiffe://example.org": text},
+		"no name":       {"": []byte(`{"example.org":` + string(text) + `}`)},
+		"no ID":         {"spiffe://": text},
+		"no UTF-8":      {"\xff": text},
 	} {
 		if got, err := svid.JoinBundles(sets); !errors.Is(err, svid.ErrBundles) || got != nil {
 			t.Errorf("%s: %s %v", what, got, err)

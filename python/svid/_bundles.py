@@ -7,9 +7,10 @@ import json
 import os
 import pathlib
 import stat
-from collections.abc import Iterator, Mapping
-from typing import Any, Union
+from collections.abc import Iterator, Mapping, Sequence
+from typing import Any, NamedTuple, Union
 
+from . import _library as lib
 from .errors import BadBundles
 
 Path = Union[str, "os.PathLike[str]"]
@@ -51,9 +52,10 @@ class Source:
         if path.is_dir():
             return _joined({file.stem: file for file in _files(path)})
         text = _contents(path)
-        if isinstance(_object(text, str(path)).get("keys"), list):
-            return _joined({path.stem: text})
-        return text
+        try:
+            return _join([_Document(str(path), None, text)])
+        except _Unnamed:
+            return _join([_Document(str(path), path.stem, text)])
 
     def _paths(self) -> Iterator[pathlib.Path]:
         given = self._given.values() if isinstance(self._given, Mapping) else [self._given]
@@ -65,38 +67,67 @@ class Source:
                     yield from _files(path)
 
 
-def from_workload_api(bundles: Mapping[str, bytes]) -> dict[str, dict[str, Any]]:
+def from_workload_api(bundles: Mapping[str, bytes]) -> bytes:
     """The bundles of a JWTBundlesResponse of the SPIFFE Workload API, as `Validator` takes them.
 
     There a trust domain is named by its SPIFFE ID ("spiffe://example.org"), and SPIRE writes its
     keys without `use`, since all of them are for JWT-SVIDs. Raises BadBundles where a value is no
     JWK set.
     """
-    return {name.removeprefix("spiffe://"): _with_use(name, it) for name, it in bundles.items()}
+    return _join([_Document(name, name, text) for name, text in bundles.items()], keys=True)
 
 
-def _with_use(name: str, text: bytes) -> dict[str, Any]:
-    keys = _object(text, name).get("keys")
-    if not isinstance(keys, list):
-        raise BadBundles(f"{name}: not a JWK set")
-    return {"keys": [{"use": "jwt-svid", **it} if isinstance(it, dict) else it for it in keys]}
+class _Document(NamedTuple):
+    """JSON text of trust bundles."""
+
+    what: str
+    """What a fault calls it."""
+    name: str | None
+    """Its trust domain; None where the text names each of its trust domains."""
+    text: bytes
+
+
+class _Unnamed(BadBundles):
+    """The text is the bundle of one trust domain, and was not named."""
+
+
+def _join(documents: Sequence[_Document], keys: bool = False) -> bytes:
+    """The one text of documents, which may be keys for JWT-SVIDs alone. Raises BadBundles."""
+    rows, pieces = (lib.Document * len(documents))(), []
+    for row, (_what, name, text) in zip(rows, documents):
+        # (to the library, a document with an empty name has none)
+        domain = b"" if name is None else (name or "spiffe://").encode(errors="surrogatepass")
+        row.name_len, row.text_len, row.keys = len(domain), len(text), keys
+        pieces += [domain, text]
+    given, told = b"".join(pieces), lib.Told()
+    at = lib.address(rows) if documents else None
+    lent, room = (given, len(given), at, len(documents)), bytearray(2 * len(given) + 64)
+    join, told_at = lib.library.svid_bundles_join, lib.address(told)
+    status: int = join(*lent, lib.address(room), len(room), told_at)
+    if status == lib.TOO_SHORT:
+        room = bytearray(told.len)
+        status = join(*lent, lib.address(room), len(room), told_at)
+    if status == lib.NO_MEMORY:
+        raise MemoryError
+    if status != lib.OK:
+        fault = _Unnamed if status == lib.BUNDLES_UNNAMED else BadBundles
+        why = lib.BUNDLE_FAULTS[status].format(told.offset)
+        raise fault(f"{documents[told.input - 1].what}: {why}")
+    return bytes(room[: told.len])
 
 
 def _joined(bundles: Mapping[str, Bundle]) -> bytes:
-    members = (json.dumps(name).encode() + b":" + _text(name, it) for name, it in bundles.items())
-    return b"{" + b",".join(members) + b"}"
+    return _join([_Document(name, name, _text(name, it)) for name, it in bundles.items()])
 
 
 def _text(name: str, bundle: Bundle) -> bytes:
-    """The JSON text of one bundle: as it stands, since it is the C library that reads it."""
+    """The JSON text of one bundle."""
     if isinstance(bundle, Mapping):
         try:
             return json.dumps(dict(bundle), allow_nan=False).encode()
         except (TypeError, ValueError, RecursionError) as error:
             raise BadBundles(f"the bundle of {name} is no JSON: {error}") from error
-    text = bundle if isinstance(bundle, bytes) else _contents(pathlib.Path(bundle))
-    _object(text, f"the bundle of {name}")
-    return text
+    return bundle if isinstance(bundle, bytes) else _contents(pathlib.Path(bundle))
 
 
 def _contents(path: pathlib.Path) -> bytes:
@@ -105,17 +136,6 @@ def _contents(path: pathlib.Path) -> bytes:
         if not stat.S_ISREG(os.fstat(file.fileno()).st_mode):
             raise OSError(errno.EINVAL, "Not a regular file", str(path))
         return file.read()
-
-
-def _object(text: bytes, what: str) -> dict[str, Any]:
-    """The JSON object that a text is, and nothing beside it."""
-    try:
-        value = json.loads(text.decode())
-    except (ValueError, RecursionError) as error:
-        raise BadBundles(f"{what}: no JSON: {error}") from error
-    if not isinstance(value, dict):
-        raise BadBundles(f"{what}: no JSON object")
-    return value
 
 
 def _files(folder: pathlib.Path) -> list[pathlib.Path]:

@@ -87,8 +87,11 @@ BUNDLE_FAULTS = {
     31: "the bundles are no JSON object",
     32: "the name of a trust domain is none: number {} (from 0) of the names in rising order",
     33: "a trust domain has no list `keys`: number {} (from 0) of the names in rising order",
+    37: "the bundle of one trust domain, without its name",
+    38: "a trust domain that was named before: number {} (from 0) of the names in rising order",
 }
 """Why bundles are refused, by status."""
+BUNDLES_UNNAMED = 37
 
 ID_ROOM = 2048
 MOST_CANDIDATES = 3
@@ -167,6 +170,15 @@ class Entry(ctypes.Structure):
         ("key", c_uint8 * 32),
         ("validator_id", c_uint8 * 16),
     ]
+
+
+class Document(ctypes.Structure):
+    """`svid_document`: how long a document of trust bundles and its name are, and what it is."""
+
+    _fields_ = [("name_len", c_size_t), ("text_len", c_size_t), ("keys", c_uint64)]
+    name_len: int
+    text_len: int
+    keys: int
 
 
 class Terms(ctypes.Structure):
@@ -272,6 +284,7 @@ _FOLDER = [c_void_p]
 _FOLDER_ID = [c_char_p]
 _CALLS = {
     "svid_bearer_token": [c_uint64, *_LENT, c_void_p],
+    "svid_bundles_join": [*_LENT, c_void_p, c_size_t, *_OUT, *_TOLD],
     "svid_bundles_open": [*_VALIDATOR, *_LENT, *_TOLD],
     "svid_entries_read": [*_LENT, *_OUT, *_TOLD],
     "svid_entries_write": [*_OUT, *_OUT, *_TOLD],

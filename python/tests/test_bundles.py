@@ -111,6 +111,8 @@ def test_an_x509_key_of_the_workload_api_signs_no_token():
         b'{"Example.org":{"keys":[]}}',
         {"example.org": {"kyes": []}},
         {"example.org/web": {"keys": []}},
+        {"": {"example.org": {"keys": []}}},
+        {"\udcff": {"keys": []}},
         {"example.org": b"{} , "},
         {"example.org": b'{"keys":[]},"other.example":{"keys":[]}'},
         {"example.org": b"[" * 100_000},

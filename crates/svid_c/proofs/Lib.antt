@@ -3,6 +3,7 @@ pub mod AloneLemmas
 pub mod AsBox
 pub mod AsTrustBox
 pub mod CheckedLemmas
+pub mod DocumentsLemmas
 pub mod EntriesLemmas
 pub mod InputsLemmas
 pub mod JoinedLemmas

@@ -2,7 +2,9 @@ pub mod Allowed
 pub mod Alone
 pub mod Answered
 pub mod Bearer
+pub mod Buckets
 pub mod Checked
+pub mod Documents
 pub mod Entries
 pub mod Handle
 pub mod Inputs

@@ -35,7 +35,7 @@ fn text_of(alloc: Global, batches: &[Batch]) -> Result<MemSink, UsesFault>
 }
 
 // The messages that tell uses.
-fn messages_of(alloc: Global, uses: &[Use]) -> Result<MemSink, UsesFault>
+pub(crate) fn messages_of(alloc: Global, uses: &[Use]) -> Result<MemSink, UsesFault>
     ensures ok { IfOk result (λ sink. AreWritten uses.now sink.bytes) }
     ensures fault { IfErr result (IsUsesFault uses.now) }
 {

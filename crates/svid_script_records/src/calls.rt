@@ -47,6 +47,7 @@ fn state_call(out: &mut Out<'_>, env: &mut Env, words: &[&str]) -> Result<(), St
     match word(words, 0) {
         "moment"
         | "len"
+        | "record.stored"
         | "empty"
         | "walk"
         | "walk.after"

@@ -168,6 +168,7 @@ fn ask<S: UseStore>(out: &mut Out<'_>, record: &mut Record<S>, words: &[&str]) -
     match word(words, 0) {
         "moment" => say_number(out, record.moment()),
         "len" => say_number(out, record.len() as u64),
+        "record.stored" => say_number(out, record.store().len() as u64),
         "empty" => say_bool(out, record.is_empty()),
         "record.has" => has(out, record, words),
         "record.withdrawn" => withdrawn(out, record, words),

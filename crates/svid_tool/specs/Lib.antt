@@ -2,3 +2,4 @@ pub mod Failure
 pub mod HexByte
 pub mod Input
 pub mod Sentence
+pub mod TrustDomain

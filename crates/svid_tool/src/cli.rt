@@ -6,6 +6,7 @@ use crate::input::{Input, Stream};
 use crate::kept::Kept;
 use crate::refusals::{JSON, LINES};
 use crate::sentence::Words;
+use crate::trust_domain::bundles_of;
 use crate::words::{bytes_of_text, words};
 use clap::error::ErrorKind;
 use clap::{ArgMatches, Error};
@@ -13,10 +14,11 @@ use hex::FromHex;
 use std::alloc::Global;
 use std::env::Env;
 use std::fs::File;
-use std::io::{BufWriter, Write};
+use std::io::{BufWriter, Cursor, Write};
 use std::{io, str};
+use svid_keys::BundleFault;
 use svid_lines::{CheckSetting, run_candidates, run_check, run_id};
-use svid_share::{ToolFault, run_answer, run_merge, run_report, run_summary};
+use svid_share::{ToolFault, read_input, run_answer, run_merge, run_report, run_summary};
 use svid_wire::Counted;
 
 // A mistake on the command line is told on standard error, and a call for help on standard output.
@@ -124,6 +126,28 @@ fn open_all<'a>(rt: &'a HostRuntime, names: &[&str]) -> Result<Vec<Input<'a>>, F
     Ok(inputs)
 }
 
+// The name that a word is. One that is not UTF-8 is no trust domain name.
+fn domain_of(alloc: Global, word: &str) -> Result<String, Failure> {
+    match String::from_utf8(bytes_of_text(alloc, word)?) {
+        Ok(domain) => Ok(domain),
+        Err(_) => Err(Failure::from(ToolFault::Bundles(BundleFault::Domain(0)))),
+    }
+}
+
+// The trust bundles: those of the file, or of the one trust domain that is named, whose bundle the file has.
+fn trusted<'a>(rt: &'a HostRuntime, matches: &ArgMatches<'_>) -> Result<Input<'a>, Failure> {
+    let mut file = open(rt, matches.get_str("bundles").unwrap_or(""))?;
+    let Some(word) = matches.get_str("trust-domain") else {
+        return Ok(file);
+    };
+    let domain = domain_of(rt.alloc(), word)?;
+    let text = read_input(rt.alloc(), &mut file, 1)?;
+    match bundles_of(rt.alloc(), domain.as_str(), &text) {
+        Ok(bundles) => Ok(Input::new(rt, Stream::Made(Cursor::new(bundles)))),
+        Err(fault) => Err(Failure::from(ToolFault::Bundles(fault))),
+    }
+}
+
 fn id(rt: &HostRuntime, matches: &ArgMatches<'_>) -> Result<u8, Failure> {
     let text = bytes_of_text(rt.alloc(), matches.get_str("text").unwrap_or(""))?;
     let mut out = Counted::new(io::writer(rt));
@@ -182,7 +206,7 @@ fn answer(rt: &HostRuntime, matches: &ArgMatches<'_>) -> Result<u8, Failure> {
 }
 
 fn candidates(rt: &HostRuntime, matches: &ArgMatches<'_>) -> Result<u8, Failure> {
-    let mut bundles = open(rt, matches.get_str("bundles").unwrap_or(""))?;
+    let mut bundles = trusted(rt, matches)?;
     let mut tokens = standard_input(rt);
     let mut out = Counted::new(io::writer(rt));
     let accepted = run_candidates(rt.alloc(), &mut bundles, &mut tokens, &mut out)?;
@@ -221,7 +245,7 @@ fn check_setting(rt: &HostRuntime, matches: &ArgMatches<'_>) -> Result<CheckSett
 
 fn check(rt: &HostRuntime, matches: &ArgMatches<'_>) -> Result<u8, Failure> {
     let given = check_setting(rt, matches)?;
-    let mut bundles = open(rt, matches.get_str("bundles").unwrap_or(""))?;
+    let mut bundles = trusted(rt, matches)?;
     let mut table = open(rt, matches.get_str("table").unwrap_or(""))?;
     let mut tokens = standard_input(rt);
     let mut earlier = open_each(rt, matches.get_strs("record").unwrap_or(&[]))?;

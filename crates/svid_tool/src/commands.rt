@@ -7,7 +7,7 @@ use clap::Command;
 use std::alloc::{AllocError, Global};
 
 // The version of the program, and the kit that proves and builds it.
-const VERSION: &str = "2.0.0 (rattle-kit-13f logic dac8208d650f15bf)";
+const VERSION: &str = "2.0.0 (rattle-kit-13b logic dac8208d650f15bf)";
 
 const TEXT: Argument = Argument {
     name: "text",
@@ -54,6 +54,15 @@ const BUNDLES: Argument = Argument {
     form: Form::Named,
     required: true,
     help: "A file of trust bundles, as JSON",
+};
+
+const TRUST_DOMAIN: Argument = Argument {
+    name: "trust-domain",
+    alias: None,
+    value: "NAME",
+    form: Form::Named,
+    required: false,
+    help: "The trust domain whose bundle the file of --bundles is, as SPIRE prints it; else it has the bundles of each by name",
 };
 
 const TABLE: Argument = Argument {
@@ -146,6 +155,7 @@ static COMMANDS: [Subcommand; 8] = [
         after_help: "Each line of standard input that is not empty is a token; svid reads to the end.{n}{n}--record and --out may name the same file. svid replaces that file as a whole before it prints the first line, and leaves it as it was if the check fails. If two checks run at once with the same --out, the uses of one are lost. svid reads an empty file as an empty record, and does not notice when a record was cut off at the end of a message.{n}{n}Exit status: 0 svid accepted every token; 1 it refused a token or an input; 2 a usage error, a bad --validator-id, a file that does not open, a failed write or out of memory.",
         arguments: &[
             BUNDLES,
+            TRUST_DOMAIN,
             TABLE,
             NOW,
             VALIDATOR_ID,
@@ -189,7 +199,7 @@ static COMMANDS: [Subcommand; 8] = [
         name: "candidates",
         about: "Print one question for each key that could have signed the token on standard input",
         after_help: "The token is the first line of standard input that is not empty; svid reads to the end.{n}{n}Exit status: 0 svid printed a question or more; 1 it refused the token or the bundles; 2 a usage error, a file that does not open, a failed write or out of memory.",
-        arguments: &[BUNDLES],
+        arguments: &[BUNDLES, TRUST_DOMAIN],
     },
     Subcommand {
         name: "refusals",

@@ -4,16 +4,17 @@ ghost use Rattle.std.specs.Io.{ReadsAtMost};
 ghost use Rattle.svid_tool.specs.Input.{first_after};
 
 use std::fs::File;
-use std::io::{ErrorKind, Read, Stdin};
+use std::io::{Cursor, ErrorKind, Read, Stdin};
 use std::time::Duration;
 use std::{io, thread};
 use svid_wire::{Source, Stopped};
 
-/// Where bytes come from: standard input, or a file.
+/// Where bytes come from: standard input, a file, or what the program made of one.
 #[derive(Drop)]
 pub enum Stream {
     Stdin(Stdin),
     File(File),
+    Made(Cursor<Vec<u8>>),
 }
 
 /// What the program reads. Where it has no bytes yet and would not wait for them, since it is non-blocking, the
@@ -77,6 +78,7 @@ impl<'a> Input<'a> {
         match &mut self.stream {
             Stream::Stdin(stdin) => wait_for(self.rt, stdin, room),
             Stream::File(file) => wait_for(self.rt, file, room),
+            Stream::Made(bytes) => bytes.read(room),
         }
     }
 }

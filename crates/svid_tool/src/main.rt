@@ -12,6 +12,7 @@ mod kept;
 mod refusals;
 mod sentence;
 mod subcommand;
+mod trust_domain;
 mod words;
 
 use std::process::ExitCode;

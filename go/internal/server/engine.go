@@ -634,7 +634,7 @@ func (e *Engine) Mark() (mark svid.Mark, ok bool) { return e.machine.Mark() }
 func (e *Engine) Summary() ([]byte, error) { return e.machine.Summary() }
 
 // Answer answers another sidecar's summary.
-func (e *Engine) Answer(summary []byte) ([]byte, error) { return e.machine.Answer(e.time(), summary) }
+func (e *Engine) Answer(summary []byte) ([]byte, error) { return e.machine.Answer(summary) }
 
 // Answers answers another sidecar's summary by messages of at most most bytes each.
 func (e *Engine) Answers(summary []byte, most int) ([][]byte, error) {

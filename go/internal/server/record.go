@@ -194,8 +194,8 @@ func (m *Machine) Summary() ([]byte, error) {
 }
 
 // Answer answers another sidecar's summary.
-func (m *Machine) Answer(now Time, summary []byte) ([]byte, error) {
-	return m.validator.WalkAnswer(now.Wall, m.Ahead, summary, mostAnswer)
+func (m *Machine) Answer(summary []byte) ([]byte, error) {
+	return m.validator.WalkAnswer(summary, mostAnswer)
 }
 
 // Save writes the whole record as messages.

@@ -306,7 +306,7 @@ func (w *world) repair() {
 				}
 				summary, err := asking.life.machine.Summary()
 				if err == nil {
-					summary, err = asked.life.machine.Answer(asked.life.time(), summary)
+					summary, err = asked.life.machine.Answer(summary)
 				}
 				if err != nil {
 					w.fail("%v asks %v for what it has: %v", asking, asked, err)

@@ -1,0 +1,50 @@
+-- What the calls on one bucket of a record do, and what makes a summary of the digests of all.
+use Rattle.std.specs.Prelude.{◌≡◌, ℕ, List, [], ◌∷◌, length}
+use Rattle.std.specs.List.{slice_set}
+use Rattle.svid_replay.specs.Summary.{SummaryData}
+use Rattle.svid_shards.specs.Buckets.{answer_at, digest_at}
+use Rattle.svid_shards.specs.declared.bucket_digest.BucketDigest.{BucketDigest}
+use Rattle.svid_share.specs.declared.tool_fault.ToolFault.{ToolFault}
+use Rattle.svid_wire.specs.SummaryText.{summary_text}
+use Rattle.svid_wire.specs.declared.message.Message.TheVariants.{Summary}
+use Rattle.svid_c.specs.Entries.{AreWritten}
+use Rattle.svid_c.specs.Inputs.{AreMessages}
+use Rattle.svid_c.specs.Joined.{IsSummaryRefused}
+use Rattle.svid_c.specs.Live.{Kept}
+use Rattle.svid_c.specs.Status.{fault_number, told_fault, told_length}
+use Rattle.svid_c.specs.Written.{IsPut}
+use Rattle.svid_c.specs.declared.validator_digest.SvidDigests.{SvidDigests}
+use Rattle.svid_c.specs.declared.told.SvidTold.{SvidTold}
+
+-- what a bucket of a validator's record tells at a moment: the digest of its uses that expire later, and how many these are
+abbrev pub digest_of : Kept → ℕ → ℕ → BucketDigest
+digest_of held bucket moment = digest_at bucket moment held.state.uses
+
+-- digests, with that of a bucket of this record in its place
+abbrev pub with_bucket : Kept → ℕ → SvidDigests → SvidDigests
+with_bucket held bucket d = record { moment = d.moment; digests = slice_set d.digests bucket (digest_of held bucket d.moment).digest }
+
+-- what telling the digest of a bucket does: it stands in its place among the others, and how many uses it is of is told
+pub record TellsDigest (bucket status : ℕ) (told : SvidTold) (old_digests new_digests : SvidDigests) (old new : Kept) : Type 0 where
+  pub done : status ≡ 0
+  pub uses : told ≡ told_length (digest_of old bucket old_digests.moment).uses
+  pub digest : new_digests ≡ with_bucket old bucket old_digests
+  pub kept : new ≡ old
+
+-- the summary that digests of all buckets are
+abbrev pub summary_from : SvidDigests → SummaryData
+summary_from d = record { moment = d.moment; digests = d.digests }
+
+-- what making a summary does: its text is put, or has no room; or memory was refused
+pub data WritesSummary (digests : SvidDigests) (status : ℕ) (told : SvidTold) (old_out new_out : List ℕ) : Type 0 where
+  summary_written : (text : List ℕ) → text ≡ summary_text (summary_from digests) → IsPut text status old_out new_out → told ≡ told_length (length text) → WritesSummary digests status told old_out new_out
+  summary_unwritten : status ≡ 2 → told ≡ told_length 0 → new_out ≡ old_out → WritesSummary digests status told old_out new_out
+
+-- What answering a summary by one bucket does: messages that tell the uses with which the bucket answers it are put, or have no room; or the
+-- first input is no summary; or memory was refused. Nothing happens to the validator.
+pub data AnswersBucket (bucket : ℕ) (summary : List ℕ) (status : ℕ) (told : SvidTold) (old_out new_out : List ℕ) (old new : Kept) : Type 0 where
+  bucket_answered : (asked : SummaryData) (text : List ℕ) → AreMessages summary (Summary asked ∷ []) → AreWritten (answer_at asked old.state.uses bucket) text
+      → IsPut text status old_out new_out → told ≡ told_length (length text) → new ≡ old → AnswersBucket bucket summary status told old_out new_out old new
+  bucket_unasked : (given : ToolFault) → IsSummaryRefused summary given → status ≡ fault_number given → told ≡ told_fault given → new_out ≡ old_out → new ≡ old
+      → AnswersBucket bucket summary status told old_out new_out old new
+  bucket_unanswered : status ≡ 2 → told ≡ told_length 0 → new_out ≡ old_out → new ≡ old → AnswersBucket bucket summary status told old_out new_out old new
