@@ -49,7 +49,7 @@ def names_in(path):
             if token.type == tokenize.NAME:
                 yield token.string, token.start[0]
         return
-    # (what a line of Lua says behind two dashes is no name either)
+    # (what a line of Lua says after two dashes is no name either)
     text = re.sub(r"--.*", "", text) if path.suffix == ".lua" else text
     code = NO_NAMES.sub(lambda it: "\n" * it[0].count("\n"), text)
     for number, line in enumerate(code.splitlines(), 1):

@@ -49,7 +49,7 @@ var listed = []option{
 	{"listen", "serve", "127.0.0.1:9901", "`ADDRESS` to answer /check on: HOST:PORT or unix:PATH"},
 	{"envoy", "serve", "", "`ADDRESS` to answer Envoy's ext_authz by gRPC on: HOST:PORT or unix:PATH; none without"},
 	{"metrics", "serve", "", "`ADDRESS` to answer /metrics, /healthz and /readyz on, and nothing else; without it, that of --listen does"},
-	{"drain", "serve", "", "`TIME` to go on answering behind SIGTERM, while /readyz says draining"},
+	{"drain", "serve", "", "`TIME` to go on answering after SIGTERM, while /readyz says draining"},
 	{"admin", "serve", "", "unix socket `PATH` for withdraw, report, resume and reload; none without"},
 	{"state", "serve", "", "folder `DIR` where the record is kept"},
 	{"log", "serve", "decisions", "`LEVEL`: errors, decisions or all"},
