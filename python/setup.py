@@ -20,13 +20,13 @@ MACHINES = {b"\x3e\0": "x86_64", b"\xb7\0": "aarch64"}
 
 
 def library():
-    places = [
+    paths = [
         pathlib.Path(os.environ.get("LIBSVID") or HERE / "svid" / "libsvid.so"),
         HERE.parent / "dist" / platform.machine() / "libsvid.so",
     ]
-    for place in places:
-        if place.is_file():
-            return place
+    for path in paths:
+        if path.is_file():
+            return path
     raise SystemExit(
         "setup.py: no libsvid.so: let LIBSVID name one (tools/dist shared FILE makes it)"
     )

@@ -445,7 +445,7 @@ SUMMARY = "Let the other validator write one with svid summary."
 RANK = "others in rising order."
 E = "svid --explain"
 QUESTIONS = "Write one question a line."
-PLACE = "The value of --validator-id is not 32 hexadecimal digits. Choose 32 that no other validator has, and give them each time."
+BAD_ID = "The value of --validator-id is not 32 hexadecimal digits. Choose 32 that no other validator has, and give them each time."
 
 
 def cut(name, message=1):
@@ -572,7 +572,7 @@ EXPLAINED = [
             f"a_line_more is no table of questions: a line is neither empty nor a question. It is line 4. {QUESTIONS}",
         ),
     ),
-    (f"{CHECK}0 --explain ledger <lines", explains(STOPPED, "bad place", PLACE)),
+    (f"{CHECK}0 --explain ledger <lines", explains(STOPPED, "bad place", BAD_ID)),
     # files and streams
     (f"{E} report none", explains(STOPPED, "cannot open none", OPENED)),
     (r"svid --explain report $'\xff'", explains(STOPPED, "cannot open \udcff", OPENED)),

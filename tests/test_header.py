@@ -8,6 +8,7 @@ import pytest
 from conftest import TOP
 
 SOURCES = TOP / "crates/svid_c/src"
+SCRIPTS = [str(path.relative_to(TOP)) for path in TOP.glob("page/src/*.js")]
 # What a type of Rattle is in C, in Python and in Rust.
 TYPES = {
     "usize": ("size_t {}", "c_size_t", "usize"),
@@ -152,6 +153,28 @@ def test_the_numbers_are_those_of_the_sources():
             prefix = PREFIXES.get(kind, "")
             due["SVID_" + prefix + snake(name).upper().removeprefix(prefix)] = int(number)
     assert numbers() == due
+
+
+# What has a number by hand, since it decides by it.
+BY_HAND = ["python/svid/_library.py", "examples/embed/svid.py", "node/src/library.js", "node/src/errors.js", *sorted(SCRIPTS)]
+
+
+@pytest.mark.parametrize("path", BY_HAND)
+def test_a_number_by_hand(path):
+    text = re.sub(r"lists:begin.*?lists:end", "", text_of(path), flags=re.S)
+    rows = re.findall(r"\b([A-Z][A-Z_]+(?:, [A-Z][A-Z_]+)*) = (\d+(?:, \d+)*)\b", text)
+    found = {name: int(number) for names, given in rows for name, number in zip(names.split(", "), given.split(", "))}
+    assert {name: number for name, number in found.items() if numbers().get(f"SVID_{name}", number) != number} == {}
+
+
+@pytest.mark.parametrize(
+    "path, name, least, most",
+    [("page/src/refusals.js", "ID_FAULTS", "ID_TOO_LONG", "ID_PATH_BYTE"), ("page/src/verify.js", "FAULTS", "KEY_ALG", "KEY_Y")],
+)
+def test_the_page_has_words_for_each(path, name, least, most):
+    body = re.search(rf"^const {name} = \{{\n(.*?)^\}};", text_of(path), re.M | re.S)[1]
+    due = range(numbers()[f"SVID_{least}"], numbers()[f"SVID_{most}"] + 1)
+    assert [int(it) for it in re.findall(r"^  (\d+): ", body, re.M)] == [it for it in sorted(numbers().values()) if it in due]
 
 
 def test_no_two_have_one_number():

@@ -1,30 +1,35 @@
 """Names say one thing each: what names a validator is a validator ID, where a fault stands is an offset, where a log is read is a position.
 
-So no name of the header, of the libraries for each language or of vectors/ has the word place. And a file of crates/svid_c/src is named after
-a call of the header that stands in it, or it is a private module without calls."""
+So no name in code, of tests and examples too, and none of vectors/ has the word place. A token is refused and withdrawn: nothing here rejects
+or revokes, but calls of others. And a file of crates/svid_c/src is named after a call of the header that stands in it, or it is a private
+module without calls."""
 
+import functools
 import io
 import json
 import re
+import subprocess
 import tokenize
 
 import pytest
 from conftest import TOP
 
-# Which files have the names of each language, without their tests.
-SOURCES = {
-    "the header": ["include/svid.h"],
-    "Go": ["go/*/*.go", "go/carriers/*/*.go"],
-    "Python": ["python/svid/**/*.py"],
-    "Node": ["node/*.ts", "node/*.js", "node/src/*.js"],
-    "the page": ["page/src/*.js"],
-    "Rust": ["rust/svid/src/**/*.rs"],
-    "Java": ["java/src/main/**/*.java"],
+# Which files have names, by language. (A script of Python or of a shell has no suffix.)
+LANGUAGES = {
+    "C": (".h", ".c"),
+    "Go": (".go",),
+    "Python": (".py", "#!python"),
+    "JavaScript": (".js", ".mjs", ".ts"),
+    "Rust": (".rs",),
+    "Java": (".java",),
+    "Lua": (".lua",),
 }
+# What others wrote, or a tool of this repository.
+NOT_OURS = ("go/vendor/", "dist/")
 # What is no name: comments, and texts between quotation marks. (A character of Rust is one, and a lifetime is none.)
 NO_NAMES = re.compile(r"/\*.*?\*/|//[^\n]*|\"(?:\\.|[^\"\\\n])*\"|`(?:\\.|[^`\\])*`|'(?:\\.[^']*|[^'\\\n])'", re.S)
-# Ordinary uses: where a bar stands in the timeline of the page, and the file `place` of a state folder (its name in Go, and in vectors).
-ORDINARY = {"placed", "placeName"}
+# Ordinary uses: where a bar stands in the timeline of the page, the file `place` of a state folder (its name in Go, and in vectors), and this test.
+ORDINARY = {"placed", "placeName", "is_of_place", "test_no_name_has_the_word_place", "test_no_member_of_a_vector_has_the_word_place"}
 FILE_OF_A_FOLDER = "place"
 
 
@@ -39,26 +44,61 @@ def is_of_place(name):
 def names_in(path):
     """The names in the code of a file, each with its line."""
     text = path.read_text(encoding="utf-8")
-    if path.suffix == ".py":
+    if language_of(path) == "Python":
         for token in tokenize.generate_tokens(io.StringIO(text).readline):
             if token.type == tokenize.NAME:
                 yield token.string, token.start[0]
         return
+    # (what a line of Lua says after two dashes is no name either)
+    text = re.sub(r"--.*", "", text) if path.suffix == ".lua" else text
     code = NO_NAMES.sub(lambda it: "\n" * it[0].count("\n"), text)
     for number, line in enumerate(code.splitlines(), 1):
         yield from ((name, number) for name in re.findall(r"[A-Za-z_]\w*", line))
 
 
-def is_test(path):
-    return re.search(r"(^|[_.])tests?\.", path.name) is not None
+@functools.cache
+def tracked():
+    """The files of this repository that others did not write."""
+    listed = subprocess.run(["git", "ls-files", "-z"], cwd=TOP, capture_output=True, text=True, check=True).stdout.split("\0")
+    return [it for it in listed if it and not it.startswith(NOT_OURS)]
 
 
-@pytest.mark.parametrize("language", SOURCES)
+def language_of(path):
+    suffix = path.suffix
+    if not suffix and path.is_file() and path.read_bytes().startswith(b"#!/usr/bin/env python3"):
+        suffix = "#!python"
+    return next((name for name, suffixes in LANGUAGES.items() if suffix in suffixes), None)
+
+
+@pytest.mark.parametrize("language", LANGUAGES)
 def test_no_name_has_the_word_place(language):
-    paths = sorted({path for pattern in SOURCES[language] for path in TOP.glob(pattern) if not is_test(path)})
-    assert paths or not (TOP / SOURCES[language][0].split("/")[0]).exists(), f"{language}: there are no sources"
+    paths = [TOP / it for it in tracked() if language_of(TOP / it) == language]
+    assert paths, f"{language}: there are no sources"
     found = [f"{path.relative_to(TOP)}:{number}: {name}" for path in paths for name, number in names_in(path) if is_of_place(name)]
     assert not found, "call it a validator ID, an offset, a position, an index or a folder ID:\n" + "\n".join(found)
+
+
+# What others call so: promises and assertions of JavaScript, rights in SQL, a setting of Envoy, and a call of browsers.
+OTHERS_WORDS = re.compile(
+    r"\bPromise\.reject\b|\bassert\.rejects\b|(?<=[ {(])reject(?=[,); ])|\breject\("
+    r"|\bREVOKE ALL ON\b|\bREJECT_REQUEST\b|\brevokeObjectURL\b|\bunhandledRejection\b"
+)
+
+
+def test_nothing_rejects_or_revokes():
+    found = []
+    for name in tracked():
+        if re.search("revok|reject", name, re.I):
+            found.append(f"the file {name}")
+        if name == "tests/test_names.py" or not (TOP / name).is_file():
+            continue
+        text = (TOP / name).read_bytes().decode("utf-8", "replace")
+        if re.search("revok|reject", text, re.I):
+            lines = enumerate(text.splitlines(), 1)
+            found += [
+                f"{name}:{number}: {line.strip()}" for number, line in lines if re.search("revok|reject", OTHERS_WORDS.sub("", line), re.I)
+            ]
+    assert not found, "write refuse, or withdraw:\n" + "\n".join(found)
 
 
 def members(value):

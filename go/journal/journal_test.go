@@ -438,7 +438,7 @@ func TestATornTailIsNotRead(t *testing.T) {
 		mustAppend(t, j, batch(n))
 	}
 	mustClose(t, j)
-	place, snapshot, text := readFile(t, dir, placeName), readFile(t, dir, snapshotName), readFile(t, dir, "journal.2")
+	id, snapshot, text := readFile(t, dir, placeName), readFile(t, dir, snapshotName), readFile(t, dir, "journal.2")
 	if len(text) != 120+growth {
 		t.Fatalf("%d bytes", len(text))
 	}
@@ -446,7 +446,7 @@ func TestATornTailIsNotRead(t *testing.T) {
 	want := func(content []byte, good int) {
 		t.Helper()
 		d := newDisk()
-		d.others[placeName] = place
+		d.others[placeName] = id
 		d.snapshot = settled(atRest(snapshot))
 		*d.journal(2) = journalOnDisk{atRest(content), settled(true)}
 		before := d.journal(2).file.String()

@@ -165,26 +165,21 @@ func parseKey(jwk []byte, rsaBits int) *Key {
 	return k
 }
 
-// lists:begin words (written by tools/lists from lists/algorithms.toml)
+// lists:begin keys (written by tools/lists from lists/statuses.toml)
 
-// noKty and noCurve say that a key has none of an algorithm.
-const (
-	noKty   = "neither RSA nor EC"
-	noCurve = "none of P-256, P-384 and P-521"
-)
+// keyFaults say why no algorithm can use a key.
+var keyFaults = map[C.uint32_t]string{
+	C.SVID_KEY_NOT_OBJECT: "the key is no JSON object",
+	C.SVID_KEY_KTY:        "its kty is neither RSA nor EC",
+	C.SVID_KEY_ALG:        "its alg is that of no algorithm that fits it",
+	C.SVID_KEY_N:          "its n is no odd number in as few bytes of base64url as hold it",
+	C.SVID_KEY_E:          "its e is no odd number from 3 to 2^31-1 in as few bytes of base64url as hold it",
+	C.SVID_KEY_CRV:        "its crv is none of P-256, P-384 and P-521",
+	C.SVID_KEY_X:          "its x is not base64url of 32, 48 or 66 bytes, as the curve has it",
+	C.SVID_KEY_Y:          "its y is not base64url of 32, 48 or 66 bytes, as the curve has it",
+}
 
 // lists:end
-
-var keyFaults = map[C.uint32_t]string{
-	C.SVID_KEY_NOT_OBJECT: "it is no JSON object",
-	C.SVID_KEY_KTY:        "its type is " + noKty,
-	C.SVID_KEY_ALG:        "it is for another algorithm than those that fit it",
-	C.SVID_KEY_N:          "its modulus is no odd number in base64url",
-	C.SVID_KEY_E:          "its exponent is no odd number from 3 to 2^31-1 in base64url",
-	C.SVID_KEY_CRV:        "its curve is " + noCurve,
-	C.SVID_KEY_X:          "its first coordinate is not base64url of the curve's length",
-	C.SVID_KEY_Y:          "its second coordinate is not base64url of the curve's length",
-}
 
 // keyError is ErrKey with the reason.
 func keyError(said C.uint32_t, rsaBits int) error {

@@ -33,18 +33,9 @@ CRV = {"secp256r1": "P-256", "secp384r1": "P-384", "secp521r1": "P-521"}
 # lists:begin algorithms (written by tools/lists from lists/algorithms.toml)
 ALGORITHMS = ["RS256", "RS384", "RS512", "ES256", "ES384", "ES512", "PS256", "PS384", "PS512"]
 # lists:end
+# The type of the keys of an algorithm, by its first two letters.
 # lists:begin ktys (written by tools/lists from lists/algorithms.toml)
-KTY = {
-    "RS256": "RSA",
-    "RS384": "RSA",
-    "RS512": "RSA",
-    "ES256": "EC",
-    "ES384": "EC",
-    "ES512": "EC",
-    "PS256": "RSA",
-    "PS384": "RSA",
-    "PS512": "RSA",
-}
+KTY = {"RS": "RSA", "ES": "EC", "PS": "RSA"}
 # lists:end
 SIGNERS = jwt.algorithms.get_default_algorithms()
 

@@ -171,10 +171,12 @@ def questions(text):
         signature = unb64(text.rpartition(".")[2])
         header = json.loads(unb64(head))
         alg, kid = header["alg"], header.get("kid")
-        kind = KTY[alg]
         verifier = SIGNERS[alg]
     except (ValueError, KeyError, TypeError):
         return
+    if alg not in ALGORITHMS:  # PyJWT has more
+        return
+    kind = KTY[alg[:2]]
     signed = f"{head}.{payload}".encode()
     for domain, bundle in BUNDLES.items():
         fit = [

@@ -7,8 +7,8 @@ import pathlib
 import svid
 
 # (a copy of the package, as python/wrong/run makes them, has the program of a checkout)
-PLACES = (pathlib.Path(__file__).parents[2], pathlib.Path(os.environ["SVID"]).parent)
-HERE = next(it / "vectors" for it in PLACES if (it / "vectors" / "tokens.json").exists())
+CHECKOUTS = (pathlib.Path(__file__).parents[2], pathlib.Path(os.environ["SVID"]).parent)
+HERE = next(it / "vectors" for it in CHECKOUTS if (it / "vectors" / "tokens.json").exists())
 READER = "python"
 
 

@@ -6,18 +6,9 @@ from cryptography.hazmat.primitives.asymmetric import ec
 
 from . import crypto, formats
 
+# The type of the keys of an algorithm, by its first two letters.
 # lists:begin ktys (written by tools/lists from lists/algorithms.toml)
-KTY = {
-    "RS256": "RSA",
-    "RS384": "RSA",
-    "RS512": "RSA",
-    "ES256": "EC",
-    "ES384": "EC",
-    "ES512": "EC",
-    "PS256": "RSA",
-    "PS384": "RSA",
-    "PS512": "RSA",
-}
+KTY = {"RS": "RSA", "ES": "EC", "PS": "RSA"}
 # lists:end
 
 
@@ -45,7 +36,7 @@ def is_candidate(key, header, alg):
         isinstance(key, dict)
         and key.get("use") == "jwt-svid"
         and isinstance(key.get("kid"), str)
-        and key.get("kty") == KTY[alg]
+        and key.get("kty") == KTY[alg[:2]]
         and header.get("kid", key["kid"]) == key["kid"]
     )
 

@@ -5,31 +5,12 @@ use crate::sha256::{Digest, Sha256};
 
 /// Why a token is refused, in the order in which it is looked for.
 #[derive(Clone, Copy, Debug, PartialEq, Eq)]
+#[rustfmt::skip]
 // lists:begin refusals (written by tools/lists from lists/refusals.toml)
 pub enum Refusal {
-    TooLong,
-    NotThreeParts,
-    HeaderSpelling,
-    HeaderNotObject,
-    Crit,
-    Alg,
-    Typ,
-    Kid,
-    PayloadSpelling,
-    PayloadNotObject,
-    SignatureSpelling,
-    Sub,
-    Aud,
-    Exp,
-    Nbf,
-    Jti,
-    NotAudience,
-    Expired,
-    NotYet,
-    UnknownDomain,
-    NoKey,
-    BadSignature,
-    Replayed,
+    TooLong, NotThreeParts, HeaderSpelling, HeaderNotObject, Crit, Alg, Typ, Kid,
+    PayloadSpelling, PayloadNotObject, SignatureSpelling, Sub, Aud, Exp, Nbf, Jti, NotAudience,
+    Expired, NotYet, UnknownDomain, NoKey, BadSignature, Replayed,
 }
 // lists:end
 

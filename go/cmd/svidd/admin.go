@@ -23,17 +23,19 @@ const adminWait = time.Minute
 
 // withdraw withdraws a token at a running sidecar, and in its group.
 func withdraw(args []string, std stdio) int {
-	f := flag.NewFlagSet("svidd withdraw", flag.ContinueOnError)
-	f.SetOutput(std.err)
-	socket := f.String("admin", "", "unix socket `PATH` of the sidecar")
-	key := f.String("key", "", usages["key"])
+	var socket, key string
 	var exp moment
-	f.Var(&exp, "exp", usages["exp"])
+	f := flagsOf("withdraw", func(f *flag.FlagSet) {
+		f.StringVar(&socket, "admin", "", "")
+		f.StringVar(&key, "key", "", "")
+		f.Var(&exp, "exp", "")
+	})
+	f.SetOutput(std.err)
 	if err := parse(f, &options{}, args); err != nil {
 		return fail(std, err)
 	}
-	asked := server.Withdrawal{Token: f.Arg(0), Key: *key, Exp: exp.value}
-	if *socket == "" || f.NArg() > 1 || (asked.Token == "") == (*key == "") || (*key != "") != exp.given {
+	asked := server.Withdrawal{Token: f.Arg(0), Key: key, Exp: exp.value}
+	if socket == "" || f.NArg() > 1 || (asked.Token == "") == (key == "") || (key != "") != exp.given {
 		return fail(std, errors.New("withdraw wants --admin, and one of - (it reads the token from standard input), a TOKEN, or --key and --exp"))
 	}
 	if asked.Token == "-" {
@@ -49,7 +51,7 @@ func withdraw(args []string, std stdio) int {
 	if err != nil {
 		return fail(std, err)
 	}
-	answer, err := ask(*socket, http.MethodPost, "/withdraw", body)
+	answer, err := ask(socket, http.MethodPost, "/withdraw", body)
 	if err != nil {
 		return fail(std, err)
 	}
@@ -70,22 +72,25 @@ func withdraw(args []string, std stdio) int {
 
 // report prints the record of a running sidecar, as the program svid prints it.
 func report(args []string, std stdio) int {
-	f := flag.NewFlagSet("svidd report", flag.ContinueOnError)
+	var socket string
+	var asJSON bool
+	f := flagsOf("report", func(f *flag.FlagSet) {
+		f.StringVar(&socket, "admin", "", "")
+		f.BoolVar(&asJSON, "json", false, "")
+	})
 	f.SetOutput(std.err)
-	socket := f.String("admin", "", "unix socket `PATH` of the sidecar")
-	asJSON := f.Bool("json", false, usages["json"])
 	if err := parse(f, &options{}, args); err != nil {
 		return fail(std, err)
 	}
-	if *socket == "" || f.NArg() > 0 {
+	if socket == "" || f.NArg() > 0 {
 		return fail(std, errors.New("report wants --admin, and no argument"))
 	}
-	messages, err := ask(*socket, http.MethodGet, "/messages", nil)
+	messages, err := ask(socket, http.MethodGet, "/messages", nil)
 	if err != nil {
 		return fail(std, err)
 	}
 	text, err := svid.Report(messages)
-	if err == nil && *asJSON {
+	if err == nil && asJSON {
 		text, err = reportInJSON(text)
 	}
 	if err != nil {
@@ -99,21 +104,24 @@ func report(args []string, std stdio) int {
 
 // resume says what a sidecar risks that goes on though values of the group's bucket are missing, and lets it.
 func resume(args []string, std stdio) int {
-	f := flag.NewFlagSet("svidd resume", flag.ContinueOnError)
+	var socket string
+	var anyway bool
+	f := flagsOf("resume", func(f *flag.FlagSet) {
+		f.StringVar(&socket, "admin", "", "")
+		f.BoolVar(&anyway, "anyway", false, "")
+	})
 	f.SetOutput(std.err)
-	socket := f.String("admin", "", "unix socket `PATH` of the sidecar")
-	anyway := f.Bool("anyway", false, usages["anyway"])
 	if err := parse(f, &options{}, args); err != nil {
 		return fail(std, err)
 	}
-	if *socket == "" || f.NArg() > 0 {
+	if socket == "" || f.NArg() > 0 {
 		return fail(std, errors.New("resume wants --admin, and no argument"))
 	}
 	method := http.MethodGet
-	if *anyway {
+	if anyway {
 		method = http.MethodPost
 	}
-	answer, err := ask(*socket, method, "/resume", nil)
+	answer, err := ask(socket, method, "/resume", nil)
 	if err != nil {
 		return fail(std, err)
 	}
@@ -124,7 +132,7 @@ func resume(args []string, std stdio) int {
 	switch {
 	case missing.Until == 0:
 		fmt.Fprintln(std.out, "no values are missing: the sidecar accepts tokens")
-	case !*anyway:
+	case !anyway:
 		fmt.Fprintf(std.out, "values of the bucket are missing, and the sidecar accepts nothing until %d\n"+
 			"if it goes on before, a token that one of them claims can be accepted a second time: svidd resume --anyway\n", missing.Until)
 		return exitRefused
@@ -137,16 +145,16 @@ func resume(args []string, std stdio) int {
 // ready says by its exit status whether a sidecar is ready: for a container's probe, which can't reach an address of
 // loopback in another way.
 func ready(args []string, std stdio) int {
-	f := flag.NewFlagSet("svidd ready", flag.ContinueOnError)
+	var at string
+	f := flagsOf("ready", func(f *flag.FlagSet) { f.StringVar(&at, "listen", "", "") })
 	f.SetOutput(std.err)
-	address := f.String("listen", listenDefault, "`ADDRESS` of the sidecar: HOST:PORT or unix:PATH")
 	if err := parse(f, &options{}, args); err != nil {
 		return fail(std, err)
 	}
 	if f.NArg() > 0 {
 		return fail(std, errors.New("ready wants no argument"))
 	}
-	network, at := "tcp", *address
+	network := "tcp"
 	if strings.HasPrefix(at, "unix:") {
 		network, at = "unix", strings.TrimPrefix(at, "unix:")
 	}

@@ -117,14 +117,14 @@ func TestSystemdUnit(t *testing.T) {
 	if err != nil {
 		t.Fatal(err)
 	}
-	places := strings.NewReplacer("/usr/local/bin/svidd", self, "/etc/svidd", folder, "/var/lib/svidd", filepath.Join(folder, "state"),
+	paths := strings.NewReplacer("/usr/local/bin/svidd", self, "/etc/svidd", folder, "/var/lib/svidd", filepath.Join(folder, "state"),
 		"/run/svidd", folder)
 	for _, name := range []string{"svidd.service", "svidd.toml"} {
 		text, err := os.ReadFile(filepath.Join("../../deploy", name))
 		if err != nil {
 			t.Fatal(err)
 		}
-		if err := os.WriteFile(filepath.Join(folder, name), []byte(places.Replace(string(text))), 0o600); err != nil {
+		if err := os.WriteFile(filepath.Join(folder, name), []byte(paths.Replace(string(text))), 0o600); err != nil {
 			t.Fatal(err)
 		}
 	}

@@ -79,14 +79,15 @@ func (o *options) groupLog() carriers.Log {
 
 // schema prints what makes a group's log in PostgreSQL.
 func schema(args []string, std stdio) int {
-	f := flag.NewFlagSet("svidd schema", flag.ContinueOnError)
-	f.SetOutput(std.err)
-	o := options{ahead: seconds{value: aheadDefault, given: true}}
+	var o options
 	var role string
-	f.StringVar(&o.group, "group", "svid", usages["group"])
-	f.Var(&o.longest, "longest", usages["longest"])
-	f.Var(&o.ahead, "ahead", usages["ahead"])
-	f.StringVar(&role, "role", "", usages["role"])
+	f := flagsOf("schema", func(f *flag.FlagSet) {
+		f.StringVar(&o.group, "group", "", "")
+		f.Var(&o.longest, "longest", "")
+		f.Var(&o.ahead, "ahead", "")
+		f.StringVar(&role, "role", "", "")
+	})
+	f.SetOutput(std.err)
 	if err := parseWords(f, args); err != nil {
 		return fail(std, err)
 	}

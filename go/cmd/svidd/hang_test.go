@@ -112,8 +112,8 @@ func threads(pid int) (n int) {
 	return n
 }
 
-// A pipe in the place of a file is said at once, where svidd can't go on without that file.
-func TestAPipeInThePlaceOfAFile(t *testing.T) {
+// A pipe instead of a file is said at once, where svidd can't go on without that file.
+func TestAPipeInsteadOfAFile(t *testing.T) {
 	t.Parallel()
 	folder := t.TempDir()
 	pipe, state := filepath.Join(folder, "pipe"), filepath.Join(folder, "state")
@@ -180,8 +180,8 @@ func TestWhatIsNoRegularFileForNATS(t *testing.T) {
 	}
 }
 
-// A pipe in the place of a bundle stops neither SIGTERM nor SIGHUP.
-func TestAPipeInThePlaceOfABundle(t *testing.T) {
+// A pipe instead of a bundle stops neither SIGTERM nor SIGHUP.
+func TestAPipeInsteadOfABundle(t *testing.T) {
 	t.Parallel()
 	good, folder := bundleFile(t, example), t.TempDir()
 	pipe := filepath.Join(folder, "example.com.json")

@@ -28,22 +28,6 @@ const (
 	exitFailed  = 2 // usage, a file, the network or memory
 )
 
-const usage = `usage:
-  svidd serve    --audience NAME.. BUNDLES --longest TIME [option..]
-  svidd verify   --audience NAME.. BUNDLES [--longest TIME] < token
-  svidd withdraw --admin SOCKET (- < token | --key HEX --exp SECONDS | TOKEN)
-  svidd report   --admin SOCKET [--json]
-  svidd resume   --admin SOCKET [--anyway]
-  svidd ready    [--listen ADDRESS]
-  svidd check-state DIR [--messages]
-  svidd schema   --longest TIME [--group NAME] [--role ROLE]
-  svidd version
-
-BUNDLES: --workload-api unix:///run/spire/agent.sock, --bundle DOMAIN=FILE|https://.. or --bundles DIR
-
-'svidd COMMAND --help' lists the options of a command.
-`
-
 // commands by name. Each returns the exit status.
 var commands = map[string]func(args []string, std stdio) int{
 	"serve": serve, "verify": verify, "withdraw": withdraw, "report": report, "resume": resume, "ready": ready,

@@ -53,59 +53,49 @@ type options struct {
 	check         bool
 }
 
-const (
-	aheadDefault  = 30
-	listenDefault = "127.0.0.1:9901"
-
-	waitDefault      = 2 * time.Second
-	summariesDefault = 5 * time.Minute
-)
-
 // addCommon adds the options that serve and verify share.
 func (o *options) addCommon(f *flag.FlagSet) {
-	f.Var(&o.audiences, "audience", usages["audience"])
-	f.Var(&o.bundles, "bundle", usages["bundle"])
-	f.Var(&o.bundleIDs, "bundle-id", usages["bundle-id"])
-	f.Var(&o.bundleCAs, "bundle-ca", usages["bundle-ca"])
-	f.StringVar(&o.bundleFolder, "bundles", "", usages["bundles"])
-	f.StringVar(&o.workload, "workload-api", "", usages["workload-api"])
-	f.Var(&o.longest, "longest", usages["longest"])
-	f.IntVar(&o.rsaBits, "rsa-bits", svid.UsualRSABits, usages["rsa-bits"])
-	f.StringVar(&o.config, "config", "", usages["config"])
+	f.Var(&o.audiences, "audience", "")
+	f.Var(&o.bundles, "bundle", "")
+	f.Var(&o.bundleIDs, "bundle-id", "")
+	f.Var(&o.bundleCAs, "bundle-ca", "")
+	f.StringVar(&o.bundleFolder, "bundles", "", "")
+	f.StringVar(&o.workload, "workload-api", "", "")
+	f.Var(&o.longest, "longest", "")
+	f.IntVar(&o.rsaBits, "rsa-bits", 0, "")
+	f.StringVar(&o.config, "config", "", "")
 }
 
 // flags are those of serve.
 func (o *options) flags() *flag.FlagSet {
-	f := flag.NewFlagSet("svidd serve", flag.ContinueOnError)
-	o.addCommon(f)
-	o.addServe(f)
-	return f
+	return flagsOf("serve", func(f *flag.FlagSet) {
+		o.addCommon(f)
+		o.addServe(f)
+	})
 }
 
 func (o *options) addServe(f *flag.FlagSet) {
-	o.ahead = seconds{value: aheadDefault, given: true}
-	f.Var(&o.ahead, "ahead", usages["ahead"])
-	f.Var(&o.allow, "allow", usages["allow"])
-	f.StringVar(&o.listen, "listen", listenDefault, usages["listen"])
-	f.StringVar(&o.metrics, "metrics", "", usages["metrics"])
-	f.StringVar(&o.envoy, "envoy", "", usages["envoy"])
-	f.Var(&o.drain, "drain", usages["drain"])
-	f.StringVar(&o.admin, "admin", "", usages["admin"])
-	f.StringVar(&o.replay, "replay", string(server.Once), usages["replay"])
-	f.Var(&o.logs, "group-log", usages["group-log"])
-	f.Var(&o.nats, "nats", usages["nats"])
-	f.StringVar(&o.files.CA, "nats-ca", "", usages["nats-ca"])
-	f.StringVar(&o.files.Cert, "nats-cert", "", usages["nats-cert"])
-	f.StringVar(&o.files.Key, "nats-key", "", usages["nats-key"])
-	f.StringVar(&o.files.Creds, "nats-creds", "", usages["nats-creds"])
-	f.StringVar(&o.group, "group", "svid", usages["group"])
-	f.IntVar(&o.replicas, "replicas", 1, usages["replicas"])
-	o.wait, o.summaries = period(waitDefault), period(summariesDefault)
-	f.Var(&o.wait, "wait", usages["wait"])
-	f.Var(&o.summaries, "summaries", usages["summaries"])
-	f.StringVar(&o.state, "state", "", usages["state"])
-	f.StringVar(&o.log, "log", "decisions", usages["log"])
-	f.BoolVar(&o.check, "check-config", false, usages["check-config"])
+	f.Var(&o.ahead, "ahead", "")
+	f.Var(&o.allow, "allow", "")
+	f.StringVar(&o.listen, "listen", "", "")
+	f.StringVar(&o.metrics, "metrics", "", "")
+	f.StringVar(&o.envoy, "envoy", "", "")
+	f.Var(&o.drain, "drain", "")
+	f.StringVar(&o.admin, "admin", "", "")
+	f.StringVar(&o.replay, "replay", "", "")
+	f.Var(&o.logs, "group-log", "")
+	f.Var(&o.nats, "nats", "")
+	f.StringVar(&o.files.CA, "nats-ca", "", "")
+	f.StringVar(&o.files.Cert, "nats-cert", "", "")
+	f.StringVar(&o.files.Key, "nats-key", "", "")
+	f.StringVar(&o.files.Creds, "nats-creds", "", "")
+	f.StringVar(&o.group, "group", "", "")
+	f.IntVar(&o.replicas, "replicas", 0, "")
+	f.Var(&o.wait, "wait", "")
+	f.Var(&o.summaries, "summaries", "")
+	f.StringVar(&o.state, "state", "", "")
+	f.StringVar(&o.log, "log", "", "")
+	f.BoolVar(&o.check, "check-config", false, "")
 }
 
 // parse reads the options of the command line, then those that are not given there
@@ -190,9 +180,7 @@ func parseFile(f *flag.FlagSet, name string, given map[string]bool) error {
 
 // isOfServe says whether serve alone has an option of this name.
 func isOfServe(name string) bool {
-	f := flag.NewFlagSet("", flag.ContinueOnError)
-	new(options).addServe(f)
-	return f.Lookup(name) != nil
+	return flagsOf("serve", new(options).addServe).Lookup(name) != nil
 }
 
 // readFile reads a file of options: JSON if it begins with a brace, and TOML if not.
@@ -301,7 +289,7 @@ func (o *options) problems() problems {
 	default:
 		wrong(true, "--replay %q is none of once, strict and reuse", o.replay)
 	}
-	addressProblems(&all, "listen", o.listen, listenDefault)
+	addressProblems(&all, "listen", o.listen, optionOf("serve", "listen").initial)
 	if o.metrics != "" {
 		addressProblems(&all, "metrics", o.metrics, "127.0.0.1:9902")
 		wrong(o.metrics == o.listen, "--metrics is the address of --listen: give it one of its own, or leave it out")

@@ -2,17 +2,21 @@ package main
 
 import (
 	"bytes"
-	"flag"
 	"net"
 	"net/http"
 	"os"
 	"path/filepath"
+	"reflect"
+	"regexp"
+	"sort"
+	"strconv"
 	"strings"
 	"syscall"
 	"testing"
 	"time"
 
 	"svid.example/go/v2/internal/patience"
+	"svid.example/go/v2/svid"
 	"svid.example/go/v2/workload"
 )
 
@@ -23,17 +27,54 @@ func here(stdin string, args ...string) (status int, out, err string) {
 	return status, o.String(), e.String()
 }
 
-// Each option of serve and verify has its sentence of lists/svidd.toml.
-func TestEachOptionHasItsUsage(t *testing.T) {
+// The commands and their options are those of lists/svidd.toml, which has what --help says of each, and its default.
+func TestOptionsAreThoseOfTheList(t *testing.T) {
 	t.Parallel()
-	for _, add := range []func(*options, *flag.FlagSet){(*options).addCommon, (*options).addServe} {
-		f := flag.NewFlagSet("", flag.ContinueOnError)
-		add(&options{}, f)
-		f.VisitAll(func(option *flag.Flag) {
-			if option.Usage == "" || option.Usage != usages[option.Name] {
-				t.Errorf("--%s: %q", option.Name, option.Usage)
-			}
-		})
+	due := make(map[string][]string)
+	for _, it := range listed {
+		for _, command := range strings.Fields(it.commands) {
+			due[command] = append(due[command], it.name)
+		}
+	}
+	for command := range due {
+		if commands[command] == nil {
+			t.Errorf("there is no command %s", command)
+		}
+	}
+	named := regexp.MustCompile(`(?m)^  -([a-z-]+)`)
+	for command := range commands {
+		if !regexp.MustCompile(`(?m)^  svidd ` + command + `( |$)`).MatchString(usage) {
+			t.Errorf("the synopsis has no command %s", command)
+		}
+		if command == "version" { // which reads no options
+			continue
+		}
+		var has []string
+		_, _, said := here("", command, "--help")
+		for _, it := range named.FindAllStringSubmatch(said, -1) {
+			has = append(has, it[1])
+		}
+		sort.Strings(has)
+		sort.Strings(due[command])
+		if !reflect.DeepEqual(has, due[command]) {
+			t.Errorf("%s has the options %v, and %v are due", command, has, due[command])
+		}
+	}
+}
+
+// Where the library has a default of its own, the list has that one.
+func TestDefaultsOfTheListAreTheLibrarys(t *testing.T) {
+	t.Parallel()
+	if got := optionOf("serve", "rsa-bits").initial; got != strconv.Itoa(svid.UsualRSABits) {
+		t.Errorf("--rsa-bits is %s by default, and %d in the library", got, svid.UsualRSABits)
+	}
+	for _, row := range []struct{ option, says string }{{"ahead", "(default 30s)"}, {"group", `(default "svid")`}} {
+		if _, _, serve := here("", "serve", "--help"); !strings.Contains(serve, row.says) {
+			t.Errorf("serve --help does not say %s", row.says)
+		}
+		if a, b := optionOf("serve", row.option).initial, optionOf("schema", row.option).initial; a != b {
+			t.Errorf("--%s is %q by default in serve, and %q in schema", row.option, a, b)
+		}
 	}
 }
 

@@ -230,13 +230,13 @@ func (p *kubePod) startContainer(c *container) *running {
 		r.words, r.stop = strings.NewReplacer(), syscall.SIGQUIT
 		words = p.here("nginx", "-c", config)
 	default:
-		var places []string
+		var folders []string
 		mounts := c.Mounts
 		sort.Slice(mounts, func(i, k int) bool { return len(mounts[i].MountPath) > len(mounts[k].MountPath) })
 		for _, m := range mounts {
-			places = append(places, m.MountPath, filepath.Join(p.folder, p.name+"-"+m.Name))
+			folders = append(folders, m.MountPath, filepath.Join(p.folder, p.name+"-"+m.Name))
 		}
-		r.words = strings.NewReplacer(places...)
+		r.words = strings.NewReplacer(folders...)
 		for _, m := range mounts {
 			p.volume(m.Name, r.words)
 		}

@@ -35,7 +35,7 @@ type heard struct {
 }
 
 // newRecipe starts a sidecar and a service.
-func newRecipe(t *testing.T, places ...string) *recipe {
+func newRecipe(t *testing.T, paths ...string) *recipe {
 	t.Helper()
 	r := &recipe{heard: make(chan heard, 100), said: &lines{}, folder: t.TempDir(), front: freeAddress(t)}
 	for _, folder := range []string{r.folder, filepath.Dir(r.folder)} { // Apache's processes are of another user.
@@ -50,7 +50,7 @@ func newRecipe(t *testing.T, places ...string) *recipe {
 	}))
 	t.Cleanup(service.Close)
 	r.process = start(t, bundleOption(bundleFile(t, example)), "--state", filepath.Join(t.TempDir(), "state"))
-	r.replaced = strings.NewReplacer(append(places, "127.0.0.1:9901", r.address, "127.0.0.1:8081", service.Listener.Addr().String(),
+	r.replaced = strings.NewReplacer(append(paths, "127.0.0.1:9901", r.address, "127.0.0.1:8081", service.Listener.Addr().String(),
 		"127.0.0.1:8080", r.front)...)
 	return r
 }

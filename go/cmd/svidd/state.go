@@ -12,9 +12,9 @@ import (
 
 // checkState says what a state folder holds, and where it is damaged. It changes nothing.
 func checkState(args []string, std stdio) int {
-	f := flag.NewFlagSet("svidd check-state", flag.ContinueOnError)
+	var asMessages bool
+	f := flagsOf("check-state", func(f *flag.FlagSet) { f.BoolVar(&asMessages, "messages", false, "") })
 	f.SetOutput(std.err)
-	asMessages := f.Bool("messages", false, usages["messages"])
 	if err := parse(f, &options{}, args); err != nil {
 		return fail(std, err)
 	}
@@ -32,7 +32,7 @@ func checkState(args []string, std stdio) int {
 		return fail(std, err)
 	}
 	write := writeState
-	if *asMessages {
+	if asMessages {
 		write = writeMessages
 	}
 	damaged, err := write(std, found)

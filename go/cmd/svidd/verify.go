@@ -5,7 +5,6 @@ import (
 	"encoding/base64"
 	"encoding/json"
 	"errors"
-	"flag"
 	"fmt"
 	"io"
 	"strings"
@@ -22,10 +21,9 @@ const fetchWait = 20 * time.Second
 // verify judges the token of standard input by itself: there is no record, so a
 // token that was used is none. It prints the claims of one that is accepted.
 func verify(args []string, std stdio) int {
-	f := flag.NewFlagSet("svidd verify", flag.ContinueOnError)
-	f.SetOutput(std.err)
 	var o options
-	o.addCommon(f)
+	f := flagsOf("verify", o.addCommon)
+	f.SetOutput(std.err)
 	if err := parse(f, &o, args); err != nil {
 		return fail(std, err)
 	}

@@ -112,7 +112,7 @@ fn what_was_appended_is_found_again() {
 }
 
 #[test]
-fn a_snapshot_takes_the_place_of_journals() {
+fn a_snapshot_replaces_journals() {
     let room = Room::new("snapshot");
     let mut journal = Journal::open(&room.0).expect("it is empty");
     let mut validator = loaded(&mut journal);

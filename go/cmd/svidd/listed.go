@@ -1,0 +1,109 @@
+package main
+
+import (
+	"flag"
+	"fmt"
+	"strings"
+)
+
+// An option is a row of lists/svidd.toml.
+type option struct {
+	name     string
+	commands string // that have it, with blanks between them
+	initial  string // its value where it is not given
+	usage    string // what --help says of it
+}
+
+// lists:begin options (written by tools/lists from lists/svidd.toml)
+
+// usage is what help prints.
+const usage = `usage:
+  svidd serve    --audience NAME.. BUNDLES --longest TIME [OPTION..]
+  svidd verify   --audience NAME.. BUNDLES [--longest TIME] [--rsa-bits BITS] < TOKEN
+  svidd withdraw --admin PATH (- < TOKEN | --key HEX --exp SECONDS | TOKEN)
+  svidd report   --admin PATH [--json]
+  svidd resume   --admin PATH [--anyway]
+  svidd ready    [--listen ADDRESS]
+  svidd check-state DIR [--messages]
+  svidd schema   --longest TIME [--ahead TIME] [--group NAME] [--role ROLE]
+  svidd version
+
+BUNDLES: --workload-api ADDRESS, --bundle DOMAIN=FILE.., --bundle DOMAIN=https://.. or --bundles DIR
+
+'svidd COMMAND --help' lists the options of a command.
+`
+
+// listed are the options of all commands.
+var listed = []option{
+	{"audience", "serve verify", "", "`NAME` by which tokens may call the service; may be repeated"},
+	{"workload-api", "serve verify", "", "`ADDRESS` of the SPIFFE Workload API that gives the trust bundles, as unix:///run/spire/agent.sock;\nSPIFFE_ENDPOINT_SOCKET counts where no bundles are given"},
+	{"allow", "serve", "", "`PATTERN` of callers: an ID, spiffe://DOMAIN/PATH/* for all below a path, or spiffe://DOMAIN; may be repeated"},
+	{"bundle", "serve verify", "", "trust bundle `DOMAIN=FILE` (JWK set, as spire-server bundle show -format spiffe prints it)\nor DOMAIN=https://..; may be repeated"},
+	{"bundle-id", "serve verify", "", "SPIFFE ID of the server at the address of a bundle, as `DOMAIN=ID`: it must show an X.509-SVID of that;\nmay be repeated"},
+	{"bundle-ca", "serve verify", "", "authorities of the server at the address of a bundle, as `DOMAIN=FILE`: PEM, or with --bundle-id a trust bundle;\nmay be repeated"},
+	{"bundles", "serve verify", "", "folder `DIR` of trust bundles, each DOMAIN.json"},
+	{"longest", "serve verify", "", "the most `TIME` that a token may have to live, as 1h"},
+	{"rsa-bits", "serve verify", "4096", "the most `BITS` that an RSA key may have, 2048 to 16384"},
+	{"ahead", "serve", "30s", "the most `TIME` that clocks of the group may differ"},
+	{"replay", "serve", "once", "`MODE`: once, strict or reuse"},
+	{"listen", "serve", "127.0.0.1:9901", "`ADDRESS` to answer /check on: HOST:PORT or unix:PATH"},
+	{"envoy", "serve", "", "`ADDRESS` to answer Envoy's ext_authz by gRPC on: HOST:PORT or unix:PATH; none without"},
+	{"metrics", "serve", "", "`ADDRESS` to answer /metrics, /healthz and /readyz on, and nothing else; without it, that of --listen does"},
+	{"drain", "serve", "", "`TIME` to go on answering after SIGTERM, while /readyz says draining"},
+	{"admin", "serve", "", "unix socket `PATH` for withdraw, report, resume and reload; none without"},
+	{"state", "serve", "", "folder `DIR` where the record is kept"},
+	{"log", "serve", "decisions", "`LEVEL`: errors, decisions or all"},
+	{"group-log", "serve", "", "`URL` of the group's log: nats://HOST:PORT, redis://HOST:PORT or postgres://USER@HOST/DATABASE;\nmay be repeated for several servers of one log"},
+	{"nats", "serve", "", "NATS server `URL` of the group, nats://HOST:PORT; may be repeated, or several with commas"},
+	{"group", "serve", "svid", "`NAME` of the group's log"},
+	{"replicas", "serve", "1", "`NUMBER` of servers that must have a value of the log; for NATS, if the bucket must be made"},
+	{"nats-ca", "serve", "", "`FILE` of the authorities (PEM) of the NATS servers' certificates; the system's without"},
+	{"nats-cert", "serve", "", "`FILE` of this sidecar's certificate (PEM) for the NATS servers, such as an X.509-SVID"},
+	{"nats-key", "serve", "", "`FILE` of its key (PEM)"},
+	{"nats-creds", "serve", "", "`FILE` of a NATS user's credentials, as nsc writes it"},
+	{"wait", "serve", "2s", "the longest `TIME` that one request waits for the group, or for the disk"},
+	{"summaries", "serve", "5m", "`TIME` between two repairs by summaries"},
+	{"config", "serve verify", "", "`FILE` of options, as TOML (audience = [\"ledger\"]) or as a JSON object"},
+	{"check-config", "serve", "", "say what is wrong with the options, and start nothing"},
+	{"admin", "withdraw report resume", "", "unix socket `PATH` of the sidecar"},
+	{"key", "withdraw", "", "the token's key as 64 `HEX` digits, as the log and the report have it"},
+	{"exp", "withdraw", "", "when the token of --key expires, in `SECONDS` since 1970"},
+	{"json", "report", "", "print one JSON object"},
+	{"anyway", "resume", "", "go on; else only say what that risks"},
+	{"listen", "ready", "127.0.0.1:9901", "`ADDRESS` of the sidecar: HOST:PORT or unix:PATH"},
+	{"messages", "check-state", "", "write the messages of the folder to standard output, for svid report"},
+	{"longest", "schema", "", "the most `TIME` that a token may have to live, as 1h"},
+	{"ahead", "schema", "30s", "the most `TIME` that clocks of the group may differ"},
+	{"group", "schema", "svid", "`NAME` of the group's log"},
+	{"role", "schema", "", "`ROLE` that is to have the rights of a member"},
+}
+
+// lists:end
+
+// optionOf is the option that a command has under this name.
+func optionOf(command, name string) option {
+	for _, it := range listed {
+		if it.name == name && strings.Contains(" "+it.commands+" ", " "+command+" ") {
+			return it
+		}
+	}
+	panic(fmt.Sprintf("lists/svidd.toml has no option --%s of %s", name, command))
+}
+
+// flagsOf are the options of a command that add makes, each with what the list says of it, and its default.
+func flagsOf(command string, add func(f *flag.FlagSet)) *flag.FlagSet {
+	f := flag.NewFlagSet("svidd "+command, flag.ContinueOnError)
+	add(f)
+	f.VisitAll(func(made *flag.Flag) {
+		it := optionOf(command, made.Name)
+		made.Usage = it.usage
+		if it.initial == "" {
+			return
+		}
+		if err := made.Value.Set(it.initial); err != nil {
+			panic(fmt.Sprintf("lists/svidd.toml: the default of --%s of %s: %v", made.Name, command, err))
+		}
+		made.DefValue = made.Value.String()
+	})
+	return f
+}
