@@ -1,7 +1,7 @@
 # Completions of `svidd` for fish.
 
 # lists:begin completion (written by tools/lists from lists/svidd.toml)
-# The command is the first word behind `svidd`, whatever stands behind it.
+# The command is the first word after `svidd`, whatever stands after it.
 function __svidd_is
     set -l words (commandline -opc)
     contains -- "$words[2]" $argv
@@ -39,7 +39,7 @@ complete -c svidd -n '__svidd_is serve' -l replay -x -a 'once strict reuse' -d '
 complete -c svidd -n '__svidd_is serve' -l listen -x -d 'ADDRESS to answer /check on: HOST:PORT or unix:PATH'
 complete -c svidd -n '__svidd_is serve' -l envoy -x -d 'ADDRESS to answer Envoy\'s ext_authz by gRPC on: HOST:PORT or unix:PATH; none without'
 complete -c svidd -n '__svidd_is serve' -l metrics -x -d 'ADDRESS to answer /metrics, /healthz and /readyz on, and nothing else; without it, that of --listen does'
-complete -c svidd -n '__svidd_is serve' -l drain -x -d 'TIME to go on answering behind SIGTERM, while /readyz says draining'
+complete -c svidd -n '__svidd_is serve' -l drain -x -d 'TIME to go on answering after SIGTERM, while /readyz says draining'
 complete -c svidd -n '__svidd_is serve' -l admin -r -F -d 'unix socket PATH for withdraw, report, resume and reload; none without'
 complete -c svidd -n '__svidd_is serve' -l state -r -F -d 'folder DIR where the record is kept'
 complete -c svidd -n '__svidd_is serve' -l log -x -a 'errors decisions all' -d 'LEVEL: errors, decisions or all'

@@ -526,7 +526,7 @@ export class Library {
     return BigInt(token.length);
   }
 
-  // The audiences, one directly behind the other, and their lengths.
+  // The audiences, one directly after the other, and their lengths.
   #audiences(own, lend, room) {
     const names = own.map(utf8), all = new Uint8Array(names.reduce((sum, it) => sum + it.length, 0));
     let at = 0;

@@ -245,7 +245,7 @@ func TestOptionsOfAFileAndOfTheEnvironment(t *testing.T) {
 	for text, want := range map[string]string{
 		`{"audiences": "a"}`:            `no option is named "audiences"`,
 		`{"config": "a"}`:               `no option is named "config"`,
-		`{"longest": 60} {}`:            "something stands behind",
+		`{"longest": 60} {}`:            "something stands after",
 		`{"longest": 60`:                "it is no JSON object",
 		`{"longest": 6.5}`:              "whole number",
 		`{"longest": [60]}`:             "longest has one value, not a list",

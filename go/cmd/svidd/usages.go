@@ -18,7 +18,7 @@ var usages = map[string]string{
 	"listen":       "`ADDRESS` to answer /check on: HOST:PORT or unix:PATH",
 	"envoy":        "`ADDRESS` to answer Envoy's ext_authz by gRPC on: HOST:PORT or unix:PATH; none without",
 	"metrics":      "`ADDRESS` to answer /metrics, /healthz and /readyz on, and nothing else; without it, that of --listen does",
-	"drain":        "`TIME` to go on answering behind SIGTERM, while /readyz says draining",
+	"drain":        "`TIME` to go on answering after SIGTERM, while /readyz says draining",
 	"admin":        "unix socket `PATH` for withdraw, report, resume and reload; none without",
 	"state":        "folder `DIR` where the record is kept",
 	"log":          "`LEVEL`: errors, decisions or all",
