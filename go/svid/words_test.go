@@ -79,6 +79,28 @@ func TestMessageErrorsInWords(t *testing.T) {
 	}
 }
 
+// So does an error of a pattern, and of an ID.
+func TestPatternErrorsInWords(t *testing.T) {
+	for name, pattern := range map[string]string{
+		"TOO_LONG": "spiffe://" + strings.Repeat("a", 2040), "SCHEME": "example.org", "DOMAIN_EMPTY": "spiffe://", "DOMAIN_BYTE": "spiffe://A",
+		"DOMAIN_LONG": "spiffe://" + strings.Repeat("a", 256), "SEGMENT_EMPTY": "spiffe://a//*", "SEGMENT_DOTS": "spiffe://a/../*", "PATH_BYTE": "spiffe://a/b*",
+	} {
+		row := statusWords(t, fmt.Sprintf("name = %q", "PATTERN_"+name))
+		words := row["words"]
+		if words == "" {
+			words = row["says"]
+		}
+		words = strings.ToLower(words[:1]) + strings.TrimSuffix(words[1:], ".")
+		if err := svid.CheckPattern(pattern); err == nil || !strings.Contains(err.Error(), "): "+words+": write spiffe://DOMAIN/PATH") {
+			t.Errorf("%q says %v, and not %q", pattern, err, words)
+		}
+	}
+	want := `svid: "spiffe://a//b" is no SPIFFE ID (byte 11): the ID has an empty segment`
+	if _, err := svid.Allows("spiffe://a", "spiffe://a//b"); err == nil || err.Error() != want {
+		t.Errorf("%v, and not %q", err, want)
+	}
+}
+
 // So does an error of a header field Authorization.
 func TestBearerErrorsInWords(t *testing.T) {
 	for number, fields := range map[svid.NoBearer][]string{

@@ -137,6 +137,28 @@ const MESSAGE_FAULTS = new Map([
 ]);
 // lists:end
 
+// Why a text is no SPIFFE ID, or no pattern of such, by the status.
+// lists:begin ids (written by tools/lists from lists/statuses.toml)
+export const ID_SENTENCES = new Map([
+  [21, "The ID has more than 2,048 bytes."],
+  [22, "The ID does not begin with spiffe://."],
+  [23, "The trust domain name of the ID is empty."],
+  [24, "The ID has a byte that may not stand in a trust domain name."],
+  [25, "The ID has a trust domain name of more than 255 bytes."],
+  [26, "The ID has an empty segment."],
+  [27, "The ID has a segment that is one or two periods."],
+  [28, "The ID has a byte that may not stand in a path segment."],
+  [92, "The ID in the pattern has more than 2,048 bytes."],
+  [93, "The pattern does not begin with spiffe://."],
+  [94, "The trust domain name of the pattern is empty."],
+  [95, "The pattern has a byte that may not stand in a trust domain name."],
+  [96, "The pattern has a trust domain name of more than 255 bytes."],
+  [97, "The pattern has an empty segment."],
+  [98, "The pattern has a segment that is one or two periods."],
+  [99, "The pattern has a byte that may not stand in a path segment."],
+]);
+// lists:end
+
 const FAULTS = new Map([[2, OutOfMemory], [5, Closed], [7, Gone], [8, TooFar], [9, Jump]]);
 // Those that are about one of several trust domains.
 const RANKED = new Set([32, 33]);

@@ -30,8 +30,8 @@ def allows(pattern: str, spiffe_id: str) -> bool:
         return bool(status == lib.OK)
     if status > lib.NOT_ALLOWED:
         raise ValueError(
-            f"{pattern!r} is no pattern of SPIFFE IDs (byte {out.offset}): {SENTENCES[status]} Write "
-            "spiffe://DOMAIN/PATH, spiffe://DOMAIN/PATH/* or spiffe://DOMAIN."
+            f"{pattern!r} is no pattern of SPIFFE IDs (byte {out.offset}): {SENTENCES[status]} "
+            "Write spiffe://DOMAIN/PATH, spiffe://DOMAIN/PATH/* or spiffe://DOMAIN."
         )
     raise ValueError(f"{spiffe_id!r} is no SPIFFE ID (byte {out.offset}): {SENTENCES[status]}")
 
