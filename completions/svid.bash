@@ -6,7 +6,7 @@ _svid() {
   local commands='check id report merge summary answer candidates refusals help'
   local options='' values='' files='' word n
   COMPREPLY=()
-  # (bash takes the `=` behind an option for a word of its own)
+  # (bash takes the `=` after an option for a word of its own)
   if [ "$current" = = ]; then
     current=''
   elif [ "$before" = = ]; then
@@ -24,7 +24,7 @@ _svid() {
     *,candidates) options='--bundles --trust-domain --explain -h --help' ;;
     *,refusals) options='--json --explain -h --help' ;;
   esac
-  # Behind `--` there are no options, and each option stands once, but for those that may be repeated.
+  # After `--` there are no options, and each option stands once, but for those that may be repeated.
   for ((n = 2; n < COMP_CWORD; n++)); do
     case ${COMP_WORDS[n]} in
       --)

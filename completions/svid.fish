@@ -1,7 +1,7 @@
 # Completions of `svid` for fish.
 
 # lists:begin completion (written by tools/lists from lists/svid.toml)
-# The command is the first word behind `svid`, whatever stands behind it.
+# The command is the first word after `svid`, whatever stands after it.
 function __svid_is
     set -l words (commandline -opc)
     contains -- "$words[2]" $argv

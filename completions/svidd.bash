@@ -6,7 +6,7 @@ _svidd() {
   local commands='serve verify withdraw report resume ready check-state schema version help'
   local options='' values='' files='' word n
   COMPREPLY=()
-  # (bash takes the `=` behind an option for a word of its own)
+  # (bash takes the `=` after an option for a word of its own)
   if [ "$current" = = ]; then
     current=''
   elif [ "$before" = = ]; then
@@ -23,7 +23,7 @@ _svidd() {
     *,check-state) options='--messages -h --help' files=yes ;;
     *,schema) options='--longest --ahead --group --role -h --help' ;;
   esac
-  # Behind `--` there are no options, and each option stands once, but for those that may be repeated.
+  # After `--` there are no options, and each option stands once, but for those that may be repeated.
   for ((n = 2; n < COMP_CWORD; n++)); do
     case ${COMP_WORDS[n]} in
       --)

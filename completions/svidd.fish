@@ -1,7 +1,7 @@
 # Completions of `svidd` for fish.
 
 # lists:begin completion (written by tools/lists from lists/svidd.toml)
-# The command is the first word behind `svidd`, whatever stands behind it.
+# The command is the first word after `svidd`, whatever stands after it.
 function __svidd_is
     set -l words (commandline -opc)
     contains -- "$words[2]" $argv

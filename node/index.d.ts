@@ -16,7 +16,7 @@ declare global {
   }
 }
 
-/** A token in compact form, as it stands behind `Authorization: Bearer`. */
+/** A token in compact form, as it stands after `Authorization: Bearer`. */
 export type Token = string | Uint8Array;
 
 /** The bundle of one trust domain, a JWK set: its JSON text, or the object. A text stays as it is, since the library reads it. */
@@ -31,7 +31,7 @@ export type BundleSet = string | Uint8Array | { readonly [trustDomain: string]: 
  * @param alg the algorithm's name, as "ES256"
  * @param key the key as JSON (RFC 7517), always the same text for the same key
  * @param signed the bytes that are signed
- * @param signature the signature's bytes: of ES256, ES384 and ES512 both numbers, one directly behind the other
+ * @param signature the signature's bytes: of ES256, ES384 and ES512 both numbers, one directly after the other
  */
 export type Verify = (alg: string, key: string, signed: Uint8Array, signature: Uint8Array) => boolean | Promise<boolean>;
 
@@ -220,14 +220,14 @@ export class Validator {
  */
 export interface Log {
   /**
-   * The position in front of the first value that the log has, and that of the last value; both are 0 in a log that never had any. Throw
+   * The position before the first value that the log has, and that of the last value; both are 0 in a log that never had any. Throw
    * `UnfitLog` where no member may join.
    */
   bounds(): Promise<readonly [bigint | number, bigint | number]>;
-  /** Puts a value behind all others, and returns once it is there to stay. Where that is not known, throw: it is put again. It may be there twice. */
+  /** Puts a value after all others, and returns once it is there to stay. Where that is not known, throw: it is put again. It may be there twice. */
   append(value: Uint8Array): Promise<void>;
   /**
-   * Values behind this position, in their order, each with its own position. Where there are none, wait for `wait` seconds at the most, and give
+   * Values after this position, in their order, each with its own position. Where there are none, wait for `wait` seconds at the most, and give
    * none. Throw `OtherLog` where the log is another one than was read so far: it was lost, or an older copy was put back.
    */
   read(after: bigint, wait: number): Promise<Iterable<readonly [bigint | number, Uint8Array]>>;

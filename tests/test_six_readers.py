@@ -256,7 +256,7 @@ class Readers:
             if ran.returncode == 0:
                 claims = json.loads(ran.stdout)
                 return f"accepted {claims['sub']} {claims['exp']}"
-            return ran.stderr.decode(errors="replace").strip()
+            return ran.stderr.decode(errors="replace").strip().partition("\n")[0]  # (the same in words stands in the next line)
 
         return spread(ask, cases)
 

@@ -4,7 +4,7 @@ import re
 
 
 class Program:
-    """The commands and options of a program. `front` are options in front of a command, each with its short name and what it does."""
+    """The commands and options of a program. `front` are options before a command, each with its short name and what it does."""
 
     def __init__(self, name, listed, front=()):
         self.name, self.commands, self.options, self.front = name, listed["command"], listed["option"], front
@@ -40,7 +40,7 @@ def bash(program):
     yield f"  local commands='{names}'"
     yield "  local options='' values='' files='' word n"
     yield "  COMPREPLY=()"
-    yield "  # (bash takes the `=` behind an option for a word of its own)"
+    yield "  # (bash takes the `=` after an option for a word of its own)"
     yield '  if [ "$current" = = ]; then'
     yield "    current=''"
     yield '  elif [ "$before" = = ]; then'
@@ -56,7 +56,7 @@ def bash(program):
         files = " files=yes" if command.get("takes") in ("file", "folder") else ""
         yield f"    *,{command['name']}) options='{options}'{files} ;;"
     yield "  esac"
-    yield "  # Behind `--` there are no options, and each option stands once, but for those that may be repeated."
+    yield "  # After `--` there are no options, and each option stands once, but for those that may be repeated."
     yield "  for ((n = 2; n < COMP_CWORD; n++)); do"
     yield "    case ${COMP_WORDS[n]} in"
     yield "      --)"
@@ -168,7 +168,7 @@ def fish_text(text):
 
 def fish(program):
     name, call = program.name, f"complete -c {program.name}"
-    yield f"# The command is the first word behind `{name}`, whatever stands behind it."
+    yield f"# The command is the first word after `{name}`, whatever stands after it."
     yield f"function __{name}_is"
     yield "    set -l words (commandline -opc)"
     yield '    contains -- "$words[2]" $argv'

@@ -46,7 +46,7 @@ func (w *Watcher) endpoint(s Spec) (*http.Client, error) {
 	return w.client, nil
 }
 
-// once lets no connection stay behind its request, since each request has a client of its own: the authorities may be other ones
+// once lets no connection stay after its request, since each request has a client of its own: the authorities may be other ones
 // for the next one.
 func once(client *http.Client) {
 	if transport, ok := client.Transport.(*http.Transport); ok {
@@ -233,7 +233,7 @@ func (s Spec) checkEndpoint() error {
 	return nil
 }
 
-// ParseEndpoints adds to specs what stands behind --bundle-id and --bundle-ca: DOMAIN=ID, and DOMAIN=FILE. Each DOMAIN is one of
+// ParseEndpoints adds to specs what stands after --bundle-id and --bundle-ca: DOMAIN=ID, and DOMAIN=FILE. Each DOMAIN is one of
 // which an address is given.
 func ParseEndpoints(specs []Spec, ids, authorities []string) ([]Spec, error) {
 	specs = append([]Spec(nil), specs...)

@@ -37,7 +37,7 @@ type API interface {
 	IsForGood(err error) bool
 }
 
-// Parse reads what stands behind --bundle: example.org=FILE or example.org=https://HOST/PATH.
+// Parse reads what stands after --bundle: example.org=FILE or example.org=https://HOST/PATH.
 func Parse(text string) (Spec, error) {
 	domain, source, found := strings.Cut(text, "=")
 	if !found || domain == "" || source == "" {

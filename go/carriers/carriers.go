@@ -44,7 +44,7 @@ type Start struct {
 // A Sink is what values are given to, in the order that they have in the log: a validator. Its methods are called by one
 // goroutine at a time.
 type Sink interface {
-	// Begin comes before the first value of a log. It comes again where the values that come next don't stand behind
+	// Begin comes before the first value of a log. It comes again where the values that come next don't stand after
 	// those that came last: the values in between have expired, or it is another log, or one that has lost its last values.
 	Begin(start Start)
 	// Take returns nil if it took all values. Else it returns as many errors as there are values, and one that isn't nil
@@ -141,9 +141,9 @@ type Stored struct {
 // A Store is a server that keeps a log. Its calls end soon after ctx does, and after Close. Append may be called while
 // others are under way; these come one at a time.
 //
-// Its duties: each Append puts one value behind all that are there, at the next position: whoever reads sees values appear in
-// the order of their positions, and never one in front of another that was read. A value that Append has told of, or that was
-// read, is there behind a crash of the server. What is at a position is never replaced. Values are removed by their age
+// Its duties: each Append puts one value after all that are there, at the next position: whoever reads sees values appear in
+// the order of their positions, and never one before another that was read. A value that Append has told of, or that was
+// read, is there after a crash of the server. What is at a position is never replaced. Values are removed by their age
 // alone, and Gone says so before, or at the moment when, they are.
 type Store interface {
 	// Open makes the log where there is none, and says what it is. An *Unfit says that the log may lose values, or that
@@ -154,7 +154,7 @@ type Store interface {
 	// Append puts a value at the end of this log, and returns once it is there to stay, with the server's time. An error may
 	// come of a value that is stored, or that will be. It is ErrNoLog where the log is another one.
 	Append(ctx context.Context, made string, kind Kind, message []byte) (time.Time, error)
-	// Read returns values behind a position, in their order: those that are there, or the next one that comes within about
+	// Read returns values after a position, in their order: those that are there, or the next one that comes within about
 	// Patience; none if none comes.
 	Read(ctx context.Context, behind uint64) ([]Stored, error)
 	// Expire removes what is older than the log keeps.

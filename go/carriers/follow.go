@@ -7,7 +7,7 @@ import (
 	"time"
 )
 
-// A follower reads the log's values in their order, and goes on behind the last one after whatever happened to the server.
+// A follower reads the log's values in their order, and goes on after the last one after whatever happened to the server.
 type follower struct {
 	member *Member
 	state  State     // of the log when reading it began, with what was said about it last
@@ -134,8 +134,8 @@ func (f *follower) reopen() (State, error) {
 	return f.member.store.Open(ctx)
 }
 
-// missing passes over values behind the last one, up to this position, that were gone before they were read. The sink sees that by
-// the position of the next value, unless they have expired: then it begins anew behind them. anew says that reading began
+// missing passes over values after the last one, up to this position, that were gone before they were read. The sink sees that by
+// the position of the next value, unless they have expired: then it begins anew after them. anew says that reading began
 // anew, since it is another log.
 func (f *follower) missing(to uint64) (anew bool, err error) {
 	if anew, err := f.look(); anew || err != nil {
@@ -166,7 +166,7 @@ func (f *follower) begin(state State, lost bool) {
 		if missed {
 			fields = append(fields, "why", errGone)
 		}
-		f.member.log("values in front of the first one are gone", fields...)
+		f.member.log("values before the first one are gone", fields...)
 	}
 	f.member.begin(Start{Passed: f.seen, Ready: state.Last, Missed: missed || lost})
 	f.catchUp()

@@ -108,7 +108,7 @@ func (m *Member) open(ctx context.Context) (state State, err error) {
 	return state, err
 }
 
-// Persist calls try until it says that it is done, or ctx ends. The error behind the end of ctx holds both that end and what
+// Persist calls try until it says that it is done, or ctx ends. The error after the end of ctx holds both that end and what
 // the last try said.
 func Persist(ctx context.Context, what string, try func() (done bool, err error)) error {
 	for {

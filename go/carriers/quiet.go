@@ -5,7 +5,7 @@ import (
 	"time"
 )
 
-// quietTime is how long a log is quiet behind a line, so that a member that lies does not fill a disk.
+// quietTime is how long a log is quiet after a line, so that a member that lies does not fill a disk.
 const quietTime = time.Second
 
 // A Quiet lets one line through at a time, and counts those that it holds back.

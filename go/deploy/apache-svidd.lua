@@ -49,9 +49,9 @@ function check(r)
     r.headers_in["Authorization"] = nil
     return apache2.OK
   end
-  if made and status == 401 then
+  if made and (status == 401 or status == 403) then
     r.err_headers_out["WWW-Authenticate"] = said["www-authenticate"]
-    return 401
+    return status
   end
   r.err_headers_out["Retry-After"] = "1"
   return 503

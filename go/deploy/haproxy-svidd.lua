@@ -49,12 +49,12 @@ core.register_action("svidd", { "http-req" }, function(txn)
     end
     return
   end
-  if said.status == 401 then
+  if said.status == 401 or said.status == 403 then
     local kept = {}
     for _, name in ipairs(refused) do
       kept[name] = of(name)
     end
-    answer(txn, 401, kept, said.body)
+    answer(txn, said.status, kept, said.body)
     return
   end
   answer(txn, 503, { ["retry-after"] = "1", ["cache-control"] = "no-store" }, "")

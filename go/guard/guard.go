@@ -95,7 +95,7 @@ type Options struct {
 	Now       func() uint64  // the clock; nil is svid.Now
 
 	// Failed is called with what the guard can't go on without: ErrClock, a group's log that can't be joined, or a record that
-	// can't be read behind it. The guard accepts nothing from then on. It may be nil. It has a goroutine of its own, so it may call
+	// can't be read after it. The guard accepts nothing from then on. It may be nil. It has a goroutine of its own, so it may call
 	// Close; and it may be called before Open returns.
 	Failed func(error)
 }
@@ -133,7 +133,7 @@ func (o Options) usual() (Options, error) {
 	case len(o.Bundles) == 0:
 		return o, errors.New("guard: Options.Bundles is empty: say where the trust bundles come from, as by bundles.Parse")
 	case o.Mode == Once && o.State == "":
-		return o, errors.New("guard: Options.State is empty: in mode once the record is kept there, since a token that was accepted before a restart must not be accepted behind it")
+		return o, errors.New("guard: Options.State is empty: in mode once the record is kept there, since a token that was accepted before a restart must not be accepted after it")
 	case o.Mode == Strict && o.Log == nil:
 		return o, errors.New("guard: Options.Log is nil: in mode strict each token is claimed in the group's log")
 	case o.Mode != Once && o.Mode != Strict && o.Mode != Reuse:
@@ -227,7 +227,7 @@ func New(o Options) (g *Guard, err error) {
 	return g, nil
 }
 
-// Load reads the record of the state folder. In mode strict Run does, behind the group's log: a claim that the record has already
+// Load reads the record of the state folder. In mode strict Run does, after the group's log: a claim that the record has already
 // would be kept a second time, as a lost one.
 func (g *Guard) Load() error {
 	if g.options.Mode == Strict {

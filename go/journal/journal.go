@@ -18,7 +18,7 @@
 //     sync. None waits for longer than it wants: a goroutine writes for all of them.
 //   - A journal grows by zeros, so that its length changes seldom: to force a new length to the disk takes longer than the
 //     bytes themselves.
-//   - A mark stands behind a journal that was closed, and behind one to which nobody appended for a second. So damage of the
+//   - A mark stands after a journal that was closed, and after one to which nobody appended for a second. So damage of the
 //     last batch is seen.
 package journal
 
@@ -49,7 +49,7 @@ var errOld = errors.New("journal: an older version wrote the folder: take a snap
 var errFull = errors.New("journal: the disk does not answer, and too much waits for it")
 
 const (
-	// growth is how many zeros stand behind the frames of a journal that has grown.
+	// growth is how many zeros stand after the frames of a journal that has grown.
 	growth = 256 << 10
 	// quiet is how long nobody appends until a mark is worth its write.
 	quiet = time.Second
@@ -60,7 +60,7 @@ const (
 	manyJournals = 8
 	// mostOfUse is how many bytes a use has at the most: those of a batch of one use.
 	mostOfUse = 82
-	// mostMessages is how many bytes of messages one write takes: a mark may stand in front of them.
+	// mostMessages is how many bytes of messages one write takes: a mark may stand before them.
 	mostMessages = svid.MaxPayload - svid.MarkLen
 )
 
@@ -481,7 +481,7 @@ func (j *Journal) put(frame []byte, at int64) error {
 	return nil
 }
 
-// markSoon lets a mark stand behind the journal once it is quiet. The caller holds write.
+// markSoon lets a mark stand after the journal once it is quiet. The caller holds write.
 func (j *Journal) markSoon() {
 	switch {
 	case j.quiet == 0:
@@ -496,7 +496,7 @@ func (j *Journal) markSoon() {
 	}
 }
 
-// mark puts a mark behind the journal that grows, unless one is there. In front of it comes where the validator is in its log, if
+// mark puts a mark after the journal that grows, unless one is there. Before it comes where the validator is in its log, if
 // the journal does not say that. The caller holds write.
 func (j *Journal) mark() error {
 	if j.broken != nil {
@@ -693,7 +693,7 @@ func (p *pieces) put(piece []byte) {
 	p.at += int64(len(p.buffer))
 }
 
-// Close waits for a Snapshot and an Append that are under way, puts a mark behind the journal, and lets go of the folder. Every
+// Close waits for a Snapshot and an Append that are under way, puts a mark after the journal, and lets go of the folder. Every
 // later Append and Snapshot returns ErrClosed, and so does a second Close.
 func (j *Journal) Close() error {
 	j.snapshot.Lock()

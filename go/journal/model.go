@@ -22,7 +22,7 @@ type Model struct{ disk *disk }
 var (
 	// ErrLost is what the call returns in which the power is lost.
 	ErrLost = errors.New("the power is lost")
-	// ErrGone is what each call returns behind that.
+	// ErrGone is what each call returns after that.
 	ErrGone = errors.New("the power was lost before")
 )
 
@@ -33,7 +33,7 @@ func NewModel(id svid.ValidatorID) *Model {
 	return &Model{d}
 }
 
-// Before lets before be asked in front of each call that changes something, which may let it fail. For a write that fails, it
+// Before lets before be asked before each call that changes something, which may let it fail. For a write that fails, it
 // says how many bytes land.
 func (m *Model) Before(before func(call, name string, length int) (landed int, err error)) {
 	m.disk.before = func(call, name string, length int) (int, error) {
@@ -78,7 +78,7 @@ type fileOnDisk struct {
 	whole, spoiled bool // spoiled: a sync failed, and no later one tells what is on the disk
 }
 
-// A nameOf is what a name stands for, and all that it may stand for after a crash. It is stuck behind a sync of the folder that
+// A nameOf is what a name stands for, and all that it may stand for after a crash. It is stuck after a sync of the folder that
 // failed.
 type nameOf[A any] struct {
 	now   A
@@ -325,7 +325,7 @@ func (f *openFile) force(call string) error {
 
 func (f *openFile) Close() error { return nil }
 
-// crash is the disk behind a loss of power: each name is one of what it may be, and each file what it may be.
+// crash is the disk after a loss of power: each name is one of what it may be, and each file what it may be.
 func (d *disk) crash(r *rand.Rand) *disk {
 	d.mu.Lock()
 	defer d.mu.Unlock()
@@ -355,7 +355,7 @@ func (d *disk) crash(r *rand.Rand) *disk {
 
 func oneOf[A any](r *rand.Rand, may []A) A { return may[r.Intn(len(may))] }
 
-// left is the file behind a loss of power. Behind what was kept there is, if it is not whole, nothing, all that was seen, zeros,
+// left is the file after a loss of power. After what was kept there is, if it is not whole, nothing, all that was seen, zeros,
 // anything, or cells of these and of other files.
 func (f *fileOnDisk) left(r *rand.Rand, stale [][]byte) *fileOnDisk {
 	bytes := append([]byte(nil), f.kept...)

@@ -9,7 +9,7 @@ import (
 const leastRoom = 16 << 10
 
 // Room returns nil if the folder takes what is appended next: nothing has ended it, and the disk has room for some hundred uses.
-// It puts zeros behind the journal where that has less room, so what it finds stays there for the next Append.
+// It puts zeros after the journal where that has less room, so what it finds stays there for the next Append.
 //
 // It waits as Append does: until the disk has answered to the writes before it, or ctx ends. Its error is what Append would
 // return.

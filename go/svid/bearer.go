@@ -29,17 +29,19 @@ const (
 )
 
 // Error says what the request has, or lacks.
-func (n NoBearer) Error() string {
-	switch n {
-	case BearerAbsent:
-		return "svid: the request has no header field Authorization"
-	case BearerSeveral:
-		return "svid: the request has more than one header field Authorization"
-	case BearerScheme:
-		return "svid: the scheme of the header field Authorization is not Bearer"
-	}
-	return "svid: the scheme Bearer is not followed by one token"
+func (n NoBearer) Error() string { return "svid: " + bearerWords[n] }
+
+// lists:begin bearer (written by tools/lists from lists/statuses.toml)
+
+// bearerWords say what the request has, or lacks.
+var bearerWords = map[NoBearer]string{
+	BearerAbsent:   "the request has no header field Authorization",
+	BearerSeveral:  "the request has more than one header field Authorization",
+	BearerScheme:   "the header field Authorization has another scheme than Bearer",
+	BearerSpelling: "in the header field Authorization, Bearer is not followed by one token",
 }
+
+// lists:end
 
 // BearerToken returns the one bearer token of a request (RFC 9110, section 11.4; RFC 6750, section 2.1), of which these are the
 // values of all header fields Authorization. It does not read the token.

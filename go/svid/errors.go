@@ -43,14 +43,20 @@ type BundleError struct {
 	Index  int    // of the name among all names in rising byte order, from 0
 }
 
-// Error names the reason and the index.
+// Error says what is wrong, and names the index.
 func (e *BundleError) Error() string {
-	what := "the name is no trust domain name"
-	if e.Reason == "Keys" {
-		what = "the value is no object with a list \"keys\""
-	}
-	return fmt.Sprintf("svid: bundles: %s (trust domain %d in rising order, from 0)", what, e.Index)
+	return fmt.Sprintf("svid: bundles: %s (number %d of the names in rising order, from 0)", bundleWords[e.Reason], e.Index)
 }
+
+// lists:begin bundles (written by tools/lists from lists/statuses.toml)
+
+// bundleWords say what is wrong, by the reason of a BundleError.
+var bundleWords = map[string]string{
+	"Domain": "a name is no trust domain name",
+	"Keys":   "a name has no list of keys",
+}
+
+// lists:end
 
 // A MessageError says why bytes are no row of messages.
 type MessageError struct {
@@ -59,12 +65,12 @@ type MessageError struct {
 	Offset  int    // the byte of that message at which the faulty field begins, from 0
 }
 
-// Error names the reason and where it is.
+// Error names the reason and where it is, and says what is wrong and due there.
 func (e *MessageError) Error() string {
 	if e.Message == 0 {
-		return fmt.Sprintf("svid: byte %d of a message: %s", e.Offset, e.Reason)
+		return fmt.Sprintf("svid: byte %d of a message: %s: %s", e.Offset, e.Reason, messageWords[e.Reason])
 	}
-	return fmt.Sprintf("svid: message %d, byte %d: %s", e.Message, e.Offset, e.Reason)
+	return fmt.Sprintf("svid: message %d, byte %d: %s: %s", e.Message, e.Offset, e.Reason, messageWords[e.Reason])
 }
 
 // lists:begin messages (written by tools/lists from lists/statuses.toml)
@@ -79,6 +85,18 @@ var messageReasons = map[C.uint32_t]string{
 	C.SVID_USE_FUTURE:  "UseFuture",
 	C.SVID_USE_ORDER:   "UseOrder",
 	C.SVID_TRUNCATED:   "Truncated",
+}
+
+// messageWords say what is wrong and due, by these names.
+var messageWords = map[string]string{
+	"Magic":      "the first four bytes are those of no version, and due is 4A 53 52, which is JSR, and then 02 or 01",
+	"Kind":       "the fifth byte is that of no kind of message of the version, and due is 01 for a batch, or 02 for a summary, which only version 2 has",
+	"Count":      "a batch tells of too many uses, and due is a number of at most 65,536 uses, or of 4,096 in version 1",
+	"UseKind":    "the last byte of a use is neither 0 nor 1, and due is a use whose last byte is 00 or 01",
+	"UseExpired": "a use expires at its batch's moment or before it, and due is a use that expires after the batch's moment",
+	"UseFuture":  "a use was made after its batch's moment, and due is a use that was made at the batch's moment or before it",
+	"UseOrder":   "a use is not greater than the one before it, and due is a use that is greater than the one before it",
+	"Truncated":  "the bytes end before the message does, and due is the rest of the message",
 }
 
 // lists:end

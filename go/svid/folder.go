@@ -129,7 +129,7 @@ func (f *Folder) Growing() (journal uint64, end int64) {
 
 // Put appends the frame of a payload to out. Write it to the journal that grows, at its end, and sync that: then call Synced. Call
 // Unwritten if the write failed, and Failed if the sync did. An empty payload is a mark: it carries nothing, and makes damage
-// of the frame in front of it visible. Errors: ErrFolderEnded, ErrPayload, ErrFolderFull, and ErrFolderOrder before a start is
+// of the frame before it visible. Errors: ErrFolderEnded, ErrPayload, ErrFolderFull, and ErrFolderOrder before a start is
 // through, and while a frame is not synced.
 func (f *Folder) Put(out, payload []byte) ([]byte, error) {
 	return f.frame(out, payload, func(at *C.uint8_t, room C.size_t) C.uint32_t {
@@ -159,7 +159,7 @@ func (f *Folder) frame(out, payload []byte, call func(at *C.uint8_t, room C.size
 	return out[:len(out)+int(f.told.len)], nil
 }
 
-// withRoom is b with room for so many bytes behind it.
+// withRoom is b with room for so many bytes after it.
 func withRoom(b []byte, more int) []byte {
 	if cap(b)-len(b) >= more {
 		return b
@@ -203,7 +203,7 @@ func NewFileReader(id ValidatorID, journal uint64) *FileReader {
 }
 
 // Next returns the next payload of the file, whose whole content it is given. The payload is a part of that, and empty for a
-// mark. The bytes in front of At need not stay.
+// mark. The bytes before At need not stay.
 //
 // Where no frame stands, it returns io.EOF at the end, ErrTorn, ErrDamaged or a *FormatError. At is the offset.
 func (r *FileReader) Next(content []byte) (payload []byte, err error) {
@@ -227,7 +227,7 @@ func (r *FileReader) Next(content []byte) (payload []byte, err error) {
 func (r *FileReader) At() int64 { return int64(r.reader.at) }
 
 // AppendMark appends where a validator is in its log (Validator.LogMark) to out: MarkLen bytes, the front of a payload. Its
-// messages stand behind them, or none.
+// messages stand after them, or none.
 func AppendMark(out []byte, mark Mark) []byte {
 	out = withRoom(out, MarkLen)
 	room := out[len(out) : len(out)+MarkLen]
@@ -323,7 +323,7 @@ var orders = map[C.uint32_t]string{
 	C.SVID_FOLDER_FLYING:      "a frame was handed out, and is not synced yet: sync it first",
 	C.SVID_FOLDER_NOT_FLYING:  "no frame was handed out",
 	C.SVID_FOLDER_NOT_WRITING: "no snapshot is being written",
-	C.SVID_FOLDER_NO_MARK:     "the snapshot has no mark at its end: put an empty piece behind it",
+	C.SVID_FOLDER_NO_MARK:     "the snapshot has no mark at its end: put an empty piece after it",
 }
 
 // lists:end

@@ -25,7 +25,7 @@ const (
 	// FateAccepted: it is the first claim of its token in the log, and this validator's own: the token is accepted.
 	FateAccepted Fate = iota + 1
 	// FateFirst: it is the first claim of its token, which this validator does not accept: it is another one's, or stands where
-	// an earlier life may have read it, or behind values that are missing. The record has it.
+	// an earlier life may have read it, or after values that are missing. The record has it.
 	FateFirst
 	// FateWithdrawal: it is a withdrawal. The record has it.
 	FateWithdrawal
@@ -35,7 +35,7 @@ const (
 	FateExpired
 	// FateWithdrawn: the token was withdrawn.
 	FateWithdrawn
-	// FateReplayed: the record has a use of the token, or a claim in front of it in the log has its key.
+	// FateReplayed: the record has a use of the token, or a claim before it in the log has its key.
 	FateReplayed
 )
 
@@ -78,10 +78,10 @@ type LogUse struct {
 
 // A Mark is where a validator is in the log of its group. Values of the log are counted from 1, and none is left out.
 type Mark struct {
-	// Passed is the position of the last value that was read whole. At the beginning it is that of the last value in front of the
+	// Passed is the position of the last value that was read whole. At the beginning it is that of the last value before the
 	// first one that the log has: 0 where that is the first of all.
 	Passed uint64
-	// Begun is how many uses of the value behind that one were read.
+	// Begun is how many uses of the value after that one were read.
 	Begun int
 	// Deaf is the moment before which the validator accepts nothing, in seconds, since it has not read all values up to Passed:
 	// by then all uses of these have expired.
@@ -97,8 +97,8 @@ type Log struct {
 	// Ready is the position of the last value that an earlier life of this validator may have read: at least of the last one in
 	// the log when it begins. Of these values it accepts nothing.
 	Ready uint64
-	// Lasts is how many seconds a use lives at the most behind its being put into the log: the longest life of a token, and
-	// twice what the group's clocks may differ. So long the validator accepts nothing behind a gap.
+	// Lasts is how many seconds a use lives at the most after its being put into the log: the longest life of a token, and
+	// twice what the group's clocks may differ. So long the validator accepts nothing after a gap.
 	Lasts uint64
 }
 
@@ -160,7 +160,7 @@ func (v *Validator) openLog(log Log) error {
 // was called since, ErrRenewed says so, and nothing happened: judge them again.
 //
 // Give the values of a log in their order, each one whole. A value that is no messages has no uses, for every validator
-// alike: Reading.Fault says what is wrong with it, and that is no error. ErrJump: nothing happened; behind no gap, now 0 reads
+// alike: Reading.Fault says what is wrong with it, and that is no error. ErrJump: nothing happened; after no gap, now 0 reads
 // the value, and raises nothing. Other errors: ErrNoLog, ErrClosed.
 func (v *Validator) Read(now, position uint64, value []byte, edition uint64, room []LogUse) (Reading, error) {
 	v.mu.Lock()

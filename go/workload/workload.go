@@ -28,7 +28,7 @@ const (
 	method = "/SpiffeWorkloadAPI/FetchJWTBundles"
 	// mostMessage is how many bytes a message may have: bundles of some hundred trust domains.
 	mostMessage = 16 << 20
-	// mostHeaders is how many bytes the headers of an answer may have, and those behind its messages, which say why it ended.
+	// mostHeaders is how many bytes the headers of an answer may have, and those after its messages, which say why it ended.
 	mostHeaders = 1 << 16
 	// idle is how long a server may send nothing before it is asked by HTTP/2 whether it is still there. Servers of gRPC hang up
 	// on who asks more often than every five minutes.
@@ -166,7 +166,7 @@ func cut(err error) error {
 	return err
 }
 
-// ending says why a stream has ended. The status stands behind it, or, where there was no message, in front.
+// ending says why a stream has ended. The status stands after it, or, where there was no message, in front.
 func ending(answer *http.Response) error {
 	status := answer.Trailer
 	if status.Get("Grpc-Status") == "" {

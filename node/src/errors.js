@@ -44,8 +44,8 @@ export class BadBundles extends SvidError {}
 
 /** The bytes are no messages of a validator, and none of them was taken. `reason` says why, and `number` and `offset` where. */
 export class BadMessages extends SvidError {
-  constructor(reason, number, offset) {
-    super(number ? `${reason} in message ${number} at byte ${offset}` : reason);
+  constructor(reason, number, offset, says) {
+    super(`${reason}${number ? ` in message ${number} at byte ${offset}` : ""}: ${says}`);
     Object.assign(this, { reason, number, offset });
   }
 }
@@ -121,40 +121,71 @@ const SENTENCES = new Map([
 /** The names of all refusals, in the order in which the library looks for them. */
 export const REFUSALS = Object.freeze([...SENTENCES.values()].map(([name]) => name));
 
-const TOO_MUCH = 3;
 // Why bytes are no messages, by the status.
 // lists:begin messages (written by tools/lists from lists/statuses.toml)
 const MESSAGE_FAULTS = new Map([
-  [TOO_MUCH, "TooMuch"],
-  [4, "NotSummary"],
-  [11, "Magic"],
-  [12, "Kind"],
-  [13, "Count"],
-  [14, "UseKind"],
-  [15, "UseExpired"],
-  [16, "UseFuture"],
-  [17, "UseOrder"],
-  [18, "Truncated"],
+  [3, ["TooMuch", "bundles, a table or messages have more than 67,108,864 bytes"]],
+  [4, ["NotSummary", "the first input is messages, but not one summary"]],
+  [11, ["Magic", "the first four bytes are those of no version, and due is 4A 53 52, which is JSR, and then 02 or 01"]],
+  [12, ["Kind", "the fifth byte is that of no kind of message of the version, and due is 01 for a batch, or 02 for a summary, which only version 2 has"]],
+  [13, ["Count", "a batch tells of too many uses, and due is a number of at most 65,536 uses, or of 4,096 in version 1"]],
+  [14, ["UseKind", "the last byte of a use is neither 0 nor 1, and due is a use whose last byte is 00 or 01"]],
+  [15, ["UseExpired", "a use expires at its batch's moment or before it, and due is a use that expires after the batch's moment"]],
+  [16, ["UseFuture", "a use was made after its batch's moment, and due is a use that was made at the batch's moment or before it"]],
+  [17, ["UseOrder", "a use is not greater than the one before it, and due is a use that is greater than the one before it"]],
+  [18, ["Truncated", "the bytes end before the message does, and due is the rest of the message"]],
+]);
+// lists:end
+
+// Why a text is no SPIFFE ID, or no pattern of such, by the status.
+// lists:begin ids (written by tools/lists from lists/statuses.toml)
+export const ID_SENTENCES = new Map([
+  [21, "The ID has more than 2,048 bytes."],
+  [22, "The ID does not begin with spiffe://."],
+  [23, "The trust domain name of the ID is empty."],
+  [24, "The ID has a byte that may not stand in a trust domain name."],
+  [25, "The ID has a trust domain name of more than 255 bytes."],
+  [26, "The ID has an empty segment."],
+  [27, "The ID has a segment that is one or two periods."],
+  [28, "The ID has a byte that may not stand in a path segment."],
+  [92, "The ID in the pattern has more than 2,048 bytes."],
+  [93, "The pattern does not begin with spiffe://."],
+  [94, "The trust domain name of the pattern is empty."],
+  [95, "The pattern has a byte that may not stand in a trust domain name."],
+  [96, "The pattern has a trust domain name of more than 255 bytes."],
+  [97, "The pattern has an empty segment."],
+  [98, "The pattern has a segment that is one or two periods."],
+  [99, "The pattern has a byte that may not stand in a path segment."],
 ]);
 // lists:end
 
 const FAULTS = new Map([[2, OutOfMemory], [5, Closed], [7, Gone], [8, TooFar], [9, Jump]]);
+// Those that are about one of several trust domains.
+const RANKED = new Set([32, 33]);
+// Why bundles can't be read, by the status.
+// lists:begin bundles (written by tools/lists from lists/statuses.toml)
 const BUNDLE_FAULTS = new Map([
-  [TOO_MUCH, () => "the bundles are more than 67,108,864 bytes"],
-  [31, () => "the bundles are no JSON object of trust domains"],
-  [32, (index) => `the name of trust domain ${index} of the bundles, in rising order and counted from 0, is no trust domain name`],
-  [33, (index) => `trust domain ${index} of the bundles, in rising order and counted from 0, has no list of keys`],
+  [3, "Bundles, a table or messages have more than 67,108,864 bytes."],
+  [31, "The bundles are no JSON object."],
+  [32, "A name of the bundles is no trust domain name."],
+  [33, "A name of the bundles has no list of keys."],
 ]);
+// lists:end
 
 /** The error for a status that is not OK. `told` is what the call told beside it. */
 export function ofStatus(status, told) {
   if (SENTENCES.has(status)) return new Refusal(...SENTENCES.get(status));
   if (FAULTS.has(status)) return new (FAULTS.get(status))();
-  if (MESSAGE_FAULTS.has(status)) return new BadMessages(MESSAGE_FAULTS.get(status), told.message, told.offset);
+  if (MESSAGE_FAULTS.has(status)) {
+    const [reason, says] = MESSAGE_FAULTS.get(status);
+    return new BadMessages(reason, told.message, told.offset, says);
+  }
   return new SvidError(`the library answered ${status}, which include/svid.h explains`);
 }
 
 /** The same, of a call that reads bundles. */
 export function ofBundles(status, told) {
-  return BUNDLE_FAULTS.has(status) ? new BadBundles(BUNDLE_FAULTS.get(status)(told.offset)) : ofStatus(status, told);
+  if (!BUNDLE_FAULTS.has(status)) return ofStatus(status, told);
+  const rank = RANKED.has(status) ? ` It is number ${told.offset} of the names in rising order, counted from 0.` : "";
+  return new BadBundles(`${BUNDLE_FAULTS.get(status)}${rank}`);
 }

@@ -86,7 +86,7 @@ export function bundlesText(given) {
   return utf8(`{${Object.entries(given).map(([name, it]) => `${JSON.stringify(name)}:${bundleText(name, it)}`).join(",")}}`);
 }
 
-// The text of one bundle. It is looked at here only so that it is one JSON value, and has no other bundle behind it.
+// The text of one bundle. It is looked at here only so that it is one JSON value, and has no other bundle after it.
 function bundleText(name, given) {
   try {
     const strict = new TextDecoder("utf-8", { fatal: true, ignoreBOM: true });

@@ -178,7 +178,7 @@ export class Member extends Validator {
     this.#changed.tell();
   }
 
-  // Puts one value behind the other. Uses that come meanwhile share the next one.
+  // Puts one value after the other. Uses that come meanwhile share the next one.
   async #putAll() {
     while (!this.#isClosing) {
       if (!this.#puts.length) {
@@ -308,7 +308,7 @@ export class Member extends Validator {
       return this._library.read(0n, position, value);
     } catch (why) {
       if (!(why instanceof Jump)) throw why;
-      // (values are missing in front of it, for which the clock must be right)
+      // (values are missing before it, for which the clock must be right)
       this.#warn("the clock is more than `step` past the record", "the log waits for it");
       return null;
     }
@@ -338,7 +338,7 @@ export class Member extends Validator {
     }
   }
 
-  // Ends all claims: it is not known any more what stands in front of them.
+  // Ends all claims: it is not known any more what stands before them.
   #miss(why) {
     this.#warn(why, `no token is accepted for ${this.#lasts} seconds`);
     this.#endAll(() => new Unavailable(MISSED));

@@ -5,18 +5,18 @@ export class MemoryLog {
   #values = [];
   #waiting = new Set();
 
-  /** The position in front of the first value, and that of the last one. */
+  /** The position before the first value, and that of the last one. */
   async bounds() {
     return [0n, BigInt(this.#values.length)];
   }
 
-  /** Puts a value behind all others. */
+  /** Puts a value after all others. */
   async append(value) {
     this.#values.push(new Uint8Array(value));
     for (const it of this.#waiting) it();
   }
 
-  /** The values behind a position, each with its own. */
+  /** The values after a position, each with its own. */
   async read(after, wait) {
     if (BigInt(this.#values.length) <= after) await this.#next(wait);
     const from = Number(after);

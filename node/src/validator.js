@@ -259,7 +259,7 @@ async function withdrawalOf({ at, key, expires, validatorId: by }) {
   }
 }
 
-/** Bytes, one directly behind the other. */
+/** Bytes, one directly after the other. */
 export function joined(pieces) {
   const all = new Uint8Array(pieces.reduce((sum, it) => sum + it.length, 0));
   let at = 0;

@@ -77,7 +77,8 @@ for (const [name, listener] of Object.entries(SERVERS)) {
     assert.deepEqual(await answers(closed, all.slice(1, 2)), [invalid("Replayed")]);
     for (const allow of ["example.org", ["spiffe://example.org", "*"]]) assert.throws(() => listener(validator, { allow }), /no pattern of SPIFFE IDs/);
     assert.throws(() => listener(validator, { allow: [] }), { name: "RangeError", message: /leave it out to let all call/ });
-    assert.throws(() => validator.allows("spiffe://example.org", "a"), /no SPIFFE ID/);
+    assert.throws(() => validator.allows("spiffe://example.org", "a"), /"a" is no SPIFFE ID \(byte 0\): The ID does not begin with spiffe:/);
+    assert.throws(() => validator.allows("spiffe://a//*", "spiffe://a"), /\(byte 11\): The pattern has an empty segment\. Write spiffe:/);
     assert.throws(() => validator.allows(1, "a"), TypeError);
     validator.close();
   });

@@ -145,6 +145,14 @@ test("headers", async () => {
   }
 });
 
+// What is wrong with messages and due there, by the name of the reason, as lists/statuses.toml says it.
+const WORDS = new Map(
+  read("lists/statuses.toml").split("[[group.status]]").filter((it) => it.includes("\ndue = ")).map((it) => {
+    const [name, says, due] = ["name", "says", "due"].map((field) => it.match(new RegExp(`^${field} = "(.*)"$`, "m"))[1]);
+    return [name.replace(/([A-Z])([A-Z]*)_?/g, (_, first, rest) => first + rest.toLowerCase()), `${says}, and due is ${due}`];
+  }),
+);
+
 const empty = () => Validator.open({ audiences: "ledger", bundles: "{}", ahead: ANY });
 
 test("messages", async () => {
@@ -153,7 +161,9 @@ test("messages", async () => {
       const messages = bytesOf(vector.messages);
       if (vector.fault) {
         const { reason, message, offset } = vector.fault;
-        assert.throws(() => validator.take(messages, 0), { name: "BadMessages", reason, number: message, offset }, vector.name);
+        const says = `${reason} in message ${message} at byte ${offset}: ${WORDS.get(reason)}`;
+        const error = { name: "BadMessages", reason, number: message, offset, message: says };
+        assert.throws(() => validator.take(messages, 0), error, vector.name);
         return;
       }
       validator.take(messages, 0);
@@ -171,7 +181,7 @@ test("summaries", async () => {
       validator.take(bytesOf(vector.messages), 0);
       const summary = bytesOf(vector.summary);
       if (vector.call === "summary") assert.equal(hex(validator.summary()), vector.summary, vector.name);
-      else if (vector.fault) assert.throws(() => validator.answer(summary, 0), { name: "BadMessages", message: vector.fault }, vector.name);
+      else if (vector.fault) assert.throws(() => validator.answer(summary, 0), { name: "BadMessages", reason: vector.fault }, vector.name);
       else assert.equal(hex(validator.answer(summary, 0)), vector.answer, vector.name);
     });
   }

@@ -7,6 +7,7 @@ from collections.abc import Iterable
 
 from . import _library as lib
 from ._validator import Validator
+from ._words import SENTENCES
 
 _ANYBODY = "spiffe://example.org"
 _SUBJECT = 1
@@ -29,10 +30,10 @@ def allows(pattern: str, spiffe_id: str) -> bool:
         return bool(status == lib.OK)
     if status > lib.NOT_ALLOWED:
         raise ValueError(
-            f"{pattern!r} is no pattern of SPIFFE IDs (byte {out.offset}): write "
-            "spiffe://DOMAIN/PATH, spiffe://DOMAIN/PATH/* or spiffe://DOMAIN"
+            f"{pattern!r} is no pattern of SPIFFE IDs (byte {out.offset}): {SENTENCES[status]} "
+            "Write spiffe://DOMAIN/PATH, spiffe://DOMAIN/PATH/* or spiffe://DOMAIN."
         )
-    raise ValueError(f"{spiffe_id!r} is no SPIFFE ID (byte {out.offset})")
+    raise ValueError(f"{spiffe_id!r} is no SPIFFE ID (byte {out.offset}): {SENTENCES[status]}")
 
 
 def patterns(allow: Iterable[str] | None) -> tuple[str, ...] | None:

@@ -11,6 +11,7 @@ from collections.abc import Iterator, Mapping, Sequence
 from typing import Any, NamedTuple, Union
 
 from . import _library as lib
+from ._words import SENTENCES
 from .errors import BadBundles
 
 Path = Union[str, "os.PathLike[str]"]
@@ -111,9 +112,16 @@ def _join(documents: Sequence[_Document], keys: bool = False) -> bytes:
         raise MemoryError
     if status != lib.OK:
         fault = _Unnamed if status == lib.BUNDLES_UNNAMED else BadBundles
-        why = lib.BUNDLE_FAULTS[status].format(told.offset)
-        raise fault(f"{documents[told.input - 1].what}: {why}")
+        raise fault(f"{documents[told.input - 1].what}: {bundle_words(status, told.offset)}")
     return bytes(room[: told.len])
+
+
+def bundle_words(status: int, offset: int) -> str:
+    """What a status says of bundles, and of which name of them."""
+    said = SENTENCES[status]
+    if status not in (lib.BUNDLES_DOMAIN, lib.BUNDLES_KEYS, lib.BUNDLES_TWICE):
+        return said
+    return f"{said} It is number {offset} of the names in rising order, counted from 0."
 
 
 def _joined(bundles: Mapping[str, Bundle]) -> bytes:

@@ -17,7 +17,7 @@ class LogPosition(NamedTuple):
     passed: int
     """The position of the last value that it has read whole."""
     begun: int
-    """How many uses of the value behind that one it has read."""
+    """How many uses of the value after that one it has read."""
     deaf: int
     """Before this moment, in seconds, it accepts nothing, since values are missing."""
 

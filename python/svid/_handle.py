@@ -11,6 +11,7 @@ from collections.abc import Callable, Iterator
 from typing import Any, NamedTuple
 
 from . import _library as lib
+from ._bundles import bundle_words
 from ._frames import LogPosition
 from ._signatures import Verifies
 from ._trust import Trust, first
@@ -24,6 +25,7 @@ from .errors import (
     Jump,
     TooFar,
 )
+from ._words import SENTENCES
 from .records import Accepted, Use
 
 _USE = struct.Struct("=QQ32s16s")
@@ -59,7 +61,7 @@ class Read(NamedTuple):
     lacks_memory: bool
     """Whether what is left is left for want of memory."""
     is_behind_gap: bool
-    """Whether values in front of it are missing."""
+    """Whether values before it are missing."""
     fault: Exception | None
     """Why the value is no messages, and has no uses."""
 
@@ -146,7 +148,7 @@ class Handle:
     def renew(self, bundles: bytes) -> None:
         """Replaces the bundles. Raises BadBundles, and then the old ones stay.
 
-        They are read before the lock is taken, and the old ones are freed behind it.
+        They are read before the lock is taken, and the old ones are freed after it.
         """
         asked, judged = _opened(bundles), _opened(bundles)
         try:
@@ -225,7 +227,7 @@ class Handle:
         return Use(expires, key, validator_id, at, withdrawn=True)
 
     def log(self, passed: int, ready: int, lasts: int, deaf: int, beside: bytes) -> None:
-        """Lets it read a log from now on: the values behind the position `passed`."""
+        """Lets it read a log from now on: the values after the position `passed`."""
         mark = lib.Mark(passed, 0, deaf)
         lent = (lib.address(mark), ready, lasts, beside, len(beside))
         self._run(lib.library.svid_validator_log, *lent)
@@ -349,8 +351,8 @@ def fault(status: int, told: lib.Told) -> Exception:
         return _FAULTS[status]()
     if status in lib.MESSAGE_FAULTS:
         return BadMessages(lib.MESSAGE_FAULTS[status], told.message, told.offset)
-    if status in lib.BUNDLE_FAULTS:
-        return BadBundles(lib.BUNDLE_FAULTS[status].format(told.offset))
+    if status in (lib.BUNDLES_NOT_OBJECT, lib.BUNDLES_DOMAIN, lib.BUNDLES_KEYS):
+        return BadBundles(bundle_words(status, told.offset))
     return RuntimeError(f"libsvid answered {status}, which include/svid.h does not explain")
 
 
@@ -367,7 +369,7 @@ def _opened(bundles: bytes) -> Trust:
     """These bundles. Raises BadBundles."""
     trust = Trust(bundles)
     if trust.status == lib.TOO_MUCH:
-        raise BadBundles(f"the bundles are more than {lib.INPUT_MOST:,} bytes")
+        raise BadBundles(SENTENCES[trust.status])
     if trust.status != lib.OK:
         raise fault(trust.status, trust.told)
     return trust

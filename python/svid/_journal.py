@@ -414,9 +414,9 @@ class _Keeper:
             self._folder.close()
 
     def _mark(self) -> None:
-        """Ends the journal by a mark, by which damage in front of it is seen.
+        """Ends the journal by a mark, by which damage before it is seen.
 
-        In front of it comes where the validator is in its log, if the journal does not say that.
+        Before it comes where the validator is in its log, if the journal does not say that.
         """
         if self._broken is None:  # (nobody waits for it: where that fails, there is none)
             last = _Commit()

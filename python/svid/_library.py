@@ -83,15 +83,11 @@ CALL_SYNC_SNAPSHOT = 4
 CALL_RENAME_SNAPSHOT = 5
 CALL_REMOVE_JOURNAL = 6
 
-BUNDLE_FAULTS = {
-    31: "the bundles are no JSON object",
-    32: "the name of a trust domain is none: number {} (from 0) of the names in rising order",
-    33: "a trust domain has no list `keys`: number {} (from 0) of the names in rising order",
-    37: "the bundle of one trust domain, without its name",
-    38: "a trust domain that was named before: number {} (from 0) of the names in rising order",
-}
-"""Why bundles are refused, by status."""
+BUNDLES_NOT_OBJECT = 31
+BUNDLES_DOMAIN = 32
+BUNDLES_KEYS = 33
 BUNDLES_UNNAMED = 37
+BUNDLES_TWICE = 38
 
 ID_ROOM = 2048
 MOST_CANDIDATES = 3
@@ -110,7 +106,7 @@ PAYLOAD_MOST = 16_777_215
 FRAME_MORE = 39
 """How many bytes a frame has at most beside its payload."""
 LOG_POSITION = 28
-"""How many bytes say where a validator is in its log, in front of a payload."""
+"""How many bytes say where a validator is in its log, before a payload."""
 
 
 class Told(ctypes.Structure):

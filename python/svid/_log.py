@@ -17,7 +17,7 @@ class Log(Protocol):
     """
 
     def bounds(self) -> tuple[int, int]:
-        """The position in front of the first value that the log has, and that of the last value.
+        """The position before the first value that the log has, and that of the last value.
 
         Both are 0 in a log that never had any. Raises OSError where the log is away: a member tries
         again then, and accepts nothing until it is there. Raises `UnfitLog` where no member may
@@ -25,13 +25,13 @@ class Log(Protocol):
         """
 
     def append(self, value: bytes) -> None:
-        """Puts a value behind all others, and returns once it is there to stay.
+        """Puts a value after all others, and returns once it is there to stay.
 
         Where it is not known whether it is there, raise: it is put again. It may be there twice.
         """
 
     def read(self, after: int, wait: float) -> Iterable[tuple[int, bytes]]:
-        """Values behind this position, in their order, each with its own position.
+        """Values after this position, in their order, each with its own position.
 
         As many as you like. Where there are none, wait for `wait` seconds at the most, and give
         none. Where the log is another one than was read so far (it was lost, or an older copy was

@@ -62,7 +62,7 @@ class Member(Validator):
             accepted = member.check(token)
 
     Of the claims of a token that are in the log, the first counts. `check` puts a claim there, and
-    returns once this member has read it and all in front of it. Make one in each process, after the
+    returns once this member has read it and all before it. Make one in each process, after the
     process was forked, and close it.
 
     It starts where the log is away, too. Until it has read the log, and whenever that is away,
@@ -98,7 +98,7 @@ class Member(Validator):
             twice `ahead`. All members have the same two.
         state: a folder that keeps the record, and where this member is in the log. No check waits
             for it. Where values of the log were missing, a restart changes nothing: the member
-            accepts nothing until the same time. Where the log ends in front of what the member had
+            accepts nothing until the same time. Where the log ends before what the member had
             read, it is another one, or an older copy: then it does the same.
         wait: how many seconds `check` and `withdraw` wait for the log, until they raise
             Unavailable.
@@ -518,7 +518,7 @@ class Member(Validator):
             _call(tells)
 
     def _miss(self, why: str) -> None:
-        """Ends all claims: it is not known any more what stands in front of them."""
+        """Ends all claims: it is not known any more what stands before them."""
         self._say(f"{why}: no token is accepted for {self._lasts} seconds")
         self._end_all(lambda: Unavailable(_MISSED))
 

@@ -86,7 +86,7 @@ class Validator:
         rsa_bits: how many bits an RSA key may have, 2,048 to 16,384. A longer one verifies nothing,
             so that a token of a stranger costs little. It is not for `verifies`.
         state: a folder that keeps the record, so that no token that `check` returned is accepted
-            again behind a crash, a restart or a loss of power. The validator has the ID that is
+            again after a crash, a restart or a loss of power. The validator has the ID that is
             in it. `check` and `withdraw` return once the disk has the use. What `take` got is kept
             from the next snapshot on. See `svid.Journal`.
         wait: for how many seconds `check` and `withdraw` wait for that, until they raise

@@ -40,7 +40,7 @@ class SvidMiddleware:
     SPIFFE ID and no acceptance, whatever stood in it, and a token is not looked at.
 
     "/healthz" is that path alone, and "/static/*" is each path below "/static". What the server and
-    the framework may read in two ways is on no list: escapes, empty segments, "." and "..". Behind
+    the framework may read in two ways is on no list: escapes, empty segments, "." and "..". Under
     a `root_path` a path is listed both with it and without it, since frameworks differ in that.
 
     Raises ValueError for what is no pattern, and for what is no path.

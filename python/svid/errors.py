@@ -21,6 +21,8 @@ A call that has no memory raises `MemoryError`. It accepted no token, and you ca
 
 from __future__ import annotations
 
+from ._words import MESSAGE_WORDS, SENTENCES
+
 
 class Error(Exception):
     """The base of all errors of this package."""
@@ -30,7 +32,7 @@ class Closed(Error):
     """The validator is closed. Make a new one."""
 
     def __init__(self) -> None:
-        super().__init__("the validator is closed: make a new one")
+        super().__init__(f"{SENTENCES[5]} Make a new one.")
 
 
 class Forked(Error):
@@ -53,21 +55,21 @@ class Jump(Error, ValueError):
     """
 
     def __init__(self) -> None:
-        super().__init__("now is more than `step` seconds past the record's moment")
+        super().__init__(SENTENCES[9])
 
 
 class Gone(Error, ValueError):
     """The token has expired, so there is nothing to withdraw."""
 
     def __init__(self) -> None:
-        super().__init__("the token has expired: there is nothing to withdraw")
+        super().__init__(SENTENCES[7])
 
 
 class TooFar(Error, ValueError):
     """The messages tell of a time more than `ahead` seconds past `now`. None of them was taken."""
 
     def __init__(self) -> None:
-        super().__init__("the messages tell of a time more than `ahead` seconds past now")
+        super().__init__(SENTENCES[8])
 
 
 class BadBundles(Error, ValueError):
@@ -89,9 +91,8 @@ class BadMessages(Error, ValueError):
         self.offset = offset
 
     def __str__(self) -> str:
-        if self.message == 0:
-            return self.reason
-        return f"{self.reason} in message {self.message} at byte {self.offset}"
+        where = f" in message {self.message} at byte {self.offset}" if self.message else ""
+        return f"{self.reason}{where}: {MESSAGE_WORDS.get(self.reason, 'these are no messages')}"
 
 
 class Unavailable(Error):

@@ -259,7 +259,7 @@ def test_a_summary_and_its_answer():
         assert len(a.answer(b.summary(), NOW)) == 17
         with pytest.raises(svid.BadMessages) as raised:
             a.answer(b"".join(b.parts()), NOW)
-        assert str(raised.value) == "NotSummary"
+        assert raised.value.reason == "NotSummary"
 
 
 def test_an_answer_that_is_longer_than_the_room():

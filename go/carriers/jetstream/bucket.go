@@ -23,7 +23,7 @@ type bucket struct {
 }
 
 // settled is how often in a row a cluster of brokers must say the same of a new bucket. Members that start together may
-// each ask for it, and the time at which it was made may then change behind the first look.
+// each ask for it, and the time at which it was made may then change after the first look.
 const settled = 10
 
 // mostValue is the length that each value of a member has room in: 512 uses are 33 kB, or 42 kB as batches of one use.

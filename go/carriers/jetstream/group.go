@@ -147,7 +147,7 @@ var (
 // ctx ends, so a broker that comes up later is waited for.
 //
 // A bucket that is there but could lose a claim before its token expires (a shorter TTL, a key that takes a second value,
-// a limit behind which old values go) is an error that says so, and what to do.
+// a limit after which old values go) is an error that says so, and what to do.
 func Join(ctx context.Context, o Options, s Sink) (*Group, error) {
 	if err := o.check(); err != nil {
 		return nil, err

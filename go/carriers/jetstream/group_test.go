@@ -626,7 +626,7 @@ func TestWhatIsGoneBeforeAMemberJoins(t *testing.T) {
 	b := join(t, options(2, s.URL))
 	wantValues(t, b, Value{Kind: Uses, Position: 3, Message: batch(key(3), a.id)})
 	wantBegins(t, b, Log{Passed: 2, Ready: 3, Missed: true})
-	const front = "values in front of the first one are gone"
+	const front = "values before the first one are gone"
 	if !b.logged(front) || !b.logged(errGone.Error()) || a.logged(front) {
 		t.Error(b.lines, a.lines)
 	}

@@ -30,7 +30,7 @@ var (
 	errAnother = errors.New("the bucket is another one than before, or has lost values")
 )
 
-// A reader reads the bucket's values in their order, and goes on behind the last one after whatever happened to the
+// A reader reads the bucket's values in their order, and goes on after the last one after whatever happened to the
 // broker.
 type reader struct {
 	group  *Group
@@ -94,17 +94,17 @@ func (r *reader) front() (missed bool) {
 	if missed = !r.mayHaveExpired(); missed {
 		fields = append(fields, "why", errGone)
 	}
-	r.group.log("values in front of the first one are gone", fields...)
+	r.group.log("values before the first one are gone", fields...)
 	return missed
 }
 
-// mayHaveExpired says whether the values behind the last one may be gone since the bucket kept them for its time.
+// mayHaveExpired says whether the values after the last one may be gone since the bucket kept them for its time.
 func (r *reader) mayHaveExpired() bool {
 	b := r.bucket
 	return b.keeps > 0 && time.Since(b.created) >= b.keeps && (r.since.IsZero() || time.Since(r.since) >= b.keeps)
 }
 
-// read reads values behind the last one until something is wrong.
+// read reads values after the last one until something is wrong.
 func (r *reader) read() error {
 	r.catchUp()
 	f, isSlow, err := r.feed()
@@ -137,7 +137,7 @@ func (r *reader) read() error {
 	}
 }
 
-// feed lets the broker send the values behind the last one. While the server is elected that does so, the reader asks for
+// feed lets the broker send the values after the last one. While the server is elected that does so, the reader asks for
 // own values itself.
 func (r *reader) feed() (f *feed, isSlow bool, err error) {
 	position, done := r.seen+1, make(chan struct{})
@@ -155,7 +155,7 @@ func (r *reader) feed() (f *feed, isSlow bool, err error) {
 	}
 }
 
-// pull asks for the values behind the last one, each by itself, where the broker has stored an own one that no feed has brought.
+// pull asks for the values after the last one, each by itself, where the broker has stored an own one that no feed has brought.
 // The bucket's leader answers, whatever else is elected. What may be wrong is left to who reads the feed.
 func (r *reader) pull() {
 	g := r.group
@@ -171,7 +171,7 @@ func (r *reader) pull() {
 	if len(all) == 0 {
 		return
 	}
-	// They stand behind the last one only if that is still there.
+	// They stand after the last one only if that is still there.
 	if is, err := g.get(g.life, attemptWait, map[string]any{"seq": r.seen}); err != nil || !is.Time.Equal(r.stamp) {
 		return
 	}
@@ -187,7 +187,7 @@ func (r *reader) patience() time.Duration {
 	return idleUntilReady
 }
 
-// values gives a value to the sink, and with it those that have come behind it meanwhile.
+// values gives a value to the sink, and with it those that have come after it meanwhile.
 func (r *reader) values(f *feed, m *nats.Msg, about *nats.MsgMetadata) error {
 	all := r.room[:0]
 	var wrong error
@@ -237,8 +237,8 @@ func (r *reader) wasRead(position uint64, stamp time.Time) bool {
 	return !r.stamp.IsZero() && (position < r.seen || position == r.seen && stamp.Equal(r.stamp))
 }
 
-// missing passes over values behind the last one, up to this position, that were gone before they were read. The sink sees that by
-// the position of the next value, unless they may have expired: then it begins anew behind them.
+// missing passes over values after the last one, up to this position, that were gone before they were read. The sink sees that by
+// the position of the next value, unless they may have expired: then it begins anew after them.
 func (r *reader) missing(to uint64) {
 	if to <= r.seen {
 		return
@@ -255,7 +255,7 @@ func (r *reader) missing(to uint64) {
 	}
 }
 
-// isSame returns nil if the bucket still has the value that was read last, at its position: then what comes behind it goes on
+// isSame returns nil if the bucket still has the value that was read last, at its position: then what comes after it goes on
 // where reading ended. A broker that lost its last values with its power gives their positions to others, which would be
 // passed over, so all is read again then.
 func (r *reader) isSame() error {
@@ -371,7 +371,7 @@ func (r *reader) idle(f *feed) error {
 		return nil
 	}
 	if info.State.Last > r.seen && (info.State.First > info.State.Last || r.isLast()) {
-		// All values behind the last one are gone, if the broker says so for a while.
+		// All values after the last one are gone, if the broker says so for a while.
 		if r.gone.IsZero() {
 			r.gone = time.Now()
 		}
@@ -397,8 +397,8 @@ func (r *reader) idle(f *feed) error {
 	return nil
 }
 
-// isLast says whether the bucket has no value behind the last one that was read. The bucket's leader knows it: the server that
-// feeds this reader may be behind.
+// isLast says whether the bucket has no value after the last one that was read. The bucket's leader knows it: the server that
+// feeds this reader may be after.
 func (r *reader) isLast() bool {
 	_, err := r.group.get(r.group.life, attemptWait, map[string]any{"seq": r.seen + 1, "next_by_subj": r.group.subject + ">"})
 	return errors.Is(err, nats.ErrMsgNotFound)

@@ -162,7 +162,7 @@ func (s *Store) Append(_ context.Context, made string, kind carriers.Kind, messa
 	return at, err
 }
 
-// Read waits for values behind a position.
+// Read waits for values after a position.
 func (s *Store) Read(ctx context.Context, behind uint64) ([]carriers.Stored, error) {
 	timer := time.NewTimer(carriers.Patience)
 	defer timer.Stop()

@@ -117,7 +117,7 @@ func dial(ctx context.Context, text string) (*conn, error) {
 
 func (c *conn) close() { c.raw.Close() }
 
-// query returns the rows that a query answers. It ends with the deadline of ctx. Behind an error that is no answer of the server
+// query returns the rows that a query answers. It ends with the deadline of ctx. After an error that is no answer of the server
 // the connection is of no use.
 func (c *conn) query(ctx context.Context, text string, values ...any) ([][]driver.Value, error) {
 	deadline, ok := ctx.Deadline()

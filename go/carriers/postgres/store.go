@@ -199,7 +199,7 @@ func (s *Store) awake() {
 	}
 }
 
-// ask sends a query on the reader's connection. Behind an error the connection is dropped.
+// ask sends a query on the reader's connection. After an error the connection is dropped.
 func (s *Store) ask(ctx context.Context, text string, values ...any) ([][]driver.Value, error) {
 	rows, err := s.reader.query(ctx, text, values...)
 	if err != nil {
@@ -347,7 +347,7 @@ func stamp(about string, value []byte) string {
 	return fmt.Sprintf("%s %d %08x", about, len(value), crc32.Checksum(value, castagnoli))
 }
 
-// Read waits for values behind a position.
+// Read waits for values after a position.
 func (s *Store) Read(ctx context.Context, behind uint64) ([]carriers.Stored, error) {
 	values, err := s.values(ctx, behind)
 	if err != nil || len(values) > 0 {
@@ -376,7 +376,7 @@ func (s *Store) values(ctx context.Context, behind uint64) ([]carriers.Stored, e
 		return nil, err
 	}
 	if len(rows) > 0 && s.options.Replicas > 1 {
-		// A value is visible before standbys have it where someone cancelled that wait. This commit stands behind it.
+		// A value is visible before standbys have it where someone cancelled that wait. This commit stands after it.
 		if _, err := s.ask(ctx, "SELECT pg_logical_emit_message(true, 'svid', '')"); err != nil {
 			return nil, err
 		}

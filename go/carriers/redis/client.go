@@ -54,7 +54,7 @@ func dial(ctx context.Context, address string, config *tls.Config) (*conn, error
 }
 
 // do sends commands, each as its words, and returns an answer for each: a string, an int64, a []any, nil, a tooLong, or a
-// failure. It ends with the deadline of ctx. Behind an error the connection is of no use.
+// failure. It ends with the deadline of ctx. After an error the connection is of no use.
 func (c *conn) do(ctx context.Context, commands ...[]string) ([]any, error) {
 	deadline, ok := ctx.Deadline()
 	if !ok {

@@ -458,7 +458,7 @@ func TestURLs(t *testing.T) {
 		"rediss://h?ssl_certfile=x":           "only of use together",
 		"rediss://h?ssl_ca_certs=/nowhere":    "/nowhere",
 		"redis://h?password_file=/nowhere":    "/nowhere",
-		"redis://u:secret@h?password_file=%z": "what stands behind its ?",
+		"redis://u:secret@h?password_file=%z": "what stands after its ?",
 	} {
 		_, err := New(Options{URLs: []string{text}, Name: "svid"})
 		if (err == nil) != (want == "") || err != nil && (!strings.Contains(err.Error(), want) || strings.Contains(err.Error(), "secret")) {

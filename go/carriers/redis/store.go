@@ -180,7 +180,7 @@ func (s *Store) Close() error {
 	return nil
 }
 
-// ask sends commands on the reader's connection. The first failure is an error. Behind an error the connection is dropped.
+// ask sends commands on the reader's connection. The first failure is an error. After an error the connection is dropped.
 func (s *Store) ask(ctx context.Context, commands ...[]string) ([]any, error) {
 	answers, err := s.reader.do(ctx, commands...)
 	for i := 0; err == nil && i < len(answers); i++ {
@@ -258,7 +258,7 @@ func (s *Store) check(ctx context.Context) error {
 	if !ok && !unchecked {
 		why, _ := answers[1].(failure)
 		return carriers.Unfitf("the server does not tell its settings (CONFIG GET: %s): see that it has appendonly yes, appendfsync always, "+
-			"no-appendfsync-on-rewrite no and maxmemory-policy noeviction, and write ?settings=unchecked behind the address", string(why))
+			"no-appendfsync-on-rewrite no and maxmemory-policy noeviction, and write ?settings=unchecked after the address", string(why))
 	}
 	s.checked, s.unsafe = time.Now(), ""
 	var wrong []string
@@ -353,7 +353,7 @@ func (s *Store) stateOf(head, stream any) (state carriers.State, err error) {
 		state.First, is2 = state.Last+1, true
 	}
 	if !is || !is2 {
-		return state, fmt.Errorf("someone put an entry into %s that is no value, and nothing can be appended behind it: stop the whole group, "+
+		return state, fmt.Errorf("someone put an entry into %s that is no value, and nothing can be appended after it: stop the whole group, "+
 			"remove the key and start the group again", s.stream)
 	}
 	return state, nil
@@ -436,7 +436,7 @@ func valueOf(entry any) (v carriers.Stored, at int64) {
 	return v, at
 }
 
-// Read waits for values behind a position.
+// Read waits for values after a position.
 func (s *Store) Read(ctx context.Context, behind uint64) ([]carriers.Stored, error) {
 	if s.reader == nil {
 		return nil, errAway

@@ -57,7 +57,7 @@ func parse(text string) (server, error) {
 	}
 	query, err := url.ParseQuery(u.RawQuery)
 	if err != nil {
-		return server{}, errors.New("what stands behind its ? is not like NAME=VALUE&NAME=VALUE")
+		return server{}, errors.New("what stands after its ? is not like NAME=VALUE&NAME=VALUE")
 	}
 	for name, values := range query {
 		value := values[len(values)-1]

@@ -21,7 +21,7 @@ func TestServeAllows(t *testing.T) {
 		t.Errorf("%s are counted", n)
 	}
 	p.await("a line of the log", func() bool { return len(p.events("refused")) == 1 })
-	if line := p.events("refused")[0]; line["reason"] != "NotAllowed" {
+	if line := p.events("refused")[0]; line["reason"] != "NotAllowed" || line["says"] != "the caller's SPIFFE ID is not among those that may call" {
 		t.Errorf("%v", line)
 	}
 	p.end()

@@ -96,20 +96,34 @@ func (p *process) endHanging() {
 
 // threads is how many threads of a process have not ended.
 func threads(pid int) (n int) {
+	for _, state := range threadStates(pid) {
+		if state != 'Z' && state != 'X' {
+			n++
+		}
+	}
+	return n
+}
+
+// isStopped says whether no thread of a process runs since SIGSTOP. That comes some time after the signal was sent.
+func isStopped(pid int) bool {
+	states := threadStates(pid)
+	return len(states) > 0 && len(bytes.Trim(states, "T")) == 0
+}
+
+// threadStates are the states of a process's threads, as /proc has them.
+func threadStates(pid int) (states []byte) {
 	stats, err := filepath.Glob(fmt.Sprintf("/proc/%d/task/[0-9]*/stat", pid))
 	if err != nil {
-		return 0
+		return nil
 	}
 	for _, stat := range stats {
 		text, err := os.ReadFile(stat)
 		if err != nil {
 			continue // it has ended meanwhile
 		}
-		if state := text[bytes.LastIndexByte(text, ')')+2]; state != 'Z' && state != 'X' {
-			n++
-		}
+		states = append(states, text[bytes.LastIndexByte(text, ')')+2])
 	}
-	return n
+	return states
 }
 
 // A pipe instead of a file is said at once, where svidd can't go on without that file.

@@ -201,7 +201,7 @@ func readFile(name string) (members map[string]any, err error) {
 		return nil, fmt.Errorf("%s: it is no JSON object: %w", name, err)
 	}
 	if _, err := decoder.Token(); err != io.EOF {
-		return nil, fmt.Errorf("%s: something stands behind the JSON object", name)
+		return nil, fmt.Errorf("%s: something stands after the JSON object", name)
 	}
 	return members, nil
 }
@@ -282,7 +282,7 @@ func (o *options) problems() problems {
 	wrong(o.ahead.value > mostAhead, "--ahead must be at most %d seconds: so far a clock that is wrong can expire tokens", uint64(mostAhead))
 	switch server.Mode(o.replay) {
 	case server.Once:
-		wrong(o.state == "", "--state is missing: in mode once the record is kept there, since a token that was accepted before a restart must not be accepted behind it")
+		wrong(o.state == "", "--state is missing: in mode once the record is kept there, since a token that was accepted before a restart must not be accepted after it")
 	case server.Strict:
 		wrong(!o.isGrouped(), "--group-log or --nats is missing: in mode strict each token is claimed in the group's log")
 	case server.Reuse:
@@ -311,7 +311,7 @@ func (o *options) problems() problems {
 		wrong(!good, "--nats: address %d is not like nats://HOST:PORT", i+1)
 		wrong(good && !natsSchemes[u.Scheme], "--nats: address %d must begin with nats://, tls://, ws:// or wss://", i+1)
 		wrong(good && !isPort(u.Port()), "--nats: address %d has a port that is none: write a number from 1 to 65535", i+1)
-		wrong(good && (strings.Trim(u.Path, "/") != "" || u.RawQuery != ""), "--nats: address %d ends behind its port: the group's bucket is --group", i+1)
+		wrong(good && (strings.Trim(u.Path, "/") != "" || u.RawQuery != ""), "--nats: address %d must end with its port: the group's bucket is --group", i+1)
 	}
 	wrong(!carriers.ValidName(o.group), "--group %q can't name a group: use letters, digits, - and _", o.group)
 	wrong(o.replicas < 1 || o.replicas > jetstream.MostReplicas, "--replicas must be from 1 to %d: so many servers have each value", jetstream.MostReplicas)

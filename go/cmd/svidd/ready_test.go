@@ -188,6 +188,7 @@ var plays = map[string]func(t *testing.T, mode string) *stage{
 		if err := syscall.Kill(s.broker.Pid(), syscall.SIGSTOP); err != nil {
 			t.Fatal(err)
 		}
+		s.await("the broker to stop", func() bool { return isStopped(s.broker.Pid()) })
 		s.want(s.token("first"), 503, "NotClaimed")
 		return s
 	},

@@ -49,7 +49,7 @@ func newRecipe(t *testing.T, paths ...string) *recipe {
 		_, _ = io.WriteString(w, "served")
 	}))
 	t.Cleanup(service.Close)
-	r.process = start(t, bundleOption(bundleFile(t, example)), "--state", filepath.Join(t.TempDir(), "state"))
+	r.process = start(t, bundleOption(bundleFile(t, example)), "--state", filepath.Join(t.TempDir(), "state"), "--allow", "spiffe://example.org/web")
 	r.replaced = strings.NewReplacer(append(paths, "127.0.0.1:9901", r.address, "127.0.0.1:8081", service.Listener.Addr().String(),
 		"127.0.0.1:8080", r.front)...)
 	return r
@@ -143,7 +143,8 @@ var forged = func() (all []string) {
 			all = append(all, spelling+": spiffe://example.org/admin")
 		}
 	}
-	return append(all, "X-Spiffe-Id: spiffe://example.org/root", "X-Spiffe-Id:", "X-Request-Id: mine", "X-Forwarded-For: 192.0.2.66")
+	all = append(all, "X-Spiffe-Id: spiffe://example.org/root", "X-Spiffe-Id:", "X-Request-Id: mine", "X-Forwarded-For: 192.0.2.66")
+	return all[:len(all):len(all)] // (without room: what tests that run side by side append is a copy)
 }()
 
 // identity is what the service hears of the caller, whatever spelling its headers have.
@@ -195,6 +196,17 @@ func (r *recipe) holds() {
 	if answer, _ := r.send("GET", "/", "", forged...); answer.StatusCode != 401 || answer.Header.Get("WWW-Authenticate") != "Bearer" || r.served() != nil {
 		t.Errorf("no token: %d %v", answer.StatusCode, answer.Header)
 	}
+	// A caller that no --allow lets in hears so, however often it asks, and is not told to try again. Its token stays good. (nginx's
+	// auth_request hands the status on, and nothing else.)
+	other := example.Token("ES256", map[string]any{"sub": "spiffe://example.org/job", "aud": "ledger", "exp": time.Now().Add(time.Minute).Unix(), "jti": "other"})
+	for i := 0; i < 2; i++ {
+		answer, _ := r.send("GET", "/", "", append(forged, "Authorization: Bearer "+other)...)
+		challenge := answer.Header.Get("WWW-Authenticate")
+		if answer.StatusCode != 403 || answer.Header.Get("Retry-After") != "" || challenge != "" && !strings.Contains(challenge, "NotAllowed") || r.served() != nil {
+			t.Errorf("another caller: %d %v", answer.StatusCode, answer.Header)
+		}
+	}
+	r.want(other, 403, "NotAllowed")
 	// Two tokens are none.
 	if answer, _ := r.send("GET", "/", "", "Authorization: Bearer "+token(t, "two", time.Minute), "Authorization: Bearer a.b.c"); answer.StatusCode/100 != 4 || r.served() != nil {
 		t.Errorf("two tokens: %d %v", answer.StatusCode, answer.Header)

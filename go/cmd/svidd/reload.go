@@ -8,7 +8,7 @@ import (
 	"strings"
 )
 
-// changeable are the options that a running sidecar takes over. The others count behind a restart.
+// changeable are the options that a running sidecar takes over. The others count after a restart.
 var changeable = map[string]bool{"audience": true, "allow": true, "bundle": true, "bundle-id": true, "bundle-ca": true, "bundles": true, "workload-api": true, "log": true}
 
 // sources are those that say where bundles come from.
@@ -42,7 +42,7 @@ func (s *sidecar) take(now *options, follow bool) error {
 }
 
 // reread reads the options again, as the start read them, and takes over what can change. It logs what has changed, and what counts
-// only behind a restart. Where something is wrong, that is logged, and nothing changes. It tells whether bundles come from elsewhere
+// only after a restart. Where something is wrong, that is logged, and nothing changes. It tells whether bundles come from elsewhere
 // now, and so were read anew.
 func (s *sidecar) reread() (followed bool) {
 	var now options
@@ -80,7 +80,7 @@ func (s *sidecar) reread() (followed bool) {
 	sort.Strings(later)
 	s.log.Event("options", "changed", changed)
 	if len(later) > 0 {
-		s.log.Error("options", fmt.Errorf("--%s counts only behind a restart", strings.Join(later, ", --")), "restart", later)
+		s.log.Error("options", fmt.Errorf("--%s counts only after a restart", strings.Join(later, ", --")), "restart", later)
 	}
 	return followed
 }

@@ -14,7 +14,7 @@ import (
 	"svid.example/go/v2/internal/natstest"
 )
 
-// SIGHUP takes over the bundles and the level of the log, says what has changed, and names what counts only behind a restart. Options
+// SIGHUP takes over the bundles and the level of the log, says what has changed, and names what counts only after a restart. Options
 // that are wrong change nothing.
 func TestOptionsAreReadAgain(t *testing.T) {
 	t.Parallel()
@@ -259,7 +259,7 @@ func TestCheckConfigLooksAtTheFoldersAndServers(t *testing.T) {
 		{[]string{"--group-log", "postgres://svidd:secret@" + nobody + "/db?sslmode=disable"}, "", "nothing answers at " + nobody},
 		{[]string{"--nats", "nats://svidd:secret@h:0"}, "address 1 has a port that is none", ""},
 		{[]string{"--nats", "nats://h:4222,nats://svidd:secret@h:70000"}, "address 2 has a port that is none", ""},
-		{[]string{"--nats", "nats://svidd:secret@h:4222/svid"}, "address 1 ends behind its port", ""},
+		{[]string{"--nats", "nats://svidd:secret@h:4222/svid"}, "address 1 must end with its port", ""},
 		{[]string{"--nats", "nats://svidd:secret@:4222"}, "address 1 is not like", ""},
 	} {
 		replay := "--replay=reuse"

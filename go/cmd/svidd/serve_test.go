@@ -245,7 +245,7 @@ func TestOptionsOfAFileAndOfTheEnvironment(t *testing.T) {
 	for text, want := range map[string]string{
 		`{"audiences": "a"}`:            `no option is named "audiences"`,
 		`{"config": "a"}`:               `no option is named "config"`,
-		`{"longest": 60} {}`:            "something stands behind",
+		`{"longest": 60} {}`:            "something stands after",
 		`{"longest": 60`:                "it is no JSON object",
 		`{"longest": 6.5}`:              "whole number",
 		`{"longest": [60]}`:             "longest has one value, not a list",
@@ -281,8 +281,8 @@ func TestVerifyPrintsTheClaims(t *testing.T) {
 		status      int
 		more        []string
 	}{
-		{good[:len(good)-4] + "AAAA", "refused BadSignature", 1, nil},
-		{good, "refused TooLongLived", 1, []string{"--longest", "1"}},
+		{good[:len(good)-4] + "AAAA", "refused BadSignature\nNo key among the first 3 that fit made the signature.\n", 1, nil},
+		{good, "refused TooLongLived\nThe token expires more than", 1, []string{"--longest", "1"}},
 		{token(t, "b", -time.Minute), "refused Expired", 1, nil},
 		{"", "refused NotThreeParts", 1, nil},
 		{strings.Repeat("a", 70000), "refused TooLong", 1, nil},

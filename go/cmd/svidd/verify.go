@@ -42,7 +42,7 @@ func verify(args []string, std stdio) int {
 	var refusal svid.Refusal
 	switch {
 	case errors.As(err, &refusal):
-		fmt.Fprintf(std.err, "refused %s\n", refusal.String())
+		fmt.Fprintf(std.err, "refused %s\n%s\n", refusal.String(), refusal.Sentence())
 		return exitRefused
 	case err != nil:
 		return fail(std, err)

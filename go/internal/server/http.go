@@ -188,7 +188,7 @@ func (e *Engine) logDecision(at time.Time, took time.Duration, who caller, v ver
 	case refused:
 		d.Event, d.Reason, d.Says, d.Claimed = "refused", refusal.String(), refusal.Sentence(), said.short()
 	case err == ErrNotAllowed:
-		d.Event, d.Reason, d.Claimed = "refused", "NotAllowed", said.short()
+		d.Event, d.Reason, d.Says, d.Claimed = "refused", "NotAllowed", err.Error(), said.short()
 	default:
 		d.Event, d.Reason, d.Claimed = "unavailable", err.Error(), said.short()
 	}

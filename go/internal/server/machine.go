@@ -299,7 +299,7 @@ func (m *Machine) canJudge() error {
 	case !m.bundled:
 		return errors.New("there is no trust bundle")
 	case !m.loaded && m.Mode == Strict && !m.joined:
-		return errors.New("the group's broker was not reached yet, and the state folder is read behind its log")
+		return errors.New("the group's broker was not reached yet, and the state folder is read after its log")
 	case !m.loaded:
 		return errors.New("the state folder is being read")
 	case !m.Grouped:

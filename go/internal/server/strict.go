@@ -9,7 +9,7 @@ import (
 )
 
 // errBack: the group's bucket ends in front of what this sidecar has read of it.
-var errBack = errors.New("the group's bucket ends in front of values that this sidecar has read: it was made anew, or put back from an older copy")
+var errBack = errors.New("the group's bucket ends before values that this sidecar has read: it was made anew, or put back from an older copy")
 
 // readRoom is how many uses of a value are read at a time. The claims among them end then: other processors answer them, while
 // this one reads the next ones.

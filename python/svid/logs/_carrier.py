@@ -53,7 +53,7 @@ class Glance(NamedTuple):
     now: int
     """The time by the server's clock, in microseconds since 1970."""
     rows: list[Row]
-    """The value that was read last, where it is still there, and those behind it."""
+    """The value that was read last, where it is still there, and those after it."""
     history: str = ""
     """Another one where a server has taken over that may lack the last values."""
 
@@ -89,11 +89,11 @@ class Carrier:
         raise NotImplementedError
 
     def _glance(self, after: int) -> Glance:
-        """The log as it is, with the value at this position and those behind it."""
+        """The log as it is, with the value at this position and those after it."""
         raise NotImplementedError
 
     def _wait(self, after: int, seconds: float) -> bool:
-        """Waits for a value behind this position, and says whether there may be one."""
+        """Waits for a value after this position, and says whether there may be one."""
         raise NotImplementedError
 
     def _put(self, made: str, value: bytes) -> tuple[int, int]:
@@ -133,7 +133,7 @@ class Carrier:
         return glance.gone, max(glance.gone, last)
 
     def append(self, value: bytes) -> None:
-        """Puts a value behind all others, and returns once it is there to stay."""
+        """Puts a value after all others, and returns once it is there to stay."""
         with self._guard:
             made, known = self._made, self._last
             if self._other:
@@ -151,7 +151,7 @@ class Carrier:
                 del self._own[next(iter(self._own))]
 
     def read(self, after: int, wait: float) -> Iterable[tuple[int, bytes]]:
-        """Values behind a position, or none where none came within `wait` seconds."""
+        """Values after a position, or none where none came within `wait` seconds."""
         if time.monotonic() >= self._trims_at:
             self._trims_at = time.monotonic() + _TRIMS
             self._trim_old()

@@ -42,15 +42,18 @@ pub enum Denied {
     NoToken(BearerFault),
     /// Its token is refused.
     Refused(Refusal),
+    /// Its token is good, and none of the patterns allows its caller. It is not used up.
+    NotAllowed,
     /// There is no answer about its token: it was not accepted, and is not refused.
     Failed(Error),
 }
 
 impl Denied {
-    /// The status of the answer: 401, or 503 for a failure of this service.
+    /// The status of the answer: 401, 403 for a caller who may not call, or 503 for a failure of this service.
     pub fn status(&self) -> u16 {
         match self {
             Denied::NoToken(_) | Denied::Refused(_) => 401,
+            Denied::NotAllowed => 403,
             Denied::Failed(_) => 503,
         }
     }
@@ -61,6 +64,7 @@ impl Denied {
             Denied::NoToken(BearerFault::Spelling) => Some("Bearer error=\"invalid_request\", error_description=\"NotBearer\""),
             Denied::NoToken(_) => Some("Bearer"),
             Denied::Refused(why) => Some(why.challenge()),
+            Denied::NotAllowed => Some("Bearer error=\"insufficient_scope\", error_description=\"NotAllowed\""),
             Denied::Failed(_) => None,
         }
     }
@@ -91,6 +95,7 @@ impl fmt::Display for Denied {
         match self {
             Denied::NoToken(why) => why.fmt(f),
             Denied::Refused(why) => why.fmt(f),
+            Denied::NotAllowed => f.write_str("NotAllowed: the caller's SPIFFE ID is not among those that may call"),
             Denied::Failed(why) => why.fmt(f),
         }
     }
@@ -101,6 +106,7 @@ impl std::error::Error for Denied {
         match self {
             Denied::NoToken(why) => Some(why),
             Denied::Refused(why) => Some(why),
+            Denied::NotAllowed => None,
             Denied::Failed(why) => Some(why),
         }
     }

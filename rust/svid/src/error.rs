@@ -136,15 +136,21 @@ pub enum BundlesFault {
     },
 }
 
+// lists:begin bundles (written by tools/lists from lists/statuses.toml)
+const BUNDLES_NOT_OBJECT: &str = "no JSON object";
+const BUNDLES_DOMAIN: &str = "a name is no trust domain name";
+const BUNDLES_KEYS: &str = "a name has no list of keys";
+// lists:end
+
 impl fmt::Display for BundlesFault {
     fn fmt(&self, f: &mut fmt::Formatter<'_>) -> fmt::Result {
         match self {
-            BundlesFault::NotObject => f.write_str("the bundles are no JSON object"),
+            BundlesFault::NotObject => write!(f, "the bundles can't be read: {BUNDLES_NOT_OBJECT}"),
             BundlesFault::Domain { number } => {
-                write!(f, "the name of a trust domain is none: number {number} (from 0) of the names in rising order")
+                write!(f, "the bundles can't be read: {BUNDLES_DOMAIN}: number {number} (from 0) of the names in rising order")
             }
             BundlesFault::Keys { number } => {
-                write!(f, "a trust domain has no list `keys`: number {number} (from 0) of the names in rising order")
+                write!(f, "the bundles can't be read: {BUNDLES_KEYS}: number {number} (from 0) of the names in rising order")
             }
         }
     }

@@ -129,7 +129,7 @@ pub const SPKI_ROOM: usize = 2100;
 pub const PAYLOAD_MOST: usize = 16_777_215;
 /// A frame has at most so many bytes more than its payload.
 pub const FRAME_MORE: usize = 39;
-/// How many bytes say where a validator is in its log, in front of a payload.
+/// How many bytes say where a validator is in its log, before a payload.
 pub const LOG_POSITION: usize = 28;
 
 pub const FATE_ACCEPTED: u64 = 0;

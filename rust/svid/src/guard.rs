@@ -6,9 +6,13 @@ use std::sync::{Mutex, MutexGuard, PoisonError};
 use crate::bearer::{bearer_token, Denied};
 use crate::bundles::Bundles;
 use crate::error::Error;
-use crate::handle::unsupported;
+use crate::ffi;
+use crate::handle::{unsupported, By};
+use crate::id::SpiffeId;
 use crate::options::Options;
+use crate::pattern::{Pattern, PatternError};
 use crate::record::Accepted;
+use crate::token::Said;
 use crate::validator::Validator;
 use crate::verify::{find, Found, Verify};
 
@@ -64,7 +68,10 @@ impl<V: Verify> Guard<V> {
     ///
     /// Those of [`Validator::check`].
     pub fn check_at(&self, now: u64, token: impl AsRef<[u8]>) -> Result<Accepted, Error> {
-        let token = token.as_ref();
+        self.answer(By::Check, now, token.as_ref())
+    }
+
+    fn answer(&self, by: By, now: u64, token: &[u8]) -> Result<Accepted, Error> {
         loop {
             let edition = self.edition.load(Ordering::Acquire);
             // (each lock is free again at the end of its line)
@@ -89,10 +96,14 @@ impl<V: Verify> Guard<V> {
             if edition != self.edition.load(Ordering::Acquire) {
                 continue;
             }
-            let checked = validator.check_answered(now, yes.as_ref().map_or(&[], std::slice::from_ref), token);
+            let yes = yes.as_ref().map_or(&[][..], std::slice::from_ref);
+            let answered = match by {
+                By::Check => validator.check_answered(now, yes, token),
+                By::Judge => validator.judge_answered(now, yes, token),
+            };
             return match found {
-                Found::Unsupported => Err(unsupported(checked)),
-                _ => checked,
+                Found::Unsupported => Err(unsupported(answered)),
+                _ => answered,
             };
         }
     }
@@ -105,6 +116,45 @@ impl<V: Verify> Guard<V> {
     /// Why the request is not let in: [`Denied::status`] and [`Denied::challenge`] are the answer that is due.
     pub fn admit<'a, A: AsRef<[u8]> + ?Sized + 'a>(&self, values: impl IntoIterator<Item = &'a A>) -> Result<Accepted, Denied> {
         Ok(self.check(bearer_token(values)?)?)
+    }
+
+    /// The same, where only the IDs that one of the patterns allows may call. The token of another caller is judged, and is not used up: of a
+    /// good one the answer is [`Denied::NotAllowed`]. No pattern at all lets nobody in.
+    ///
+    /// # Errors
+    ///
+    /// As those of [`Guard::admit`].
+    ///
+    /// ```
+    /// # #[cfg(feature = "openssl")] {
+    /// # let bundles = include_bytes!(concat!(env!("CARGO_MANIFEST_DIR"), "/../../examples/bundles.json"));
+    /// # let token = include_str!(concat!(env!("CARGO_MANIFEST_DIR"), "/../../examples/token.txt")).trim();
+    /// # let guard = svid::Guard::open(&svid::Options::new(["ledger"]), bundles, svid::OpenSsl::new())?;
+    /// # let header = format!("Bearer {token}");
+    /// let billing = [svid::Pattern::parse("spiffe://example.org/billing/*").unwrap()];
+    /// let web = [svid::Pattern::parse("spiffe://example.org/web").unwrap()];
+    /// assert_eq!(guard.admit_only(&web, [&header]).unwrap_err().status(), 403);
+    /// assert!(guard.admit_only(&billing, [&header]).is_ok());
+    /// # }
+    /// # Ok::<(), svid::Error>(())
+    /// ```
+    pub fn admit_only<'a, A>(&self, callers: &[Pattern<'_>], values: impl IntoIterator<Item = &'a A>) -> Result<Accepted, Denied>
+    where
+        A: AsRef<[u8]> + ?Sized + 'a,
+    {
+        let token = bearer_token(values)?;
+        let said = Said::of(token)?;
+        let caller = SpiffeId::parse(said.subject()).map_err(|_| Error::unexpected(ffi::OK))?;
+        for pattern in callers {
+            match pattern.allows(&caller) {
+                Ok(true) => return Ok(self.check(token)?),
+                Ok(false) => {}
+                Err(PatternError::Unexpected(why)) => return Err(Error::Unexpected(why).into()),
+                Err(_) => return Err(Error::NoMemory.into()),
+            }
+        }
+        self.answer(By::Judge, crate::now()?, token)?;
+        Err(Denied::NotAllowed)
     }
 
     /// Replaces the trust bundles. No check waits while they are read. The record stays.

@@ -66,7 +66,7 @@ pub use crate::journal::{Journal, JournalError};
 pub use crate::key::{Algorithm, Candidate, Candidates, Hash, KeyError, KeyFault, Spki};
 pub use crate::member::{Fate, LogPosition, LogStart, Member, Order, Reading};
 pub use crate::options::Options;
-pub use crate::pattern::{Pattern, PatternError};
+pub use crate::pattern::{Pattern, PatternError, PatternFault};
 pub use crate::record::{Accepted, Question, Size, TokenKey, Use, ValidatorId};
 pub use crate::refusal::Refusal;
 pub use crate::token::Said;

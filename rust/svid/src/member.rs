@@ -54,7 +54,7 @@ pub struct Member {
 pub struct LogPosition {
     /// The position of the last value that it has read to its end. Positions are counted from 1, without gaps.
     pub passed: u64,
-    /// How many uses of the value behind that one it has read.
+    /// How many uses of the value after that one it has read.
     pub begun: usize,
     /// Before this moment it accepts nothing, in seconds since 1970: values are missing that may live.
     pub deaf: u64,
@@ -73,7 +73,7 @@ impl LogPosition {
 /// Where a member begins to read its log.
 #[derive(Debug, Clone, Copy)]
 pub struct LogStart<'a> {
-    /// `passed` is the position in front of the first value that the log still has: 0 if it has all. If it has not, uses of the values up to
+    /// `passed` is the position before the first value that the log still has: 0 if it has all. If it has not, uses of the values up to
     /// there may live: then `deaf` is the moment by which they have all expired.
     pub position: LogPosition,
     /// The position of the last value in the log. The member accepts nothing up to there.
@@ -97,7 +97,7 @@ impl LogStart<'_> {
 pub enum Fate {
     /// The first claim of its token, and this member's own: it accepts the token. The record has the use.
     Accepted,
-    /// The first claim of its token, which this member does not accept: it is of another validator, or stands at [`LogStart::ready`] or in front of
+    /// The first claim of its token, which this member does not accept: it is of another validator, or stands at [`LogStart::ready`] or before
     /// it, or the member is deaf. The record has the use.
     First,
     /// A withdrawal. The record has it.
@@ -108,7 +108,7 @@ pub enum Fate {
     Expired,
     /// The token was withdrawn.
     Withdrawn,
-    /// The record has a use of the token, or a claim in front of it in the log has its key.
+    /// The record has a use of the token, or a claim before it in the log has its key.
     Replayed,
 }
 
@@ -138,7 +138,7 @@ pub enum Order {
     Again,
     /// It is the next one.
     Next,
-    /// Values in front of it are missing: the member is deaf for `lasts` seconds.
+    /// Values before it are missing: the member is deaf for `lasts` seconds.
     Gap,
 }
 
@@ -207,7 +207,7 @@ impl Member {
     ///
     /// # Errors
     ///
-    /// [`Error::Jump`]: call again with `now` 0, which advances nothing. With `now` 0 it means that values are missing in front of this one,
+    /// [`Error::Jump`]: call again with `now` 0, which advances nothing. With `now` 0 it means that values are missing before this one,
     /// for which the clock must be right. [`Error::NoMemory`]: call again with the same value.
     pub fn read(&mut self, now: u64, position: u64, value: &[u8], fates: &mut Vec<(Use, Fate)>) -> Result<Reading, Error> {
         self.core.read(now, position, value, fates)

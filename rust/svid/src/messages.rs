@@ -1,6 +1,6 @@
 //! Records as messages, without a validator.
 //!
-//! *Messages* tell a record or a part of it to other validators: one behind the other, none where there are no bytes (docs/FORMATS.md,
+//! *Messages* tell a record or a part of it to other validators: one after the other, none where there are no bytes (docs/FORMATS.md,
 //! "Messages"). `now` is a moment in seconds since 1970 to which what they tell is advanced: what has expired by then goes. 0 advances nothing.
 //!
 //! These calls read their inputs anew each time. Use them for records of up to a few thousand uses, and keep a

@@ -65,7 +65,7 @@ impl Options {
     }
 }
 
-/// Audiences as the library takes them: their texts one behind the other, and the length of each.
+/// Audiences as the library takes them: their texts one after the other, and the length of each.
 pub(crate) struct Audiences {
     pub text: Vec<u8>,
     pub lens: Vec<usize>,

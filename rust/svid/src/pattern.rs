@@ -54,8 +54,10 @@ fn ask(pattern: &str, id: &str) -> Result<bool, PatternError> {
         ffi::OK => Ok(true),
         ffi::NOT_ALLOWED => Ok(false),
         ffi::NO_MEMORY => Err(PatternError::NoMemory),
-        ffi::PATTERN_TOO_LONG..=ffi::PATTERN_PATH_BYTE => Err(PatternError::Bad { offset: out.offset }),
-        _ => Err(PatternError::Unexpected(Unexpected::new(status))),
+        _ => match PatternFault::ROWS.iter().find(|row| row.1 == status) {
+            Some(row) => Err(PatternError::Bad { fault: row.0, offset: out.offset }),
+            None => Err(PatternError::Unexpected(Unexpected::new(status))),
+        },
     }
 }
 
@@ -65,6 +67,8 @@ fn ask(pattern: &str, id: &str) -> Result<bool, PatternError> {
 pub enum PatternError {
     /// The ID in it is none.
     Bad {
+        /// What is wrong.
+        fault: PatternFault,
         /// The byte of the text, counted from 0; 0 for a fault of the whole.
         offset: usize,
     },
@@ -77,9 +81,9 @@ pub enum PatternError {
 impl fmt::Display for PatternError {
     fn fmt(&self, f: &mut fmt::Formatter<'_>) -> fmt::Result {
         match self {
-            PatternError::Bad { offset } => write!(
+            PatternError::Bad { fault, offset } => write!(
                 f,
-                "no pattern of SPIFFE IDs, at byte {offset}: write spiffe://DOMAIN/PATH for one ID, spiffe://DOMAIN/PATH/* for all below it, or spiffe://DOMAIN"
+                "no pattern of SPIFFE IDs: {fault}, at byte {offset}: write spiffe://DOMAIN/PATH for one ID, spiffe://DOMAIN/PATH/* for all below it, or spiffe://DOMAIN"
             ),
             PatternError::NoMemory => f.write_str("out of memory"),
             PatternError::Unexpected(why) => why.fmt(f),
@@ -88,3 +92,48 @@ impl fmt::Display for PatternError {
 }
 
 impl std::error::Error for PatternError {}
+
+/// What is wrong with a text that is no pattern.
+#[derive(Debug, Clone, Copy, PartialEq, Eq, Hash)]
+#[non_exhaustive]
+// lists:begin patterns (written by tools/lists from lists/statuses.toml)
+pub enum PatternFault {
+    /// The ID in the pattern has more than 2,048 bytes.
+    TooLong,
+    /// The pattern does not begin with spiffe://.
+    Scheme,
+    /// The trust domain name of the pattern is empty.
+    DomainEmpty,
+    /// The pattern has a byte that may not stand in a trust domain name.
+    DomainByte,
+    /// The pattern has a trust domain name of more than 255 bytes.
+    DomainLong,
+    /// The pattern has an empty segment.
+    SegmentEmpty,
+    /// The pattern has a segment that is . or ...
+    SegmentDots,
+    /// The pattern has a byte that may not stand in a path segment.
+    PathByte,
+}
+
+impl PatternFault {
+    // Each with its number, its name and what it says.
+    pub(crate) const ROWS: [(PatternFault, u32, &'static str, &'static str); 8] = [
+        (PatternFault::TooLong, ffi::PATTERN_TOO_LONG, "TooLong", "the ID in the pattern has more than 2,048 bytes"),
+        (PatternFault::Scheme, ffi::PATTERN_SCHEME, "Scheme", "the pattern does not begin with spiffe://"),
+        (PatternFault::DomainEmpty, ffi::PATTERN_DOMAIN_EMPTY, "DomainEmpty", "the trust domain name of the pattern is empty"),
+        (
+            PatternFault::DomainByte,
+            ffi::PATTERN_DOMAIN_BYTE,
+            "DomainByte",
+            "the pattern has a byte that may not stand in a trust domain name",
+        ),
+        (PatternFault::DomainLong, ffi::PATTERN_DOMAIN_LONG, "DomainLong", "the pattern has a trust domain name of more than 255 bytes"),
+        (PatternFault::SegmentEmpty, ffi::PATTERN_SEGMENT_EMPTY, "SegmentEmpty", "the pattern has an empty segment"),
+        (PatternFault::SegmentDots, ffi::PATTERN_SEGMENT_DOTS, "SegmentDots", "the pattern has a segment that is . or .."),
+        (PatternFault::PathByte, ffi::PATTERN_PATH_BYTE, "PathByte", "the pattern has a byte that may not stand in a path segment"),
+    ];
+}
+// lists:end
+
+named!(PatternFault);

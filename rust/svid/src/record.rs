@@ -70,7 +70,7 @@ pub struct Use {
 }
 
 impl Use {
-    /// The entry as a message, for [`Validator::take`](crate::Validator::take) of other validators. Messages are put one behind the other.
+    /// The entry as a message, for [`Validator::take`](crate::Validator::take) of other validators. Messages are put one after the other.
     ///
     /// # Errors
     ///

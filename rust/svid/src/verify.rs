@@ -15,7 +15,7 @@ pub(crate) mod ring;
 /// The library says which keys may have signed a token, and this answers of each whether it did. It decides nothing else.
 pub trait Verify {
     /// Whether the key made this signature of these bytes, by the algorithm of the candidate. `signature` is that of the token, decoded: of
-    /// ECDSA its two numbers one behind the other (RFC 7518, section 3.4).
+    /// ECDSA its two numbers one after the other (RFC 7518, section 3.4).
     ///
     /// # Errors
     ///

@@ -7,8 +7,8 @@ use std::sync::{Arc, Mutex};
 
 use common::*;
 use svid::{
-    bearer_token, Bundles, BundlesFault, Candidate, Denied, Error, Fate, Guard, LogStart, Member, Options, Parts, Question, Refusal, Said,
-    SpiffeId, TokenKey, Unverified, Use, Validator, ValidatorId, Verify,
+    bearer_token, Bundles, BundlesFault, Candidate, Denied, Error, Fate, Guard, LogStart, Member, Options, Parts, Pattern, Question,
+    Refusal, Said, SpiffeId, TokenKey, Unverified, Use, Validator, ValidatorId, Verify,
 };
 
 const NOW: u64 = 1_767_225_600;
@@ -228,6 +228,32 @@ fn answers_to_requests() {
     assert_eq!(guard.admit([&header]).unwrap().path(), "/billing/api");
     assert_eq!(guard.admit([&header]).unwrap_err(), Denied::Refused(Refusal::Replayed));
     assert_eq!(bearer_token([&header, &header]).unwrap_err().challenge(), Some("Bearer"));
+}
+
+#[test]
+fn who_may_call() {
+    let guard = Guard::open(&ledger(), &bundles(), Always::new(Ok(true))).unwrap();
+    let header = format!("Bearer {}", tokens()[0]);
+    let patterns = |texts: &[&'static str]| texts.iter().map(|text| Pattern::parse(text).unwrap()).collect::<Vec<_>>();
+    let others = patterns(&["spiffe://example.org/bill/*", "spiffe://example.org/billing/api/*", "spiffe://example.com"]);
+    for callers in [&others[..], &[]] {
+        for _ in 0..2 {
+            let denied = guard.admit_only(callers, [&header]).unwrap_err();
+            assert_eq!((denied, denied.status()), (Denied::NotAllowed, 403));
+            assert_eq!(denied.challenge(), Some("Bearer error=\"insufficient_scope\", error_description=\"NotAllowed\""));
+        }
+    }
+    // Of a bad token it says what is wrong with it, and not that its caller may not call: nobody has vouched for that.
+    assert_eq!(guard.admit_only(&others, ["Bearer a.b.c"]).unwrap_err(), Denied::Refused(Refusal::HeaderSpelling));
+    assert_eq!(guard.admit_only::<str>(&others, []).unwrap_err().challenge(), Some("Bearer"));
+    let spoilt = Guard::open(&ledger(), &bundles(), Always::new(Ok(false))).unwrap();
+    assert_eq!(spoilt.admit_only(&others, [&header]).unwrap_err(), Denied::Refused(Refusal::BadSignature));
+    // The token was not used up.
+    let callers = patterns(&["spiffe://example.com", "spiffe://example.org/billing/*"]);
+    assert_eq!(guard.admit_only(&callers, [&header]).unwrap().path(), "/billing/api");
+    for callers in [&callers, &others] {
+        assert_eq!(guard.admit_only(callers, [&header]).unwrap_err(), Denied::Refused(Refusal::Replayed));
+    }
 }
 
 /// No call panics, whatever it is given.

@@ -205,8 +205,9 @@ fn patterns() {
     each("patterns", |_, it| {
         let id = SpiffeId::parse(text_of(it, "id"));
         let got = match (Pattern::parse(text_of(it, "pattern")), id) {
-            (Err(PatternError::Bad { offset }), _) => {
+            (Err(PatternError::Bad { fault, offset }), _) => {
                 same(it["offset"].as_u64().unwrap_or(offset as u64), offset as u64)?;
+                same(it["fault"].as_str().unwrap_or(fault.name()), fault.name())?;
                 "no pattern"
             }
             (Err(_), _) => "unexpected",

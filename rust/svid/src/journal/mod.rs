@@ -41,7 +41,7 @@ const MOST: usize = ffi::PAYLOAD_MOST - ffi::LOG_POSITION;
 
 type Bears = dyn Fn() -> Option<LogPosition> + Send + Sync;
 
-/// The state folder of one validator: what it accepted is found again behind a restart, a crash or a loss of power.
+/// The state folder of one validator: what it accepted is found again after a restart, a crash or a loss of power.
 ///
 /// ```
 /// # #[cfg(feature = "openssl")] {
@@ -57,7 +57,7 @@ type Bears = dyn Fn() -> Option<LogPosition> + Send + Sync;
 /// journal.load(|messages| guard.validator().take(svid::now()?, messages))?;
 ///
 /// let accepted = guard.check(token)?;
-/// journal.append(&accepted.used().message()?, Duration::from_secs(2))?; // answer the request behind this line
+/// journal.append(&accepted.used().message()?, Duration::from_secs(2))?; // answer the request after this line
 ///
 /// if journal.wants_snapshot() {
 ///     journal.snapshot(|parts, room| guard.validator().piece(parts, room))?;
@@ -471,7 +471,7 @@ impl Keeper {
 }
 
 impl Writing {
-    /// Ends the journal by a mark, by which damage in front of it is seen. (Nobody waits for it: where that fails, there is none.)
+    /// Ends the journal by a mark, by which damage before it is seen. (Nobody waits for it: where that fails, there is none.)
     fn mark(&mut self) {
         if !self.is_marked && !self.numbers.has_ended() {
             let _ = self.put_frame(b"");
@@ -526,7 +526,7 @@ enum Fault {
     Io(std::io::Error),
 }
 
-/// A lock, even if a thread panicked that had it: what it guards is whole behind each line.
+/// A lock, even if a thread panicked that had it: what it guards is whole after each line.
 fn lock<T>(of: &Mutex<T>) -> MutexGuard<'_, T> {
     of.lock().unwrap_or_else(PoisonError::into_inner)
 }

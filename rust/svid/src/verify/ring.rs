@@ -90,7 +90,7 @@ fn modulus_len(key: &[u8]) -> Option<usize> {
     modulus.len().checked_sub(zeros)
 }
 
-/// The content of the value of this tag that DER begins with, and what stands behind it (X.690, section 8.1).
+/// The content of the value of this tag that DER begins with, and what stands after it (X.690, section 8.1).
 fn value(tag: u8, der: &[u8]) -> Option<(&[u8], &[u8])> {
     let (first, rest) = der.split_first()?;
     let (short, rest) = rest.split_first()?;

@@ -18,7 +18,7 @@ public final class Admission {
         return spiffeId;
     }
 
-    /** When the token expires; {@link Instant#MAX} for what lies behind that. */
+    /** When the token expires; {@link Instant#MAX} for what lies after that. */
     public Instant expiry() {
         return Times.instantOf(use.exp);
     }
@@ -39,7 +39,7 @@ public final class Admission {
     }
 
     /**
-     * The use as a message, for {@link Validator#take} of other validators. Messages are put one behind the other.
+     * The use as a message, for {@link Validator#take} of other validators. Messages are put one after the other.
      *
      * @throws SvidException.OutOfMemory where there is no memory: make the call again
      */

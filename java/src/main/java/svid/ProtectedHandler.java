@@ -21,7 +21,7 @@ public final class ProtectedHandler implements HttpHandler {
     private final Handler handler;
     private final Collection<IdPattern> callers; // null for all
 
-    /** What the service does for a request that was let in. The exchange is closed behind it. */
+    /** What the service does for a request that was let in. The exchange is closed after it. */
     public interface Handler {
         /** Answers the request. */
         void handle(HttpExchange exchange, Admission admission) throws IOException;

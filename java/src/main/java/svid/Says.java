@@ -14,7 +14,7 @@ import java.util.List;
  * @param keyId the name of its key; "" where it has none
  * @param audiences its audiences
  * @param key by which all its uses are known
- * @param expiry when it expires; {@link Instant#MAX} for what lies behind that
+ * @param expiry when it expires; {@link Instant#MAX} for what lies after that
  */
 public record Says(String algorithm, SpiffeId spiffeId, String keyId, List<String> audiences, TokenKey key, Instant expiry) {
     private static final long USUAL = 1024;

@@ -15,13 +15,13 @@ final class Times {
         return seconds;
     }
 
-    /** A time as an instant. What lies behind the last one is the last one. */
+    /** A time as an instant. What lies after the last one is the last one. */
     static Instant instantOf(long seconds) {
         boolean isBehind = Long.compareUnsigned(seconds, Instant.MAX.getEpochSecond()) >= 0;
         return isBehind ? Instant.MAX : Instant.ofEpochSecond(seconds);
     }
 
-    /** An expiry in seconds: the last instant stands for whatever lies behind it. */
+    /** An expiry in seconds: the last instant stands for whatever lies after it. */
     static long expiryOf(Instant instant) {
         if (instant.equals(Instant.MAX)) {
             return -1;

@@ -250,7 +250,7 @@ public final class Validator implements AutoCloseable {
     /**
      * Takes messages of other validators, or a record that was saved. Taking a message twice, or in another order, makes no difference.
      *
-     * @param messages any number of messages, one behind the other
+     * @param messages any number of messages, one after the other
      * @throws SvidException.TooFar where they tell of a time that is too far ahead: none was taken
      * @throws SvidException.BadMessages where the bytes are no messages: none was taken
      * @throws SvidException.TooMuch where they are too long: none was taken

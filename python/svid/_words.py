@@ -1,0 +1,88 @@
+"""What the statuses of the C library say in words (include/svid.h)."""
+
+from __future__ import annotations
+
+# lists:begin words (written by tools/lists from lists/statuses.toml)
+SENTENCES: dict[int, str] = {
+    0: "The answer is yes, or the call did what it is for.",
+    1: "The text is longer than the room.",
+    2: "There was no memory.",
+    3: "Bundles, a table or messages have more than 67,108,864 bytes.",
+    4: "The first input is messages, but not one summary.",
+    5: "The validator is closed, or the bundles are.",
+    6: "The handle is open already.",
+    7: "The token has expired, so that there is nothing to withdraw.",
+    8: "A message's moment is more than ahead seconds past now.",
+    9: "now is more than step seconds past the record's moment.",
+    10: "The validator reads a log, which decides about its tokens.",
+    19: "The validator reads no log.",
+    11: "The first four bytes are those of no version.",
+    12: "The fifth byte is that of no kind of message of the version.",
+    13: "A batch tells of too many uses.",
+    14: "The last byte of a use is neither 0 nor 1.",
+    15: "A use expires at its batch's moment or before it.",
+    16: "A use was made after its batch's moment.",
+    17: "A use is not greater than the one before it.",
+    18: "The bytes end before the message does.",
+    21: "The ID has more than 2,048 bytes.",
+    22: "The ID does not begin with spiffe://.",
+    23: "The trust domain name of the ID is empty.",
+    24: "The ID has a byte that may not stand in a trust domain name.",
+    25: "The ID has a trust domain name of more than 255 bytes.",
+    26: "The ID has an empty segment.",
+    27: "The ID has a segment that is one or two periods.",
+    28: "The ID has a byte that may not stand in a path segment.",
+    31: "The bundles are no JSON object.",
+    32: "A name of the bundles is no trust domain name.",
+    33: "A name of the bundles has no list of keys.",
+    34: "A line of the table is neither empty nor a question.",
+    35: "An audience of the validator's own is not UTF-8.",
+    36: "The lengths of the audiences do not add up to the length of own.",
+    37: "The document is the bundle of one trust domain, without its name.",
+    38: "An earlier document has a bundle of this trust domain.",
+    39: "The lengths of the documents do not add up to the length of bytes.",
+    91: "The pattern does not allow the ID.",
+    92: "The ID in the pattern has more than 2,048 bytes.",
+    93: "The pattern does not begin with spiffe://.",
+    94: "The trust domain name of the pattern is empty.",
+    95: "The pattern has a byte that may not stand in a trust domain name.",
+    96: "The pattern has a trust domain name of more than 255 bytes.",
+    97: "The pattern has an empty segment.",
+    98: "The pattern has a segment that is one or two periods.",
+    99: "The pattern has a byte that may not stand in a path segment.",
+}
+"""What each status says, as a sentence."""
+MESSAGE_WORDS: dict[str, str] = {
+    "TooMuch": "bundles, a table or messages have more than 67,108,864 bytes",
+    "NotSummary": "the first input is messages, but not one summary",
+    "Magic": (
+        "the first four bytes are those of no version, and due is 4A 53 52, which is JSR, and "
+        "then 02 or 01"
+    ),
+    "Kind": (
+        "the fifth byte is that of no kind of message of the version, and due is 01 for a batch, "
+        "or 02 for a summary, which only version 2 has"
+    ),
+    "Count": (
+        "a batch tells of too many uses, and due is a number of at most 65,536 uses, or of 4,096 "
+        "in version 1"
+    ),
+    "UseKind": (
+        "the last byte of a use is neither 0 nor 1, and due is a use whose last byte is 00 or 01"
+    ),
+    "UseExpired": (
+        "a use expires at its batch's moment or before it, and due is a use that expires after "
+        "the batch's moment"
+    ),
+    "UseFuture": (
+        "a use was made after its batch's moment, and due is a use that was made at the batch's "
+        "moment or before it"
+    ),
+    "UseOrder": (
+        "a use is not greater than the one before it, and due is a use that is greater than the "
+        "one before it"
+    ),
+    "Truncated": "the bytes end before the message does, and due is the rest of the message",
+}
+"""Why bytes are no messages, by the name of the reason, as the rest of a sentence."""
+# lists:end

@@ -1,0 +1,126 @@
+"""What an error says, in the words of lists/statuses.toml."""
+
+import json
+import pathlib
+import tomllib
+
+import pytest
+
+import svid
+from making import NOW, token, validator
+
+TOP = pathlib.Path(__file__).parents[2]
+STATUSES = {
+    it["name"]: it
+    for group in tomllib.loads((TOP / "lists/statuses.toml").read_text())["group"]
+    for it in group["status"]
+}
+BAD_MESSAGES = {
+    it["fault"]["reason"]: it
+    for it in json.loads((TOP / "vectors/messages.json").read_text())["vectors"]
+    if "fault" in it
+}
+REASONS = {
+    "Magic": "MAGIC",
+    "Kind": "KIND",
+    "Count": "COUNT",
+    "UseKind": "USE_KIND",
+    "UseExpired": "USE_EXPIRED",
+    "UseFuture": "USE_FUTURE",
+    "UseOrder": "USE_ORDER",
+    "Truncated": "TRUNCATED",
+}
+
+
+def sentence(name):
+    """What a status says, as a sentence without marks."""
+    said = STATUSES[name]
+    if "words" in said:
+        return said["words"]
+    text = said["says"]
+    return (text[0].upper() + text[1:] + ".").replace("`", "")
+
+
+def test_each_reason_is_tried():
+    assert set(BAD_MESSAGES) == set(REASONS)
+
+
+@pytest.mark.parametrize("reason", REASONS)
+def test_what_is_wrong_with_messages(reason):
+    vector, said = BAD_MESSAGES[reason], STATUSES[REASONS[reason]]
+    with validator() as checks, pytest.raises(svid.BadMessages) as raised:
+        checks.take(bytes.fromhex(vector["messages"]), NOW)
+    at = vector["fault"]
+    where = f"{reason} in message {at['message']} at byte {at['offset']}"
+    assert str(raised.value) == f"{where}: {said['says']}, and due is {said['due']}"
+
+
+def test_messages_that_nothing_is_read_of():
+    with validator() as checks:
+        with pytest.raises(svid.BadMessages) as raised:
+            checks.answer(b"JSR\x02\x01" + bytes(12), NOW)
+        assert str(raised.value) == f"NotSummary: {STATUSES['NOT_SUMMARY']['says']}"
+        with pytest.raises(svid.BadMessages) as raised:
+            checks.take((b"JSR\x02\x01" + bytes(12)) * 3_947_581, NOW)
+        assert str(raised.value) == f"TooMuch: {STATUSES['TOO_MUCH']['says']}"
+
+
+@pytest.mark.parametrize(
+    ("bundles", "name", "rank"),
+    [
+        (b"[]", "BUNDLES_NOT_OBJECT", ""),
+        (b'{"a":{"keys":[]},"B":{}}', "BUNDLES_DOMAIN", "0"),
+        (b'{"a":{"keys":[]},"b":{}}', "BUNDLES_KEYS", "1"),
+    ],
+)
+def test_what_is_wrong_with_bundles(bundles, name, rank):
+    with pytest.raises(svid.BadBundles) as raised:
+        validator(bundles)
+    more = f" It is number {rank} of the names in rising order, counted from 0." if rank else ""
+    assert str(raised.value) == sentence(name) + more
+
+
+def test_what_a_validator_does_not_do():
+    with validator(ahead=10, step=100) as checks, validator() as other:
+        use = other.check(token(), NOW + 11).use
+        with pytest.raises(svid.TooFar) as raised:
+            checks.take(use.message, NOW)
+        assert str(raised.value) == sentence("TOO_FAR")
+        with pytest.raises(svid.Gone) as raised:
+            checks.withdraw_key(bytes(32), NOW, NOW)
+        assert str(raised.value) == sentence("GONE")
+        checks.tick(NOW)
+        with pytest.raises(svid.Jump) as raised:
+            checks.tick(NOW + 101)
+        assert str(raised.value) == sentence("JUMP")
+    with pytest.raises(svid.Closed) as raised:
+        checks.tick(NOW)
+    assert str(raised.value) == f"{sentence('CLOSED')} Make a new one."
+
+
+@pytest.mark.parametrize(
+    ("pattern", "name", "offset"),
+    [
+        ("spiffe://" + "a" * 2040, "PATTERN_TOO_LONG", 0),
+        ("example.org", "PATTERN_SCHEME", 0),
+        ("spiffe://", "PATTERN_DOMAIN_EMPTY", 0),
+        ("spiffe://A", "PATTERN_DOMAIN_BYTE", 9),
+        ("spiffe://" + "a" * 256, "PATTERN_DOMAIN_LONG", 0),
+        ("spiffe://a//*", "PATTERN_SEGMENT_EMPTY", 11),
+        ("spiffe://a/../*", "PATTERN_SEGMENT_DOTS", 11),
+        ("spiffe://a/b*", "PATTERN_PATH_BYTE", 12),
+    ],
+    ids=lambda it: it if str(it).startswith("PATTERN_") else "",
+)
+def test_what_is_no_pattern(pattern, name, offset):
+    with pytest.raises(ValueError) as raised:
+        svid.allows(pattern, "spiffe://a/b")
+    said = f"{pattern!r} is no pattern of SPIFFE IDs (byte {offset}): {sentence(name)} Write "
+    assert str(raised.value).startswith(said)
+
+
+def test_what_is_no_id():
+    with pytest.raises(ValueError) as raised:
+        svid.allows("spiffe://a", "spiffe://a//b")
+    said = f"'spiffe://a//b' is no SPIFFE ID (byte 11): {sentence('SEGMENT_EMPTY')}"
+    assert str(raised.value) == said
