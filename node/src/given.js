@@ -7,8 +7,7 @@ const YEAR_5138 = 100_000_000_000n;
 const VALIDATOR_ID = 16, KEY = 32;
 
 /** The time of a call, in whole seconds: by default that of the clock. */
-export function seconds(now) {
-  if (now === undefined) return BigInt(Math.floor(Date.now() / 1000));
+export function seconds(now = Date.now() / 1000) {
   const whole = wholeOf("now", now);
   if (whole >= YEAR_5138) throw new RangeError(`now is in seconds since 1970, and ${now} is not: Date.now() is in milliseconds`);
   return whole;

@@ -71,9 +71,9 @@ export class Verifier {
     }
     const public_ = await this.#keys.get(name);
     if (!public_) return false;
-    const { family, hash } = ALGORITHMS[alg], bits = public_.algorithm.modulusLength;
-    // (OpenSSL takes a shorter signature for RSA-PSS, which RFC 8017, section 8.1.2, does not)
-    if (bits && signature.length !== Math.ceil(bits / 8)) return false;
+    const { family, hash } = ALGORITHMS[alg];
+    // (OpenSSL, in Node, takes a shorter one for RSA-PSS, and NSS, in Firefox, any even length for ECDSA)
+    if (signature.length !== lengthBy(public_.algorithm)) return false;
     const saltLength = Number(hash.slice(4)) / 8;
     return (await subtle()).verify({ name: family, hash, saltLength }, public_, signature, signed);
   }
@@ -90,6 +90,12 @@ export class Verifier {
       throw why;
     }
   }
+}
+
+// How many bytes a signature by a key has: as many as its modulus (RFC 8017, sections 8.1.2 and 8.2.2), or r and s, each as long as the order of its
+// curve (RFC 7518, section 3.4).
+function lengthBy({ modulusLength, namedCurve }) {
+  return namedCurve ? 2 * Math.ceil(Number(namedCurve.slice("P-".length)) / 8) : Math.ceil(modulusLength / 8);
 }
 
 let found;

@@ -223,6 +223,17 @@ test("times are seconds, and milliseconds are refused", async () => {
   validator.close();
 });
 
+test("a clock before 1970 is refused, and the record stays", async (t) => {
+  const validator = await Validator.open(terms), text = token(one), { moment } = validator.size();
+  const clock = t.mock.method(Date, "now", () => -1000);
+  for (const call of ["check", "judge"]) assert.equal(await said(validator[call](text)), "TypeError", call);
+  assert.throws(() => validator.tick(), TypeError);
+  clock.mock.restore();
+  assert.equal(validator.size().moment, moment);
+  assert.equal(await said(validator.check(text)), "accepted");
+  validator.close();
+});
+
 test("options that can't be are refused", async () => {
   const wrong = [
     { audiences: [] }, { audiences: "" }, { audiences: ["ledger", ""] }, { audiences: undefined }, { audiences: [1] },

@@ -59,6 +59,24 @@ for (const name of ["keys", "signatures"]) {
   });
 }
 
+test("a signature has its length, whatever WebCrypto takes", async (t) => {
+  const { vectors, setting } = vectorsOf("signatures"), asked = [];
+  t.mock.method(crypto.subtle, "verify", async (algorithm, key, signature) => asked.push(signature.length) > 0);
+  for (const alg of ["RS256", "PS512", "ES256", "ES384", "ES512"]) {
+    const { token, keys } = vectors.find((it) => it.name === `${alg}, a good signature`), at = token.lastIndexOf(".") + 1;
+    const of = (length) => token.slice(0, at) + Buffer.alloc(length, 7).toString("base64url");
+    const due = Buffer.from(token.slice(at), "base64url").length;
+    await using(Validator.open({ audiences: "ledger", bundles: { "example.org": `{"keys":[${keys.join(",")}]}` } }), async (validator) => {
+      for (const length of [1, 2, due / 2, due - 2, due - 1, due + 1, due + 2, 2 * due]) {
+        assert.equal(await verdict(() => validator.judge(of(length), setting.now)), "refused BadSignature", `${alg}, ${length}`);
+      }
+      assert.deepEqual(asked, []);
+      assert.match(await verdict(() => validator.judge(of(due), setting.now)), /^accepted /, alg);
+      assert.equal(asked.pop(), due);
+    });
+  }
+});
+
 // The call of a vector of tokens.json.
 async function called(validator, call) {
   const now = call.now === undefined ? undefined : BigInt(call.now);

@@ -1,6 +1,6 @@
 // Trust bundles as the page takes them, and why an entry of one is no candidate for a token (docs/FORMATS.md, "Bundles", "Candidates").
 
-import { firstFraction, member, parse, stringAt } from "./json.js";
+import { firstFraction, lastMembers, member, parse, stringAt } from "./json.js";
 
 const KEY_MOST = 65536;
 // lists:begin ktys (written by tools/lists from lists/algorithms.toml)
@@ -86,7 +86,7 @@ export function compact(node) {
   if (node.kind === "number") return node.text;
   if (node.kind === "array") return `[${node.items.map(compact).join(",")}]`;
   if (node.kind !== "object") return JSON.stringify(node.value);
-  const members = node.members.filter((it) => member(node, it.name) === it).sort((a, b) => byBytes(a.name, b.name));
+  const members = lastMembers(node).sort((a, b) => byBytes(a.name, b.name));
   return `{${members.map((it) => `${JSON.stringify(it.name)}:${compact(it.value)}`).join(",")}}`;
 }
 

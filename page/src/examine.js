@@ -2,13 +2,12 @@
 
 import { bundlesOf, compact, domainsOf, entriesOf, isOneBundle, passedOver } from "./bundles.js";
 import { parse } from "./json.js";
-import { MOST_CANDIDATES } from "./library.js";
+import { MOST_CANDIDATES, textOf } from "./library.js";
 import { refusalOf, REFUSALS } from "./refusals.js";
 import { recordOf } from "./record.js";
 import { partsOf } from "./token.js";
 import { answer } from "./verify.js";
 
-const decoder = new TextDecoder();
 const OK = 0;
 const OF_RECORD = new Set(["Withdrawn", "Replayed"]);
 const UNNAMED = "bundle";
@@ -73,7 +72,7 @@ export function withdraw(library, input, { bundles, verdict }) {
 
 /** The record that messages come to: as `recordOf`, and `messages`. They must be messages. */
 export function readRecord(library, messages) {
-  return { messages, ...recordOf(decoder.decode(library.report(messages).bytes)) };
+  return { messages, ...recordOf(textOf(library.report(messages).bytes)) };
 }
 
 function withValidator(library, { own, longest, validatorId }, bundles, body) {

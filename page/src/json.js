@@ -34,6 +34,12 @@ export function member(node, name) {
   return node?.kind === "object" ? node.members.findLast((it) => it.name === name) : undefined;
 }
 
+/** The members of an object that count, in the order of the text: the last one of each name. */
+export function lastMembers(node) {
+  const last = new Map(node.members.map((it) => [it.name, it]));
+  return node.members.filter((it) => last.get(it.name) === it);
+}
+
 /** The value of a member if it is a string. */
 export function stringAt(node, name) {
   const value = member(node, name)?.value;
@@ -60,7 +66,7 @@ export function firstFraction(node) {
 function children(node) {
   if (node.kind === "array") return node.items;
   if (node.kind !== "object") return [];
-  return node.members.filter((it) => member(node, it.name) === it).map((it) => it.value);
+  return lastMembers(node).map((it) => it.value);
 }
 
 class Reader {

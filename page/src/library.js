@@ -12,7 +12,7 @@ export const MOST_CANDIDATES = 3n;
 export const MOST_RSA_BITS = 4096n;
 
 const encoder = new TextEncoder();
-const decoder = new TextDecoder();
+const decoder = new TextDecoder("utf-8", { ignoreBOM: true });
 const bytesOf = (it) => (typeof it === "string" ? encoder.encode(it) : it);
 
 /** A module that has no memory left for what a call is lent, or that stopped in an earlier call. */
@@ -203,7 +203,7 @@ class Validator {
       const status = call(this.handle, now, questions, BigInt(yes.length), ...memory.lend(token), out, BigInt(ID_ROOM), used, told);
       if (status !== OK) return { status };
       const [exp, at] = memory.words(used, 2);
-      return { status, id: decoder.decode(memory.seen(out, memory.words(told, 1)[0])), exp, at, key: memory.seen(used + 16n, DIGEST) };
+      return { status, id: textOf(memory.seen(out, memory.words(told, 1)[0])), exp, at, key: memory.seen(used + 16n, DIGEST) };
     });
   }
 
@@ -288,7 +288,7 @@ class Lent {
 // Texts that stand one directly after the other.
 function textsOf(bytes, lengths) {
   let to = 0;
-  return lengths.map((length) => decoder.decode(bytes.subarray(to, (to += length))));
+  return lengths.map((length) => textOf(bytes.subarray(to, (to += length))));
 }
 
 // The rows of svid_validator_ask.
@@ -298,7 +298,7 @@ function rowsOf(bytes) {
   const field = () => {
     const length = view.getUint32(at);
     at += 4 + length;
-    return decoder.decode(bytes.subarray(at - length, at));
+    return textOf(bytes.subarray(at - length, at));
   };
   while (at < bytes.length) {
     const question = hexOf(bytes.subarray(at, at + DIGEST));
@@ -306,6 +306,11 @@ function rowsOf(bytes) {
     rows.push({ question, alg: field(), key: field() });
   }
   return rows;
+}
+
+/** The text that bytes are. */
+export function textOf(bytes) {
+  return decoder.decode(bytes);
 }
 
 /** Bytes as hexadecimal digits. */

@@ -2,6 +2,7 @@
 // Which one holds says the library alone.
 
 import { member, stringAt } from "./json.js";
+import { textOf } from "./library.js";
 import { agoOf, dateOf, spanOf } from "./time.js";
 
 const WHOLE = [0, Infinity];
@@ -149,8 +150,7 @@ function noId(it) {
   const id = stringAt(objectOf(it.parts, 1), "sub");
   if (id === undefined) return wrong(it, 1, "sub", "is no text");
   const { status, offset } = it.library.parseId(id);
-  const bad = new TextDecoder().decode(new TextEncoder().encode(id).subarray(offset)).match(/^\.*|^./u)[0] || [...id].at(-1);
-  const rest = new TextDecoder().decode(new TextEncoder().encode(id).subarray(offset));
+  const rest = textOf(new TextEncoder().encode(id).subarray(offset)), bad = rest.match(/^\.*|^./u)[0] || [...id].at(-1);
   return said(`sub is no SPIFFE ID: ${ID_FAULTS[status](JSON.stringify(status === 27 ? bad : [...rest][0] ?? ""))}.`, charactersOf(it, 1, "sub"));
 }
 

@@ -1,8 +1,8 @@
 // A token, taken apart for the eye: its three parts, what they decode to, and where in the token a piece of that stands.
 
 import { JsonFault, parse } from "./json.js";
+import { textOf } from "./library.js";
 
-const decoder = new TextDecoder("utf-8", { ignoreBOM: true });
 const encoder = new TextEncoder();
 
 const OK = 0, SCHEME = 83, TOO_LONG = 101;
@@ -37,6 +37,8 @@ export function tokenIn(text, library) {
 /** A part of a token between its periods. */
 export class Part {
   #read;
+  #decoded;
+  #json;
 
   /** @param {string} text the part; @param {number} from where it begins in the token; @param {Library} library by which it is read */
   constructor(text, from, library) {
@@ -61,11 +63,15 @@ export class Part {
 
   /** The decoded bytes as text. */
   get decoded() {
-    return this.bytes && decoder.decode(this.bytes);
+    return (this.#decoded ??= this.bytes && textOf(this.bytes));
   }
 
   /** `{ node }`, the decoded text as JSON, or `{ fault }` where it is none; neither where nothing is decoded. */
   get json() {
+    return (this.#json ??= this.#parsed());
+  }
+
+  #parsed() {
     const bytes = this.bytes;
     if (bytes === undefined) return {};
     try {

@@ -37,15 +37,22 @@ async function ask({ alg, spki }, signed, signature) {
   const [importing, verifying] = parametersOf(alg);
   try {
     const imported = await crypto.subtle.importKey("spki", spki.bytes, importing, false, ["verify"]);
-    // (OpenSSL, in Node, takes a shorter signature for RSA-PSS, which RFC 8017, section 8.1.2, does not)
-    const bits = imported.algorithm.modulusLength;
-    if (bits && signature.length !== Math.ceil(bits / 8)) return { is: "bad" };
+    // (OpenSSL, in Node, takes a shorter one for RSA-PSS, and NSS, in Firefox, any even length for ECDSA)
+    if (signature.length !== lengthBy(imported.algorithm)) return { is: "bad" };
     const isGood = await crypto.subtle.verify(verifying, imported, signature, encoder.encode(signed));
     return { is: isGood ? "good" : "bad" };
   } catch (error) {
     if (!(error instanceof DOMException)) throw error;
     return { is: "unusable", why: error.message || "the browser takes no such key" };
   }
+}
+
+/**
+ * How many bytes a signature by a key has: as many as its modulus (RFC 8017, sections 8.1.2 and 8.2.2), or r and s, each as long as the order of its curve
+ * (RFC 7518, section 3.4).
+ */
+function lengthBy({ modulusLength, namedCurve }) {
+  return namedCurve ? 2 * Math.ceil(Number(namedCurve.slice("P-".length)) / 8) : Math.ceil(modulusLength / 8);
 }
 
 function parametersOf(alg) {

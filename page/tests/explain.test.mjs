@@ -85,6 +85,32 @@ test("what the page explains is what the library says", async (t) => {
   assert.ok(seen.size >= 20 && asked > 500 && passedOver > 1000, `${asked} keys asked, ${passedOver} passed over, ${[...seen].join(" ")}`);
 });
 
+test("a text that begins with a byte order mark is the whole text", async () => {
+  const library = await Library.load(readFileSync(process.env.SVID_MODULE)), key = await makeKey("ES256", "\ufeffk1");
+  const record = readRecord(library, new Uint8Array()), bundles = JSON.stringify({ "example.org": { keys: [key.entry] } });
+  const token = await sign(key, '{"alg":"ES256","kid":"\ufeffk1"}', '{"sub":"spiffe://example.org/a","aud":["\ufeffledger"],"exp":1767229200}');
+  const input = { token, bundles, domain: "", own: ["\ufeffledger"], now: NOW, longest: undefined, validatorId: new Uint8Array(16), record };
+  const { names, keys, verdict } = await examine(library, input);
+  assert.deepEqual([names.kid, names.audiences, verdict.status], ["\ufeffk1", ["\ufeffledger"], 0]);
+  assert.deepEqual(keys.map((it) => [it.reason, it.row?.answer.is]), [[undefined, "good"]]);
+  const unasked = (await examine(library, { ...input, own: [] })).verdict;
+  assert.deepEqual([unasked.status, unasked.isUnasked], [0, true]);
+  const bad = await sign(key, '{"alg":"ES256"}', '{"sub":"spiffe://example.org/\ufeffa","aud":"ledger","exp":1767229200}');
+  assert.equal((await examine(library, { ...input, token: bad })).verdict.why, 'sub is no SPIFFE ID: "\ufeff" may not stand in a path.');
+});
+
+test("an entry with very many members is soon read", async () => {
+  const library = await Library.load(readFileSync(process.env.SVID_MODULE)), key = await makeKey("ES256", "k1"), record = readRecord(library, new Uint8Array());
+  const many = Array.from({ length: 200_000 }, (_, n) => `"${n}":1,`).join("");
+  const bundles = `{"example.org":{"keys":[{${many}${JSON.stringify(key.entry).slice(1)},${JSON.stringify(key.entry)}]}}`;
+  const token = await sign(key, '{"alg":"ES256","kid":"k1"}', '{"sub":"spiffe://example.org/a","aud":"ledger","exp":1767229200}');
+  const before = process.cpuUsage();
+  const { keys, verdict } = await examine(library, { token, bundles, domain: "", own: ["ledger"], now: NOW, longest: undefined, validatorId: new Uint8Array(16), record });
+  const { user, system } = process.cpuUsage(before);
+  assert.deepEqual([verdict.status, keys.map((it) => it.reason ?? it.row.answer.is)], [0, ["it has more than 65,536 bytes", "good"]]);
+  assert.ok(user + system < 20_000_000, `${user + system} µs of the processor`);
+});
+
 test("of many keys that fit, the first ones are tried", async () => {
   const library = await Library.load(readFileSync(process.env.SVID_MODULE));
   const keys = await Promise.all(Array.from({ length: 6 }, (_, n) => makeKey("ES256", `k${n}`)));

@@ -10,6 +10,8 @@ from ._validator import Validator
 from ._words import SENTENCES
 
 _ANYBODY = "spiffe://example.org"
+_ROOM = 1024
+"""Room for what a token says: few say more."""
 _SUBJECT = 1
 """The index of the subject among the texts of a token (`svid_token_says`)."""
 
@@ -64,10 +66,10 @@ def may_call(validator: Validator, token: bytes, allow: tuple[str, ...] | None) 
 
 def _subject(token: bytes) -> str | None:
     """The subject that a token says it has. None for what is no JWT-SVID, as its check says."""
-    said, told, room = lib.Said(), lib.Told(), bytearray(max(len(token), 1))
-    texts, status = 8, lib.TOO_SHORT
+    said, told, room, texts = lib.Said(), lib.Told(), bytearray(_ROOM), 8
+    status = lib.TOO_SHORT
     while status == lib.TOO_SHORT:
-        texts = max(texts, said.texts)
+        texts, room = max(texts, said.texts), bytearray(max(told.len, len(room)))
         lens = (ctypes.c_size_t * texts)()
         lent = (token, len(token), lib.address(said), lib.address(lens), texts)
         out = (lib.address(room), len(room), lib.address(told))

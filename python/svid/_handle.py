@@ -102,10 +102,10 @@ class Handle:
         ahead: int,
         step: int,
         validator_id: bytes,
-        own: bytes,
+        own: list[bytes],
         bundles: bytes,
     ) -> None:
-        """Opens it. Raises BadBundles."""
+        """Opens it, for these audiences. Raises BadBundles."""
         self._lock: threading.Lock | _LeftBehind = threading.Lock()
         self._words = (ctypes.c_uint64 * 2)()
         self._told = lib.Told()
@@ -119,10 +119,9 @@ class Handle:
         self._used_at = lib.address(self._used)
         terms = lib.Terms(longest, ahead, step, (ctypes.c_uint8 * 16)(*validator_id))
         self._trust = _opened(bundles)
-        self._run(
-            lib.library.svid_validator_open,
-            *(lib.address(terms), own, len(own), bundles, len(bundles)),
-        )
+        names, lens = b"".join(own), (ctypes.c_size_t * len(own))(*map(len, own))
+        lent = (lib.address(terms), names, len(names), lib.address(lens), len(own))
+        self._run(lib.library.svid_validator_open_by_lengths, *lent, bundles, len(bundles))
         self._freeing = weakref.finalize(self, _close, self._words)
         self._freeing.atexit = False  # a thread that outlives the interpreter may be in a call
         _handles.add(self)

@@ -305,7 +305,7 @@ _CALLS = {
     "svid_validator_go_on": [*_VALIDATOR, *_TOLD],
     "svid_validator_log": [*_VALIDATOR, c_void_p, c_uint64, c_uint64, *_LENT, *_TOLD],
     "svid_validator_mark": [*_VALIDATOR, c_void_p, *_TOLD],
-    "svid_validator_open": [*_VALIDATOR, c_void_p, *_LENT, *_LENT, *_TOLD],
+    "svid_validator_open_by_lengths": [*_VALIDATOR, c_void_p, *_LENT, *_OUT, *_LENT, *_TOLD],
     "svid_validator_renew_by": [*_VALIDATOR, *_VALIDATOR, *_TOLD],
     "svid_validator_parts": [*_VALIDATOR, c_void_p, *_OUT, *_TOLD],
     "svid_validator_read": [*_VALIDATOR, *_NOW, c_uint64, *_LENT, *_OUT, c_void_p, *_TOLD],

@@ -114,7 +114,7 @@ class Validator:
             "ahead": _limit("ahead", ahead),
             "step": _limit("step", step),
         }
-        own, text = _lines(audiences), self._source.read()
+        own, text = _names(audiences), self._source.read()
         self._journal = None if state is None else Journal(state)
         if self._journal is not None:
             validator_id = self._journal.validator_id
@@ -297,8 +297,7 @@ class Validator:
         """What `check` or `judge` answers by these calls, and the edition of the bundles."""
         if self._stamp and time.monotonic() >= self._look_at:
             self._look()
-        seconds = int(time.time()) if now is None else _seconds(now)
-        return self._handle.check(calls, seconds, _bytes(token), self._verifies)
+        return self._handle.check(calls, _seconds(now), _bytes(token), self._verifies)
 
     def _look(self) -> None:
         """Reads the files of the bundles again where they have changed."""
@@ -354,12 +353,14 @@ def _limit(name: str, seconds: int | None) -> int:
     return int(seconds)
 
 
-def _lines(audiences: str | Iterable[str]) -> bytes:
-    """The audiences as the library takes them, one a line."""
+def _names(audiences: str | Iterable[str]) -> list[bytes]:
+    """The audiences as the library takes them."""
     names = [audiences] if isinstance(audiences, str) else list(audiences)
-    if not names or any(not name or set(name) & set("\r\n") for name in names):
-        raise ValueError("audiences are one or more names, none of them empty or with a line end")
-    return "\n".join(names).encode()
+    if not all(isinstance(name, str) for name in names):
+        raise TypeError("audiences are a str, or several")
+    if not names or not all(names):
+        raise ValueError("audiences are one or more names, and none of them is empty")
+    return [name.encode() for name in names]
 
 
 def _report(messages: bytes) -> str:

@@ -1,12 +1,14 @@
 """Who may call: patterns, and the middlewares that have some."""
 
 import asyncio
+import json
+import threading
 
 from wsgiref.util import setup_testing_defaults
 
 import pytest
 import svid
-from making import SUBJECT, fresh, token, validator
+from making import PATIENCE, SUBJECT, claims, fresh, private_key, signed, token, validator
 from svid import asgi, wsgi
 from vectors import name_of, read
 
@@ -83,6 +85,26 @@ def test_a_caller_that_no_pattern_allows(server):
         assert closed(many)[0] == 403 and opened(many)[0] == 200
         assert opened(good)[0] == 200
         assert "Replayed" in opened(good)[1] and "Replayed" in closed(good)[1]
+
+
+@pytest.mark.parametrize("server", [of_wsgi, of_asgi])
+def test_what_a_token_says_may_be_longer_than_the_token(server):
+    # (the trust domain is said twice: as it is, and in the subject)
+    ids = ["spiffe://" + "a" * 255, "spiffe://" + "a" * 255 + "/b", "spiffe://a/" + "b" * 2000]
+    said, kids = [], ["", "k" * 2000, "k" * 20_000]
+
+    def ask_all():
+        for subject, kid in [(subject, kid) for subject in ids for kid in kids]:
+            parts = [{"alg": "ES256", "kid": kid}, claims(sub=subject)]
+            text = signed("ES256", key, *(json.dumps(it).encode() for it in parts))
+            said.append(ask(text.rpartition(".")[0] + ".AA"))
+
+    with validator() as checks:
+        ask, key = server(checks, OTHERS), private_key("ES256")
+        asking = threading.Thread(target=ask_all, daemon=True)
+        asking.start()
+        asking.join(PATIENCE)
+    assert said == [(401, 'Bearer error="invalid_token", error_description="Expired"')] * 9
 
 
 def test_a_websocket_of_a_caller_that_no_pattern_allows():

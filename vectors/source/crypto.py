@@ -55,10 +55,10 @@ def digest(alg, signed):
 
 
 class Curve:
-    """A curve of RFC 7518, section 6.2.1.1, with the order of its group (FIPS 186-4, D.1.2)."""
+    """A curve of RFC 7518, section 6.2.1.1, with the prime of its field and the order of its group (FIPS 186-4, D.1.2)."""
 
-    def __init__(self, name, alg, curve, order):
-        self.name, self.alg, self.curve, self.order = name, alg, curve, order
+    def __init__(self, name, alg, curve, field, order):
+        self.name, self.alg, self.curve, self.field, self.order = name, alg, curve, field, order
         self.size = (curve.key_size + 7) // 8
 
         assert self.point(order - 1).x == self.point(1).x  # (that is the point's negative)
@@ -66,25 +66,44 @@ class Curve:
     def point(self, scalar):
         return ec.derive_private_key(scalar, self.curve).public_key().public_numbers()
 
+    def hashed(self, alg, signed):
+        """The digest as a number, of as many bits as the order has (FIPS 186-4, section 6.4)."""
+        data = digest(alg, signed)
+        return int.from_bytes(data, "big") >> max(0, 8 * len(data) - self.order.bit_length())
+
+    def at(self, x):
+        """The point with an even y and the first abscissa from x on that a point has (SEC 1, section 2.3.4)."""
+        while True:
+            try:
+                return ec.EllipticCurvePublicKey.from_encoded_point(self.curve, b"\2" + x.to_bytes(self.size, "big")).public_numbers()
+            except ValueError:
+                x += 1
+
+    def sum(self, one, other):
+        """Of two points with other abscissas (SEC 1, section 2.2.1)."""
+        slope = (other.y - one.y) * pow(other.x - one.x, -1, self.field) % self.field
+        x = (slope * slope - one.x - other.x) % self.field
+        return ec.EllipticCurvePublicNumbers(x, (slope * (one.x - x) - one.y) % self.field, self.curve)
+
 
 def ones(bits):
     return (1 << bits) - 1
 
 
 CURVES = [
-    Curve("P-256", "ES256", ec.SECP256R1(), ones(32) << 224 | ones(64) << 128 | 0xBCE6FAADA7179E84F3B9CAC2FC632551),
-    Curve("P-384", "ES384", ec.SECP384R1(), ones(192) << 192 | 0xC7634D81F4372DDF581A0DB248B0A77AECEC196ACCC52973),
-    Curve("P-521", "ES512", ec.SECP521R1(), ones(257) << 264 | 0xFA51868783BF2F966B7FCC0148F709A5D03BB5C9B8899C47AEBB6FB71E91386409),
+    Curve("P-256", "ES256", ec.SECP256R1(), 2**256 - 2**224 + 2**192 + 2**96 - 1, ones(32) << 224 | ones(64) << 128 | 0xBCE6FAADA7179E84F3B9CAC2FC632551),
+    Curve("P-384", "ES384", ec.SECP384R1(), 2**384 - 2**128 - 2**96 + 2**32 - 1, ones(192) << 192 | 0xC7634D81F4372DDF581A0DB248B0A77AECEC196ACCC52973),
+    Curve("P-521", "ES512", ec.SECP521R1(), ones(521), ones(257) << 264 | 0xFA51868783BF2F966B7FCC0148F709A5D03BB5C9B8899C47AEBB6FB71E91386409),
 ]
 CURVE_OF = {it.alg: it for it in CURVES}
 
 
 class EC:
-    """A private key on a curve."""
+    """A private key on a curve: that of a text, or this one."""
 
-    def __init__(self, alg, text):
+    def __init__(self, alg, text, secret=None):
         self.curve, self.text = CURVE_OF[alg], text
-        self.secret = below(f"{alg} key {text}", self.curve.order)
+        self.secret = secret or below(f"{alg} key {text}", self.curve.order)
         self.public = self.curve.point(self.secret)
 
     def members(self):
@@ -94,11 +113,9 @@ class EC:
     def numbers(self, alg, signed, turn=0):
         """r and s (FIPS 186-4, section 6.4), by the nonce of this turn."""
         order = self.curve.order
-        hashed = digest(alg, signed)
-        z = int.from_bytes(hashed, "big") >> max(0, 8 * len(hashed) - order.bit_length())
         nonce = below(f"nonce {turn} {self.text} {alg} {signed}", order)
         r = self.curve.point(nonce).x % order
-        return r, pow(nonce, -1, order) * (z + r * self.secret) % order
+        return r, pow(nonce, -1, order) * (self.curve.hashed(alg, signed) + r * self.secret) % order
 
     def pair(self, r, s):
         return r.to_bytes(self.curve.size, "big") + s.to_bytes(self.curve.size, "big")
@@ -114,6 +131,14 @@ class EC:
         r, s = int.from_bytes(signature[:size], "big"), int.from_bytes(signature[size:], "big")
         der = utils.encode_dss_signature(r, s)
         return _verified(self.public.public_key(), der, signed.encode(), ec.ECDSA(HASHES[alg[2:]]))
+
+
+class Recovered(EC):
+    """The public key by which r and s are a good signature of a text, where r is that of a point, and s is r (SEC 1, section 4.1.6)."""
+
+    def __init__(self, alg, signed, point):
+        self.curve, order = CURVE_OF[alg], CURVE_OF[alg].order
+        self.public = self.curve.sum(point, self.curve.point(-self.curve.hashed(alg, signed) * pow(point.x, -1, order) % order))
 
 
 class RSA:
@@ -147,17 +172,17 @@ class RSA:
         told = bytes.fromhex(DIGEST_INFO[alg[2:]]) + digest(alg, signed)
         return b"\0\1" + b"\xff" * (self.size - len(told) - 3) + b"\0" + told
 
-    def salted(self, alg, signed, salt):
-        """EMSA-PSS, with MGF1 of the same hash (RFC 8017, sections 9.1.1 and B.2.1)."""
+    def salted(self, alg, signed, salt=None, front=bytes(8), first=None, separator=1, mask_by=None):
+        """EMSA-PSS, with MGF1 of the same hash (RFC 8017, sections 9.1.1 and B.2.1), or with what no signature has."""
         hashed = digest(alg, signed)
         salt = drawn(f"salt {alg} {signed}", len(hashed) if salt is None else salt)
         bits = self.bits - 1
         size = (bits + 7) // 8
-        sealed = hashlib.new("sha" + alg[2:], bytes(8) + hashed + salt).digest()
-        block = bytes(size - len(salt) - len(sealed) - 2) + b"\1" + salt
+        sealed = hashlib.new("sha" + alg[2:], front + hashed + salt).digest()
+        block = (first or bytes(size - len(salt) - len(sealed) - 2)) + bytes([separator]) + salt
         mask = b""
-        for counter in range(len(block) // len(sealed) + 1):
-            mask += hashlib.new("sha" + alg[2:], sealed + counter.to_bytes(4, "big")).digest()
+        for counter in range(len(block) // 32 + 1):
+            mask += hashlib.new("sha" + (mask_by or alg[2:]), sealed + counter.to_bytes(4, "big")).digest()
         masked = bytearray(a ^ b for a, b in zip(block, mask))
         masked[0] &= 0xFF >> (8 * size - bits)
         return bytes(masked) + sealed + b"\xbc"

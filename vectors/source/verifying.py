@@ -292,14 +292,17 @@ def many():
 
 # The first numbers of a jti with which a signature is what the vector asks for. Searching for them would take a minute.
 FITS = {"RS256": 0, "RS384": 7, "RS512": 0, "PS256": 23, "PS384": 17, "PS512": 10}
-ZERO = {"RS256": 459, "PS256": 409}
+ZERO = {"RS256": 459, "RS384": 94, "RS512": 0, "PS256": 409, "PS384": 133, "PS512": 39}
 
 
 def signatures():
     yield from good_ones()
     yield from rsa_forms()
+    yield from odd_lengths()
+    yield from encoded()
     yield from salts()
     yield from pairs()
+    yield from points()
     yield from others()
     yield of_rfc_7515()
 
@@ -346,8 +349,8 @@ def swap(alg):
     return {"R": "PS", "P": "RS", "E": "ES"}[alg[0]] + {"256": "384"}.get(alg[2:], "256")
 
 
-def numbered(alg, jti):
-    return token(alg, jti=str(jti))
+def numbered(alg, jti, key=None):
+    return token(alg, key, jti=str(jti))
 
 
 def rsa_forms():
@@ -374,9 +377,88 @@ def rsa_forms():
         yield row(f"{alg}, that signature without its zero", below, [entry(crypto.key(alg))], f"{signed}.{b64(unb64(signature)[1:])}", BAD)
 
 
-def first(alg, jti, fits):
+def odd_lengths():
+    """Keys whose bits do not fill their bytes. There a signature that is not below the modulus has its length too."""
+    below = "RFC 8017, sections 5.2.2, 8.1.2 and 8.2.2"
+    for alg in ("RS256", "PS256", "PS384", "PS512"):
+        for bits in (2049, 2050, 2055):
+            key = crypto.rsa_key("lengths", bits)
+            made = first(alg, 0, lambda it: it[0] == 0, key)
+            signed, _, signature = made.rpartition(".")
+            data, value = unb64(signature), int.from_bytes(unb64(signature), "big")
+            most = ((1 << 8 * key.size) - 1 - value) // key.modulus
+            yield row(f"{alg}, {bits:,} bits, a signature that begins with a zero", below, [entry(key)], made, accepted())
+            for what, it in {
+                "that signature without its zero": data[1:],
+                "another zero in front": bytes(1) + data,
+                "the modulus more": (value + key.modulus).to_bytes(key.size, "big"),
+                f"{most} times the modulus more": (value + most * key.modulus).to_bytes(key.size, "big"),
+            }.items():
+                assert not key.made(alg, signed, it)
+                yield row(f"{alg}, {bits:,} bits, {what}", below, [entry(key)], f"{signed}.{b64(it)}", BAD)
+
+
+def encoded():
+    """What the signature's power is: the encoded message, and nothing else."""
+    for alg in ("RS256", "PS256", "PS384", "PS512"):
+        for bits in (2048, 2049, 2050):
+            key = crypto.key(alg) if bits == 2048 else crypto.rsa_key("lengths", bits)
+            forms = pkcs1_forms if alg[0] == "R" else pss_forms
+            for what, source, value in forms(alg, key, crypto.signing_input({"alg": alg, "kid": "k1"}, claims())):
+                signed = crypto.signing_input({"alg": alg, "kid": "k1"}, claims())
+                made = key.power(value).to_bytes(key.size, "big")
+                assert not key.made(alg, signed, made), what
+                yield row(f"{alg}, {bits:,} bits, {what}", source, [entry(key)], f"{signed}.{b64(made)}", BAD)
+
+
+def pkcs1_forms(alg, key, signed):
+    source = "RFC 8017, section 8.2.2: the encoded message is compared as a whole"
+    hashed, good = crypto.digest(alg, signed), key.padded(alg, signed)
+    told = bytes.fromhex(crypto.DIGEST_INFO[alg[2:]]) + hashed
+
+    def filled(front, end, behind=b""):
+        return front + b"\xff" * (key.size - len(front) - len(end) - len(behind) - 1) + b"\0" + end + behind
+
+    def number_of(data):
+        assert len(data) == key.size
+        return int.from_bytes(data, "big")
+
+    yield "block type 2", source, number_of(b"\0\2" + good[2:])
+    yield "block type 0", source, number_of(bytes(2) + good[2:])
+    yield "a padding that ends early", source, number_of(b"\0\1" + b"\xff" * 8 + b"\0" + told + bytes(key.size - 11 - len(told)))
+    yield "a byte behind the digest", source, number_of(filled(b"\0\1", told, b"\0"))
+    yield "a padding of other bytes", source, number_of(b"\0\1" + b"\xfe" + good[3:])
+    yield "a digest alone", source, number_of(filled(b"\0\1", hashed))
+    yield "a length of two bytes", source, number_of(filled(b"\0\1", b"\x30\x81" + told[1:]))
+    bare = bytes.fromhex({"256": "302f300b0609608648016503040201"}[alg[2:]]) + told[17:]
+    yield "a hash without parameters", "RFC 8017, appendix A.2.4: the parameters are NULL here", number_of(filled(b"\0\1", bare))
+    yield "the name of another hash", source, number_of(filled(b"\0\1", bytes.fromhex(crypto.DIGEST_INFO["384"])[:-1] + b"\x20" + hashed))
+
+
+def pss_forms(alg, key, signed):
+    step = "RFC 8017, section 9.1.2, step"
+    size = (key.bits + 6) // 8  # of the encoded message
+    good = key.salted(alg, signed)
+    beyond = int.from_bytes(good, "big") + (1 << key.bits - 1)
+    if beyond < key.modulus:
+        yield "a bit before the encoded message", f"RFC 8017, section 8.1.2, step 2c, and {step[10:]} 6", beyond
+    assert len(good) == size
+    hashed = len(crypto.digest(alg, signed))
+
+    def of(**how):
+        return int.from_bytes(key.salted(alg, signed, **how), "big")
+
+    yield "another last byte", f"{step} 4", int.from_bytes(good[:-1] + b"\xcc", "big")
+    yield "a zero before the salt where a one is due", f"{step} 10", of(separator=0)
+    yield "a two before the salt where a one is due", f"{step} 10", of(separator=2)
+    yield "a padding of other bytes than zeros", f"{step} 10", of(first=b"\0" * (size - 2 * hashed - 3) + b"\x40")
+    yield "another mask", "RFC 7518, section 3.5: MGF1 with the same hash", of(mask_by="384" if alg[2:] == "256" else "256")
+    yield "no padding of the hash", f"{step} 12", of(front=b"")
+
+
+def first(alg, jti, fits, key=None):
     while True:
-        made = numbered(alg, jti)
+        made = numbered(alg, jti, key)
         if fits(unb64(made.rpartition(".")[2])):
             return made
         jti += 1
@@ -442,6 +524,46 @@ def pairs():
     signed = token().rpartition(".")[0]
     der = crypto.utils.encode_dss_signature(*key.numbers("ES256", signed))
     yield row("ES256, a signature in DER", length, [entry(key)], f"{signed}.{b64(der)}", BAD)
+
+
+def points():
+    """Points of which little is left to chance (SEC 1, section 4.1.4): a key can be made for any of them."""
+    range_ = "FIPS 186-4, section 6.4: r and s are from 1 to the order less 1"
+    equal = "FIPS 186-4, section 6.4: r is the abscissa of the sum modulo the order; computed by cryptography"
+    for alg in ("ES256", "ES384", "ES512"):
+        signed = crypto.signing_input({"alg": alg, "kid": "k1"}, claims())
+        curve = crypto.CURVE_OF[alg]
+        order, zero = curve.order, bytes(1)
+
+        def told(what, source, key, r, s, answer):
+            made = key.pair(r, s)
+            assert key.made(alg, signed, made) == (answer != BAD), what
+            return row(f"{alg}, {what}", source, [entry(key)], f"{signed}.{b64(made)}", answer)
+
+        small, large = curve.at(2), curve.at(order + 1)
+        key = crypto.Recovered(alg, signed, small)
+        yield told("small r and s", range_, key, small.x, small.x, accepted())
+        yield told("small r and s, r the order more", range_, key, small.x + order, small.x, BAD)
+        yield told("small r and s, s the order more", range_, key, small.x, small.x + order, BAD)
+        short = small.x.to_bytes(1, "big")
+        for what, it in {"as a byte each": short + short, "as two bytes each": (zero + short) * 2}.items():
+            yield row(f"{alg}, small r and s, {what}", "RFC 7518, section 3.4", [entry(key)], f"{signed}.{b64(it)}", BAD)
+        key = crypto.Recovered(alg, signed, large)
+        yield told("an abscissa beyond the order", equal, key, large.x - order, large.x - order, accepted())
+        yield told("an abscissa beyond the order, as it is", range_, key, large.x, large.x - order, BAD)
+        # The two points of the sum are the same one, or cancel each other.
+        hashed, nonce = curve.hashed(alg, signed), 12_345
+        r = curve.point(nonce).x % order
+        s = 2 * hashed * pow(nonce, -1, order) % order
+        yield told("a sum of equal points", equal, crypto.EC(alg, "", hashed * pow(r, -1, order) % order), r, s, accepted())
+        yield told(
+            "a sum at infinity",
+            "SEC 1, section 4.1.4, step 5: the point at infinity is refused",
+            crypto.EC(alg, "", -hashed * pow(r, -1, order) % order),
+            r,
+            s,
+            BAD,
+        )
 
 
 def others():
