@@ -144,7 +144,7 @@ class PostgresServer(Server):
         self.url = f"postgresql://svid@127.0.0.1:{self.port}/postgres"
 
     def made(self):
-        """The data of a new server, from which each one begins: to make them costs more than a copy."""
+        """The data of a new server, from which each begins: to make them costs more than a copy."""
         room = tempfile.mkdtemp(prefix="svid-test-", dir="/tmp")
         atexit.register(shutil.rmtree, room, ignore_errors=True)
         os.chown(room, self.user.get("user", -1), self.user.get("group", -1))
