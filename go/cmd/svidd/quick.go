@@ -23,9 +23,10 @@ import (
 //
 // The handler keeps nothing of a request or an answer behind its end, but the texts.
 type quick struct {
-	rest   *http.Server // whose handler it calls
-	handed handed       // what goes to rest
-	served sync.WaitGroup
+	rest       *http.Server // whose handler it calls
+	handed     handed       // what goes to rest
+	served     sync.WaitGroup
+	watchAfter time.Duration // watchAfter
 
 	mu       sync.Mutex // guards the fields below
 	listener net.Listener
@@ -34,7 +35,7 @@ type quick struct {
 }
 
 func newQuick(rest *http.Server) *quick {
-	return &quick{rest: rest, handed: handed{conns: make(chan net.Conn), ended: make(chan struct{})}, lines: make(map[*line]struct{})}
+	return &quick{rest: rest, handed: handed{conns: make(chan net.Conn), ended: make(chan struct{})}, watchAfter: watchAfter, lines: make(map[*line]struct{})}
 }
 
 // Serve answers until Shutdown or Close. The listener is a bounded one.
@@ -203,7 +204,7 @@ func (l *line) serve() {
 			}
 		}
 	}()
-	l.presence.line = l
+	l.presence.line, l.presence.after = l, l.server.watchAfter
 	l.reply.header = make(http.Header, 8)
 	l.request = (&http.Request{
 		Method: http.MethodGet, Proto: "HTTP/1.1", ProtoMajor: 1, ProtoMinor: 1, URL: new(url.URL), Header: make(http.Header, 8),
@@ -213,7 +214,7 @@ func (l *line) serve() {
 	_ = l.conn.SetReadDeadline(l.readUntil)
 	for {
 		n, err := l.have, error(nil)
-		if n == 0 {
+		if n == 0 { // (else Go's server reads the rest)
 			n, err = l.conn.Read(l.in[:])
 		}
 		if err != nil || !l.state.CompareAndSwap(idle, busy) {
@@ -409,15 +410,20 @@ func dateOf(now time.Time) string {
 	return d.text
 }
 
-// A presence is the context of a line's requests. From the moment that someone asks for its end, the line is watched until the answer goes out, and the
+// watchAfter is how long a request whose client is missed if it goes may take before its line is watched. Nearly all are answered by then.
+const watchAfter = 20 * time.Millisecond
+
+// A presence is the context of a line's requests. Some time after someone asked for its end, the line is watched until the answer goes out, and the
 // context ends if the client is gone.
 type presence struct {
-	line *line
+	line  *line
+	after time.Duration // watchAfter
 
 	mu      sync.Mutex
 	gone    chan struct{} // nil before anyone asks; closed once the client is gone
-	watched chan struct{} // closed once the watch has ended
 	isGone  bool
+	begin   *time.Timer   // begins the watch
+	watched chan struct{} // nil before that; closed once the watch has ended
 }
 
 func (p *presence) Deadline() (time.Time, bool) { return time.Time{}, false }
@@ -427,8 +433,8 @@ func (p *presence) Done() <-chan struct{} {
 	p.mu.Lock()
 	defer p.mu.Unlock()
 	if p.gone == nil {
-		p.gone, p.watched = make(chan struct{}), make(chan struct{})
-		go p.watch(p.gone, p.watched)
+		gone := make(chan struct{})
+		p.gone, p.begin = gone, time.AfterFunc(p.after, func() { p.watch(gone) })
 	}
 	return p.gone
 }
@@ -442,8 +448,16 @@ func (p *presence) Err() error {
 	return nil
 }
 
-// watch waits until a byte of the next request comes, or the client is gone, or end lets it end.
-func (p *presence) watch(gone, watched chan struct{}) {
+// watch waits until a byte of the next request comes, or the client is gone, or end lets it end. It does nothing where the request has ended.
+func (p *presence) watch(gone chan struct{}) {
+	p.mu.Lock()
+	if p.gone != gone {
+		p.mu.Unlock()
+		return
+	}
+	watched := make(chan struct{})
+	p.watched = watched
+	p.mu.Unlock()
 	defer close(watched)
 	n, err := p.line.conn.Read(p.line.in[:1])
 	if p.line.have = n; err == nil || errors.Is(err, os.ErrDeadlineExceeded) {
@@ -458,16 +472,20 @@ func (p *presence) watch(gone, watched chan struct{}) {
 // end ends the watch, if there is one.
 func (p *presence) end() {
 	p.mu.Lock()
-	watched := p.watched
+	begin, watched := p.begin, p.watched
+	p.gone, p.begin, p.watched = nil, nil, nil
 	p.mu.Unlock()
+	if begin != nil {
+		begin.Stop()
+	}
 	if watched == nil {
 		return
 	}
 	_ = p.line.conn.SetReadDeadline(time.Unix(1, 0))
 	<-watched
+	p.mu.Lock()
+	p.isGone = false
+	p.mu.Unlock()
 	p.line.readUntil = time.Now().Add(idleWait + slack)
 	_ = p.line.conn.SetReadDeadline(p.line.readUntil)
-	p.mu.Lock()
-	defer p.mu.Unlock()
-	p.gone, p.watched, p.isGone = nil, nil, false
 }

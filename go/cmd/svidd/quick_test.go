@@ -277,48 +277,65 @@ func TestTheContextOfAQuickRequestEndsWithItsClient(t *testing.T) {
 	t.Parallel()
 	came, heard := make(chan struct{}, 1), make(chan error, 1)
 	_, address, _ := serveBoth(t, func(w http.ResponseWriter, r *http.Request) {
-		if r.URL.Path == "/check/wait" {
+		switch r.URL.Path {
+		case "/check/gone":
 			came <- struct{}{}
 			<-r.Context().Done()
 			heard <- r.Context().Err()
-			return
-		}
-		ctx, cancel := context.WithCancel(r.Context())
-		defer cancel()
-		select {
-		case <-ctx.Done():
-			w.WriteHeader(http.StatusGone)
-		case <-time.After(10 * time.Millisecond):
+		case "/check/early": // until the line was watched, and a byte has come
+			ctx, cancel := context.WithCancel(r.Context())
+			defer cancel()
+			came <- struct{}{}
+			p := r.Context().(*presence)
+			for watched := (chan struct{})(nil); watched == nil; time.Sleep(time.Millisecond) {
+				p.mu.Lock()
+				watched = p.watched
+				p.mu.Unlock()
+				if watched != nil {
+					<-watched
+				}
+			}
+			if ctx.Err() != nil {
+				w.WriteHeader(http.StatusGone)
+			}
+		default:
+			_ = r.Context().Done()
 		}
 	})
-	c, err := net.Dial("tcp", address)
-	if err != nil {
-		t.Fatal(err)
+	dial := func() (net.Conn, func(path string), func(path string)) {
+		c, err := net.Dial("tcp", address)
+		if err != nil {
+			t.Fatal(err)
+		}
+		t.Cleanup(func() { c.Close() })
+		_ = c.SetDeadline(time.Now().Add(patience.Long))
+		r := bufio.NewReader(c)
+		send := func(path string) { _, _ = io.WriteString(c, "GET "+path+" HTTP/1.1\r\nHost: a\r\n\r\n") }
+		return c, send, func(path string) {
+			t.Helper()
+			if answer, err := http.ReadResponse(r, nil); err != nil || answer.StatusCode != http.StatusOK || answer.Close {
+				t.Fatal(path, answer, err)
+			}
+		}
 	}
-	_, _ = io.WriteString(c, "GET /check/wait HTTP/1.1\r\nHost: a\r\n\r\n")
+	c, send, _ := dial()
+	send("/check/gone")
 	<-came
 	c.Close()
 	if err := <-heard; err != context.Canceled {
 		t.Error(err)
 	}
 
-	if c, err = net.Dial("tcp", address); err != nil {
-		t.Fatal(err)
+	_, send, answered := dial()
+	for n := 0; n < 20; n++ { // as long as it is not watched, a line stays with the quick server
+		send("/check/short")
+		answered("/check/short")
 	}
-	defer c.Close()
-	_ = c.SetDeadline(time.Now().Add(patience.Long))
-	r := bufio.NewReader(c)
-	for n := 0; n < 20; n++ {
-		_, _ = io.WriteString(c, "GET /check HTTP/1.1\r\nHost: a\r\n\r\n")
-		if n%2 == 1 { // the second one, while the first one waits
-			_, _ = io.WriteString(c, "GET /check HTTP/1.1\r\nHost: a\r\n\r\n")
-		}
-		for k := 0; k <= n%2; k++ {
-			if answer, err := http.ReadResponse(r, nil); err != nil || answer.StatusCode != http.StatusOK {
-				t.Fatal(n, k, answer, err)
-			}
-		}
-	}
+	send("/check/early")
+	<-came
+	send("/check/next")
+	answered("/check/early")
+	answered("/check/next")
 }
 
 // A handler that panics ends its connection, and no other one.
