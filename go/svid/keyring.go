@@ -199,17 +199,17 @@ func (k *Keyring) Candidates(token string) ([]Candidate, error) {
 // token. A shorter one is rather hashed for each key that is tried than read once more.
 const longToken = 4096
 
-// ask appends the candidates to room, those of a long token without their questions, and returns the cache of the bundles that they are of, and what their keys are to verify.
-func (k *Keyring) ask(room []Candidate, token string) (candidates []Candidate, keys *keyCache, s signing, err error) {
+// ask appends the candidates to room, those of a long token without their questions, and returns the cache of the bundles that they are of. s gets what
+// their keys are to verify.
+func (k *Keyring) ask(room []Candidate, s *signing, token string) (candidates []Candidate, keys *keyCache, err error) {
 	k.mu.RLock()
 	defer k.mu.RUnlock()
 	a := <-k.askers
 	defer func() { k.askers <- a }()
 	if candidates, err = a.candidates(room, token, k.keys, len(token) > longToken); err != nil {
-		return nil, nil, signing{}, err
+		return nil, nil, err
 	}
-	s, err = a.signing(token)
-	return candidates, k.keys, s, err
+	return candidates, k.keys, a.sign(s, token)
 }
 
 // has says whether the bundles are still those of keys.
@@ -252,8 +252,8 @@ func (a *asker) candidates(room []Candidate, token string, keys *keyCache, unhas
 	return room, nil
 }
 
-// signing returns the token's signature, and what it is made over.
-func (a *asker) signing(token string) (signing, error) {
+// sign gives s the token's signature, and what it is made over.
+func (a *asker) sign(s *signing, token string) error {
 	for {
 		status := C.signature(token, &a.over, start(a.signature), C.size_t(len(a.signature)), &a.told)
 		if status == C.SVID_TOO_SHORT {
@@ -261,9 +261,10 @@ func (a *asker) signing(token string) (signing, error) {
 			continue
 		}
 		if err := failure(status, &a.told); err != nil {
-			return signing{}, err
+			return err
 		}
-		return signing{text: token[:a.over.len], signature: append([]byte(nil), a.signature[:a.told.len]...)}, nil
+		s.text, s.signature = token[:a.over.len], append(s.signature[:0], a.signature[:a.told.len]...)
+		return nil
 	}
 }
 
@@ -326,14 +327,29 @@ func (k *Keyring) Verify(token string) ([]Question, error) {
 	}
 }
 
+// A trial is room to try the keys of one token.
+type trial struct {
+	candidates [MaxCandidates]Candidate
+	signing    signing
+}
+
+var trials = sync.Pool{New: func() any { return new(trial) }}
+
+// end lets the next token have the room. What it has of this one is not kept.
+func (t *trial) end() {
+	t.candidates, t.signing = [MaxCandidates]Candidate{}, signing{signature: t.signing.signature[:0]}
+	trials.Put(t)
+}
+
 // tried verifies the signature with each candidate. It is to be called again if the bundles were replaced meanwhile.
 func (k *Keyring) tried(token string) (yes []Question, same bool, err error) {
-	var room [MaxCandidates]Candidate
-	candidates, keys, s, err := k.ask(room[:0], token)
+	t := trials.Get().(*trial)
+	defer t.end()
+	candidates, keys, err := k.ask(t.candidates[:0], &t.signing, token)
 	if err != nil {
 		return nil, true, err
 	}
-	i, err := findMaker(candidates, &s)
+	i, err := findMaker(candidates, &t.signing)
 	if err != nil || i < 0 {
 		return nil, true, err
 	}

@@ -256,7 +256,7 @@ func TestEachHandleServesOneCall(t *testing.T) {
 func TestTheKeysOfBundlesHaveALock(t *testing.T) {
 	one := issuerOfLocks(t)
 	k := openKeyring(t, string(one.Bundles()))
-	candidates, keys, _, err := k.ask(nil, one.Token("ES256", map[string]any{"sub": "spiffe://example.org/web", "aud": "ledger", "exp": 2_000_000_000}))
+	candidates, keys, err := k.ask(nil, new(signing), one.Token("ES256", map[string]any{"sub": "spiffe://example.org/web", "aud": "ledger", "exp": 2_000_000_000}))
 	if err != nil {
 		t.Fatal(err)
 	}

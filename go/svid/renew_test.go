@@ -137,7 +137,7 @@ func TestAQuestionIsOfItsBundles(t *testing.T) {
 	one := issuerOfLocks(t)
 	k := openKeyring(t, string(one.Bundles()))
 	token := one.Token("ES256", map[string]any{"sub": "spiffe://example.org/web", "aud": "ledger", "exp": 2_000_000_000, "jti": "a"})
-	candidates, keys, _, err := k.ask(nil, token)
+	candidates, keys, err := k.ask(nil, new(signing), token)
 	if err != nil || len(candidates) == 0 {
 		t.Fatal(err)
 	}

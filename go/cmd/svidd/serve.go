@@ -12,7 +12,6 @@ import (
 	"time"
 
 	"svid.example/go/v2/guard"
-	"svid.example/go/v2/svid"
 )
 
 const (
@@ -35,8 +34,8 @@ const (
 	spareHeap = 32 << 20
 )
 
-// clock is this machine's. Tests set it.
-var clock = svid.Now
+// clock is this machine's where it is nil. Tests set it.
+var clock func() uint64
 
 // errClock ends the sidecar: the next one begins with the clock as it is.
 var errClock = errors.New(strings.Replace(guard.ErrClock.Error(), "open a new guard", "start svidd again", 1))

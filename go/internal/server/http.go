@@ -165,17 +165,20 @@ func (r *Rules) audience(token string) string {
 	return readUnverified(token).audience(r.Audiences)
 }
 
-// logDecision writes the line of a judged token, without the token.
+// logDecision writes the line of a judged token, without the token, where the log has such lines.
 func (e *Engine) logDecision(at time.Time, took time.Duration, who caller, v verdict) {
-	err := v.err
-	refusal, refused := refusalOf(err)
 	level := Decisions
-	if err != nil && !refused && err != ErrNotAllowed {
+	if _, refused := refusalOf(v.err); v.err != nil && !refused && v.err != ErrNotAllowed {
 		level = Errors
 	}
-	if !e.Log.Writes(level) {
-		return
+	if e.Log.Writes(level) { // (or no memory is asked for)
+		e.writeDecision(at, took, level, who, v)
 	}
+}
+
+func (e *Engine) writeDecision(at time.Time, took time.Duration, level Level, who caller, v verdict) {
+	err := v.err
+	refusal, refused := refusalOf(err)
 	if who.request == "" {
 		who.request = names.next()
 	}
