@@ -28,20 +28,14 @@ function nodeOf(text) {
   }
 }
 
-/** Whether a text is the bundle of one trust domain, as SPIRE prints it, and so wants the name of that. */
-export function isOneBundle(text) {
-  const node = nodeOf(text);
-  return member(node, "keys")?.value.kind === "array";
+/** Bundles as the library takes them: an object of trust domains. The text of a bundle is not changed. */
+export function bundlesOf(library, text, domain) {
+  return library.isOneBundle(text) ? `{${JSON.stringify(domain)}:${text}}` : text;
 }
 
 /** How many entries the bundle of one trust domain has. */
 export function countOf(text) {
-  return member(nodeOf(text), "keys").value.items.length;
-}
-
-/** Bundles as the library takes them: an object of trust domains. The text of a bundle is not changed. */
-export function bundlesOf(text, domain) {
-  return isOneBundle(text) ? `{${JSON.stringify(domain)}:${text}}` : text;
+  return member(nodeOf(text), "keys")?.value.items?.length ?? 0;
 }
 
 /** The names of the trust domains, in rising order, as the library counts them. */

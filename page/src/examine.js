@@ -1,6 +1,6 @@
 // What the library says of a token. Everything here is a function of its input: the page draws what comes out.
 
-import { bundlesOf, compact, domainsOf, entriesOf, isOneBundle, passedOver } from "./bundles.js";
+import { bundlesOf, compact, domainsOf, entriesOf, passedOver } from "./bundles.js";
 import { parse } from "./json.js";
 import { MOST_CANDIDATES, textOf } from "./library.js";
 import { refusalOf, REFUSALS } from "./refusals.js";
@@ -28,7 +28,7 @@ export async function examine(library, input) {
   const parts = partsOf(input.token, library);
   const names = library.says(input.token);
   const given = input.bundles.trim() ? input.bundles : "{}", named = input.domain || names.domain;
-  const isUnnamed = named === undefined && isOneBundle(given), shown = bundlesOf(given, named ?? UNNAMED);
+  const isUnnamed = named === undefined && library.isOneBundle(given), shown = bundlesOf(library, given, named ?? UNNAMED);
   // (a bundle without a name judges no token: the library only says whether it can be read)
   const bundles = isUnnamed ? "{}" : shown;
   const read = isUnnamed ? withValidator(library, input, shown, () => undefined) : { status: OK };

@@ -1,10 +1,10 @@
 // The library svid as a WebAssembly module: the calls of include/svid.h that the page makes. A length, a time and an address in memory are
 // BigInts here, as they have 64 bits; a status is a number.
 
-const TOLD = 40, ID = 24, TERMS = 40, USE = 64, VALIDATOR = 16, DIGEST = 32, BEARER = 16, SAID = 48;
+const TOLD = 40, ID = 24, TERMS = 40, USE = 64, VALIDATOR = 16, DIGEST = 32, BEARER = 16, SAID = 48, DOCUMENT = 24;
 const ID_ROOM = 2048, SIGNATURE_ROOM = 49150;
 const ANY = 2n ** 64n - 1n;
-const OK = 0, TOO_SHORT = 1;
+const OK = 0, TOO_SHORT = 1, BUNDLES_UNNAMED = 37;
 
 /** How many keys are tried for a token. */
 export const MOST_CANDIDATES = 3n;
@@ -46,6 +46,15 @@ export class Library {
       const status = this.calls.svid_id_parse(...memory.lend(text), out);
       const [offset, domainLength, pathLength] = memory.words(out, 3).map(Number);
       return { status, offset, domainLength, pathLength };
+    });
+  }
+
+  /** Whether a text is the bundle of one trust domain, as SPIRE prints it, and so wants the name of that. */
+  isOneBundle(text) {
+    return this.within((memory) => {
+      const [bytes, length] = memory.lend(text), document = memory.zeroed(DOCUMENT);
+      memory.setWords(document, [0n, length, 0n]);
+      return this.calls.svid_bundles_join(bytes, length, document, 1n, 0n, 0n, memory.zeroed(TOLD)) === BUNDLES_UNNAMED;
     });
   }
 

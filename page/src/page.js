@@ -1,6 +1,6 @@
 // The page: what is in its fields, what the library says of it, and what a person does.
 
-import { countOf, domainsOf, isOneBundle } from "./bundles.js";
+import { countOf, domainsOf } from "./bundles.js";
 import { byId, fill, make } from "./dom.js";
 import { examine, readRecord, use, withdraw } from "./examine.js";
 import { drawChecks, drawKeys, drawParts, drawToken, makeChecks } from "./explain.js";
@@ -162,7 +162,7 @@ function drawVerdict(kind, said, why) {
 }
 
 function drawBundles({ bundles }, result) {
-  const isOne = isOneBundle(bundles);
+  const isOne = library.isOneBundle(bundles);
   byId("domain-row").hidden = !isOne;
   byId("domain").placeholder = result.names.domain ?? "example.org";
   if (result.fault) return says("bundles", faultOf(result), true);
