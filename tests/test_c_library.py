@@ -84,6 +84,22 @@ RUNS = {
         "sanitized": "answers refused guarded nulls",
         "valgrind": "refused nulls",
     },
+    # documents of trust bundles
+    "documents": {
+        "wrapped": "refused",
+        "bare": "answers guarded nulls stack",
+        "musl": "stack",
+        "sanitized": "answers refused guarded nulls",
+        "valgrind": "refused nulls",
+    },
+    # a record bucket by bucket
+    "buckets": {
+        "wrapped": "refused",
+        "bare": "answers guarded nulls stack",
+        "musl": "stack",
+        "sanitized": "answers refused guarded nulls",
+        "valgrind": "refused nulls",
+    },
     # the helpers that stand in svid.h itself
     "helpers": {"bare": "names answers batches"},
 }

@@ -4,6 +4,7 @@ Each row is a line of a shell, its status, and what it prints to standard output
 own, with the files of examples/ and those that the fixture `folder` makes."""
 
 import itertools
+import json
 import os
 import shutil
 import subprocess
@@ -16,6 +17,7 @@ ANY = None
 VALIDATOR = "00112233445566778899aabbccddeeff"
 ON = "--bundles bundles.json --table table.txt"
 CHECK = f"svid check {ON} --now 1767225600 --validator-id {VALIDATOR}"
+SPIRE = CHECK.replace("bundles.json", "spire.json")
 QUESTION = '3d71aa109589f3104f47c57110e5568b82e8e6b4bd2c35f5b175b2b76209a0c2 "ec-1"\n'
 ACCEPTED = "accepted spiffe://example.org/billing/api 4102444800\n"
 NOTHING = "moment 0\nuses 0\ntwice 0\n"
@@ -81,6 +83,7 @@ def folder(session, program, request):
         "a_line_more": (made / "table.txt").read_bytes() + b"x\n",
         "many": " ".join(MANY).encode(),
         "bad.json": b'{"A":{"keys":[]}}\n',
+        "spire.json": json.dumps(json.loads((made / "bundles.json").read_text())["example.org"], indent=4).encode(),
     }
     for name, content in files.items():
         (made / name).write_bytes(content)
@@ -144,6 +147,19 @@ USUAL = [
     ("svid candidates --bundles none <token_later", stops("cannot open none")),
     ("svid candidates --bundles / <token_later", stops("cannot read input 1")),
     ("svid candidates <token_later", USAGE),
+    # a file that is the bundle of one trust domain, as SPIRE prints it
+    ("svid candidates --bundles spire.json --trust-domain example.org <token_later", prints(QUESTION)),
+    ("svid candidates --trust-domain=spiffe://example.org --bundles spire.json <token_later", prints(QUESTION)),
+    ("svid candidates --bundles spire.json --trust-domain example.com <token_later", refuses("refused UnknownDomain\n")),
+    ("svid candidates --bundles spire.json --trust-domain Example.org <token_later", faults("bundles: Domain(0)")),
+    ("svid candidates --bundles spire.json --trust-domain '' <token_later", faults("bundles: Domain(0)")),
+    (r"svid candidates --bundles spire.json --trust-domain $'\xff' <token_later", faults("bundles: Domain(0)")),
+    ("svid candidates --bundles spire.json <token_later", faults("bundles: Keys(0)")),
+    ("svid candidates --bundles bundles.json --trust-domain example.org <token_later", faults("bundles: Keys(0)")),
+    ("svid candidates --bundles two-uses.batch --trust-domain example.org <token_later", faults("bundles: NotObject")),
+    ("svid candidates --bundles none --trust-domain example.org <token_later", stops("cannot open none")),
+    ("svid candidates --bundles / --trust-domain example.org <token_later", stops("cannot read input 1")),
+    ("svid report --trust-domain example.org two-uses.batch", USAGE),
     ("svid candidates --help", HELPS),
 ]
 
@@ -154,6 +170,10 @@ CHECKS = [
     (rf"{CHECK} $'\xff' ledger <token.txt", prints(ACCEPTED)),
     (rf"{CHECK} $'\xff' <token.txt", refuses("refused NotAudience\n")),
     (f"{CHECK} Ledger <token.txt", refuses("refused NotAudience\n")),
+    (f"{SPIRE} --trust-domain example.org ledger <token.txt", prints(ACCEPTED)),
+    (f"{SPIRE} --trust-domain example.com ledger <token.txt", refuses("refused UnknownDomain\n")),
+    (f"{SPIRE} ledger <token.txt", faults("bundles: Keys(0)")),
+    (f"{SPIRE} --trust-domain example.org/ --out kept ledger <token.txt; [ ! -e kept ]", prints("")[:1] + ("", "svid: bundles: Domain(0)\n")),
     (f"{CHECK} $(cat many) ledger <token.txt", prints(ACCEPTED)),
     (f"{CHECK} $(cat many) <token.txt", refuses("refused NotAudience\n")),
     (f"svid merge {'two-uses.batch ' * 251} {MANY[250]}", stops(f"cannot open {MANY[250]}")),
