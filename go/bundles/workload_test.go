@@ -49,7 +49,7 @@ func TestWorkloadAPI(t *testing.T) {
 	agent.Give(t, map[string]string{"spiffe://example.org": bare, "example.com": spire})
 	w, o := watch(t, nil, ofAgent(t, agent.Address))
 	o.await(t, "the first bundles", o.calledTimes(1))
-	if o.last["example.org"] != used || !strings.Contains(o.last["example.com"], `"spiffe_sequence":7`) || len(o.last) != 2 {
+	if o.last["example.org"] != used || !strings.Contains(o.last["example.com"], `"use":"x509-svid"`) || len(o.last) != 2 {
 		t.Errorf("%q", o.last)
 	}
 	o.wantLines(t, 1, "bundle read domain example.org source example.org of "+agent.Address+" keys 1 passed_over 0")

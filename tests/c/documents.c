@@ -105,7 +105,7 @@ static void answers(void) {
     }
     /* Lengths that do not add up, also past all numbers. */
     static const svid_document unfit[][2] = {
-        { { 1, 10, 0 }, { 0, 0, 0 } }, { { 1, 12, 0 }, { 0, 0, 0 } }, { { 12, 0, 0 }, { 0, 0, 0 } }, { { 1, 11, 0 }, { SIZE_MAX, 1, 0 } }, { { 1, 11, 0 }, { 0, SIZE_MAX, 0 } },
+        { { 1, 10, 0 }, { 0, 0, 0 } }, { { 1, 12, 0 }, { 0, 0, 0 } }, { { 13, 0, 0 }, { 0, 0, 0 } }, { { 1, 11, 0 }, { SIZE_MAX, 1, 0 } }, { { 1, 11, 0 }, { 0, SIZE_MAX, 0 } },
         { { SIZE_MAX, 2, 0 }, { 1, 9, 0 } }, { { 0, 0, 0 }, { 1, 10, 0 } },
     };
     memcpy(bytes, "a{\"keys\":[]}", 12);
