@@ -31,7 +31,9 @@ import (
 	"strconv"
 	"sync"
 	"sync/atomic"
+	"syscall"
 	"time"
+	"unsafe"
 
 	"svid.example/go/v2/svid"
 )
@@ -246,6 +248,7 @@ func (j *Journal) read(take func(messages []byte) error) (found *contents, err e
 		if fault = take(piece); fault != nil {
 			close(stop)
 		}
+		forget(piece)
 	}
 	if err == nil {
 		err = found.fault(j.dir)
@@ -260,6 +263,19 @@ func (j *Journal) read(take func(messages []byte) error) (found *contents, err e
 		f.Messages, f.content = nil, nil
 	}
 	return found, fault
+}
+
+// forget gives the memory of bytes back to the system, which nobody reads any more: a file may be half as large as the record that it makes, and both would be
+// there at once. What they share with others of a page stays.
+func forget(piece []byte) {
+	if len(piece) == 0 {
+		return
+	}
+	size := os.Getpagesize()
+	from := -int(uintptr(unsafe.Pointer(&piece[0]))) & (size - 1)
+	if whole := (len(piece) - from) &^ (size - 1); whole > 0 {
+		_ = syscall.Madvise(piece[from:from+whole], syscall.MADV_DONTNEED) // Where that fails, the memory goes with the file.
+	}
 }
 
 // Torn returns the journals in which Load found what a crash left of a write that no Append had answered. They are worth a

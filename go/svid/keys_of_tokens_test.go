@@ -30,7 +30,8 @@ func openKeyring(t testing.TB, bundles string) *Keyring {
 // signingOf is a token's signature, and what it is made over.
 func signingOf(t testing.TB, token string) *signing {
 	t.Helper()
-	s, err := new(asker).signing(token)
+	var s signing
+	err := new(asker).sign(&s, token)
 	if err != nil {
 		t.Fatal(err)
 	}
@@ -86,7 +87,8 @@ func TestTheSignatureOfAToken(t *testing.T) {
 		".." + strings.Repeat("A", 65534): {".", strings.Repeat("\x00", 49150), nil},
 		".." + strings.Repeat("A", 65535): {err: TooLong},
 	} {
-		s, err := new(asker).signing(token)
+		var s signing
+		err := new(asker).sign(&s, token)
 		if err != want.err || err == nil && (s.text != want.text || string(s.signature) != want.signature) {
 			t.Errorf("%.20q: %v, %v", token, s, err)
 		}

@@ -202,7 +202,7 @@ func TestAQuickServerAnswersAsGosDoes(t *testing.T) {
 		t.Helper()
 		want, got := talk(t, gos, texts...), talk(t, quicks, texts...)
 		if got != want {
-			t.Errorf("%q:\ngot  %q\nwant %q", texts, got, want)
+			t.Fatalf("%q:\ngot  %q\nwant %q", texts, got, want)
 		}
 	}
 	for _, row := range heads {
@@ -322,8 +322,13 @@ func TestTheContextOfAQuickRequestEndsWithItsClient(t *testing.T) {
 	send("/check/gone")
 	<-came
 	c.Close()
-	if err := <-heard; err != context.Canceled {
-		t.Error(err)
+	select {
+	case err := <-heard:
+		if err != context.Canceled {
+			t.Error(err)
+		}
+	case <-time.After(patience.Long):
+		t.Fatal("nobody hears that the client is gone")
 	}
 
 	_, send, answered := dial()

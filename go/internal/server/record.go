@@ -81,10 +81,12 @@ func (t *Taking) happen(m *Machine) {
 	var together []byte
 	whole := true
 	for _, v := range t.Values {
-		uses, err := svid.Uses(v.Message)
+		_, err := svid.Whole(v.Message)
 		whole = whole && err == nil
 		together = append(together, v.Message...)
-		m.noteMode(v.Kind, uses)
+		if m.isOfOtherMode(v.Kind) {
+			m.noteMode(v.Message)
+		}
 	}
 	if len(t.Values) > 1 && whole && (len(together) == 0 || m.validator.Take(m.now.Wall, together) == nil) {
 		return
@@ -115,11 +117,9 @@ func (t *Taking) note(i int, err error) {
 // errMixed: a sidecar of the group runs in another mode.
 var errMixed = errors.New("another sidecar of the group accepts tokens in another mode, so a token can be accepted twice: run all in one mode")
 
-// noteMode logs that another sidecar of the group runs in another mode, and counts such values.
-func (m *Machine) noteMode(kind carriers.Kind, uses []svid.Use) {
-	if !m.isOfOtherMode(kind) {
-		return
-	}
+// noteMode logs that another sidecar of the group runs in another mode, as a value of that mode tells, and counts such values.
+func (m *Machine) noteMode(message []byte) {
+	uses, _ := svid.Uses(message) // (none of what is no message)
 	for i := range uses {
 		if m.saysMode(&uses[i]) {
 			m.sayMixed(&uses[i])
