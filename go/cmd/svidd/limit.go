@@ -29,15 +29,9 @@ func (l bounded) Accept() (net.Conn, error) {
 type boundedConn struct {
 	net.Conn
 	unanswered atomic.Int64 // bytes that were read since the last Write
-	again      []byte       // bytes that were read, and are to be read once more
 }
 
 func (c *boundedConn) Read(b []byte) (int, error) {
-	if len(c.again) > 0 {
-		n := copy(b, c.again)
-		c.again = c.again[n:]
-		return n, nil
-	}
 	if c.unanswered.Load() > mostUnanswered {
 		return 0, errUnanswered
 	}

@@ -73,7 +73,7 @@ func (s *sidecar) addresses() []answering {
 	if s.metrics != "" {
 		checks = s.guard.WithoutMetrics()
 	}
-	all := []answering{{"listen", s.options.listen, public, newQuick(s.server(checks))}}
+	all := []answering{{"listen", s.options.listen, public, s.server(checks)}}
 	if s.envoy != "" {
 		all = append(all, answering{"envoy", s.envoy, public, newGRPC(s.guard.Envoy(), s.log.Standard("envoy"))})
 	}
