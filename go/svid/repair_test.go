@@ -3,9 +3,9 @@ package svid_test
 import (
 	"bytes"
 	"encoding/binary"
-	"fmt"
 	"math/rand"
 	"reflect"
+	"strings"
 	"testing"
 
 	"svid.example/go/v2/svid"
@@ -146,7 +146,7 @@ func TestWalkAnswerRefusesWhatIsNoSummary(t *testing.T) {
 		{"long ago", at(0), ""},
 	} {
 		_, err := v.WalkAnswer(row.summary, 1000)
-		if got := fmt.Sprint(err); got != row.want && (err != nil || row.want != "") {
+		if (err == nil) != (row.want == "") || err != nil && !strings.HasPrefix(err.Error(), row.want) {
 			t.Errorf("%s: %v", row.what, err)
 		}
 	}
