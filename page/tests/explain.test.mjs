@@ -101,14 +101,14 @@ test("a text that begins with a byte order mark is the whole text", async () => 
 
 test("an entry with very many members is soon read", async () => {
   const library = await Library.load(readFileSync(process.env.SVID_MODULE)), key = await makeKey("ES256", "k1"), record = readRecord(library, new Uint8Array());
-  const many = Array.from({ length: 200_000 }, (_, n) => `"${n}":1,`).join("");
+  const many = Array.from({ length: 100_000 }, (_, n) => `"${n}":1,`).join("");
   const bundles = `{"example.org":{"keys":[{${many}${JSON.stringify(key.entry).slice(1)},${JSON.stringify(key.entry)}]}}`;
   const token = await sign(key, '{"alg":"ES256","kid":"k1"}', '{"sub":"spiffe://example.org/a","aud":"ledger","exp":1767229200}');
   const before = process.cpuUsage();
   const { keys, verdict } = await examine(library, { token, bundles, domain: "", own: ["ledger"], now: NOW, longest: undefined, validatorId: new Uint8Array(16), record });
   const { user, system } = process.cpuUsage(before);
   assert.deepEqual([verdict.status, keys.map((it) => it.reason ?? it.row.answer.is)], [0, ["it has more than 65,536 bytes", "good"]]);
-  assert.ok(user + system < 20_000_000, `${user + system} µs of the processor`);
+  assert.ok(user + system < 10_000_000, `${user + system} µs of the processor`);
 });
 
 test("of many keys that fit, the first ones are tried", async () => {
