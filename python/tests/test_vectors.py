@@ -153,7 +153,7 @@ def test_logs(vector):
         ahead=given["ahead"],
         step=ANY,
         validator_id=bytes.fromhex(given["validator_id"]),
-        own=b"ledger",
+        own=[b"ledger"],
         bundles=b"{}",
     )
     beside = bytes.fromhex(begin["beside"])
