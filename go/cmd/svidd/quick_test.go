@@ -14,6 +14,7 @@ import (
 	"regexp"
 	"strings"
 	"sync/atomic"
+	"syscall"
 	"testing"
 	"time"
 
@@ -128,7 +129,7 @@ func TestPlainRequestsAreReadAsGoReadsThem(t *testing.T) {
 }
 
 // serveBoth serves the handler by Go's server and by a quick one, and returns their addresses.
-func serveBoth(t *testing.T, handler http.HandlerFunc) (gos, quicks string, q *quick) {
+func serveBoth(t testing.TB, handler http.HandlerFunc) (gos, quicks string, q *quick) {
 	t.Helper()
 	serve := func(it answerer) string {
 		l, err := net.Listen("tcp", "127.0.0.1:0")
@@ -352,5 +353,37 @@ func TestAHandlerOfAQuickServerThatPanics(t *testing.T) {
 		if got, want := talk(t, quicks, text), talk(t, gos, text); got != want {
 			t.Errorf("%q, want %q", got, want)
 		}
+	}
+}
+
+// BenchmarkPlainRequests is of both servers, with the client's part: µs are of a processor.
+func BenchmarkPlainRequests(b *testing.B) {
+	value := []string{"a"}
+	gos, quicks, _ := serveBoth(b, func(w http.ResponseWriter, r *http.Request) { w.Header()["X-Spiffe-Id"] = value })
+	for _, row := range [][2]string{{"Go's", gos}, {"quick", quicks}} {
+		b.Run(row[0], func(b *testing.B) {
+			request := []byte("GET /check HTTP/1.1\r\nHost: a\r\nAuthorization: Bearer " + strings.Repeat("a", 500) + "\r\n\r\n")
+			c, err := net.Dial("tcp", row[1])
+			if err != nil {
+				b.Fatal(err)
+			}
+			defer c.Close()
+			answer := make([]byte, 1024)
+			var before, after syscall.Rusage
+			_ = syscall.Getrusage(syscall.RUSAGE_SELF, &before)
+			b.ReportAllocs()
+			b.ResetTimer()
+			for n := 0; n < b.N; n++ {
+				if _, err := c.Write(request); err != nil {
+					b.Fatal(err)
+				}
+				if got, err := c.Read(answer); err != nil || !bytes.HasSuffix(answer[:got], []byte("\r\n\r\n")) {
+					b.Fatalf("%q, %v", answer[:got], err)
+				}
+			}
+			_ = syscall.Getrusage(syscall.RUSAGE_SELF, &after)
+			used := after.Utime.Nano() + after.Stime.Nano() - before.Utime.Nano() - before.Stime.Nano()
+			b.ReportMetric(float64(used)/1000/float64(b.N), "µs/op")
+		})
 	}
 }
