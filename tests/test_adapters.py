@@ -33,10 +33,7 @@ RULES = {
         r"|\bcountAt\b|\bmomentAt\b"
         # (the length of a summary has a name in svid.h, as others have that an output needs)
         r"|\b17 *\+ *6[45]\b|\b6[45] *\*|(?<!\*)\* *6[45]\b|(?<!SUMMARY_LEN = )(?<!SUMMARY_LEN: usize = )\b8_?205\b",
-        {
-            "go/svid/repair.go": "a summary and its answer, piece by piece: until the core makes both of a piece of a record",
-            "go/svid/layout.go": "what repair.go knows of messages, and goes with it",
-        },
+        {},
     ),
     # members of a JSON Web Key
     "keys": (
