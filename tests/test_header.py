@@ -12,15 +12,17 @@ SCRIPTS = [str(path.relative_to(TOP)) for path in TOP.glob("page/src/*.js")]
 # What a type of Rattle is in C, in Python and in Rust.
 TYPES = {
     "usize": ("size_t {}", "c_size_t", "usize"),
+    "u8": ("uint8_t {}", "c_uint8", "u8"),
     "u32": ("uint32_t {}", "c_uint32", "u32"),
     "u64": ("uint64_t {}", "c_uint64", "u64"),
     "[u8; 16]": ("uint8_t {}[16]", "c_uint8 * 16", "[u8; 16]"),
     "[u8; 32]": ("uint8_t {}[32]", "c_uint8 * 32", "[u8; 32]"),
+    "[[u8; 32]; 256]": ("uint8_t {}[256][32]", "c_uint8 * 32 * 256", "[[u8; 32]; 256]"),
     "SvidUse": ("svid_use {}", "Use", "Use"),
     "SvidMark": ("svid_mark {}", "Mark", "Mark"),
 }
 # What the header puts before a name of these lists.
-PREFIXES = {"IdFault": "ID_", "BundleFault": "BUNDLES_", "Fault": "FOLDER_", "Next": "FILE_", "NoBearer": "BEARER_", "KeyFault": "KEY_"}
+PREFIXES = {"IdFault": "ID_", "BundleFault": "BUNDLES_", "DocumentFault": "BUNDLES_", "Fault": "FOLDER_", "Next": "FILE_", "NoBearer": "BEARER_", "KeyFault": "KEY_"}
 LISTS = ("Reason", "Refusal", *PREFIXES)
 # What stands in these lists but has the name or the number of another one.
 OTHER_NAMES = {("Next", "Unfit"), ("NoBearer", "TooLong")}
@@ -41,6 +43,7 @@ OWN = {
     "SVID_TABLE_LINE": 34,
     "SVID_OWN_NOT_UTF8": 35,
     "SVID_OWN_LENGTHS": 36,
+    "SVID_BUNDLES_LENGTHS": 39,
     "SVID_NO_ALGORITHM": 70,
     "SVID_NOT_ALLOWED": 91,
 }

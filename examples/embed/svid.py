@@ -95,6 +95,14 @@ class Bears(c.Structure):
     _fields_ = [("mark", Mark), ("marked", c.c_size_t), ("messages", c.c_size_t)]
 
 
+class Document(c.Structure):
+    _fields_ = [("name_len", c.c_size_t), ("text_len", c.c_size_t), ("keys", c.c_uint64)]
+
+
+class Digests(c.Structure):
+    _fields_ = [("moment", c.c_uint64), ("digests", c.c_uint8 * 32 * 256)]
+
+
 class Refused(Exception):
     """Why a call gave up: its status, and what it told."""
 

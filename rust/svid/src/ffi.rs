@@ -200,6 +200,21 @@ pub struct Entry {
 
 #[repr(C)]
 #[derive(Default, Debug, Clone, Copy, PartialEq, Eq)]
+pub struct Document {
+    pub name_len: usize,
+    pub text_len: usize,
+    pub keys: u64,
+}
+
+#[repr(C)]
+#[derive(Debug, Clone, Copy, PartialEq, Eq)]
+pub struct Digests {
+    pub moment: u64,
+    pub digests: [[u8; 32]; 256],
+}
+
+#[repr(C)]
+#[derive(Default, Debug, Clone, Copy, PartialEq, Eq)]
 pub struct Size {
     pub moment: u64,
     pub uses: usize,
