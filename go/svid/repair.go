@@ -49,7 +49,7 @@ func (v *Validator) digest(bucket int, digests *C.svid_digests) error {
 // buckets at a time, and does not advance the record. The answer is messages with the
 // uses of those buckets whose digests differ, and empty if none does. It has about most
 // bytes at the most: it begins with another bucket each time, and leaves out those that
-// come behind the first most bytes, for a later summary. Errors: ErrNotSummary,
+// come after the first most bytes, for a later summary. Errors: ErrNotSummary,
 // ErrTooMuch, a *MessageError, ErrClosed, ErrNoMemory.
 func (v *Validator) WalkAnswer(summary []byte, most int) ([]byte, error) {
 	out := make([]byte, 0, answerPiece)
