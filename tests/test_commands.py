@@ -173,7 +173,10 @@ CHECKS = [
     (f"{SPIRE} --trust-domain example.org ledger <token.txt", prints(ACCEPTED)),
     (f"{SPIRE} --trust-domain example.com ledger <token.txt", refuses("refused UnknownDomain\n")),
     (f"{SPIRE} ledger <token.txt", faults("bundles: Keys(0)")),
-    (f"{SPIRE} --trust-domain example.org/ --out kept ledger <token.txt; [ ! -e kept ]", prints("")[:1] + ("", "svid: bundles: Domain(0)\n")),
+    (
+        f"{SPIRE} --trust-domain example.org/ --out kept ledger <token.txt; [ ! -e kept ]",
+        prints("")[:1] + ("", "svid: bundles: Domain(0)\n"),
+    ),
     (f"{CHECK} $(cat many) ledger <token.txt", prints(ACCEPTED)),
     (f"{CHECK} $(cat many) <token.txt", refuses("refused NotAudience\n")),
     (f"svid merge {'two-uses.batch ' * 251} {MANY[250]}", stops(f"cannot open {MANY[250]}")),

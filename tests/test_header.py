@@ -22,7 +22,15 @@ TYPES = {
     "SvidMark": ("svid_mark {}", "Mark", "Mark"),
 }
 # What the header puts before a name of these lists.
-PREFIXES = {"IdFault": "ID_", "BundleFault": "BUNDLES_", "DocumentFault": "BUNDLES_", "Fault": "FOLDER_", "Next": "FILE_", "NoBearer": "BEARER_", "KeyFault": "KEY_"}
+PREFIXES = {
+    "IdFault": "ID_",
+    "BundleFault": "BUNDLES_",
+    "DocumentFault": "BUNDLES_",
+    "Fault": "FOLDER_",
+    "Next": "FILE_",
+    "NoBearer": "BEARER_",
+    "KeyFault": "KEY_",
+}
 LISTS = ("Reason", "Refusal", *PREFIXES)
 # What stands in these lists but has the name or the number of another one.
 OTHER_NAMES = {("Next", "Unfit"), ("NoBearer", "TooLong")}
