@@ -436,6 +436,8 @@ class Maker:
         if alg[0] == "P":
             forms += [
                 lambda: signer(alg).sign(alg, text, salt=r.choice([0, 8, 20, 31, 33, 63, 100])),
+                # (a number of fewer bytes than the modulus, which is no signature: the salts are new each time)
+                lambda: next(it for it in iter(lambda: signer(alg).sign(alg, text), b"") if not it[0]).lstrip(b"\0"),
                 lambda: signer(alg).sign("RS" + alg[2:], text),
             ]
         if r.randrange(12) == 0:
@@ -497,9 +499,8 @@ class Maker:
         return Case(token, f"{kind.__name__} {alg} {self.n}")
 
 
-def tokens(seed: int, now: int, count: int) -> list[Case]:
-    maker = Maker(seed, now)
-    return [maker.next(ALGORITHMS[n % len(ALGORITHMS)]) for n in range(count)]
+def tokens(maker: Maker, count: int) -> list[Case]:
+    return [maker.next(ALGORITHMS[maker.n % len(ALGORITHMS)]) for _ in range(count)]
 
 
 def edges(seed: int, now: int, count: int, who: str) -> list[Case]:

@@ -35,6 +35,17 @@ RULES = {
         r"|\b17 *\+ *6[45]\b|\b6[45] *\*|(?<!\*)\* *6[45]\b|(?<!SUMMARY_LEN = )(?<!SUMMARY_LEN: usize = )\b8_?205\b",
         {},
     ),
+    # where a SPIFFE ID has its parts
+    "ids": (
+        r"(TrimPrefix|HasPrefix|CutPrefix|removeprefix|startswith|startsWith|strip_prefix|partition|split)\(.*spiffe:|spiffe_?id\[\d|\[9:\]"
+        r"|(slice|substring)\(9\)",
+        {
+            "go/bundles/endpoint.go": "which server an address may have: it asks the library for the ID, and cuts it for the certificate",
+            "go/bundles/workload.go": "a Workload API names a trust domain by its ID: until the core joins bundles of that form",
+            "go/svid/bundles.go": "the same",
+            "python/svid/_bundles.py": "the same",
+        },
+    ),
     # members of a JSON Web Key
     "keys": (
         r"[\"'](kty|crv)[\"']|\.(kty|crv)\b|(\[|get\()[\"'][nexy][\"']",

@@ -147,6 +147,8 @@ class Id(ctypes.Structure):
 
     _fields_ = [("offset", c_size_t), ("domain_len", c_size_t), ("path_len", c_size_t)]
     offset: int
+    domain_len: int
+    path_len: int
 
 
 class Signed(ctypes.Structure):
@@ -285,6 +287,7 @@ _CALLS = {
     "svid_entries_read": [*_LENT, *_OUT, *_TOLD],
     "svid_entries_write": [*_OUT, *_OUT, *_TOLD],
     "svid_id_allows": [*_LENT, *_LENT, c_void_p],
+    "svid_id_parse": [*_LENT, c_void_p],
     "svid_journal_answer": [*_FOLDER, c_uint32],
     "svid_journal_begin": _FOLDER,
     "svid_journal_due": [*_FOLDER, c_void_p],

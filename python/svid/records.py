@@ -72,13 +72,20 @@ class Accepted:
     @property
     def trust_domain(self) -> str:
         """The trust domain of the subject, as "example.org"."""
-        return self.spiffe_id[9:].partition("/")[0]
+        return self._parts()[0]
 
     @property
     def path(self) -> str:
         """The path of the subject with its first "/", as "/billing/api"; "" where it has none."""
-        _, slash, rest = self.spiffe_id[9:].partition("/")
-        return slash + rest
+        return self._parts()[1]
+
+    def _parts(self) -> tuple[str, str]:
+        """The trust domain and the path, where the library cuts the ID."""
+        text, cut = self.spiffe_id.encode(), lib.Id()
+        if lib.quick.svid_id_parse(text, len(text), lib.address(cut)) != lib.OK:
+            raise ValueError(f"{self.spiffe_id!r} is no SPIFFE ID")
+        path = len(text) - cut.path_len
+        return text[path - cut.domain_len : path].decode(), text[path:].decode()
 
 
 @dataclass(frozen=True)
