@@ -4,7 +4,6 @@ import (
 	"path/filepath"
 	"strings"
 	"testing"
-	"time"
 )
 
 // A sidecar lets in whom --allow names. Another caller's token stays good.

@@ -8,7 +8,6 @@ import (
 	"path/filepath"
 	"strings"
 	"testing"
-	"time"
 
 	"svid.example/go/v2/journal"
 	"svid.example/go/v2/svid"
