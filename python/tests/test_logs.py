@@ -53,7 +53,7 @@ def opened(server, group=None, keep=KEEP, timeout=30, url=None):
     """A log that has begun to be read."""
     log = open_log(url or server.url, keep, group or f"g{next(numbers)}", timeout)
     try:
-        log.bounds()
+        tried(log.bounds)  # (a busy machine may take longer than its timeout)
         yield log
     finally:
         log.close()
