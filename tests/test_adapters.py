@@ -41,9 +41,7 @@ RULES = {
         r"|(slice|substring)\(9\)",
         {
             "go/bundles/endpoint.go": "which server an address may have: it asks the library for the ID, and cuts it for the certificate",
-            "go/bundles/workload.go": "a Workload API names a trust domain by its ID: until the core joins bundles of that form",
-            "go/svid/bundles.go": "the same",
-            "python/svid/_bundles.py": "the same",
+            "go/bundles/workload.go": "a Workload API names a trust domain by its ID, and its bundles stand beside others by the name",
         },
     ),
     # members of a JSON Web Key
