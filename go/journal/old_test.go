@@ -163,6 +163,18 @@ func TestDamageOfAnOldFolder(t *testing.T) {
 	}
 }
 
+// Behind its messages an old file is torn, up to the last byte that is neither zero nor all ones: so a disk may have what was not written.
+func TestWhatIsTornOfAnOldFile(t *testing.T) {
+	for rest, want := range map[string]int{"": 0, "\x00\x00": 0, "\xff\x00\xff": 0, "\x80": 1, "a\xc3\x00\xff": 2, "\x00\x00\x81\x00": 3} {
+		j := mustOpen(t, laid(t, map[string][]byte{"journal.1": append(batches(0, 3), rest...)}))
+		wantUses(t, j, 3)
+		if torn := j.Torn(); len(torn) > 1 || (len(torn) == 1) != (want > 0) || want > 0 && torn[0].Rest != want {
+			t.Errorf("behind the messages %q: torn is %v, want %d bytes", rest, torn, want)
+		}
+		mustClose(t, j)
+	}
+}
+
 // A folder of messages is an old one: so an operator gives a sidecar what was saved of a damaged folder.
 func TestMessagesAreAnOldFolder(t *testing.T) {
 	for _, name := range []string{"snapshot", "journal.1"} {

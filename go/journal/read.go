@@ -217,7 +217,11 @@ func (c *contents) mayBeOld(f *File) bool {
 // readOld reads a file of an older version, of which so many bytes are whole messages.
 func (f *File) readOld(whole int, isLast bool) {
 	f.Old, f.Messages, f.At, f.Fault = true, f.content[:whole:whole], int64(whole), nil
-	f.Rest = len(bytes.TrimRight(f.content[whole:], "\x00\xff"))
+	rest := f.content[whole:]
+	for len(rest) > 0 && (rest[len(rest)-1] == 0 || rest[len(rest)-1] == 0xff) {
+		rest = rest[:len(rest)-1] // (nothing was written there)
+	}
+	f.Rest = len(rest)
 	switch {
 	case isLast && f.Rest > 0:
 		f.Fault = svid.ErrTorn
