@@ -3,11 +3,13 @@ package broker
 import (
 	"database/sql"
 	"fmt"
+	"io/fs"
 	"os"
 	"os/exec"
 	"os/user"
 	"path/filepath"
 	"strconv"
+	"sync"
 	"syscall"
 	"time"
 
@@ -44,11 +46,84 @@ func NewPostgres(dir string, more ...string) (*Postgres, error) {
 	if _, err := os.Stat(filepath.Join(s.Dir, "PG_VERSION")); err == nil {
 		return s, nil
 	}
+	made.Do(func() { made.files, made.err = makeData() })
+	if made.err != nil {
+		return nil, made.err
+	}
+	return s, writeData(s.Dir, made.files)
+}
+
+// made are the data of a server that never ran, which the first server of a process makes: to make them takes longer than most that
+// is done with a server.
+var made struct {
+	sync.Once
+	files []file
+	err   error
+}
+
+// A file of a server, or a folder, by its path in the folder of the data.
+type file struct {
+	path    string
+	mode    fs.FileMode
+	content []byte
+}
+
+// makeData makes the data of a server, and reads them into memory.
+func makeData() (files []file, err error) {
+	dir, err := Folder()
+	if err != nil {
+		return nil, err
+	}
+	defer os.RemoveAll(dir)
+	s := &Postgres{Dir: filepath.Join(dir, "data")}
+	if s.as, err = owner(); err != nil {
+		return nil, err
+	}
 	out, err := s.Command("initdb", "-D", s.Dir, "-U", "svid", "--auth=trust", "--no-sync", "-E", "UTF8", "--locale=C", "--wal-segsize=1").CombinedOutput()
 	if err != nil {
 		return nil, fmt.Errorf("broker: initdb: %w: %s: install Debian's postgresql", err, out)
 	}
-	return s, nil
+	err = filepath.WalkDir(s.Dir, func(name string, entry fs.DirEntry, err error) error {
+		if err != nil {
+			return err
+		}
+		info, err := entry.Info()
+		if err != nil {
+			return err
+		}
+		path, err := filepath.Rel(s.Dir, name)
+		if err != nil {
+			return err
+		}
+		f := file{path: path, mode: info.Mode()}
+		if !entry.IsDir() {
+			if f.content, err = os.ReadFile(name); err != nil {
+				return err
+			}
+		}
+		files = append(files, f)
+		return nil
+	})
+	return files, err
+}
+
+// writeData writes the data of a server to a folder, which is made.
+func writeData(dir string, files []file) error {
+	for _, f := range files {
+		name, err := filepath.Join(dir, f.path), error(nil)
+		if f.mode.IsDir() {
+			err = os.Mkdir(name, f.mode.Perm())
+		} else {
+			err = os.WriteFile(name, f.content, f.mode.Perm())
+		}
+		if err == nil {
+			err = Own(name)
+		}
+		if err != nil {
+			return err
+		}
+	}
+	return nil
 }
 
 // owner is who a server of PostgreSQL runs as; nil for who this process is.
