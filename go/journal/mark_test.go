@@ -11,6 +11,7 @@ import (
 	"testing"
 	"time"
 
+	"svid.example/go/v2/internal/patience"
 	"svid.example/go/v2/svid"
 )
 
@@ -160,8 +161,8 @@ func TestThePayloadHasTheMark(t *testing.T) {
 func await(t *testing.T, isSo func() bool) {
 	t.Helper()
 	for from := time.Now(); !isSo(); time.Sleep(time.Millisecond) {
-		if time.Since(from) > time.Minute {
-			t.Fatal("it is not so after a minute")
+		if time.Since(from) > patience.Long {
+			t.Fatalf("it is not so after %v", patience.Long)
 		}
 	}
 }

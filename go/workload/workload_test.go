@@ -235,7 +235,7 @@ func TestAServerThatIsGoneIsMissed(t *testing.T) {
 	agent.Give(t, map[string]string{"a": "b"})
 	c := client(t, agent.Address)
 	c.idle, c.limit = time.Second, 500*time.Millisecond
-	ctx, cancel := context.WithTimeout(context.Background(), 12*time.Second)
+	ctx, cancel := context.WithTimeout(context.Background(), patience.Long)
 	defer cancel()
 	err := c.WatchBundles(ctx, func(map[string][]byte) { agent.Freeze(t) })
 	if err == nil || ctx.Err() != nil {

@@ -822,7 +822,7 @@ func TestValuesThatAreNoBatchAreAside(t *testing.T) {
 	if err != nil {
 		t.Fatal(err)
 	}
-	garbage := bytes.Repeat([]byte("x"), 1<<20-1<<10)
+	garbage, from := bytes.Repeat([]byte("x"), 1<<20-1<<10), time.Now()
 	for n := 0; n < 64; n++ {
 		if _, err := kv.Put(fmt.Sprint("u.lie.", n), garbage); err != nil {
 			t.Fatal(err)
@@ -838,8 +838,15 @@ func TestValuesThatAreNoBatchAreAside(t *testing.T) {
 	}
 	a.logMu.Lock()
 	defer a.logMu.Unlock()
-	if len(a.lines) > 30 {
-		t.Errorf("%d lines of log for 65 values", len(a.lines))
+	said := 0
+	for _, line := range a.lines {
+		if strings.Contains(line, "put aside") {
+			said++
+		}
+	}
+	// A line each second at the most, however long a busy machine takes.
+	if seconds := int(time.Since(from) / time.Second); said > 1+seconds || len(a.lines) > 30+seconds {
+		t.Errorf("%d lines of %d values, and %d in all, within %d seconds", said, a.Aside(), len(a.lines), seconds)
 	}
 }
 

@@ -169,7 +169,7 @@ func TestFailover(t *testing.T) {
 				defer cancel()
 				return m.Put(ctx, carriers.Claims, 1, []byte(text))
 			}
-			if err := put(all[0], "there", 20*time.Second); err != nil {
+			if err := put(all[0], "there", patience.Long); err != nil {
 				t.Fatal(err)
 			}
 			for _, m := range all {
@@ -179,7 +179,11 @@ func TestFailover(t *testing.T) {
 				return standby.Do(`DO $$ BEGIN ASSERT (SELECT count(*) FROM svid.value) = 1; END $$`) == nil
 			})
 			standby.Postgres.Kill() // It gets nothing from here on.
-			if err := put(all[1], "lost", 2*time.Second); (err == nil) != (replicas == 1) {
+			wait := patience.Long
+			if replicas == 2 {
+				wait = 2 * time.Second // (in vain)
+			}
+			if err := put(all[1], "lost", wait); (err == nil) != (replicas == 1) {
 				t.Fatalf("with %d replicas: %v", replicas, err)
 			}
 			if replicas == 1 {
@@ -207,7 +211,7 @@ func TestFailover(t *testing.T) {
 			}
 			other := follow(t, standby, more...)
 			defer other.Postgres.Kill()
-			if err := put(all[2], "behind", 30*time.Second); err != nil {
+			if err := put(all[2], "behind", patience.Long); err != nil {
 				t.Fatal(err)
 			}
 			for _, m := range all {
@@ -344,7 +348,7 @@ func TestRights(t *testing.T) {
 	if err != nil {
 		t.Fatal(err)
 	}
-	ctx, cancel := context.WithTimeout(context.Background(), 10*time.Second)
+	ctx, cancel := context.WithTimeout(context.Background(), patience.Long)
 	defer cancel()
 	if err := m.Put(ctx, carriers.Claims, 1, []byte("x")); err != nil {
 		t.Fatal(err)
@@ -453,7 +457,7 @@ func TestTLS(t *testing.T) {
 		if err != nil {
 			t.Fatal(name, err)
 		}
-		ctx, cancel := context.WithTimeout(context.Background(), 10*time.Second)
+		ctx, cancel := context.WithTimeout(context.Background(), patience.Long)
 		if _, err := store.Open(ctx); (err == nil) != row.good {
 			t.Errorf("%s: %v", name, err)
 		}

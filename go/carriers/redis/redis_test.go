@@ -191,7 +191,11 @@ func TestFailover(t *testing.T) {
 			})
 			replica.Redis.Kill() // It gets nothing from here on,
 			proxy.Shut(true)     // and the third member reads nothing.
-			err := put(all[1], "lost", time.Second)
+			wait := patience.Long
+			if replicas == 2 {
+				wait = time.Second // (in vain)
+			}
+			err := put(all[1], "lost", wait)
 			if (err == nil) != (replicas == 1) {
 				t.Fatalf("with %d replicas: %v", replicas, err)
 			}
@@ -342,7 +346,7 @@ func TestRights(t *testing.T) {
 	if err != nil {
 		t.Fatal(err)
 	}
-	ctx, cancel := context.WithTimeout(context.Background(), 10*time.Second)
+	ctx, cancel := context.WithTimeout(context.Background(), patience.Long)
 	defer cancel()
 	if err := m.Put(ctx, carriers.Claims, 1, []byte("x")); err != nil {
 		t.Fatal(err)
@@ -390,7 +394,7 @@ func TestPasswords(t *testing.T) {
 				t.Fatal(err)
 			}
 			defer store.Close()
-			ctx, cancel := context.WithTimeout(context.Background(), 10*time.Second)
+			ctx, cancel := context.WithTimeout(context.Background(), patience.Long)
 			defer cancel()
 			if _, err = store.Open(ctx); (err == nil) != row.good || err != nil && strings.Contains(err.Error(), "sesame") {
 				t.Error(err)
@@ -428,7 +432,7 @@ func TestTLS(t *testing.T) {
 		if err != nil {
 			t.Fatal(name, err)
 		}
-		ctx, cancel := context.WithTimeout(context.Background(), 10*time.Second)
+		ctx, cancel := context.WithTimeout(context.Background(), patience.Long)
 		if _, err := store.Open(ctx); (err == nil) != row.good {
 			t.Errorf("%s: %v", name, err)
 		}

@@ -4,14 +4,13 @@ import (
 	"path/filepath"
 	"strings"
 	"testing"
-	"time"
 )
 
 // A sidecar lets in whom --allow names. Another caller's token stays good.
 func TestServeAllows(t *testing.T) {
 	t.Parallel()
 	bundle, state := bundleOption(bundleFile(t, example)), filepath.Join(t.TempDir(), "state")
-	good := token(t, "allowed", time.Minute)
+	good := token(t, "allowed", lasting)
 	p := start(t, bundle, "--state", state, "--allow", "spiffe://example.org/other", "--allow", "spiffe://example.com")
 	status, header, body := p.check(good)
 	if status != 403 || header.Get("X-Spiffe-Id") != "" || !strings.Contains(header.Get("WWW-Authenticate"), "insufficient_scope") || !strings.Contains(body, `"NotAllowed"`) {

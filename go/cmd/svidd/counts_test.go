@@ -45,10 +45,10 @@ func TestTheStateFolderHasTheValidatorID(t *testing.T) {
 		t.Fatal(err)
 	}
 	id := strings.TrimSpace(string(text))
-	p.want(token(t, "a", time.Minute), 200, "")
+	p.want(token(t, "a", lasting), 200, "")
 	p.end()
 	p.start()
-	p.want(token(t, "b", time.Minute), 200, "")
+	p.want(token(t, "b", lasting), 200, "")
 	for i, line := range p.events("serving") {
 		if line["validator_id"] != id {
 			t.Errorf("start %d: the validator ID is %v, and the folder has %s", i, line["validator_id"], id)

@@ -75,7 +75,7 @@ func TestComposeFile(t *testing.T) {
 		p.start()
 		all = append(all, p)
 	}
-	one := token(t, "compose", time.Minute)
+	one := token(t, "compose", lasting)
 	all[0].want(one, 200, "")
 	all[1].want(one, 401, "Replayed")
 	// The site and the stand-in of the service are good for nginx together.
@@ -148,7 +148,7 @@ func TestSystemdUnit(t *testing.T) {
 	p.args = []string{"serve", "--config", options, "--listen", p.address}
 	t.Cleanup(p.kill)
 	p.start()
-	p.want(token(t, "unit", time.Minute), 200, "")
+	p.want(token(t, "unit", lasting), 200, "")
 	p.end()
 	for _, want := range []string{"READY=1", "STOPPING=1"} {
 		said := make([]byte, 100)
@@ -337,7 +337,7 @@ func TestEnvoyListener(t *testing.T) {
 	}
 	for i, method := range []string{"GET", "POST", "DELETE", "PATCH", "OPTIONS"} {
 		path := []string{"/", "/a/b?c=d&e=%2f", "//a/../../b", "/check", "/metrics"}[i]
-		exp := time.Now().Add(time.Minute).Unix()
+		exp := time.Now().Add(lasting).Unix()
 		one := example.Token("ES256", map[string]any{"sub": "spiffe://example.org/web", "aud": "ledger", "exp": exp, "jti": "envoy" + method})
 		want := fmt.Sprintf(`%s of [spiffe://example.org/web] for [ledger] until [%d] with "a body" token []`, path, exp)
 		if answer, body := send(method, path, one); answer.StatusCode != 200 || body != want {
@@ -353,7 +353,7 @@ func TestEnvoyListener(t *testing.T) {
 		t.Errorf("no token: %d %v", answer.StatusCode, answer.Header)
 	}
 	p.end()
-	if answer, body := send("GET", "/", token(t, "alone", time.Minute)); answer.StatusCode != 503 || strings.Contains(body, "another") {
+	if answer, body := send("GET", "/", token(t, "alone", lasting)); answer.StatusCode != 503 || strings.Contains(body, "another") {
 		t.Errorf("without its sidecar: %d %q", answer.StatusCode, body)
 	}
 	// One that takes the connection and does not answer.
@@ -363,7 +363,7 @@ func TestEnvoyListener(t *testing.T) {
 	}
 	defer deaf.Close()
 	e.sidecar, e.timeout = deaf.Addr().String(), 200*time.Millisecond
-	if answer, _ := send("GET", "/", token(t, "deaf", time.Minute)); answer.StatusCode != 503 {
+	if answer, _ := send("GET", "/", token(t, "deaf", lasting)); answer.StatusCode != 503 {
 		t.Errorf("a sidecar that does not answer: %d", answer.StatusCode)
 	}
 	// What the other setting would do, and that whoever sets it was told.

@@ -42,7 +42,7 @@ func TestEnvoyAsksByGRPC(t *testing.T) {
 	for _, unix := range []bool{false, true} {
 		p, address := startEnvoy(t, unix, "--state", filepath.Join(t.TempDir(), "state"), "--allow", "spiffe://example.org/web")
 		envoy := envoytest.Start(t, address)
-		good := token(t, "a", time.Minute)
+		good := token(t, "a", lasting)
 		a := envoy.Check(t, "", "authorization", "Bearer "+good, "x-request-id", "name-1", "x-forwarded-for", "203.0.113.9, 198.51.100.7", "x-spiffe-id", "spiffe://example.org/other")
 		if a.OK == nil || a.Denied != nil || a.Status.Code != 0 || a.Failed != "" {
 			t.Fatalf("a good token: %+v", a)
@@ -57,7 +57,7 @@ func TestEnvoyAsksByGRPC(t *testing.T) {
 		if line := p.events("accepted")[0]; line["request"] != "name-1" || line["client"] != "198.51.100.7" {
 			t.Errorf("the log: %v", line)
 		}
-		other := example.Token("ES256", map[string]any{"sub": "spiffe://example.org/job", "aud": "ledger", "exp": time.Now().Add(time.Minute).Unix(), "jti": "o"})
+		other := example.Token("ES256", map[string]any{"sub": "spiffe://example.org/job", "aud": "ledger", "exp": time.Now().Add(lasting).Unix(), "jti": "o"})
 		for what, row := range map[string]struct {
 			fields             []string
 			code, status       int
@@ -66,8 +66,8 @@ func TestEnvoyAsksByGRPC(t *testing.T) {
 			"used before":    {[]string{"authorization", "Bearer " + good}, 16, 401, `Bearer error="invalid_token", error_description="Replayed"`, "Replayed"},
 			"no token":       {[]string{"cookie", "Bearer " + good}, 16, 401, "Bearer", "NoToken"},
 			"another scheme": {[]string{"authorization", "Basic YQ=="}, 16, 401, `Bearer error="invalid_request", error_description="NotBearer"`, "NotBearer"},
-			"two tokens":     {[]string{"authorization", "Bearer " + token(t, "b", time.Minute) + ",Bearer " + token(t, "c", time.Minute)}, 16, 401, `Bearer error="invalid_request", error_description="NotBearer"`, "NotBearer"},
-			"two fields":     {[]string{"authorization", "Bearer " + token(t, "d", time.Minute), "Authorization", "Bearer x"}, 16, 401, `Bearer error="invalid_request", error_description="NotBearer"`, "NotBearer"},
+			"two tokens":     {[]string{"authorization", "Bearer " + token(t, "b", lasting) + ",Bearer " + token(t, "c", lasting)}, 16, 401, `Bearer error="invalid_request", error_description="NotBearer"`, "NotBearer"},
+			"two fields":     {[]string{"authorization", "Bearer " + token(t, "d", lasting), "Authorization", "Bearer x"}, 16, 401, `Bearer error="invalid_request", error_description="NotBearer"`, "NotBearer"},
 			"another caller": {[]string{"authorization", "Bearer " + other}, 7, 403, `Bearer error="insufficient_scope", error_description="NotAllowed"`, "NotAllowed"},
 		} {
 			a := envoy.Check(t, "", row.fields...)
@@ -84,10 +84,10 @@ func TestEnvoyAsksByGRPC(t *testing.T) {
 			}
 		}
 		// The whole of a long request, and of one that is too long.
-		if a := envoy.Check(t, strings.Repeat("b", 100_000), "authorization", "Bearer "+token(t, "long", time.Minute)); a.OK == nil {
+		if a := envoy.Check(t, strings.Repeat("b", 100_000), "authorization", "Bearer "+token(t, "long", lasting)); a.OK == nil {
 			t.Errorf("a long request: %+v", a)
 		}
-		if a := envoy.Check(t, strings.Repeat("b", server.MaxEnvoy), "authorization", "Bearer "+token(t, "longer", time.Minute)); a.Failed != "RESOURCE_EXHAUSTED" || !strings.Contains(a.Why, "with_request_body") {
+		if a := envoy.Check(t, strings.Repeat("b", server.MaxEnvoy), "authorization", "Bearer "+token(t, "longer", lasting)); a.Failed != "RESOURCE_EXHAUSTED" || !strings.Contains(a.Why, "with_request_body") {
 			t.Errorf("a request that is too long: %+v", a)
 		}
 		if accepted, none := p.metric(`svidd_checks_total{result="accepted"}`), p.metric(`svidd_checks_total{result="no_token"}`); accepted != "2" || none == "0" {
@@ -130,7 +130,7 @@ func TestEnvoyHearsThatATokenCannotBeJudged(t *testing.T) {
 	p := prepare(t, nil, "--envoy", address, "--replay", "strict", "--nats", "nats://"+freeAddress(t), bundleOption(bundleFile(t, example)))
 	p.launch()
 	p.await("an answer", func() bool { status, _ := p.get("/healthz"); return status == http.StatusOK })
-	a := envoytest.Start(t, address).Check(t, "", "authorization", "Bearer "+token(t, "a", time.Minute))
+	a := envoytest.Start(t, address).Check(t, "", "authorization", "Bearer "+token(t, "a", lasting))
 	if a.Denied == nil || a.OK != nil || a.Status.Code != 14 || a.Status.Message != "NotReady" || a.Denied.Status.Code != 503 || a.Denied.Body != "{\"reason\":\"NotReady\",\"result\":\"unavailable\"}\n" {
 		t.Fatalf("%+v", a)
 	}
@@ -205,17 +205,26 @@ func TestCallsThatAreNone(t *testing.T) {
 	}
 }
 
-// A call that does not send its message holds up no other one, and ends.
+// A call that does not send its message holds up no other one, and ends. (Other work on the machine may hold up 20 calls for as long as
+// it takes: so one of several tries is to show it. Calls that wait for the slow one do so each time.)
 func TestASlowCallHoldsUpNobody(t *testing.T) {
 	_, address := startEnvoy(t, false, "--replay", "reuse")
 	c := grpcClient(address)
+	for try := 1; !answersBesideASlowCall(t, c, address) && !t.Failed(); try++ {
+		if try == 5 {
+			t.Fatal("20 calls end behind the slow one")
+		}
+	}
+}
+
+// answersBesideASlowCall says whether 20 calls were answered while another one was under way that sends no message.
+func answersBesideASlowCall(t *testing.T, c *http.Client, address string) bool {
 	slow, rest := io.Pipe()
 	defer rest.Close()
-	var ended sync.WaitGroup
-	ended.Add(1)
+	ended := make(chan struct{})
 	from := time.Now()
 	go func() {
-		defer ended.Done()
+		defer close(ended)
 		status, code := call(t, c, address, extauthz.Path, "application/grpc", io.MultiReader(strings.NewReader(frame(0, 100, "")), slow))
 		if took := time.Since(from); code != "3" || took < headerWait/2 {
 			t.Errorf("the slow call: %d %q behind %v", status, code, took)
@@ -226,10 +235,13 @@ func TestASlowCallHoldsUpNobody(t *testing.T) {
 			t.Errorf("a call beside it: %d %q", status, code)
 		}
 	}
-	if took := time.Since(from); took > headerWait {
-		t.Errorf("20 calls beside a slow one took %v", took)
+	select {
+	case <-ended:
+		return false
+	default:
+		<-ended
+		return true
 	}
-	ended.Wait()
 }
 
 // A connection with a header without end is closed, and so is one that sends no frames.

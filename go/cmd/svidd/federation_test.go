@@ -15,7 +15,6 @@ import (
 	"strings"
 	"syscall"
 	"testing"
-	"time"
 
 	"svid.example/go/v2/internal/logtest"
 )
@@ -80,7 +79,7 @@ func TestABundleOfAServerThatIsKnown(t *testing.T) {
 		"its ID by other authorities": {[]string{"--bundle-id=example.org=" + id, "--bundle-ca=example.org=" + otherBundle}, false},
 		"another ID":                  {[]string{"--bundle-id=example.org=" + id + "2", "--bundle-ca=example.org=" + bundle}, false},
 	} {
-		status, _, said := here(token(t, what, time.Minute), append([]string{"verify", "--audience=ledger", source}, row.args...)...)
+		status, _, said := here(token(t, what, lasting), append([]string{"verify", "--audience=ledger", source}, row.args...)...)
 		if (status == 0) != row.is || !row.is && status != exitFailed {
 			t.Errorf("%s: %d %s", what, status, said)
 		}
@@ -97,13 +96,13 @@ func TestABundleOfAServerThatIsKnown(t *testing.T) {
 	p := prepare(t, nil, "--replay=reuse", source, "--config="+config)
 	p.launch()
 	p.await("the server to be refused", func() bool { return strings.Contains(p.log.String(), "unknown authority") })
-	p.want(token(t, "a", time.Minute), 503, "NotReady")
+	p.want(token(t, "a", lasting), 503, "NotReady")
 	write(id, bundle)
 	if err := p.signal(syscall.SIGHUP); err != nil {
 		t.Fatal(err)
 	}
 	p.await("the bundle", func() bool { status, _ := p.get("/readyz"); return status == http.StatusOK })
-	p.want(token(t, "b", time.Minute), 200, "")
+	p.want(token(t, "b", lasting), 200, "")
 	if line := p.events("options")[0]; fmt.Sprint(line["changed"]) != "[bundle-ca]" {
 		t.Errorf("the log: %v", line)
 	}

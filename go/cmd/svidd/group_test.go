@@ -183,7 +183,7 @@ func TestAWithdrawalReachesTheGroup(t *testing.T) {
 	t.Parallel()
 	server := natstest.Start(t)
 	all := several(t, 2, "reuse", server.URL)
-	reused := token(t, "reused", time.Minute)
+	reused := token(t, "reused", lasting)
 	all[1].want(reused, 200, "")
 	if status, _, err := svidd(t, "", "withdraw", "--admin", all[0].option("--admin"), reused); status != 0 {
 		t.Fatalf("withdraw: %s", err)
@@ -200,22 +200,22 @@ func TestTheBrokerIsAway(t *testing.T) {
 	server := natstest.Start(t)
 	strict := several(t, 1, "strict", server.URL, "--wait", "3s")[0]
 	once := several(t, 1, "once", server.URL)[0]
-	before := token(t, "before", time.Minute)
+	before := token(t, "before", lasting)
 	strict.want(before, 200, "")
 	server.Kill()
-	status, header, body := strict.check(token(t, "away", time.Minute))
+	status, header, body := strict.check(token(t, "away", lasting))
 	if status != 503 || header.Get("Retry-After") == "" || !strings.Contains(body, "unavailable") {
 		t.Errorf("strict: %d %v %q", status, header, body)
 	}
 	strict.want(before, 401, "Replayed")
-	alone := token(t, "alone", time.Minute)
+	alone := token(t, "alone", lasting)
 	once.want(alone, 200, "")
 	once.want(alone, 401, "Replayed")
 	if err := server.Start(); err != nil {
 		t.Fatal(err)
 	}
 	strict.await("the broker again", func() bool {
-		status, _, _ := strict.check(token(t, fmt.Sprint(rand.Int()), time.Minute))
+		status, _, _ := strict.check(token(t, fmt.Sprint(rand.Int()), lasting))
 		return status == 200
 	})
 }
@@ -234,7 +234,7 @@ func TestAMemberThatLies(t *testing.T) {
 	}
 	p.await("two values aside", func() bool { return p.metric("svidd_messages_aside_total") == "2" })
 	// Someone claims a token before it comes, by a value that is from too far ahead.
-	victim := token(t, "victim", time.Minute)
+	victim := token(t, "victim", lasting)
 	admin := p.option("--admin")
 	claim := svid.Use{Key: keyOf(t, victim), Expires: svid.Now() + 7200, At: svid.Now() + 3600}
 	if _, err := kv.Create("c.liar.1", batchOf(claim)); err != nil {
@@ -242,7 +242,7 @@ func TestAMemberThatLies(t *testing.T) {
 	}
 	p.await("the claim aside", func() bool { return p.metric("svidd_messages_aside_total") == "3" })
 	p.want(victim, 401, "Replayed")
-	p.want(token(t, "other", time.Minute), 200, "")
+	p.want(token(t, "other", lasting), 200, "")
 	if status, _, err := svidd(t, "", "report", "--admin", admin); status != 0 {
 		t.Error(err)
 	}
@@ -331,8 +331,8 @@ func TestValuesThatAreMissing(t *testing.T) {
 	if status, out := resume(second); status != 1 || !strings.Contains(out, "a second time") {
 		t.Errorf("resume: %d %q", status, out)
 	}
-	second.want(token(t, "another", time.Minute), 503, "ValuesMissing")
-	first.want(token(t, "third", time.Minute), 200, "")
+	second.want(token(t, "another", lasting), 503, "ValuesMissing")
+	first.want(token(t, "third", lasting), 200, "")
 	if status, out := resume(first); status != 0 || !strings.Contains(out, "no values are missing") {
 		t.Errorf("resume: %d %q", status, out)
 	}
@@ -380,7 +380,7 @@ func (p *process) awaitGap() {
 	p.t.Helper()
 	p.await("a gap", func() bool {
 		_, why := p.get("/readyz")
-		_, _, body := p.check(token(p.t, "any", time.Minute))
+		_, _, body := p.check(token(p.t, "any", lasting))
 		return strings.Contains(why, "svidd resume") && strings.Contains(body, "ValuesMissing")
 	})
 }
@@ -447,13 +447,13 @@ func TestAGapOutlivesARestart(t *testing.T) {
 	if status, out := p.resume("--anyway"); status != 0 || !strings.HasPrefix(out, "resumed: until ") {
 		t.Errorf("resume: %d %q", status, out)
 	}
-	p.want(token(t, "on", time.Minute), 200, "")
+	p.want(token(t, "on", lasting), 200, "")
 	p.kill()
 	if got := p.inBucket(); strings.Contains(got, "no token") {
 		t.Errorf("once it goes on, the folder says: %s", got)
 	}
 	p.start()
-	p.want(token(t, "further", time.Minute), 200, "")
+	p.want(token(t, "further", lasting), 200, "")
 }
 
 // A bucket that was put back from an older copy lacks what was put into it since. Who has a state folder sees that.

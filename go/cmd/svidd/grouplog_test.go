@@ -234,7 +234,7 @@ func TestSchema(t *testing.T) {
 	}
 	as := func(user string) string { return strings.Replace(url, "svid@", user+"@", 1) }
 	p := members(t, 1, as("member"), "--group", "ledger")[0]
-	one := token(t, "one", time.Minute)
+	one := token(t, "one", lasting)
 	p.want(one, 200, "")
 	p.want(one, 401, "Replayed")
 	other := prepare(t, nil, bundleOption(bundleFile(t, example)), "--replay", "strict", "--group-log", as("other"), "--group", "ledger")

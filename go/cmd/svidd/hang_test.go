@@ -46,12 +46,12 @@ func TestADiskThatHangs(t *testing.T) {
 	p.start()
 	p.client.Timeout = 10 * time.Second
 	for i := 0; i < 3; i++ {
-		one := token(t, fmt.Sprint(i), time.Minute)
+		one := token(t, fmt.Sprint(i), lasting)
 		p.want(one, 503, "NotKept")
 		p.want(one, 401, "Replayed")
 	}
 	p.want("a.b.c", 401, "HeaderSpelling")
-	if status, _, err := svidd(t, "", "withdraw", "--admin", admin, token(t, "withdrawn", time.Minute)); status != 2 || !strings.Contains(err, "503") {
+	if status, _, err := svidd(t, "", "withdraw", "--admin", admin, token(t, "withdrawn", lasting)); status != 2 || !strings.Contains(err, "503") {
 		t.Errorf("withdraw: %d %q", status, err)
 	}
 	for path, want := range map[string]int{"/healthz": 200, "/readyz": 503, "/metrics": 200} {
@@ -213,7 +213,7 @@ func TestAPipeInThePlaceOfABundle(t *testing.T) {
 		}
 	}
 	p.await("the signals", func() bool { return len(p.events("signal")) > 0 })
-	p.want(token(t, "good", time.Minute), 200, "")
+	p.want(token(t, "good", lasting), 200, "")
 	if err := p.signal(syscall.SIGTERM); err != nil {
 		t.Fatal(err)
 	}

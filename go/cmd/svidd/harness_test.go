@@ -60,6 +60,9 @@ func TestMain(m *testing.M) {
 // example signs the tokens of the tests. A test's binary that is svidd has none: an RSA key takes it longer than its start.
 var example *issuer.Issuer
 
+// lasting is how long a token of a test lives that is to be good until its end, on a machine that does much else, too.
+const lasting = 30 * time.Minute
+
 // token is a new token for the audience ledger that lives for so long.
 func token(t testing.TB, id string, life time.Duration) string {
 	t.Helper()

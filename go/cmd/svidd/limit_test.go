@@ -70,13 +70,13 @@ func TestEndlessChunkExtensions(t *testing.T) {
 		}
 		c.Close()
 	}
-	p.want(token(t, "good", time.Minute), 200, "")
+	p.want(token(t, "good", lasting), 200, "")
 }
 
 // Nothing needs the body of a request: the answer does not wait for it, and is the last one of its connection.
 func TestABodyIsNotWaitedFor(t *testing.T) {
 	p := start(t, bundleOption(bundleFile(t, example)), "--replay", "reuse")
-	good := token(t, "good", time.Minute)
+	good := token(t, "good", lasting)
 	for _, length := range []string{"Content-Length: 100000", "Content-Length: 100000000000", "Transfer-Encoding: chunked"} {
 		for _, path := range []string{"/check", "/readyz", "/metrics"} {
 			c := p.dial("tcp", p.address, "POST "+path+" HTTP/1.1\r\nHost: a\r\nAuthorization: Bearer "+good+"\r\n"+length+"\r\n\r\n")

@@ -74,7 +74,7 @@ func TestALogThatNobodyReads(t *testing.T) {
 			t.FailNow()
 		}
 	}
-	p.want(token(t, "good", time.Minute), 200, "")
+	p.want(token(t, "good", lasting), 200, "")
 	before := p.metric("svidd_log_lines_dropped_total")
 
 	// What was kept comes in its order, then a line that counts what was not, and from there on each line.
@@ -103,7 +103,7 @@ func TestALogThatNobodyReads(t *testing.T) {
 	if fmt.Sprint(dropped) != before || refused+dropped != asked+1 {
 		t.Errorf("%d lines of decisions and %d dropped, of %d; %s are counted", refused, dropped, asked+1, before)
 	}
-	p.want(token(t, "later", time.Minute), 200, "")
+	p.want(token(t, "later", lasting), 200, "")
 	if !lines.Scan() || !json.Valid(lines.Bytes()) || p.metric("svidd_log_lines_dropped_total") != before {
 		t.Errorf("behind it: %q", lines.Text())
 	}
@@ -134,7 +134,7 @@ func TestALogWhoseReaderIsGone(t *testing.T) {
 	t.Parallel()
 	p, reader := piped(t, bundleOption(bundleFile(t, example)), "--replay", "reuse")
 	reader.Close()
-	good := token(t, "good", time.Minute)
+	good := token(t, "good", lasting)
 	for i := 0; i < 3; i++ {
 		p.want(good, 200, "")
 	}

@@ -38,7 +38,7 @@ func TestMetricsHaveAnAddressOfTheirOwn(t *testing.T) {
 	t.Parallel()
 	metrics := freeAddress(t)
 	p := start(t, bundleOption(bundleFile(t, example)), "--state", filepath.Join(t.TempDir(), "state"), "--metrics", metrics)
-	one := token(t, "one", time.Minute)
+	one := token(t, "one", lasting)
 	for _, row := range []struct {
 		address, path string
 		status        int
@@ -108,7 +108,7 @@ func TestRequestsAreAnsweredWhileItDrains(t *testing.T) {
 			return status == 503 && body == "draining\n"
 		})
 	}
-	p.want(token(t, "draining", time.Minute), 200, "")
+	p.want(token(t, "draining", lasting), 200, "")
 	// A second signal ends it at once.
 	p.end()
 }

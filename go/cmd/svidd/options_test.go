@@ -191,7 +191,7 @@ func TestVerifyWithTheOptionsOfServe(t *testing.T) {
 	write("ahead = 30\ncheck-config = true\n")
 	t.Setenv("SVIDD_ADMIN", "/run/svidd/admin.sock")
 	t.Setenv("SVIDD_REPLICAS", "no number")
-	if status, out, err := here(token(t, "a", time.Minute), "verify", "--config", config); status != 0 || !strings.Contains(out, `"jti":"a"`) {
+	if status, out, err := here(token(t, "a", lasting), "verify", "--config", config); status != 0 || !strings.Contains(out, `"jti":"a"`) {
 		t.Errorf("the file of serve: %d %q %q", status, out, err)
 	}
 	write("admins = \"a\"\n")
@@ -201,7 +201,7 @@ func TestVerifyWithTheOptionsOfServe(t *testing.T) {
 
 	good := []string{"verify", "--audience", "ledger"}
 	bundle, gone := bundleOption(bundleFile(t, example)), filepath.Join(t.TempDir(), "nope.json")
-	secret := token(t, "b", time.Minute)
+	secret := token(t, "b", lasting)
 	for _, row := range []struct {
 		args []string
 		want string
@@ -225,8 +225,8 @@ func TestWithdrawOfStandardInput(t *testing.T) {
 	t.Parallel()
 	admin := filepath.Join(t.TempDir(), "admin.sock")
 	p := start(t, bundleOption(bundleFile(t, example)), "--state", filepath.Join(t.TempDir(), "state"), "--admin", admin)
-	one := token(t, "one", time.Minute)
-	for _, bad := range []string{" \t" + one + "\r\n", one + " \n", one + "\n" + token(t, "two", time.Minute) + "\n"} {
+	one := token(t, "one", lasting)
+	for _, bad := range []string{" \t" + one + "\r\n", one + " \n", one + "\n" + token(t, "two", lasting) + "\n"} {
 		if status, out, err := here(bad, "withdraw", "--admin", admin, "-"); status != 2 || out != "" || err == "" {
 			t.Errorf("%q: %d %q %q", bad, status, out, err)
 		}

@@ -92,7 +92,7 @@ func TestNginxSite(t *testing.T) {
 		}
 		return answer, body.String()
 	}
-	exp := time.Now().Add(time.Minute).Unix()
+	exp := time.Now().Add(lasting).Unix()
 	once := example.Token("ES256", map[string]any{"sub": "spiffe://example.org/web", "aud": "ledger", "exp": exp, "jti": "nginx"})
 	want := fmt.Sprintf("caller spiffe://example.org/web for ledger until %d token \n", exp)
 	if answer, body := get("Bearer " + once); answer.StatusCode != 200 || body != want {
@@ -104,12 +104,12 @@ func TestNginxSite(t *testing.T) {
 	if answer, _ := get(""); answer.StatusCode != 401 || answer.Header.Get("WWW-Authenticate") != "Bearer" {
 		t.Errorf("no token: %d %v", answer.StatusCode, answer.Header)
 	}
-	long := example.Token("ES256", map[string]any{"sub": "spiffe://example.org/web", "aud": "ledger", "exp": time.Now().Add(time.Minute).Unix(), "pad": strings.Repeat("a", 45000)})
+	long := example.Token("ES256", map[string]any{"sub": "spiffe://example.org/web", "aud": "ledger", "exp": time.Now().Add(lasting).Unix(), "pad": strings.Repeat("a", 45000)})
 	if answer, _ := get("Bearer " + long); answer.StatusCode != 200 {
 		t.Errorf("a token of %d bytes: %d", len(long), answer.StatusCode)
 	}
 	p.end()
-	if answer, _ := get("Bearer " + token(t, "alone", time.Minute)); answer.StatusCode != 503 || answer.Header.Get("Retry-After") == "" {
+	if answer, _ := get("Bearer " + token(t, "alone", lasting)); answer.StatusCode != 503 || answer.Header.Get("Retry-After") == "" {
 		t.Errorf("without its sidecar: %d %v", answer.StatusCode, answer.Header)
 	}
 }

@@ -12,7 +12,6 @@ import (
 	"regexp"
 	"strings"
 	"testing"
-	"time"
 
 	"svid.example/go/v2/internal/natstest"
 )
@@ -176,7 +175,7 @@ func TestPrometheusAndTheDashboard(t *testing.T) {
 	p := start(t, bundleOption(bundleFile(t, example)), "--replay", "strict", "--nats", server.URL, "--state", filepath.Join(t.TempDir(), "state"),
 		"--metrics", metrics)
 	prom := startPrometheus(t, p, metrics)
-	one := token(t, "one", time.Minute)
+	one := token(t, "one", lasting)
 	p.want(one, 200, "")
 	p.want(one, 401, "Replayed")
 

@@ -239,7 +239,7 @@ var plays = map[string]func(t *testing.T, mode string) *stage{
 // token is a new one that would be accepted.
 func (s *stage) token(id string) string {
 	return s.of.Token("ES256", map[string]any{
-		"sub": "spiffe://" + s.domain + "/web", "aud": "ledger", "exp": time.Now().Add(time.Minute).Unix(), "jti": id,
+		"sub": "spiffe://" + s.domain + "/web", "aud": "ledger", "exp": time.Now().Add(lasting).Unix(), "jti": id,
 	})
 }
 

@@ -164,7 +164,7 @@ func (r *recipe) holds() {
 	t.Helper()
 	for i, method := range []string{"GET", "POST", "DELETE", "PATCH", "OPTIONS"} {
 		path := []string{"/", "/a/b?c=d&e=%2f", "/a//b/%2e%2e/c", "/check", "/metrics?a"}[i]
-		exp := time.Now().Add(time.Minute).Unix()
+		exp := time.Now().Add(lasting).Unix()
 		one := example.Token("ES256", map[string]any{"sub": "spiffe://example.org/web", "aud": "ledger", "exp": exp, "jti": "recipe" + method})
 		body := map[bool]string{true: "a body"}[method == "POST" || method == "PATCH"]
 		answer, said := r.send(method, path, body, append(forged, "Authorization: Bearer "+one)...)
@@ -196,23 +196,23 @@ func (r *recipe) holds() {
 		t.Errorf("no token: %d %v", answer.StatusCode, answer.Header)
 	}
 	// Two tokens are none.
-	if answer, _ := r.send("GET", "/", "", "Authorization: Bearer "+token(t, "two", time.Minute), "Authorization: Bearer a.b.c"); answer.StatusCode/100 != 4 || r.served() != nil {
+	if answer, _ := r.send("GET", "/", "", "Authorization: Bearer "+token(t, "two", lasting), "Authorization: Bearer a.b.c"); answer.StatusCode/100 != 4 || r.served() != nil {
 		t.Errorf("two tokens: %d %v", answer.StatusCode, answer.Header)
 	}
 	// A client that lets the proxy take a header out makes nobody of itself.
 	for _, named := range []string{"X-Spiffe-Id", "x-svid-expires, X-Spiffe-Id", "keep-alive, X_Spiffe_Id"} {
-		answer, _ := r.send("GET", "/", "", "Connection: "+named, "Authorization: Bearer "+token(t, named, time.Minute))
+		answer, _ := r.send("GET", "/", "", "Connection: "+named, "Authorization: Bearer "+token(t, named, lasting))
 		got := r.served()
 		if answer.StatusCode == 200 && (got == nil || len(got.identity()) != 3) || answer.StatusCode != 200 && got != nil {
 			t.Errorf("Connection: %s: %d, and the service hears of %+v", named, answer.StatusCode, got)
 		}
 	}
-	long := example.Token("ES256", map[string]any{"sub": "spiffe://example.org/web", "aud": "ledger", "exp": time.Now().Add(time.Minute).Unix(), "pad": strings.Repeat("a", 45000)})
+	long := example.Token("ES256", map[string]any{"sub": "spiffe://example.org/web", "aud": "ledger", "exp": time.Now().Add(lasting).Unix(), "pad": strings.Repeat("a", 45000)})
 	if answer, _ := r.send("GET", "/", "", "Authorization: Bearer "+long); answer.StatusCode != 200 || r.served() == nil {
 		t.Errorf("a token of %d bytes: %d", len(long), answer.StatusCode)
 	}
 	body := strings.Repeat("b", 300_000)
-	answer, _ := r.send("POST", "/", body, "Authorization: Bearer "+token(t, "body", time.Minute))
+	answer, _ := r.send("POST", "/", body, "Authorization: Bearer "+token(t, "body", lasting))
 	if got := r.served(); answer.StatusCode != 200 || got == nil || got.Body != body {
 		t.Errorf("a long body: %d", answer.StatusCode)
 	}
@@ -220,7 +220,7 @@ func (r *recipe) holds() {
 	r.end()
 	unavailable := func(what string) {
 		t.Helper()
-		answer, _ := r.send("GET", "/", "", append(forged, "Authorization: Bearer "+token(t, what, time.Minute))...)
+		answer, _ := r.send("GET", "/", "", append(forged, "Authorization: Bearer "+token(t, what, lasting))...)
 		if answer.StatusCode != 503 || answer.Header.Get("Retry-After") == "" || r.served() != nil {
 			t.Errorf("%s: %d %v", what, answer.StatusCode, answer.Header)
 		}
@@ -254,7 +254,7 @@ func (r *recipe) holds() {
 		}
 		it := &http.Server{Handler: http.HandlerFunc(func(w http.ResponseWriter, _ *http.Request) { w.WriteHeader(status) })}
 		go func() { _ = it.Serve(other) }()
-		answer, _ := r.send("GET", "/", "", append(forged, "Authorization: Bearer "+token(t, "other", time.Minute))...)
+		answer, _ := r.send("GET", "/", "", append(forged, "Authorization: Bearer "+token(t, "other", lasting))...)
 		if got := r.served(); got != nil && (status != 204 || len(got.identity()["x-spiffe-id"]) > 0 && got.identity()["x-spiffe-id"][0] != "") {
 			t.Errorf("an answer of %d: %d, and the service hears of %+v", status, answer.StatusCode, got.identity())
 		}

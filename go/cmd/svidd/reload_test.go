@@ -31,7 +31,7 @@ func TestOptionsAreReadAgain(t *testing.T) {
 	}
 	first, second := bundleFile(t, example), bundleFile(t, other)
 	ofOther := func(id string) string {
-		return other.Token("ES256", map[string]any{"sub": "spiffe://example.com/web", "aud": "ledger", "exp": time.Now().Add(time.Minute).Unix(), "jti": id})
+		return other.Token("ES256", map[string]any{"sub": "spiffe://example.com/web", "aud": "ledger", "exp": time.Now().Add(lasting).Unix(), "jti": id})
 	}
 	one, two := fmt.Sprintf("%q", "example.org="+first), fmt.Sprintf("%q", "example.com="+second)
 	write("replay = \"reuse\"", "bundle = ["+one+"]")
@@ -47,7 +47,7 @@ func TestOptionsAreReadAgain(t *testing.T) {
 		p.await("the options", func() bool { lines = p.events("options"); return len(lines) >= signals })
 		return lines[signals-1]
 	}
-	p.want(token(t, "a", time.Minute), 200, "")
+	p.want(token(t, "a", lasting), 200, "")
 	p.want(ofOther("a"), 401, "UnknownDomain")
 
 	// Another bundle, and another level.
@@ -57,7 +57,7 @@ func TestOptionsAreReadAgain(t *testing.T) {
 	}
 	p.await("the new bundle", func() bool { return strings.Contains(p.log.String(), `"trust_domains":2`) })
 	p.want(ofOther("b"), 200, "")
-	p.want(token(t, "b", time.Minute), 200, "")
+	p.want(token(t, "b", lasting), 200, "")
 	if age := p.metric(`svidd_bundle_age_seconds{trust_domain="example.com"}`); age == "+Inf" || age == "" {
 		t.Errorf("the age of the new bundle: %q", age)
 	}
@@ -80,7 +80,7 @@ func TestOptionsAreReadAgain(t *testing.T) {
 			t.Errorf("the log: %v", line)
 		}
 		before := len(p.events("accepted"))
-		p.want(token(t, says, time.Minute), 200, "")
+		p.want(token(t, says, lasting), 200, "")
 		p.await("the line of a decision", func() bool { return len(p.events("accepted")) > before })
 	}
 
@@ -99,7 +99,7 @@ func TestOptionsAreReadAgain(t *testing.T) {
 		t.Errorf("the log: %v", last)
 	}
 	p.await("the bundle to go", func() bool {
-		_, _, body := p.check(token(t, fmt.Sprint(time.Now().UnixNano()), time.Minute))
+		_, _, body := p.check(token(t, fmt.Sprint(time.Now().UnixNano()), lasting))
 		return strings.Contains(body, "UnknownDomain")
 	})
 	before := len(p.events("accepted"))
@@ -128,7 +128,7 @@ func TestAudiencesAndCallersAreReadAgain(t *testing.T) {
 				}
 			}
 			of := func(audience, caller, id string) string {
-				return example.Token("ES256", map[string]any{"sub": "spiffe://example.org/" + caller, "aud": audience, "exp": time.Now().Add(time.Minute).Unix(), "jti": id})
+				return example.Token("ES256", map[string]any{"sub": "spiffe://example.org/" + caller, "aud": audience, "exp": time.Now().Add(lasting).Unix(), "jti": id})
 			}
 			write([]string{"ledger"}, []string{"spiffe://example.org/web"}, "")
 			p := prepare(t, nil)

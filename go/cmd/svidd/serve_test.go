@@ -21,7 +21,7 @@ func TestServeOnce(t *testing.T) {
 	bundle := bundleFile(t, example)
 	p := start(t, bundleOption(bundle), "--state", state, "--admin", admin)
 
-	first := token(t, "first", time.Minute)
+	first := token(t, "first", lasting)
 	status, header, body := p.check(first)
 	if status != 200 || header.Get("X-Spiffe-Id") != "spiffe://example.org/web" || header.Get("X-Svid-Audience") != "ledger" ||
 		header.Get("X-Svid-Expires") == "" || header.Get("Cache-Control") != "no-store" || body != "" {
@@ -37,7 +37,7 @@ func TestServeOnce(t *testing.T) {
 	}
 
 	// A token is withdrawn by itself, and by its key.
-	second, third := token(t, "second", time.Minute), token(t, "third", time.Minute)
+	second, third := token(t, "second", lasting), token(t, "third", lasting)
 	if status, out, err := svidd(t, "", "withdraw", "--admin", admin, second); status != 0 || !strings.HasPrefix(out, "withdrawn ") {
 		t.Errorf("withdraw: %d %q %q", status, out, err)
 	}
@@ -71,7 +71,7 @@ func TestServeOnce(t *testing.T) {
 	if err != nil {
 		t.Fatal(err)
 	}
-	signed := other.Token("RS256", map[string]any{"sub": "spiffe://example.org/a", "aud": "ledger", "exp": time.Now().Add(time.Minute).Unix()})
+	signed := other.Token("RS256", map[string]any{"sub": "spiffe://example.org/a", "aud": "ledger", "exp": time.Now().Add(lasting).Unix()})
 	p.want(signed, 401, "BadSignature")
 	writeBundle(t, bundle, other)
 	if err := p.run.Process.Signal(syscall.SIGHUP); err != nil {
@@ -94,7 +94,7 @@ func TestServeOnce(t *testing.T) {
 	p.end()
 	p.start()
 	p.want(first, 401, "Replayed")
-	fourth := token(t, "fourth", time.Minute)
+	fourth := token(t, "fourth", lasting)
 	p.want(fourth, 200, "")
 	p.kill()
 	p.start()
@@ -112,7 +112,7 @@ func TestReuseAcceptsUntilWithdrawn(t *testing.T) {
 	t.Parallel()
 	admin := filepath.Join(t.TempDir(), "admin.sock")
 	p := start(t, bundleOption(bundleFile(t, example)), "--replay", "reuse", "--admin", admin)
-	reused := token(t, "a", time.Minute)
+	reused := token(t, "a", lasting)
 	p.want(reused, 200, "")
 	p.want(reused, 200, "")
 	// Nothing keeps the withdrawal, and the command says so.
@@ -271,7 +271,7 @@ func TestOptionsOfAFileAndOfTheEnvironment(t *testing.T) {
 func TestVerifyPrintsTheClaims(t *testing.T) {
 	t.Parallel()
 	bundle := bundleOption(bundleFile(t, example))
-	good := token(t, "a", time.Minute)
+	good := token(t, "a", lasting)
 	status, out, err := svidd(t, good+"\n", "verify", "--audience", "ledger", bundle)
 	if status != 0 || !strings.Contains(out, `"jti":"a"`) {
 		t.Errorf("%d %q %q", status, out, err)
@@ -337,7 +337,7 @@ func TestATokenThatIsTooLong(t *testing.T) {
 	if status, _, _ := p.check(strings.Repeat("a", 200_000)); status != http.StatusRequestHeaderFieldsTooLarge {
 		t.Errorf("200,000 bytes: %d", status)
 	}
-	p.want(token(t, "good", time.Minute), 200, "")
+	p.want(token(t, "good", lasting), 200, "")
 }
 
 // An address that is taken is said at the start.
@@ -353,5 +353,5 @@ func TestAnAddressThatIsTaken(t *testing.T) {
 	if status, _, err := svidd(t, "", args...); status != 2 || !strings.Contains(err, "another process answers there") {
 		t.Errorf("the same admin socket: %d %q", status, err)
 	}
-	p.want(token(t, "good", time.Minute), 200, "")
+	p.want(token(t, "good", lasting), 200, "")
 }

@@ -8,7 +8,6 @@ import (
 	"path/filepath"
 	"strings"
 	"testing"
-	"time"
 
 	"svid.example/go/v2/journal"
 	"svid.example/go/v2/svid"
@@ -121,7 +120,7 @@ func TestCheckStateOfNoMessages(t *testing.T) {
 // version, which is one of messages.
 func TestASidecarGoesOnWithWhatWasSaved(t *testing.T) {
 	t.Parallel()
-	used := token(t, "used", time.Minute)
+	used := token(t, "used", lasting)
 	state := filepath.Join(t.TempDir(), "state")
 	bundle := bundleOption(bundleFile(t, example))
 	p := start(t, bundle, "--state", state)
@@ -140,7 +139,7 @@ func TestASidecarGoesOnWithWhatWasSaved(t *testing.T) {
 	}
 	p = start(t, bundle, "--state", other)
 	p.want(used, 401, "Replayed")
-	p.want(token(t, "new", time.Minute), 200, "")
+	p.want(token(t, "new", lasting), 200, "")
 	text, err := os.ReadFile(filepath.Join(other, "snapshot"))
 	if err != nil || bytes.HasPrefix(text, []byte("JSR")) {
 		t.Errorf("the snapshot is still one of messages (%v)", err)

@@ -26,7 +26,7 @@ import (
 func TestVerifyReadsOneToken(t *testing.T) {
 	t.Parallel()
 	bundle := bundleOption(bundleFile(t, example))
-	good, longest := token(t, "a", time.Minute), longestToken(t)
+	good, longest := token(t, "a", lasting), longestToken(t)
 	blanks := strings.Repeat(" ", svid.MaxToken)
 	for _, row := range []struct {
 		stdin, want string
@@ -74,7 +74,7 @@ func TestAnRSAKeyHasABound(t *testing.T) {
 	}
 	encode := base64.RawURLEncoding.EncodeToString
 	signed := encode([]byte(`{"alg":"PS256","kid":"long"}`)) + "." +
-		encode([]byte(fmt.Sprintf(`{"sub":"spiffe://example.org/web","aud":"ledger","exp":%d}`, time.Now().Unix()+60)))
+		encode([]byte(fmt.Sprintf(`{"sub":"spiffe://example.org/web","aud":"ledger","exp":%d}`, time.Now().Add(lasting).Unix())))
 	sum := sha256.Sum256([]byte(signed))
 	signature, err := rsa.SignPSS(rand.Reader, key, crypto.SHA256, sum[:], &rsa.PSSOptions{SaltLength: sha256.Size})
 	if err != nil {
@@ -124,7 +124,7 @@ func TestAnRSAKeyHasABound(t *testing.T) {
 func longestToken(t *testing.T) string {
 	t.Helper()
 	const room = `{"alg":"ES256","kid":"ec-256","more":""}`
-	claims, err := json.Marshal(map[string]any{"sub": example.Subject("/web"), "aud": "ledger", "exp": time.Now().Unix() + 60})
+	claims, err := json.Marshal(map[string]any{"sub": example.Subject("/web"), "aud": "ledger", "exp": time.Now().Add(lasting).Unix()})
 	if err != nil {
 		t.Fatal(err)
 	}
@@ -166,7 +166,7 @@ func TestVerifyWaitsForEachBundle(t *testing.T) {
 		t.Fatal(err)
 	}
 	t.Setenv("SSL_CERT_FILE", authorities)
-	one := other.Token("ES256", map[string]any{"sub": "spiffe://example.com/web", "aud": "ledger", "exp": time.Now().Unix() + 60, "jti": "a"})
+	one := other.Token("ES256", map[string]any{"sub": "spiffe://example.com/web", "aud": "ledger", "exp": time.Now().Add(lasting).Unix(), "jti": "a"})
 	status, out, said := svidd(t, one, "verify", "--audience", "ledger",
 		"--bundle", "example.org="+server.URL+"/first", "--bundle", "example.com="+server.URL+"/second")
 	if status != 0 || !strings.Contains(out, `"jti":"a"`) {

@@ -218,9 +218,9 @@ func engine(t testing.TB, o Options) *Engine {
 	return e
 }
 
-// soon ends all tests where this one hangs: earlier than the test tool's own limit would.
+// soon ends all tests where this one hangs: earlier than the test tool's own limit would, and later than a test waits for something.
 func soon(t testing.TB) (ended func()) {
-	late := time.AfterFunc(80*time.Second, func() { panic(t.Name() + " hangs") })
+	late := time.AfterFunc(patience.Long+50*time.Second, func() { panic(t.Name() + " hangs") })
 	return func() { late.Stop() }
 }
 
