@@ -1,5 +1,6 @@
 """Real servers of Redis and PostgreSQL for tests: each in a folder and at a port of its own."""
 
+import atexit
 import contextlib
 import os
 import pwd
@@ -128,6 +129,7 @@ class RedisServer(Server):
 class PostgresServer(Server):
     stops_by = signal.SIGINT  # (a fast shutdown)
     binaries = "/usr/lib/postgresql/15/bin"
+    new = None  # a folder with the data of one that never ran
 
     def __init__(self, *settings):
         super().__init__()
@@ -136,12 +138,22 @@ class PostgresServer(Server):
             it = pwd.getpwnam("postgres")
             os.chown(self.folder, it.pw_uid, it.pw_gid)
             self.user = {"user": it.pw_uid, "group": it.pw_gid, "extra_groups": []}
+        if not PostgresServer.new:
+            PostgresServer.new = self.made()
+        subprocess.run(["cp", "-a", PostgresServer.new, "data"], cwd=self.folder, check=True)
+        self.url = f"postgresql://svid@127.0.0.1:{self.port}/postgres"
+
+    def made(self):
+        """The data of a new server, from which each begins: to make them costs more than a copy."""
+        room = tempfile.mkdtemp(prefix="svid-test-", dir="/tmp")
+        atexit.register(shutil.rmtree, room, ignore_errors=True)
+        os.chown(room, self.user.get("user", -1), self.user.get("group", -1))
         words = [self.command("initdb"), "-D", "data", "-U", "svid", "-A", "trust", "--no-sync"]
         made = subprocess.run(
-            [*words, "--locale=C", "-E", "UTF8"], cwd=self.folder, capture_output=True, **self.user
+            [*words, "--locale=C", "-E", "UTF8"], cwd=room, capture_output=True, **self.user
         )
         assert made.returncode == 0, made.stderr.decode()
-        self.url = f"postgresql://svid@127.0.0.1:{self.port}/postgres"
+        return f"{room}/data"
 
     def command(self, name):
         return f"{self.binaries}/{name}"

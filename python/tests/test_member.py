@@ -3,6 +3,7 @@
 import asyncio
 import collections
 import contextlib
+import itertools
 import logging
 import os
 import random
@@ -69,6 +70,19 @@ def other_use(use, **changed):
 def waiting(checks):
     """How many claims wait for the next value."""
     return len(checks._puts)
+
+
+def given_up(checks, log, check=verdict):
+    """A token whose check was given up, and whose claim is in the log.
+
+    (On a slow machine a claim may be given up before it goes out. Then another token shows it.)
+    """
+    for number in itertools.count():
+        made = fresh(jti=f"given up {number}")
+        key = checks.judge(made).use.key
+        assert in_thread(check, checks, made)() == "Unavailable"
+        if any(key in value for value in log.values):
+            return made
 
 
 @pytest.fixture
@@ -267,8 +281,7 @@ def test_a_log_that_can_not_be_read_for_a_while(log, caplog):
 
     log = Away()
     with caplog.at_level(logging.WARNING, "svid"), member(log, wait=0.2) as checks:
-        made = fresh()
-        assert verdict(checks, made) == "Unavailable"
+        made = given_up(checks, log)
         log.is_away, checks._wait = False, PATIENCE
         until(lambda: checks.report().uses)
         assert verdict(checks, made) == "Replayed"  # it is used up
@@ -278,9 +291,8 @@ def test_a_log_that_can_not_be_read_for_a_while(log, caplog):
 
 def test_a_check_waits_no_longer_than_it_may(log):
     with member(log, wait=0.2) as checks:
-        made = fresh()
         log.hold()
-        assert in_thread(verdict, checks, made)() == "Unavailable"
+        made = given_up(checks, log)
         log.go()
         until(lambda: checks.report().uses)
         assert verdict(checks, made) == "Replayed"
@@ -805,16 +817,21 @@ async def status_of(app, token):
 
 
 def test_an_event_loop_waits_no_longer_than_it_may(log):
-    async def main(checks, count):
+    async def main(checks, made, count):
         return await asyncio.gather(*(said_soon(checks, it) for it in [made] * count))
 
     with member(log, wait=0.2) as checks:
-        made = fresh()
         log.hold()
-        assert in_thread(lambda: asyncio.run(main(checks, 3)))() == ["Unavailable"] * 3
+
+        def late(checks, made):
+            said = asyncio.run(main(checks, made, 3))
+            assert said == ["Unavailable"] * 3
+            return said[0]
+
+        made = given_up(checks, log, late)
         log.go()
         until(lambda: checks.report().uses)
-        assert asyncio.run(main(checks, 2)) == ["Replayed"] * 2
+        assert asyncio.run(main(checks, made, 2)) == ["Replayed"] * 2
 
 
 def test_a_check_that_is_cancelled_holds_nothing_up(log):

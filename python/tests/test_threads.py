@@ -118,7 +118,7 @@ def test_closing_waits_for_a_call():
         thread.start()
         thread.join(0.5)
         assert thread.is_alive()
-    thread.join(60)
+    thread.join(PATIENCE)
     assert not thread.is_alive()
 
 
@@ -187,9 +187,9 @@ def forked(work):
 
     made = multiprocessing.get_context("fork").Process(target=child)
     made.start()
-    assert reader.poll(60)
+    assert reader.poll(PATIENCE)
     said = reader.recv()
-    made.join(60)
+    made.join(PATIENCE)
     assert made.exitcode == 0
     return said
 
