@@ -19,7 +19,7 @@ test("a token is accepted once, in Chromium too", async () => {
     const validator = await Validator.open({ audiences: "ledger", bundles });
     for (const it of [tokens[0], tokens[0], other, "a.b"]) said.push(await name(validator.check(it)));
     said.push((await Promise.all([1, 2, 3].map(() => name(validator.check(tokens[1]))))).sort().join());
-    const member = await Member.open({ audiences: "ledger", bundles, longest: 3600, log: new MemoryLog() });
+    const member = await Member.open({ audiences: "ledger", bundles, longest: 3600, wait: 60, log: new MemoryLog() });
     for (const it of [tokens[0], tokens[0]]) said.push(await name(member.check(it)));
     await member.close();
     validator.close();
