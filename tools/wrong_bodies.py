@@ -11,7 +11,8 @@ file NAME.edit of lines:
 
 It is caught where a test fails. It is not caught where all its tests pass (it survived), where they don't end within ten
 minutes, or where the program does not compile with it, which says nothing of the test. All named tests must pass without a
-wrong body, too. In each run all of them are looked at first, whether they can be applied.
+wrong body, too; with --share nobody looks at that, since ./test runs these tests beside it. In each run all of them are looked
+at first, whether they can be applied. A wrong body is to be caught within two minutes: those that took longer are named at the end.
 
 Several are tried at once, by threads of one process, and two rules follow. A file that this process wrote is never executed:
 whatever another thread starts holds each file open that is being written, until it is a program of its own, and Linux refuses
@@ -33,6 +34,7 @@ from concurrent.futures import ThreadPoolExecutor
 TOP = os.path.dirname(os.path.dirname(os.path.realpath(__file__)))
 LONGEST = 600  # seconds for the tests of one wrong body, with all that is compiled for them
 LONGEST_ALL = 3600  # and for those of all, without a wrong body
+SLOW = 120  # seconds in which a wrong body is to be caught, where nothing else runs
 PATIENCE = 30  # how many seconds a test waits for what never comes with a wrong body
 DAY = 86_400
 BASH, PYTHON = "/bin/bash", sys.executable  # what reads a script of a copy
@@ -159,6 +161,7 @@ class Wrong:
 
     def __init__(self, language, name):
         self.name, self.pairs, self.why, self.tests = name, [], "", []
+        self.took = 0.0  # seconds until its tests had ended
         path = before = None
         for line in text_of(f"{language.bodies}/{name}.edit").splitlines():
             word, _, rest = line.partition(":")
@@ -219,10 +222,12 @@ def outcome(language, changed, tests, longest):
 
 def tried(language, it):
     """Why a wrong body is not caught, or nothing."""
+    begun = time.monotonic()
     try:
         status, said = outcome(language, it.changed, it.tests, LONGEST)
     except Unfit as why:
         return f"NOT CAUGHT: it can't be tried: {why}"
+    it.took = time.monotonic() - begun
     if status is None:
         return f"NOT CAUGHT: it took too long: its tests don't end within {LONGEST} seconds"
     if status == 0:
@@ -242,20 +247,22 @@ def passing(language, wrongs):
     return "" if status == 0 else f"{'' if status is None else f'status {status}: '}{said or 'they do not end'}"
 
 
-def try_all(language, wrongs):
-    """How many of them are not caught, where each processor tries one after the other."""
+def try_all(language, wrongs, alone):
+    """How many of them are not caught, where each processor tries one after the other. With `alone` their tests run without a wrong body, too."""
     faults = 0
     with tempfile.TemporaryDirectory(prefix="svid-wrong-") as shared:
         language.begin(shared)
         with ThreadPoolExecutor(int(os.environ.get("SVID_JOBS") or len(os.sched_getaffinity(0)))) as pool:
-            good = pool.submit(passing, language, wrongs)
+            good = pool.submit(passing, language, wrongs) if alone else None
             for it, why in zip(wrongs, pool.map(lambda it: tried(language, it), wrongs)):
                 if why:
                     faults += 1
                     print(f"wrong: {language.folder}/{it.name}: {why}", flush=True)
-        if good.result():
+        if good and good.result():
             faults += 1
             print(f"wrong: the tests fail without a wrong body:\n{good.result()}")
+    if slow := [f"{it.name} ({it.took:.0f} s)" for it in wrongs if it.took > SLOW]:
+        print(f"wrong: {language.folder}: more than {SLOW} s took {', '.join(slow)}")
     return faults
 
 
@@ -285,7 +292,7 @@ def main(language, words):
     if not only_applies and (why := language.missing()):
         print(f"wrong: skipped: those {of}, since its tests can't run here: {why}")
     elif not only_applies:
-        failed = try_all(language, [wrongs[it] for it in chosen if it in wrongs])
+        failed = try_all(language, [wrongs[it] for it in chosen if it in wrongs], words[:1] != ["--share"])
         print(f"wrong: {len(chosen)} {of} tried, {f'{failed} of them NOT caught' if failed else 'each caught'}")
         faults += failed
     return 1 if faults or not names else 0
