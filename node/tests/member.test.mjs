@@ -96,12 +96,13 @@ test("where the log takes no claim in time, the check says so, and the claim is 
   const log = new TestLog(), append = gate(), member = await opened(log, { wait: 0.05 });
   log.holds.append = append.passed;
   // (on a slow machine claims may be given up before a value goes out: then others are on their way)
-  while (!log.begun.append) {
+  await until(async () => {
     const text = token(one);
     assert.deepEqual(await Promise.all([said(member.check(token(one))), said(member.check(text)), said(member.check(text))]), [
       "Unavailable", "Unavailable", "Unavailable",
     ]);
-  }
+    return log.begun.append;
+  }, "a value goes out");
   const late = token(one);
   assert.equal(await said(member.check(late)), "Unavailable");
   append.open();
@@ -119,11 +120,12 @@ test("a claim whose answer was given up is used up, and nobody else is let in", 
   log.holds.read = read.passed;
   let text;
   // (on a slow machine a claim may be given up before its value goes out: then it is another one that is used up)
-  while (!log.appended) {
+  await until(async () => {
     text = token(one);
     assert.equal(await said(member.check(text)), "Unavailable");
     await new Promise((resolve) => setImmediate(resolve));
-  }
+    return log.appended;
+  }, "a value goes out");
   read.open();
   log.holds.read = undefined;
   await until(() => member.size().uses === 1);

@@ -77,7 +77,9 @@ def given_up(checks, log, check=verdict):
 
     (On a slow machine a claim may be given up before it goes out. Then another token shows it.)
     """
+    end = time.monotonic() + PATIENCE
     for number in itertools.count():
+        assert time.monotonic() < end, "no claim goes out"
         made = fresh(jti=f"given up {number}")
         key = checks.judge(made).use.key
         assert in_thread(check, checks, made)() == "Unavailable"
