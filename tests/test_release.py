@@ -565,7 +565,9 @@ def test_the_crate(room):
     }.items():
         (room.folder / name).parent.mkdir(exist_ok=True)
         (room.folder / name).write_text(text)
-    cargo = {"CARGO_HOME": str(room.folder / "cargo"), "CARGO_PROFILE_DEV_DEBUG": "0"}
+    # (of the compiler that is used here, wherever that is)
+    tools = Path(output("rustc", "--print", "sysroot").strip()) / "bin"
+    cargo = {"CARGO_HOME": str(room.folder / "cargo"), "CARGO_PROFILE_DEV_DEBUG": "0", "PATH": f"{tools}:/usr/sbin:/usr/bin:/sbin:/bin"}
     assert room.run("cargo", "run", "--quiet", "--offline", **cargo) == ACCEPTED
 
 

@@ -300,9 +300,13 @@ func (s *suite) oneOrder(t *testing.T) {
 	putting.Wait()
 	late := s.join(t, Options{Name: name})
 	same(t, holds(sent), append(all, late)...)
-	// Who puts one value behind the other finds them in that order.
-	last := make(map[string]int)
+	// Who puts one value behind the other finds them in that order. (A value may stand there twice, where an answer was late: the first counts.)
+	last, seen := make(map[string]int), make(map[string]bool)
 	for _, v := range late.values() {
+		if seen[string(v.Message)] {
+			continue
+		}
+		seen[string(v.Message)] = true
 		var i, j, k int
 		fmt.Sscanf(string(v.Message), "good %d.%d.%d", &i, &j, &k)
 		who := fmt.Sprint(i, j)
