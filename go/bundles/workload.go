@@ -92,14 +92,18 @@ func mended(domain string, text []byte, room *int) ([]byte, error) {
 	if err := fits(len(text), *room); err != nil {
 		return nil, err
 	}
-	whole := json.RawMessage(text) // (where it can't be joined, judge says what is wrong)
-	if joined, err := svid.JoinBundles(map[string][]byte{domain: text}); err == nil {
-		var of map[string]json.RawMessage
-		if err := json.Unmarshal(joined, &of); err != nil {
-			return nil, err
+	joined, err := svid.JoinBundles(map[string][]byte{domain: text})
+	if err != nil {
+		if _, bad := parse(text); bad != nil {
+			err = bad // (which says more)
 		}
-		whole = of[domain]
+		return nil, err // (as it came, its keys would lack a use, and none would count)
 	}
+	var of map[string]json.RawMessage
+	if err := json.Unmarshal(joined, &of); err != nil {
+		return nil, err
+	}
+	whole := of[domain]
 	if err := fits(len(whole), *room); err != nil {
 		return nil, err
 	}
