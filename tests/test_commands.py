@@ -6,6 +6,7 @@ own, with the files of examples/ and those that the fixture `folder` makes."""
 import itertools
 import json
 import os
+import re
 import shutil
 import subprocess
 import time
@@ -47,6 +48,11 @@ def faults(line):
 def stops(line):
     """A file or memory is not there: a line on standard error, status 2."""
     return 2, "", f"svid: {line}\n"
+
+
+def mistakes(says, command=""):
+    """A mistake on the command line: one line on standard error, which names the help to ask for, status 2."""
+    return 2, "", f"svid: {says}; see 'svid{command and ' '}{command} --help'\n"
 
 
 HELPS = 0, ANY, ""
@@ -109,7 +115,7 @@ def expect(folder, line, answer):
     due = [it if it is ANY or isinstance(it, (int, bytes)) else os.fsencode(it) for it in answer]
     assert [it if of is not ANY else ANY for it, of in zip(got, due)] == due, line[:300]
     if answer == USAGE:
-        assert got[2], "it says nothing of its usage"
+        assert re.fullmatch(rb"svid: [^\n]+; see 'svid [^\n]*--help'\n", got[2]), got[2]
 
 
 def short(line):
@@ -123,10 +129,31 @@ USUAL = [
     ("svid --help", HELPS),
     ("svid id --help", HELPS),
     ("svid report --help", HELPS),
-    ("svid", USAGE),
-    ("svid no-such-command", USAGE),
-    ("svid id", USAGE),
-    ("svid id a b", USAGE),
+    # a mistake is one line, which has the nearest name
+    (
+        "svid",
+        mistakes(
+            "'svid' requires a subcommand but one was not provided; [subcommands: check, id, report, merge, summary, answer, candidates, refusals, help]"
+        ),
+    ),
+    ("svid no-such-command", mistakes("unrecognized subcommand 'no-such-command'")),
+    ("svid chekc", mistakes("unrecognized subcommand 'chekc'; a similar subcommand exists: 'check'")),
+    ("svid reprot bad.json", mistakes("unrecognized subcommand 'reprot'; a similar subcommand exists: 'report'")),
+    ("svid check --bundel x", mistakes("unexpected argument '--bundel' found; a similar argument exists: '--bundles'", "check")),
+    (f"{CHECK} --longets 1 ledger <token.txt", mistakes("unexpected argument '--longets' found; a similar argument exists: '--longest'", "check")),
+    ("svid candidates --bundles", mistakes("a value is required for '--bundles <FILE>' but none was supplied", "candidates")),
+    (
+        "svid check --now 1 ledger <token.txt",
+        mistakes("the following required arguments were not provided: --bundles <FILE>; --table <FILE>; --validator-id <ID>", "check"),
+    ),
+    ("svid report --now x bad.json", mistakes("invalid value 'x' for '--now <N>': invalid digit found in string", "report")),
+    ("svid report --now 1 --now 2", mistakes("the argument '--now <N>' cannot be used multiple times", "report")),
+    ("svid id", mistakes("the following required arguments were not provided: <TEXT>", "id")),
+    ("svid id a b", mistakes("unexpected argument 'b' found", "id")),
+    ("svid --explain --reprot", mistakes("unexpected argument '--reprot' found")),
+    # a word adds no line to it, and nothing that moves a terminal's cursor; it keeps its bytes beside these
+    (r"svid id a $'b\nsvid: c'", mistakes("unexpected argument 'b; svid: c' found", "id")),
+    (r"svid id a $'\x1b[2J\x7f\xc3\xa9\xff'", (2, "", b"svid: unexpected argument '[2J\xc3\xa9\xff' found; see 'svid id --help'\n")),
     ("svid --version", prints(f"svid {(TOP / 'VERSION').read_text().strip()} ({(TOP / 'dist/KIT').read_text().strip()})\n")),
     # id: the text is the bytes of its word
     ("svid id spiffe://a/b", prints("domain a\npath /b\n")),

@@ -1,9 +1,10 @@
 //! The command line: which command is asked for, and what it reads.
 
-use crate::commands::command;
+use crate::commands::{command, help_of};
 use crate::failure::{Failure, tool_input};
 use crate::input::{Input, Stream};
 use crate::kept::Kept;
+use crate::mistake::one_line;
 use crate::refusals::{JSON, LINES};
 use crate::sentence::Words;
 use crate::trust_domain::bundles_of;
@@ -21,13 +22,26 @@ use svid_lines::{CheckSetting, run_candidates, run_check, run_id};
 use svid_share::{ToolFault, read_input, run_answer, run_merge, run_report, run_summary};
 use svid_wire::Counted;
 
-// A mistake on the command line is told on standard error, and a call for help on standard output.
-fn usage(rt: &HostRuntime, error: &Error) -> Result<u8, Failure> {
+// A mistake on the command line is one line on standard error.
+fn mistake(rt: &HostRuntime, error: &Error, words: &[String]) -> Result<u8, Failure> {
+    let text = error.to_string(rt.alloc())?;
+    let mut line = one_line(rt.alloc(), text.as_str(), help_of(words))?;
+    line.push(b'\n')?;
+    match rt.stderr().write_all(&line) {
+        Ok(()) => Ok(2),
+        Err(_) => Err(Failure::from(ToolFault::Write)),
+    }
+}
+
+// A call for help is answered on standard output.
+fn usage(rt: &HostRuntime, error: &Error, words: &[String]) -> Result<u8, Failure> {
     if error.kind() == ErrorKind::OutOfMemory {
         return Err(Failure::from(ToolFault::OutOfMemory));
     }
+    if error.use_stderr() {
+        return mistake(rt, error, words);
+    }
     match error.print(rt) {
-        Ok(()) if error.use_stderr() => Ok(2),
         Ok(()) => Ok(0),
         Err(_) => Err(Failure::from(ToolFault::Write)),
     }
@@ -388,7 +402,7 @@ pub fn run(rt: &HostRuntime) -> u8 {
     };
     match command.try_get_matches_from(words.as_slice()) {
         Ok(matches) => answered(rt, &matches, is_asked),
-        Err(error) => match usage(rt, &error) {
+        Err(error) => match usage(rt, &error, words.as_slice()) {
             Ok(status) => status,
             Err(failure) => failed(rt, failure, is_asked),
         },

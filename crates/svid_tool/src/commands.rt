@@ -7,7 +7,7 @@ use clap::Command;
 use std::alloc::{AllocError, Global};
 
 // The version of the program, and the kit that proves and builds it.
-const VERSION: &str = "2.0.0 (rattle-kit-13b logic dac8208d650f15bf)";
+const VERSION: &str = "2.0.0 (rattle-kit-13f logic dac8208d650f15bf)";
 
 const TEXT: Argument = Argument {
     name: "text",
@@ -151,6 +151,7 @@ const EXPLAIN: Argument = Argument {
 static COMMANDS: [Subcommand; 8] = [
     Subcommand {
         name: "check",
+        help: "svid check --help",
         about: "Check each token on standard input, and print whether it is accepted or why not",
         after_help: "Each line of standard input that is not empty is a token; svid reads to the end.{n}{n}--record and --out may name the same file. svid replaces that file as a whole before it prints the first line, and leaves it as it was if the check fails. If two checks run at once with the same --out, the uses of one are lost. svid reads an empty file as an empty record, and does not notice when a record was cut off at the end of a message.{n}{n}Exit status: 0 svid accepted every token; 1 it refused a token or an input; 2 a usage error, a bad --validator-id, a file that does not open, a failed write or out of memory.",
         arguments: &[
@@ -167,42 +168,49 @@ static COMMANDS: [Subcommand; 8] = [
     },
     Subcommand {
         name: "id",
+        help: "svid id --help",
         about: "Print the trust domain and path of a SPIFFE ID, or why a text is not one",
         after_help: "svid id does not read standard input.{n}{n}Exit status: 0 the text is a SPIFFE ID; 1 it is not; 2 a usage error, a failed write or out of memory.",
         arguments: &[TEXT],
     },
     Subcommand {
         name: "report",
+        help: "svid report --help",
         about: "Print the uses in the combined record, and the keys that were used twice",
         after_help: "If you name no FILE, svid reads messages from standard input, to its end.{n}{n}The page dist/svid.html of the sources shows the same in a browser.{n}{n}Exit status: 0 svid printed the report; 1 it refused an input; 2 a usage error, a file that does not open, a failed write or out of memory.",
         arguments: &[RAISED_TO, FILES],
     },
     Subcommand {
         name: "merge",
+        help: "svid merge --help",
         about: "Combine the records of all inputs, and write the result",
         after_help: "If you name no FILE, svid reads messages from standard input, to its end.{n}{n}Never write to a file that you read: the shell empties it before svid runs, so `svid merge a b > a` loses a. Write to a new file, and move that. svid reads an empty file as an empty record, and does not notice when a record was cut off at the end of a message.{n}{n}Exit status: 0 svid wrote the record; 1 it refused an input; 2 a usage error, a file that does not open, a failed write or out of memory.",
         arguments: &[RAISED_TO, FILES],
     },
     Subcommand {
         name: "summary",
+        help: "svid summary --help",
         about: "Write a summary of the combined record, for the `answer` of another validator",
         after_help: "If you name no FILE, svid reads messages from standard input, to its end.{n}{n}Exit status: 0 svid wrote the summary; 1 it refused an input; 2 a usage error, a file that does not open, a failed write or out of memory.",
         arguments: &[FILES],
     },
     Subcommand {
         name: "answer",
+        help: "svid answer --help",
         about: "Write what a validator lacks, as its summary tells: all uses of the buckets that differ",
         after_help: "If you name no FILE, svid reads messages from standard input, to its end.{n}{n}Exit status: 0 svid wrote the answer; 1 it refused an input; 2 a usage error, a file that does not open, a failed write or out of memory.",
         arguments: &[SUMMARY, FILES],
     },
     Subcommand {
         name: "candidates",
+        help: "svid candidates --help",
         about: "Print one question for each key that could have signed the token on standard input",
         after_help: "The token is the first line of standard input that is not empty; svid reads to the end.{n}{n}Exit status: 0 svid printed a question or more; 1 it refused the token or the bundles; 2 a usage error, a file that does not open, a failed write or out of memory.",
         arguments: &[BUNDLES, TRUST_DOMAIN],
     },
     Subcommand {
         name: "refusals",
+        help: "svid refusals --help",
         about: "Print why tokens are refused, in the order in which a check looks for it",
         after_help: "svid refusals reads nothing. Each line has the number that the C library gives the refusal, its name as `svid check` prints it, and a sentence. Of two that hold for a token, a check prints the first.{n}{n}Exit status: 0 svid printed them; 2 a usage error, a failed write or out of memory.",
         arguments: &[IN_JSON],
@@ -224,4 +232,17 @@ pub fn command<'a>(alloc: Global) -> Result<Command<'a>, AllocError> {
         svid = svid.subcommand(subcommand.to_clap(alloc)?)?;
     }
     Ok(svid)
+}
+
+/// The call for help that these words of a command line are near: that of the command that they name, or else that of
+/// the program.
+pub fn help_of(words: &[String]) -> &'static str {
+    for word in words {
+        for subcommand in &COMMANDS {
+            if word.as_str() == subcommand.name {
+                return subcommand.help;
+            }
+        }
+    }
+    "svid --help"
 }

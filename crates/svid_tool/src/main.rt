@@ -9,6 +9,7 @@ mod failure;
 mod form;
 mod input;
 mod kept;
+mod mistake;
 mod refusals;
 mod sentence;
 mod subcommand;

@@ -5,6 +5,8 @@ use std::alloc::{AllocError, Global};
 /// A command of the program.
 pub struct Subcommand {
     pub name: &'static str,
+    /// The call that prints its help.
+    pub help: &'static str,
     pub about: &'static str,
     pub after_help: &'static str,
     pub arguments: &'static [Argument],
