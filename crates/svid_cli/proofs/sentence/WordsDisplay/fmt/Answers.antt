@@ -1,4 +1,4 @@
-use Rattle.svid_tool.proofs.sentence.WordsDisplay.fmt.Goals as goal
+use Rattle.svid_cli.proofs.sentence.WordsDisplay.fmt.Goals as goal
 
 pub returns-in-NotSummary-clause-writes : goal.returns-in-NotSummary-clause-writes
 returns-in-NotSummary-clause-writes g c = rw c.in-NotSummary.is c.write-in-NotSummary.ensures.writes

@@ -1,6 +1,6 @@
 //! A mistake on the command line, told in one line.
 ghost use Rattle.std.specs.Prelude.{◌≡◌, IfOk, filter};
-ghost use Rattle.svid_tool.specs.Mistake.{is_shown};
+ghost use Rattle.svid_cli.specs.Mistake.{is_shown};
 
 use crate::words::bytes_of_text;
 use std::alloc::{AllocError, Global};

@@ -7,13 +7,13 @@ use Rattle.svid_wire.specs.declared.reason.Reason.TheVariants as wire
 use Rattle.svid_share.specs.declared.tool_fault.ToolFault.{ToolFault}
 use Rattle.svid_share.specs.declared.tool_fault.ToolFault.TheVariants as tool
 use Rattle.svid_share.specs.Faults.{fault_text, status_of}
-use Rattle.svid_tool.specs.Sentence.{sentence_text}
-use Rattle.svid_tool.specs.declared.failure.Failure.{Failure}
-use Rattle.svid_tool.specs.declared.failure.Failure.TheVariants as failure
-use Rattle.svid_tool.specs.declared.sentence.HexByte.{HexByte}
-use Rattle.svid_tool.specs.declared.sentence.Sentence.{Sentence}
-use Rattle.svid_tool.specs.declared.sentence.Sentence.TheVariants as says
-use Rattle.svid_tool.specs.declared.sentence.Words.{Words}
+use Rattle.svid_cli.specs.Sentence.{sentence_text}
+use Rattle.svid_cli.specs.declared.failure.Failure.{Failure}
+use Rattle.svid_cli.specs.declared.failure.Failure.TheVariants as failure
+use Rattle.svid_cli.specs.declared.sentence.HexByte.{HexByte}
+use Rattle.svid_cli.specs.declared.sentence.Sentence.{Sentence}
+use Rattle.svid_cli.specs.declared.sentence.Sentence.TheVariants as says
+use Rattle.svid_cli.specs.declared.sentence.Words.{Words}
 
 -- the sentence of a message that is bad
 abbrev pub message_sentence : ℕ → ℕ → Reason → Sentence

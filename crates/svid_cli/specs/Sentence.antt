@@ -3,11 +3,11 @@ use Rattle.std.specs.Prelude.{ℕ, List, ◌++◌, codes}
 use Rattle.std.specs.Fmt.{decimal}
 use Rattle.svid_wire.specs.declared.reason.Reason.{Reason}
 use Rattle.svid_wire.specs.declared.reason.Reason.TheVariants as wire
-use Rattle.svid_tool.specs.HexByte.{hex_text}
-use Rattle.svid_tool.specs.declared.sentence.MessageFault.{MessageFault}
-use Rattle.svid_tool.specs.declared.sentence.Sentence.{Sentence}
-use Rattle.svid_tool.specs.declared.sentence.Sentence.TheVariants as says
-use Rattle.svid_tool.specs.declared.sentence.TableFault.{TableFault}
+use Rattle.svid_cli.specs.HexByte.{hex_text}
+use Rattle.svid_cli.specs.declared.sentence.MessageFault.{MessageFault}
+use Rattle.svid_cli.specs.declared.sentence.Sentence.{Sentence}
+use Rattle.svid_cli.specs.declared.sentence.Sentence.TheVariants as says
+use Rattle.svid_cli.specs.declared.sentence.TableFault.{TableFault}
 
 -- what is wrong with a message, and what is due there
 abbrev pub reason_words : Reason → List ℕ

@@ -1,7 +1,7 @@
 //! The bundle of one trust domain, as SPIRE prints it, made an object of trust domains.
 ghost use Rattle.std.specs.Prelude.{◌≡◌, IfErr, IfOk};
 ghost use Rattle.svid_documents.specs.Join.{IsJoined};
-ghost use Rattle.svid_tool.specs.TrustDomain.{IsNoBundleOf, bundle_fault, only};
+ghost use Rattle.svid_cli.specs.TrustDomain.{IsNoBundleOf, bundle_fault, only};
 
 use std::alloc::Global;
 use svid_documents::{Document, DocumentFault, join};

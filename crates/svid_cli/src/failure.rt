@@ -1,6 +1,6 @@
 ghost use Rattle.std.specs.Prelude.{◌≡◌, ◌++◌, ◌∷◌, [], OnOk};
 ghost use Rattle.std.specs.Io.KnownBytes.{Appends};
-ghost use Rattle.svid_tool.specs.Failure.{bundles_sentence, failure_line, failure_status, input_of, magic_sentence, message_sentence, sentence_of, tool_input, tool_sentence, unopened_line, words_line, written};
+ghost use Rattle.svid_cli.specs.Failure.{bundles_sentence, failure_line, failure_status, input_of, magic_sentence, message_sentence, sentence_of, tool_input, tool_sentence, unopened_line, words_line, written};
 
 use crate::sentence::{HexByte, MessageFault, Sentence, TableFault, Words};
 use std::alloc::{AllocError, AllocFailed};

@@ -1,7 +1,7 @@
 ghost use Rattle.std.specs.Prelude.{◌≡◌, ◌<◌, Some, slice_index};
 ghost use Rattle.hex.specs.Hex.{lower_digits};
-ghost use Rattle.svid_tool.specs.HexByte.{hex_text};
-ghost use Rattle.svid_tool.specs.Sentence.{message_fault_text, reason_words, sentence_text, table_fault_text};
+ghost use Rattle.svid_cli.specs.HexByte.{hex_text};
+ghost use Rattle.svid_cli.specs.Sentence.{message_fault_text, reason_words, sentence_text, table_fault_text};
 
 use std::fmt;
 use svid_wire::Reason;

@@ -1,7 +1,7 @@
 //! What the program reads.
 ghost use Rattle.std.specs.Prelude.{◌≡◌, None, take};
 ghost use Rattle.std.specs.Io.{ReadsAtMost};
-ghost use Rattle.svid_tool.specs.Input.{first_after};
+ghost use Rattle.svid_cli.specs.Input.{first_after};
 
 use std::fs::File;
 use std::io::{Cursor, ErrorKind, Read, Stdin};
