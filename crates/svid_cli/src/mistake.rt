@@ -19,19 +19,28 @@ fn is_usage(said: &str) -> bool {
     said.starts_with("Usage: ") || said.starts_with("For more information")
 }
 
+// What stands between these words and the next ones.
+fn between(told: &str) -> &'static str {
+    if told.is_empty() {
+        ""
+    } else if told.ends_with(':') {
+        " "
+    } else {
+        "; "
+    }
+}
+
 // What the parser says before the usage, one thing behind the other.
 fn joined(alloc: Global, text: &str) -> Result<String, AllocError> {
     let mut told = String::new(alloc);
-    let mut between = "";
     for line in text.lines() {
         let said = said(line);
         if is_usage(said) {
             break;
         }
         if !said.is_empty() {
-            told.push_str(between)?;
+            told.push_str(between(told.as_str()))?;
             told.push_str(said)?;
-            between = if said.ends_with(':') { " " } else { "; " };
         }
     }
     Ok(told)
@@ -39,7 +48,7 @@ fn joined(alloc: Global, text: &str) -> Result<String, AllocError> {
 
 // The bytes that a terminal shows.
 fn shown(alloc: Global, bytes: &[u8]) -> Result<Vec<u8>, AllocError>
-    ensures { IfOk result (λ line. line ≡ filter is_shown bytes.now) }
+    ensures { IfOk result (λ line. line.items ≡ filter is_shown bytes.now) }
 {
     let mut line = Vec::new(alloc);
     for byte in bytes {
