@@ -1,6 +1,6 @@
 -- The line of a mistake on the command line.
-use Rattle.std.specs.Prelude.{ℕ, Bool, ◌==◌, ◌&&◌, nat_le, not}
+use Rattle.std.specs.Prelude.{ℕ, List, [], ◌∷◌, ◌==◌, ◌&&◌, nat_le, not, if◌then◌else◌}
 
--- whether a terminal shows a byte: it is no control character (ECMA-48, section 5.3), and so no line end
-abbrev pub is_shown : ℕ → Bool
-is_shown byte = nat_le 32 byte && not (byte == 127)
+-- what a terminal shows of a byte: nothing of a control character (ECMA-48, section 5.3), and so of no line end
+abbrev pub shown : ℕ → List ℕ
+shown byte = if nat_le 32 byte && not (byte == 127) then byte ∷ [] else []

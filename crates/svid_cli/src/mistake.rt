@@ -1,6 +1,7 @@
 //! A mistake on the command line, told in one line.
-ghost use Rattle.std.specs.Prelude.{◌≡◌, IfOk, filter};
-ghost use Rattle.svid_cli.specs.Mistake.{is_shown};
+ghost use Rattle.std.specs.Prelude.{◌≡◌, ◌++◌, IfOk};
+ghost use Rattle.std.specs.List.{flat_map};
+ghost use Rattle.svid_cli.specs.Mistake.{shown};
 
 use crate::words::bytes_of_text;
 use std::alloc::{AllocError, Global};
@@ -46,15 +47,23 @@ fn joined(alloc: Global, text: &str) -> Result<String, AllocError> {
     Ok(told)
 }
 
-// The bytes that a terminal shows.
-fn shown(alloc: Global, bytes: &[u8]) -> Result<Vec<u8>, AllocError>
-    ensures { IfOk result (λ line. line.items ≡ filter is_shown bytes.now) }
+// Puts what a terminal shows of a byte.
+fn push_shown(line: &mut Vec<u8>, byte: u8) -> Result<(), AllocError>
+    ensures { IfOk result (λ _. line.new.items ≡ line.old.items ++ shown byte) }
+{
+    if byte >= 32 && byte != 127 {
+        line.push(byte)?;
+    }
+    Ok(())
+}
+
+// What a terminal shows of these bytes.
+fn shown_of(alloc: Global, bytes: &[u8]) -> Result<Vec<u8>, AllocError>
+    ensures { IfOk result (λ line. line.items ≡ flat_map shown bytes.now) }
 {
     let mut line = Vec::new(alloc);
     for byte in bytes {
-        if *byte >= 32 && *byte != 127 {
-            line.push(*byte)?;
-        }
+        push_shown(&mut line, *byte)?;
     }
     Ok(line)
 }
@@ -65,5 +74,5 @@ pub fn one_line(alloc: Global, text: &str, help: &str) -> Result<Vec<u8>, AllocE
     let told = joined(alloc, text)?;
     let line = format!(in alloc; "svid: {told}; see '{help}'")?;
     let bytes = bytes_of_text(alloc, line.as_str())?;
-    shown(alloc, &bytes)
+    shown_of(alloc, &bytes)
 }
