@@ -235,7 +235,7 @@ func (s *Store) Open(ctx context.Context) (carriers.State, error) {
 		}
 	}
 	if err == nil && state.Unsafe != "" {
-		err = carriers.Unfitf("the server of the group's log may lose values: %s; see docs/SIDECAR.md", state.Unsafe)
+		err = carriers.Unfitf("the server of the group's log may lose values: %s; see docs/SIDECAR-OPERATION.md", state.Unsafe)
 	}
 	return state, err
 }

@@ -207,7 +207,7 @@ func (s *Store) Open(ctx context.Context) (carriers.State, error) {
 		return carriers.State{}, err
 	}
 	if s.unsafe != "" {
-		return carriers.State{}, carriers.Unfitf("the server of the group's log may lose values: %s; see docs/SIDECAR.md", s.unsafe)
+		return carriers.State{}, carriers.Unfitf("the server of the group's log may lose values: %s; see docs/SIDECAR-OPERATION.md", s.unsafe)
 	}
 	var made [16]byte
 	if _, err := rand.Read(made[:]); err != nil {

@@ -99,7 +99,7 @@ func (e *Engine) WriteMetrics(w io.Writer) error {
 		}
 		p.gauge("svidd_broker_connected", "1 if the group's broker is there.", truth(g.Connected()))
 	}
-	p.gauge("svidd_record_uses", "Uses and withdrawals in the record, counted every 15 seconds.", float64(m.Uses.Load()))
+	p.gauge("svidd_record_uses", "Uses and withdrawals in the record, counted every second.", float64(m.Uses.Load()))
 	p.gauge("svidd_record_moment_timestamp_seconds", "The record's clock, in seconds since 1970, when its uses were last counted.", float64(m.Moment.Load()))
 	if e.Journal != nil {
 		p.gauge("svidd_journal_bytes", "Bytes appended to the state folder since the last snapshot.", float64(e.Journal.Size()))
