@@ -174,8 +174,8 @@ public abstract sealed class SvidException extends RuntimeException {
         private final long offset;
 
         BadId(Status status, long offset) {
-            super((status.isFrom(Status.PATTERN_TOO_LONG, Status.PATTERN_PATH_BYTE) ? "no pattern of SPIFFE IDs" : "no SPIFFE ID") + " (byte "
-                            + offset + "): " + status.says(),
+            super((status.isFrom(Status.PATTERN_TOO_LONG, Status.PATTERN_PATH_BYTE) ? "no pattern of SPIFFE IDs" : "no SPIFFE ID")
+                            + " (byte " + offset + "): " + status.says(),
                     null);
             this.fault = status.label();
             this.offset = offset;

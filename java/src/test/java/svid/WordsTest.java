@@ -114,7 +114,8 @@ public class WordsTest {
             String name = reason.replaceAll("(.)([A-Z])", "$1_$2").toUpperCase(Locale.ROOT);
             String where = reason + " in message " + number(fault, "message") + " at byte " + number(fault, "offset");
             try (Validator validator = empty()) {
-                says(where + ": " + field(name, "says") + ", and due is " + field(name, "due"), () -> validator.take(0, bytes(it, "messages")));
+                says(where + ": " + field(name, "says") + ", and due is " + field(name, "due"),
+                        () -> validator.take(0, bytes(it, "messages")));
             }
             seen.add(reason);
         });
@@ -123,9 +124,13 @@ public class WordsTest {
 
     @Test
     public void idsAndPatterns() {
-        Map<String, String> texts = Map.of("TOO_LONG", "spiffe://" + "a".repeat(2040), "SCHEME", "example.org", "DOMAIN_EMPTY", "spiffe://",
-                "DOMAIN_BYTE", "spiffe://A", "DOMAIN_LONG", "spiffe://" + "a".repeat(256), "SEGMENT_EMPTY", "spiffe://a//b", "SEGMENT_DOTS",
-                "spiffe://a/../b", "PATH_BYTE", "spiffe://a/b*");
+        String tooLong = "spiffe://"
+                + "a".repeat(2040);
+        String domainLong = "spiffe://"
+                + "a".repeat(256);
+        Map<String, String> texts = Map.of("TOO_LONG", tooLong, "SCHEME", "example.org", "DOMAIN_EMPTY", "spiffe://", "DOMAIN_BYTE",
+                "spiffe://A", "DOMAIN_LONG", domainLong, "SEGMENT_EMPTY", "spiffe://a//b", "SEGMENT_DOTS", "spiffe://a/../b", "PATH_BYTE",
+                "spiffe://a/b*");
         Map<String, Integer> offsets = Map.of("DOMAIN_BYTE", 9, "SEGMENT_EMPTY", 11, "SEGMENT_DOTS", 11, "PATH_BYTE", 12);
         texts.forEach((name, text) -> {
             String where = " (byte " + offsets.getOrDefault(name, 0) + "): ";
@@ -136,8 +141,8 @@ public class WordsTest {
 
     @Test
     public void bearerHeaders() {
-        Map<String, List<String>> fields = Map.of("Absent", List.of(), "Several", List.of("Bearer a", "Bearer a"), "Scheme", List.of("Basic a"),
-                "Spelling", List.of("Bearer a b"));
+        Map<String, List<String>> fields = Map.of("Absent", List.of(), "Several", List.of("Bearer a", "Bearer a"), "Scheme",
+                List.of("Basic a"), "Spelling", List.of("Bearer a b"));
         fields.forEach((name, values) -> {
             String due = name + ": " + sentence("BEARER_" + name.toUpperCase(Locale.ROOT), "");
             says(due, () -> Validator.bearer(values));
