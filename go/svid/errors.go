@@ -98,14 +98,14 @@ var bundleAdvice = map[string]string{
 // A MessageError says why bytes are no row of messages.
 type MessageError struct {
 	Reason  string // as docs/FORMATS.md names it: "Magic" to "Truncated"
-	Message int    // which message is at fault, from 1; 0 for one of Read or OpenLog
+	Message int    // which message is at fault, from 1; 0 for one of Read or OpenLog, and of Batches, where Offset is the index of the use
 	Offset  int    // the byte of that message at which the faulty field begins, from 0
 }
 
 // Error names the reason and where it is, and says what is wrong and due there.
 func (e *MessageError) Error() string {
 	if e.Message == 0 {
-		return fmt.Sprintf("svid: %s at byte %d: %s", e.Reason, e.Offset, messageWords[e.Reason])
+		return fmt.Sprintf("svid: %s at offset %d: %s", e.Reason, e.Offset, messageWords[e.Reason])
 	}
 	return fmt.Sprintf("svid: %s in message %d at byte %d: %s", e.Reason, e.Message, e.Offset, messageWords[e.Reason])
 }

@@ -168,6 +168,11 @@ func TestMessageErrorsInWords(t *testing.T) {
 	if len(seen) != 8 {
 		t.Errorf("only %v were seen", seen)
 	}
+	said := listedStatus(t, "USE_EXPIRED")
+	want := fmt.Sprintf("svid: UseExpired at offset 1: %s, and due is %s", said["says"], said["due"])
+	if _, err := svid.Batches([]svid.Use{{Expires: 2, At: 1}, {Expires: 1, At: 1}}); err == nil || err.Error() != want {
+		t.Errorf("%v, and not %q", err, want)
+	}
 }
 
 // So does an error of a pattern, and of an ID.

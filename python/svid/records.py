@@ -7,7 +7,7 @@ from collections.abc import Iterable
 from dataclasses import dataclass
 
 from . import _library as lib
-from ._words import no_memory
+from ._words import no_memory, said
 
 _ENTRY = struct.Struct("@QQQ32s16s")
 """`svid_entry`, as the C library has it in memory."""
@@ -52,7 +52,8 @@ def batches(uses: Iterable[Use]) -> bytes:
     if status == lib.NO_MEMORY:
         raise no_memory()
     if status != lib.OK:
-        raise ValueError(f"use {told.offset} expires when it was made, or before")
+        where = f"It is number {told.offset} of the uses, counted from 0."
+        raise ValueError(said(status, where))
     return bytes(room[: told.len])
 
 

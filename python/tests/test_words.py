@@ -52,6 +52,14 @@ def test_what_is_wrong_with_messages(reason):
     assert str(raised.value) == f"{where}: {said['says']}, and due is {said['due']}"
 
 
+def test_a_use_that_no_message_tells():
+    uses = [svid.Use(exp, bytes(32), bytes(16), 1, withdrawn=False) for exp in (2, 1)]
+    with pytest.raises(ValueError) as raised:
+        svid.records.batches(uses)
+    where = "It is number 1 of the uses, counted from 0."
+    assert str(raised.value) == sentence("USE_EXPIRED", where)
+
+
 def clause(name):
     return f"{STATUSES[name]['says']}: {STATUSES[name]['advice']}"
 

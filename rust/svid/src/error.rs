@@ -156,7 +156,7 @@ impl std::error::Error for BundlesFault {}
 pub struct MessagesError {
     /// What is wrong.
     pub fault: MessageFault,
-    /// Which of the messages, counted from 1. It is 0 for a value of a log, and for the claims beside a record.
+    /// Which of the messages, counted from 1. It is 0 for a value of a log, for the claims beside a record, and for a use.
     pub message: usize,
     /// Which byte of that message, counted from 0.
     pub offset: usize,
@@ -167,7 +167,7 @@ impl fmt::Display for MessagesError {
         let MessagesError { fault, message, offset } = self;
         let (name, says) = (fault.name(), fault.says());
         match message {
-            0 => write!(f, "{name} at byte {offset}: {says}"),
+            0 => write!(f, "{name} at offset {offset}: {says}"),
             message => write!(f, "{name} in message {message} at byte {offset}: {says}"),
         }
     }

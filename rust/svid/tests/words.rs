@@ -7,7 +7,7 @@ use std::collections::HashMap;
 use common::*;
 use svid::{
     bearer_token, BearerFault, Bundles, Error, JournalError, KeyError, KeyFault, MessageFault, MessagesError, Pattern, PatternError,
-    SpiffeId, TokenKey, Validator,
+    SpiffeId, TokenKey, Use, Validator, ValidatorId,
 };
 
 const NOW: u64 = 1_767_225_600;
@@ -121,6 +121,9 @@ fn messages() {
     for vector in read("messages").vectors.iter().filter(|it| !it["fault"].is_null()) {
         seen.push(text_of(&vector["fault"], "reason").to_owned());
     }
+    let expired = Use { expires: 1, key: TokenKey([0; 32]), validator_id: ValidatorId([0; 16]), at: 1, withdrawn: false };
+    let says = format!("{}, and due is {}", listed.says("USE_EXPIRED"), listed.field("USE_EXPIRED", "due"));
+    assert_eq!(expired.message().unwrap_err().to_string(), format!("UseExpired at offset 0: {says}"));
     assert!(seen.contains(&MessageFault::Magic.name().to_owned()) && seen.len() >= 8, "{seen:?}");
 }
 
