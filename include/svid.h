@@ -974,23 +974,23 @@ static inline const char *svid_strstatus(uint32_t status) {
     }
 }
 
-/* What a status says in words, as "The token was withdrawn."; "No status has this number." for a number that is none. The text is for
- * people, and may change from version to version. */
+/* What a status says in words, as "The token was withdrawn.", and behind it what to do, where there is something to do; "No status has this
+ * number." for a number that is none. The text is for people, and may change from version to version. */
 static inline const char *svid_strsentence(uint32_t status) {
     switch (status) {
     /* lists:begin sentences (written by tools/lists) */
     case SVID_OK: return "The answer is yes, or the call did what it is for.";
     case SVID_TOO_SHORT: return "The text is longer than the room.";
-    case SVID_NO_MEMORY: return "There was no memory.";
-    case SVID_TOO_MUCH: return "Bundles, a table or messages have more than 67,108,864 bytes.";
-    case SVID_NOT_SUMMARY: return "The first input is messages, but not one summary.";
-    case SVID_CLOSED: return "The validator is closed, or the bundles are.";
+    case SVID_NO_MEMORY: return "There was no memory. Make the call again.";
+    case SVID_TOO_MUCH: return "Bundles, a table or messages have more than 67,108,864 bytes. Give less at once.";
+    case SVID_NOT_SUMMARY: return "The first input is messages, but not one summary. Give the summary of another validator.";
+    case SVID_CLOSED: return "The validator is closed, or the bundles are. Make a new one.";
     case SVID_IS_OPEN: return "The handle is open already.";
     case SVID_GONE: return "The token has expired, so that there is nothing to withdraw.";
-    case SVID_TOO_FAR: return "A message's moment is more than ahead seconds past now.";
-    case SVID_JUMP: return "now is more than step seconds past the record's moment.";
-    case SVID_HAS_LOG: return "The validator reads a log, which decides about its tokens.";
-    case SVID_NO_LOG: return "The validator reads no log.";
+    case SVID_TOO_FAR: return "A message's moment is more than ahead seconds past now. Set the clocks of both validators right.";
+    case SVID_JUMP: return "now is more than step seconds past the record's moment. Set the clock right, or let a new validator take the record.";
+    case SVID_HAS_LOG: return "The validator reads a log, which decides about its tokens. Put the use of a judgment into the log, and read it.";
+    case SVID_NO_LOG: return "The validator reads no log. Let it read one.";
     case SVID_MAGIC: return "The first four bytes are those of no version.";
     case SVID_KIND: return "The fifth byte is that of no kind of message of the version.";
     case SVID_COUNT: return "A batch tells of too many uses.";
@@ -999,34 +999,34 @@ static inline const char *svid_strsentence(uint32_t status) {
     case SVID_USE_FUTURE: return "A use was made after its batch's moment.";
     case SVID_USE_ORDER: return "A use is not greater than the one before it.";
     case SVID_TRUNCATED: return "The bytes end before the message does.";
-    case SVID_ID_TOO_LONG: return "The ID has more than 2,048 bytes.";
-    case SVID_ID_SCHEME: return "The ID does not begin with spiffe://.";
-    case SVID_ID_DOMAIN_EMPTY: return "The trust domain name of the ID is empty.";
-    case SVID_ID_DOMAIN_BYTE: return "The ID has a byte that may not stand in a trust domain name.";
-    case SVID_ID_DOMAIN_LONG: return "The ID has a trust domain name of more than 255 bytes.";
-    case SVID_ID_SEGMENT_EMPTY: return "The ID has an empty segment.";
-    case SVID_ID_SEGMENT_DOTS: return "The ID has a segment that is one or two periods.";
-    case SVID_ID_PATH_BYTE: return "The ID has a byte that may not stand in a path segment.";
-    case SVID_BUNDLES_NOT_OBJECT: return "The bundles are no JSON object.";
-    case SVID_BUNDLES_DOMAIN: return "A name of the bundles is no trust domain name.";
-    case SVID_BUNDLES_KEYS: return "A name of the bundles has no list of keys.";
+    case SVID_ID_TOO_LONG: return "The ID has more than 2,048 bytes. Write an ID as spiffe://DOMAIN/PATH.";
+    case SVID_ID_SCHEME: return "The ID does not begin with spiffe://. Write an ID as spiffe://DOMAIN/PATH.";
+    case SVID_ID_DOMAIN_EMPTY: return "The trust domain name of the ID is empty. Write an ID as spiffe://DOMAIN/PATH.";
+    case SVID_ID_DOMAIN_BYTE: return "The ID has a byte that may not stand in a trust domain name. Write an ID as spiffe://DOMAIN/PATH.";
+    case SVID_ID_DOMAIN_LONG: return "The ID has a trust domain name of more than 255 bytes. Write an ID as spiffe://DOMAIN/PATH.";
+    case SVID_ID_SEGMENT_EMPTY: return "The ID has an empty segment. Write an ID as spiffe://DOMAIN/PATH.";
+    case SVID_ID_SEGMENT_DOTS: return "The ID has a segment that is one or two periods. Write an ID as spiffe://DOMAIN/PATH.";
+    case SVID_ID_PATH_BYTE: return "The ID has a byte that may not stand in a path segment. Write an ID as spiffe://DOMAIN/PATH.";
+    case SVID_BUNDLES_NOT_OBJECT: return "The bundles are no JSON object. Write one object that has a JWK Set under the name of each trust domain.";
+    case SVID_BUNDLES_DOMAIN: return "A name of the bundles is no trust domain name. Correct that name, or take it out.";
+    case SVID_BUNDLES_KEYS: return "A name of the bundles has no list of keys. Write a JWK Set under that name, or take it out.";
     case SVID_TABLE_LINE: return "A line of the table is neither empty nor a question.";
     case SVID_OWN_NOT_UTF8: return "An audience of the validator's own is not UTF-8.";
     case SVID_OWN_LENGTHS: return "The lengths of the audiences do not add up to the length of own.";
-    case SVID_BUNDLES_UNNAMED: return "The document is the bundle of one trust domain, without its name.";
-    case SVID_BUNDLES_TWICE: return "An earlier document has a bundle of this trust domain.";
+    case SVID_BUNDLES_UNNAMED: return "The document is the bundle of one trust domain, without its name. Name it.";
+    case SVID_BUNDLES_TWICE: return "An earlier document has a bundle of this trust domain. Leave one of them out.";
     case SVID_BUNDLES_LENGTHS: return "The lengths of the documents do not add up to the length of bytes.";
     case SVID_FOLDER_UNFIT: return "The numbers are not those of a folder, or of the file that is read.";
-    case SVID_FOLDER_ENDED: return "A sync failed.";
-    case SVID_FOLDER_NOT_GROWING: return "No journal grows yet.";
-    case SVID_FOLDER_BUSY: return "A call is due already.";
+    case SVID_FOLDER_ENDED: return "A sync failed. Mend the disk, and start the service again.";
+    case SVID_FOLDER_NOT_GROWING: return "No journal grows yet. Make the calls that are due.";
+    case SVID_FOLDER_BUSY: return "A call is due already. Make it first.";
     case SVID_FOLDER_NOTHING_DUE: return "No call is due.";
-    case SVID_FOLDER_FLYING: return "A frame was handed out, and is not synced yet.";
+    case SVID_FOLDER_FLYING: return "A frame was handed out, and is not synced yet. Sync it first.";
     case SVID_FOLDER_NOT_FLYING: return "No frame was handed out.";
     case SVID_FOLDER_NOT_WRITING: return "No snapshot is being written.";
-    case SVID_FOLDER_NO_MARK: return "The snapshot has no mark at its end.";
-    case SVID_FOLDER_TOO_LONG: return "The payload has more than 16,777,215 bytes.";
-    case SVID_FOLDER_FULL: return "A number of the folder has come to its end.";
+    case SVID_FOLDER_NO_MARK: return "The snapshot has no mark at its end. Put an empty piece after it.";
+    case SVID_FOLDER_TOO_LONG: return "The payload has more than 16,777,215 bytes. Append less at once.";
+    case SVID_FOLDER_FULL: return "A number of the folder has come to its end. Go on in a new folder, which takes the messages of this one.";
     case SVID_FILE_END: return "The end: nothing was written here.";
     case SVID_FILE_TEAR: return "A write was cut off: nobody was told that it is on the disk.";
     case SVID_FILE_DAMAGE: return "What was synced here has changed.";
@@ -1041,19 +1041,19 @@ static inline const char *svid_strsentence(uint32_t status) {
     case SVID_KEY_CRV: return "The key's crv is not the algorithm's: P-256 for ES256, P-384 for ES384, P-521 for ES512.";
     case SVID_KEY_X: return "The key's x is not base64url of 32, 48 or 66 bytes, as the curve has it.";
     case SVID_KEY_Y: return "The key's y is not base64url of 32, 48 or 66 bytes, as the curve has it.";
-    case SVID_BEARER_ABSENT: return "The request has no header field Authorization.";
-    case SVID_BEARER_SEVERAL: return "The request has more than one header field Authorization.";
-    case SVID_BEARER_SCHEME: return "The header field Authorization has another scheme than Bearer.";
-    case SVID_BEARER_SPELLING: return "In the header field Authorization, Bearer is not followed by one token.";
+    case SVID_BEARER_ABSENT: return "The request has no header field Authorization. Send one such field, with Bearer and one token.";
+    case SVID_BEARER_SEVERAL: return "The request has more than one header field Authorization. Send one such field, with Bearer and one token.";
+    case SVID_BEARER_SCHEME: return "The header field Authorization has another scheme than Bearer. Send one such field, with Bearer and one token.";
+    case SVID_BEARER_SPELLING: return "In the header field Authorization, Bearer is not followed by one token. Send one such field, with Bearer and one token.";
     case SVID_NOT_ALLOWED: return "The pattern does not allow the ID.";
-    case SVID_PATTERN_TOO_LONG: return "The ID in the pattern has more than 2,048 bytes.";
-    case SVID_PATTERN_SCHEME: return "The pattern does not begin with spiffe://.";
-    case SVID_PATTERN_DOMAIN_EMPTY: return "The trust domain name of the pattern is empty.";
-    case SVID_PATTERN_DOMAIN_BYTE: return "The pattern has a byte that may not stand in a trust domain name.";
-    case SVID_PATTERN_DOMAIN_LONG: return "The pattern has a trust domain name of more than 255 bytes.";
-    case SVID_PATTERN_SEGMENT_EMPTY: return "The pattern has an empty segment.";
-    case SVID_PATTERN_SEGMENT_DOTS: return "The pattern has a segment that is one or two periods.";
-    case SVID_PATTERN_PATH_BYTE: return "The pattern has a byte that may not stand in a path segment.";
+    case SVID_PATTERN_TOO_LONG: return "The ID in the pattern has more than 2,048 bytes. Write spiffe://DOMAIN/PATH for one ID, spiffe://DOMAIN/PATH/" "* for all below it, or spiffe://DOMAIN for all of a trust domain.";
+    case SVID_PATTERN_SCHEME: return "The pattern does not begin with spiffe://. Write spiffe://DOMAIN/PATH for one ID, spiffe://DOMAIN/PATH/" "* for all below it, or spiffe://DOMAIN for all of a trust domain.";
+    case SVID_PATTERN_DOMAIN_EMPTY: return "The trust domain name of the pattern is empty. Write spiffe://DOMAIN/PATH for one ID, spiffe://DOMAIN/PATH/" "* for all below it, or spiffe://DOMAIN for all of a trust domain.";
+    case SVID_PATTERN_DOMAIN_BYTE: return "The pattern has a byte that may not stand in a trust domain name. Write spiffe://DOMAIN/PATH for one ID, spiffe://DOMAIN/PATH/" "* for all below it, or spiffe://DOMAIN for all of a trust domain.";
+    case SVID_PATTERN_DOMAIN_LONG: return "The pattern has a trust domain name of more than 255 bytes. Write spiffe://DOMAIN/PATH for one ID, spiffe://DOMAIN/PATH/" "* for all below it, or spiffe://DOMAIN for all of a trust domain.";
+    case SVID_PATTERN_SEGMENT_EMPTY: return "The pattern has an empty segment. Write spiffe://DOMAIN/PATH for one ID, spiffe://DOMAIN/PATH/" "* for all below it, or spiffe://DOMAIN for all of a trust domain.";
+    case SVID_PATTERN_SEGMENT_DOTS: return "The pattern has a segment that is one or two periods. Write spiffe://DOMAIN/PATH for one ID, spiffe://DOMAIN/PATH/" "* for all below it, or spiffe://DOMAIN for all of a trust domain.";
+    case SVID_PATTERN_PATH_BYTE: return "The pattern has a byte that may not stand in a path segment. Write spiffe://DOMAIN/PATH for one ID, spiffe://DOMAIN/PATH/" "* for all below it, or spiffe://DOMAIN for all of a trust domain.";
     case SVID_TOO_LONG: return "The token has more than 65,536 bytes.";
     case SVID_NOT_THREE_PARTS: return "The token has not exactly two periods.";
     case SVID_HEADER_SPELLING: return "The header is not base64url.";

@@ -3,6 +3,7 @@ the number of each status; so are the structures in the example in Python and in
 numbers of all languages.)"""
 
 import re
+import tomllib
 
 import pytest
 from conftest import TOP
@@ -180,10 +181,14 @@ def test_a_number_by_hand(path):
 
 @pytest.mark.parametrize(
     "path, name, least, most",
-    [("page/src/refusals.js", "ID_FAULTS", "ID_TOO_LONG", "ID_PATH_BYTE"), ("page/src/verify.js", "FAULTS", "KEY_ALG", "KEY_Y")],
+    [
+        ("page/src/refusals.js", "ID_FAULTS", "ID_TOO_LONG", "ID_PATH_BYTE"),
+        ("page/src/verify.js", "KEY_FAULTS", "NO_ALGORITHM", "KEY_Y"),
+        ("page/src/token.js", "BEARER_FAULTS", "BEARER_ABSENT", "BEARER_SPELLING"),
+    ],
 )
 def test_the_page_has_words_for_each(path, name, least, most):
-    body = re.search(rf"^const {name} = \{{\n(.*?)^\}};", text_of(path), re.M | re.S)[1]
+    body = re.search(rf"^(?:export )?const {name} = \{{\n(.*?)^\}};", text_of(path), re.M | re.S)[1]
     due = range(numbers()[f"SVID_{least}"], numbers()[f"SVID_{most}"] + 1)
     assert [int(it) for it in re.findall(r"^  (\d+): ", body, re.M)] == [it for it in sorted(numbers().values()) if it in due]
 
@@ -202,6 +207,25 @@ def test_the_number_of_a_fault_of_its_own(fault, number):
 
 def test_each_number_has_its_name():
     assert re.findall(r'case (\w+): return "(\w+)";', HEADER) == [(name, name) for name in numbers()]
+
+
+def said_by_the_list():
+    """What each status but those of keys says in words, and what it advises."""
+    for group in tomllib.loads(text_of("lists/statuses.toml"))["group"]:
+        for it in group["status"] if group["name"] != "keys" else []:
+            words = it.get("words") or f"{capital(it['says'])}."
+            advice = it.get("advice", group.get("advice"))
+            yield f"SVID_{group.get('prefix', '')}{it['name']}", words.replace("`", "") + (f" {capital(advice)}." if advice else "")
+
+
+def capital(text):
+    return text[:1].upper() + text[1:]
+
+
+def test_each_status_says_what_the_list_says():
+    # (texts that stand beside each other are one)
+    said = dict(re.findall(r'case (\w+): return "(.* .*)";', text_of("include/svid.h").replace('" "', "")))
+    assert {name: said.get(name) for name, _ in said_by_the_list()} == dict(said_by_the_list())
 
 
 def test_the_version():

@@ -28,17 +28,17 @@ const (
 	BearerSpelling NoBearer = C.SVID_BEARER_SPELLING // the scheme is not followed by one token
 )
 
-// Error says what the request has, or lacks.
+// Error says what the request has, or lacks, and what to send.
 func (n NoBearer) Error() string { return "svid: " + bearerWords[n] }
 
 // lists:begin bearer (written by tools/lists from lists/statuses.toml)
 
-// bearerWords say what the request has, or lacks.
+// bearerWords say what the request has, or lacks, and what to send.
 var bearerWords = map[NoBearer]string{
-	BearerAbsent:   "the request has no header field Authorization",
-	BearerSeveral:  "the request has more than one header field Authorization",
-	BearerScheme:   "the header field Authorization has another scheme than Bearer",
-	BearerSpelling: "in the header field Authorization, Bearer is not followed by one token",
+	BearerAbsent:   "the request has no header field Authorization: send one such field, with Bearer and one token",
+	BearerSeveral:  "the request has more than one header field Authorization: send one such field, with Bearer and one token",
+	BearerScheme:   "the header field Authorization has another scheme than Bearer: send one such field, with Bearer and one token",
+	BearerSpelling: "in the header field Authorization, Bearer is not followed by one token: send one such field, with Bearer and one token",
 }
 
 // lists:end

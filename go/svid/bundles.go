@@ -40,8 +40,14 @@ func JoinBundles(sets map[string][]byte) ([]byte, error) {
 	case status == C.SVID_NO_MEMORY || told.input == 0:
 		return nil, failure(status, &told)
 	}
-	return nil, fmt.Errorf("%w: %s: %s", ErrBundles, names[told.input-1], C.GoString(C.svid_strsentence(status)))
+	return nil, &joinError{names[told.input-1], callWords[status]}
 }
+
+// A joinError says which set can't be joined, why, and what to do. It is ErrBundles, too.
+type joinError struct{ name, says string }
+
+func (e *joinError) Error() string { return fmt.Sprintf("svid: %s: %s", e.name, e.says) }
+func (e *joinError) Unwrap() error { return ErrBundles }
 
 // join calls svid_bundles_join with as much room as it needs.
 func join(texts []byte, documents []C.svid_document) (out []byte, told C.svid_told, status C.uint32_t) {

@@ -12,30 +12,61 @@ import (
 // was not accepted.
 var (
 	// ErrNoMemory: malloc returned NULL. The call can be made again.
-	ErrNoMemory = errors.New("svid: out of memory")
+	ErrNoMemory = ofCall(C.SVID_NO_MEMORY)
 	// ErrClosed: the Validator or Keyring is closed.
-	ErrClosed = errors.New("svid: the handle is closed")
+	ErrClosed = ofCall(C.SVID_CLOSED)
 	// ErrGone: the token to be withdrawn has expired.
-	ErrGone = errors.New("svid: the token has expired, so there is nothing to withdraw")
+	ErrGone = ofCall(C.SVID_GONE)
 	// ErrTooFar: a message tells of a time more than Options.Ahead seconds past now.
-	ErrTooFar = errors.New("svid: the message is from further in the future than clocks may differ")
+	ErrTooFar = ofCall(C.SVID_TOO_FAR)
 	// ErrJump: now is more than Options.Step seconds past the record's moment.
-	ErrJump = errors.New("svid: the clock went further than one step may")
+	ErrJump = ofCall(C.SVID_JUMP)
 	// ErrRenewed: the trust bundles or the audiences are other ones than when the token was accepted.
 	ErrRenewed = errors.New("svid: the trust bundles or the audiences were replaced since the token was judged: judge it again")
-	// ErrTooMuch: an input of messages has more than MaxMessages bytes.
-	ErrTooMuch = errors.New("svid: more than 67108864 bytes of messages in one call")
+	// ErrTooMuch: bundles, or an input of messages, have more than MaxMessages bytes.
+	ErrTooMuch = ofCall(C.SVID_TOO_MUCH)
 	// ErrNoRoom: no message that tells a use is as short as was asked for.
 	ErrNoRoom = errors.New("svid: messages as short as this have no room for a use: 82 bytes are the least")
 	// ErrNotSummary: the input is not one summary.
-	ErrNotSummary = errors.New("svid: not one summary")
+	ErrNotSummary = ofCall(C.SVID_NOT_SUMMARY)
 	// ErrAudience: an audience is not UTF-8, is empty, or holds a line break.
 	ErrAudience = errors.New("svid: an audience must be UTF-8 text without line breaks, and not empty")
 	// ErrRSABits: KeyringOptions.RSABits is out of its range.
 	ErrRSABits = errors.New("svid: RSABits must be from 2048 to 16384, or 0 for 4096")
 	// ErrBundles: the bundles are not one JSON object.
-	ErrBundles = errors.New("svid: the bundles are not one JSON object from trust domains to JWK sets")
+	ErrBundles = ofCall(C.SVID_BUNDLES_NOT_OBJECT)
 )
+
+// ofCall is the error of a call with this status.
+func ofCall(status C.uint32_t) error { return errors.New("svid: " + callWords[status]) }
+
+// lists:begin calls (written by tools/lists from lists/statuses.toml)
+
+// callWords say what is wrong with a call, and what to do.
+var callWords = map[C.uint32_t]string{
+	C.SVID_TOO_SHORT:          "the text is longer than the room",
+	C.SVID_NO_MEMORY:          "there was no memory: make the call again",
+	C.SVID_TOO_MUCH:           "bundles, a table or messages have more than 67,108,864 bytes: give less at once",
+	C.SVID_NOT_SUMMARY:        "the first input is messages, but not one summary: give the summary of another validator",
+	C.SVID_CLOSED:             "the validator is closed, or the bundles are: make a new one",
+	C.SVID_IS_OPEN:            "the handle is open already",
+	C.SVID_GONE:               "the token has expired, so that there is nothing to withdraw",
+	C.SVID_TOO_FAR:            "a message's moment is more than ahead seconds past now: set the clocks of both validators right",
+	C.SVID_JUMP:               "now is more than step seconds past the record's moment: set the clock right, or let a new validator take the record",
+	C.SVID_HAS_LOG:            "the validator reads a log, which decides about its tokens: put the use of a judgment into the log, and read it",
+	C.SVID_NO_LOG:             "the validator reads no log: let it read one",
+	C.SVID_BUNDLES_NOT_OBJECT: "the bundles are no JSON object: write one object that has a JWK Set under the name of each trust domain",
+	C.SVID_BUNDLES_DOMAIN:     "a name of the bundles is no trust domain name: correct that name, or take it out",
+	C.SVID_BUNDLES_KEYS:       "a name of the bundles has no list of keys: write a JWK Set under that name, or take it out",
+	C.SVID_TABLE_LINE:         "a line of the table is neither empty nor a question",
+	C.SVID_OWN_NOT_UTF8:       "an audience of the validator's own is not UTF-8",
+	C.SVID_OWN_LENGTHS:        "the lengths of the audiences do not add up to the length of own",
+	C.SVID_BUNDLES_UNNAMED:    "the document is the bundle of one trust domain, without its name: name it",
+	C.SVID_BUNDLES_TWICE:      "an earlier document has a bundle of this trust domain: leave one of them out",
+	C.SVID_BUNDLES_LENGTHS:    "the lengths of the documents do not add up to the length of bytes",
+}
+
+// lists:end
 
 // A BundleError says which trust domain of the bundles is at fault.
 type BundleError struct {
@@ -43,17 +74,23 @@ type BundleError struct {
 	Index  int    // of the name among all names in rising byte order, from 0
 }
 
-// Error says what is wrong, and names the index.
+// Error says what is wrong and what to do, and names the index.
 func (e *BundleError) Error() string {
-	return fmt.Sprintf("svid: bundles: %s (number %d of the names in rising order, from 0)", bundleWords[e.Reason], e.Index)
+	return fmt.Sprintf("svid: %s (number %d of the names in rising order, counted from 0): %s", bundleWords[e.Reason], e.Index, bundleAdvice[e.Reason])
 }
 
 // lists:begin bundles (written by tools/lists from lists/statuses.toml)
 
 // bundleWords say what is wrong, by the reason of a BundleError.
 var bundleWords = map[string]string{
-	"Domain": "a name is no trust domain name",
-	"Keys":   "a name has no list of keys",
+	"Domain": "a name of the bundles is no trust domain name",
+	"Keys":   "a name of the bundles has no list of keys",
+}
+
+// bundleAdvice say what to do, by the same.
+var bundleAdvice = map[string]string{
+	"Domain": "correct that name, or take it out",
+	"Keys":   "write a JWK Set under that name, or take it out",
 }
 
 // lists:end
@@ -61,16 +98,16 @@ var bundleWords = map[string]string{
 // A MessageError says why bytes are no row of messages.
 type MessageError struct {
 	Reason  string // as docs/FORMATS.md names it: "Magic" to "Truncated"
-	Message int    // which message is at fault, from 1; 0 for one of Read or OpenLog
+	Message int    // which message is at fault, from 1; 0 for one of Read or OpenLog, and of Batches, where Offset is the index of the use
 	Offset  int    // the byte of that message at which the faulty field begins, from 0
 }
 
 // Error names the reason and where it is, and says what is wrong and due there.
 func (e *MessageError) Error() string {
 	if e.Message == 0 {
-		return fmt.Sprintf("svid: byte %d of a message: %s: %s", e.Offset, e.Reason, messageWords[e.Reason])
+		return fmt.Sprintf("svid: %s at offset %d: %s", e.Reason, e.Offset, messageWords[e.Reason])
 	}
-	return fmt.Sprintf("svid: message %d, byte %d: %s: %s", e.Message, e.Offset, e.Reason, messageWords[e.Reason])
+	return fmt.Sprintf("svid: %s in message %d at byte %d: %s", e.Reason, e.Message, e.Offset, messageWords[e.Reason])
 }
 
 // lists:begin messages (written by tools/lists from lists/statuses.toml)

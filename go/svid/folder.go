@@ -21,32 +21,36 @@ const (
 // Errors of a Folder. After each of them it is as it was.
 var (
 	// ErrFolderEnded: a sync failed before.
-	ErrFolderEnded = errors.New("svid: a sync failed, so nobody knows what the disk holds: mend the disk, and start anew")
+	ErrFolderEnded = ofFolder(C.SVID_FOLDER_ENDED)
 	// ErrFolderFull: a number of the folder has come to its end.
-	ErrFolderFull = errors.New("svid: a number of the state folder has come to its end: go on in a new folder, which takes the messages of this one")
+	ErrFolderFull = ofFolder(C.SVID_FOLDER_FULL)
 	// ErrFolderOrder: the call is not one that may come now.
 	ErrFolderOrder = errors.New("svid: this call of the state folder may not come now")
 	// ErrPayload: a payload is too long for a frame.
-	ErrPayload = errors.New("svid: a payload has more than 16777215 bytes: append less at once")
+	ErrPayload = ofFolder(C.SVID_FOLDER_TOO_LONG)
 )
 
 // What FileReader.Next returns where no frame stands, beside io.EOF and a *FormatError.
 var (
 	// ErrTorn: a write was cut off. Nobody was told that it is on the disk.
-	ErrTorn = errors.New("svid: a write was cut off here, of which nobody was told that it is on the disk")
+	ErrTorn = ofFolder(C.SVID_FILE_TEAR)
 	// ErrDamaged: what was synced has changed.
-	ErrDamaged = errors.New("svid: what was synced here has changed")
+	ErrDamaged = ofFolder(C.SVID_FILE_DAMAGE)
 )
+
+// ofFolder is the error of a call on a folder or on a file with this status.
+func ofFolder(status C.uint32_t) error { return errors.New("svid: " + folderWords[status]) }
 
 // A FormatError says that a frame has another format than this library reads, which is format 2.
 type FormatError struct{ Format int }
 
 // Error names the format, and what to do.
 func (e *FormatError) Error() string {
+	what := "svid: " + folderWords[C.SVID_FILE_OTHER]
 	if e.Format == 1 {
-		return "svid: format 1, which only builds of svidd 0.2 before its release wrote, and this library reads format 2: write the messages of the folder by the build that wrote it"
+		return what + ": it is format 1, which only builds of svidd 0.2 before its release wrote, and this library reads format 2: write the messages of the folder by the build that wrote it"
 	}
-	return fmt.Sprintf("svid: format %d, and this library reads format 2: take the version that wrote it, or a later one", e.Format)
+	return fmt.Sprintf("%s: it is format %d, and this library reads format 2: take the version that wrote it, or a later one", what, e.Format)
 }
 
 // A Call of the system that is due in a state folder.
@@ -314,9 +318,10 @@ func areMessages(messages []byte) error {
 
 // lists:begin folder (written by tools/lists from lists/statuses.toml)
 
-// orders say why a call may not come now.
-var orders = map[C.uint32_t]string{
+// folderWords say why a folder takes no call, or where reading a file ends, and what to do.
+var folderWords = map[C.uint32_t]string{
 	C.SVID_FOLDER_UNFIT:       "the numbers are not those of a folder, or of the file that is read",
+	C.SVID_FOLDER_ENDED:       "a sync failed: mend the disk, and start the service again",
 	C.SVID_FOLDER_NOT_GROWING: "no journal grows yet: make the calls that are due",
 	C.SVID_FOLDER_BUSY:        "a call is due already: make it first",
 	C.SVID_FOLDER_NOTHING_DUE: "no call is due",
@@ -324,6 +329,12 @@ var orders = map[C.uint32_t]string{
 	C.SVID_FOLDER_NOT_FLYING:  "no frame was handed out",
 	C.SVID_FOLDER_NOT_WRITING: "no snapshot is being written",
 	C.SVID_FOLDER_NO_MARK:     "the snapshot has no mark at its end: put an empty piece after it",
+	C.SVID_FOLDER_TOO_LONG:    "the payload has more than 16,777,215 bytes: append less at once",
+	C.SVID_FOLDER_FULL:        "a number of the folder has come to its end: go on in a new folder, which takes the messages of this one",
+	C.SVID_FILE_END:           "the end: nothing was written here",
+	C.SVID_FILE_TEAR:          "a write was cut off: nobody was told that it is on the disk",
+	C.SVID_FILE_DAMAGE:        "what was synced here has changed",
+	C.SVID_FILE_OTHER:         "a frame of another format stands here",
 }
 
 // lists:end
@@ -340,7 +351,7 @@ func folderFailure(status C.uint32_t) error {
 	case C.SVID_FOLDER_TOO_LONG:
 		return ErrPayload
 	}
-	if why, ok := orders[status]; ok {
+	if why, ok := folderWords[status]; ok {
 		return fmt.Errorf("%w: %s", ErrFolderOrder, why)
 	}
 	return fmt.Errorf("svid: the library answered status %d", uint32(status))

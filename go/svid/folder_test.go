@@ -180,14 +180,14 @@ func TestFaultsOfAFolder(t *testing.T) {
 		{piece(idle, long), ErrPayload, "append less"},
 		{put(flying, []byte("two")), ErrFolderOrder, "sync it first"},
 		{switching.Begin(), ErrFolderOrder, "a call is due"},
-		{put(ended, nil), ErrFolderEnded, "start anew"},
-		{piece(ended, nil), ErrFolderEnded, "start anew"},
-		{ended.Begin(), ErrFolderEnded, "start anew"},
-		{due(ended), ErrFolderEnded, "start anew"},
-		{ended.Answer(true), ErrFolderEnded, "start anew"},
-		{ended.Synced(), ErrFolderEnded, "start anew"},
-		{ended.Unwritten(), ErrFolderEnded, "start anew"},
-		{ended.Failed(), ErrFolderEnded, "start anew"},
+		{put(ended, nil), ErrFolderEnded, "start the service again"},
+		{piece(ended, nil), ErrFolderEnded, "start the service again"},
+		{ended.Begin(), ErrFolderEnded, "start the service again"},
+		{due(ended), ErrFolderEnded, "start the service again"},
+		{ended.Answer(true), ErrFolderEnded, "start the service again"},
+		{ended.Synced(), ErrFolderEnded, "start the service again"},
+		{ended.Unwritten(), ErrFolderEnded, "start the service again"},
+		{ended.Failed(), ErrFolderEnded, "start the service again"},
 	} {
 		if !errors.Is(row.got, row.want) || !strings.Contains(row.got.Error(), row.says) {
 			t.Errorf("row %d: %v, want %v", i, row.got, row.want)

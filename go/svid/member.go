@@ -12,9 +12,9 @@ import (
 // Errors of a Validator that reads a group's log.
 var (
 	// ErrNoLog: the validator reads no log.
-	ErrNoLog = errors.New("svid: the validator reads no log")
+	ErrNoLog = ofCall(C.SVID_NO_LOG)
 	// ErrHasLog: the validator reads a log, so its tokens are accepted by their claims there.
-	ErrHasLog = errors.New("svid: the validator reads a log: put the use of Judge there, and Read it")
+	ErrHasLog = ofCall(C.SVID_HAS_LOG)
 )
 
 // A Fate is what becomes of a use that a Validator reads from its group's log.

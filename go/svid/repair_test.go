@@ -140,8 +140,8 @@ func TestWalkAnswerRefusesWhatIsNoSummary(t *testing.T) {
 		{"nothing", nil, svid.ErrNotSummary.Error()},
 		{"a batch", batchOf(svid.Use{Expires: 2, At: 1}), svid.ErrNotSummary.Error()},
 		{"two summaries", append(at(moment), summary...), svid.ErrNotSummary.Error()},
-		{"a byte more", append(at(moment), 'J'), "svid: message 2, byte 1: Truncated"},
-		{"a byte less", summary[:len(summary)-1], "svid: message 1, byte 8204: Truncated"},
+		{"a byte more", append(at(moment), 'J'), "svid: Truncated in message 2 at byte 1: "},
+		{"a byte less", summary[:len(summary)-1], "svid: Truncated in message 1 at byte 8204: "},
 		{"the greatest moment", at(^uint64(0)), ""},
 		{"long ago", at(0), ""},
 	} {

@@ -12,7 +12,7 @@ import (
 
 // An RSA key has at least 2,048 bits (RFC 7518, section 3.3): not one less.
 func TestAnRSAKeyHasAtLeast2048Bits(t *testing.T) {
-	for first, want := range map[byte]string{0x7f: "too few", 0x01: "too few", 0x80: ""} {
+	for first, want := range map[byte]string{0x7f: "fewer than 2,048 bits", 0x01: "fewer than 2,048 bits", 0x80: ""} {
 		n := make([]byte, 256)
 		for i := range n {
 			n[i] = 0xff

@@ -674,7 +674,7 @@ func TestErrorsThatAreAboutNoToken(t *testing.T) {
 	v := open(t, 1)
 	if err := v.SetBundles([]byte(`{"a":{"keys":[]},"b":{}}`)); !errors.As(err, &bundle) || bundle.Reason != "Keys" || bundle.Index != 1 {
 		t.Errorf("bundles: %v", err)
-	} else if want := "svid: bundles: a name has no list of keys (number 1 of the names in rising order, from 0)"; err.Error() != want {
+	} else if want := "svid: a name of the bundles has no list of keys (number 1 of the names in rising order, counted from 0): write a JWK Set under that name, or take it out"; err.Error() != want {
 		t.Errorf("bundles say %q", err)
 	}
 	if err := v.Tick(moment); err != nil {
@@ -689,7 +689,7 @@ func TestErrorsThatAreAboutNoToken(t *testing.T) {
 	var message *svid.MessageError
 	if err := v.Take(moment, []byte("garbage")); !errors.As(err, &message) || message.Reason != "Magic" || message.Message != 1 {
 		t.Errorf("garbage: %v", err)
-	} else if want := "svid: message 1, byte 0: Magic: the first four bytes are those of no version, and due is 4A 53 52, which is JSR, and then 02 or 01"; err.Error() != want {
+	} else if want := "svid: Magic in message 1 at byte 0: the first four bytes are those of no version, and due is 4A 53 52, which is JSR, and then 02 or 01"; err.Error() != want {
 		t.Errorf("garbage says %q", err)
 	}
 	far := svid.Use{Expires: moment + 100, At: moment + 11}

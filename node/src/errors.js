@@ -14,28 +14,28 @@ export class Refusal extends SvidError {
 /** The validator is closed. Make a new one. */
 export class Closed extends SvidError {
   constructor() {
-    super("the validator is closed: open a new one");
+    super(wordsOf(CLOSED));
   }
 }
 
 /** `now` is more than `step` seconds past the record's moment. Nothing happened. */
 export class Jump extends SvidError {
   constructor() {
-    super("now is more than `step` seconds past the record's moment: if the clock is right, open a new validator, and let it take the record");
+    super(wordsOf(JUMP));
   }
 }
 
 /** The token has expired, so there is nothing to withdraw. */
 export class Gone extends SvidError {
   constructor() {
-    super("the token has expired: there is nothing to withdraw");
+    super(wordsOf(GONE));
   }
 }
 
 /** The messages tell of a time more than `ahead` seconds past `now`. None of them was taken. */
 export class TooFar extends SvidError {
   constructor() {
-    super("the messages tell of a time more than `ahead` seconds past now: look at the clocks of both validators");
+    super(wordsOf(TOO_FAR));
   }
 }
 
@@ -63,7 +63,7 @@ export class Unverifiable extends SvidError {
 /** There is no memory. Nothing was accepted, and you can make the call again. */
 export class OutOfMemory extends SvidError {
   constructor(options) {
-    super("there is no memory left: nothing was accepted, and the call can be made again", options);
+    super(wordsOf(NO_MEMORY), options);
   }
 }
 
@@ -124,8 +124,8 @@ export const REFUSALS = Object.freeze([...SENTENCES.values()].map(([name]) => na
 // Why bytes are no messages, by the status.
 // lists:begin messages (written by tools/lists from lists/statuses.toml)
 const MESSAGE_FAULTS = new Map([
-  [3, ["TooMuch", "bundles, a table or messages have more than 67,108,864 bytes"]],
-  [4, ["NotSummary", "the first input is messages, but not one summary"]],
+  [3, ["TooMuch", "bundles, a table or messages have more than 67,108,864 bytes: give less at once"]],
+  [4, ["NotSummary", "the first input is messages, but not one summary: give the summary of another validator"]],
   [11, ["Magic", "the first four bytes are those of no version, and due is 4A 53 52, which is JSR, and then 02 or 01"]],
   [12, ["Kind", "the fifth byte is that of no kind of message of the version, and due is 01 for a batch, or 02 for a summary, which only version 2 has"]],
   [13, ["Count", "a batch tells of too many uses, and due is a number of at most 65,536 uses, or of 4,096 in version 1"]],
@@ -137,40 +137,58 @@ const MESSAGE_FAULTS = new Map([
 ]);
 // lists:end
 
-// Why a text is no SPIFFE ID, or no pattern of such, by the status.
-// lists:begin ids (written by tools/lists from lists/statuses.toml)
-export const ID_SENTENCES = new Map([
-  [21, "The ID has more than 2,048 bytes."],
-  [22, "The ID does not begin with spiffe://."],
-  [23, "The trust domain name of the ID is empty."],
-  [24, "The ID has a byte that may not stand in a trust domain name."],
-  [25, "The ID has a trust domain name of more than 255 bytes."],
-  [26, "The ID has an empty segment."],
-  [27, "The ID has a segment that is one or two periods."],
-  [28, "The ID has a byte that may not stand in a path segment."],
-  [92, "The ID in the pattern has more than 2,048 bytes."],
-  [93, "The pattern does not begin with spiffe://."],
-  [94, "The trust domain name of the pattern is empty."],
-  [95, "The pattern has a byte that may not stand in a trust domain name."],
-  [96, "The pattern has a trust domain name of more than 255 bytes."],
-  [97, "The pattern has an empty segment."],
-  [98, "The pattern has a segment that is one or two periods."],
-  [99, "The pattern has a byte that may not stand in a path segment."],
+// What is wrong and what to do, by the status.
+// lists:begin words (written by tools/lists from lists/statuses.toml)
+const WORDS = new Map([
+  [1, ["The text is longer than the room.", ""]],
+  [2, ["There was no memory.", "Make the call again."]],
+  [3, ["Bundles, a table or messages have more than 67,108,864 bytes.", "Give less at once."]],
+  [4, ["The first input is messages, but not one summary.", "Give the summary of another validator."]],
+  [5, ["The validator is closed, or the bundles are.", "Make a new one."]],
+  [6, ["The handle is open already.", ""]],
+  [7, ["The token has expired, so that there is nothing to withdraw.", ""]],
+  [8, ["A message's moment is more than ahead seconds past now.", "Set the clocks of both validators right."]],
+  [9, ["now is more than step seconds past the record's moment.", "Set the clock right, or let a new validator take the record."]],
+  [10, ["The validator reads a log, which decides about its tokens.", "Put the use of a judgment into the log, and read it."]],
+  [19, ["The validator reads no log.", "Let it read one."]],
+  [21, ["The ID has more than 2,048 bytes.", "Write an ID as spiffe://DOMAIN/PATH."]],
+  [22, ["The ID does not begin with spiffe://.", "Write an ID as spiffe://DOMAIN/PATH."]],
+  [23, ["The trust domain name of the ID is empty.", "Write an ID as spiffe://DOMAIN/PATH."]],
+  [24, ["The ID has a byte that may not stand in a trust domain name.", "Write an ID as spiffe://DOMAIN/PATH."]],
+  [25, ["The ID has a trust domain name of more than 255 bytes.", "Write an ID as spiffe://DOMAIN/PATH."]],
+  [26, ["The ID has an empty segment.", "Write an ID as spiffe://DOMAIN/PATH."]],
+  [27, ["The ID has a segment that is one or two periods.", "Write an ID as spiffe://DOMAIN/PATH."]],
+  [28, ["The ID has a byte that may not stand in a path segment.", "Write an ID as spiffe://DOMAIN/PATH."]],
+  [31, ["The bundles are no JSON object.", "Write one object that has a JWK Set under the name of each trust domain."]],
+  [32, ["A name of the bundles is no trust domain name.", "Correct that name, or take it out."]],
+  [33, ["A name of the bundles has no list of keys.", "Write a JWK Set under that name, or take it out."]],
+  [34, ["A line of the table is neither empty nor a question.", ""]],
+  [35, ["An audience of the validator's own is not UTF-8.", ""]],
+  [36, ["The lengths of the audiences do not add up to the length of own.", ""]],
+  [92, ["The ID in the pattern has more than 2,048 bytes.", "Write spiffe://DOMAIN/PATH for one ID, spiffe://DOMAIN/PATH/* for all below it, or spiffe://DOMAIN for all of a trust domain."]],
+  [93, ["The pattern does not begin with spiffe://.", "Write spiffe://DOMAIN/PATH for one ID, spiffe://DOMAIN/PATH/* for all below it, or spiffe://DOMAIN for all of a trust domain."]],
+  [94, ["The trust domain name of the pattern is empty.", "Write spiffe://DOMAIN/PATH for one ID, spiffe://DOMAIN/PATH/* for all below it, or spiffe://DOMAIN for all of a trust domain."]],
+  [95, ["The pattern has a byte that may not stand in a trust domain name.", "Write spiffe://DOMAIN/PATH for one ID, spiffe://DOMAIN/PATH/* for all below it, or spiffe://DOMAIN for all of a trust domain."]],
+  [96, ["The pattern has a trust domain name of more than 255 bytes.", "Write spiffe://DOMAIN/PATH for one ID, spiffe://DOMAIN/PATH/* for all below it, or spiffe://DOMAIN for all of a trust domain."]],
+  [97, ["The pattern has an empty segment.", "Write spiffe://DOMAIN/PATH for one ID, spiffe://DOMAIN/PATH/* for all below it, or spiffe://DOMAIN for all of a trust domain."]],
+  [98, ["The pattern has a segment that is one or two periods.", "Write spiffe://DOMAIN/PATH for one ID, spiffe://DOMAIN/PATH/* for all below it, or spiffe://DOMAIN for all of a trust domain."]],
+  [99, ["The pattern has a byte that may not stand in a path segment.", "Write spiffe://DOMAIN/PATH for one ID, spiffe://DOMAIN/PATH/* for all below it, or spiffe://DOMAIN for all of a trust domain."]],
 ]);
 // lists:end
 
-const FAULTS = new Map([[2, OutOfMemory], [5, Closed], [7, Gone], [8, TooFar], [9, Jump]]);
-// Those that are about one of several trust domains.
-const RANKED = new Set([32, 33]);
-// Why bundles can't be read, by the status.
-// lists:begin bundles (written by tools/lists from lists/statuses.toml)
-const BUNDLE_FAULTS = new Map([
-  [3, "Bundles, a table or messages have more than 67,108,864 bytes."],
-  [31, "The bundles are no JSON object."],
-  [32, "A name of the bundles is no trust domain name."],
-  [33, "A name of the bundles has no list of keys."],
-]);
-// lists:end
+/** What a status says: what is wrong, where that is, and what to do. */
+export function wordsOf(status, where = "") {
+  const [says, advice] = WORDS.get(status);
+  return [says, where, advice].filter(Boolean).join(" ");
+}
+
+// Those that have an error of their own.
+const NO_MEMORY = 2, CLOSED = 5, GONE = 7, TOO_FAR = 8, JUMP = 9;
+const FAULTS = new Map([[NO_MEMORY, OutOfMemory], [CLOSED, Closed], [GONE, Gone], [TOO_FAR, TooFar], [JUMP, Jump]]);
+// Those of bundles that can't be read, and of these the ones that are about one of several trust domains.
+const TOO_MUCH = 3, BUNDLES_NOT_OBJECT = 31, BUNDLES_DOMAIN = 32, BUNDLES_KEYS = 33;
+const BUNDLE_FAULTS = new Set([TOO_MUCH, BUNDLES_NOT_OBJECT, BUNDLES_DOMAIN, BUNDLES_KEYS]);
+const RANKED = new Set([BUNDLES_DOMAIN, BUNDLES_KEYS]);
 
 /** The error for a status that is not OK. `told` is what the call told beside it. */
 export function ofStatus(status, told) {
@@ -186,6 +204,5 @@ export function ofStatus(status, told) {
 /** The same, of a call that reads bundles. */
 export function ofBundles(status, told) {
   if (!BUNDLE_FAULTS.has(status)) return ofStatus(status, told);
-  const rank = RANKED.has(status) ? ` It is number ${told.offset} of the names in rising order, counted from 0.` : "";
-  return new BadBundles(`${BUNDLE_FAULTS.get(status)}${rank}`);
+  return new BadBundles(wordsOf(status, RANKED.has(status) ? `It is number ${told.offset} of the names in rising order, counted from 0.` : ""));
 }

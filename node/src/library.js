@@ -3,7 +3,7 @@
 // Pointers, lengths, times and positions are BigInts, as they have 64 bits; a status is a number. A handle has an instance of the module for
 // itself, so that one that stops, or that has no memory left, takes no other with it.
 
-import { ofBundles, ofStatus, Closed, ID_SENTENCES, OutOfMemory, Stopped } from "./errors.js";
+import { ofBundles, ofStatus, wordsOf, Closed, OutOfMemory, Stopped } from "./errors.js";
 
 const OK = 0, TOO_SHORT = 1, NO_MEMORY = 2, NO_LOG = 19, BEARER_SPELLING = 84, NOT_ALLOWED = 91, FIRST_MESSAGE_FAULT = 11, LAST_MESSAGE_FAULT = 18;
 const FIRST_REFUSAL = 101, TOO_LONG = 101;
@@ -289,9 +289,8 @@ export class Library {
       if (status === OK || status === NOT_ALLOWED) return status === OK;
       if (status === NO_MEMORY) throw new OutOfMemory();
       const offset = this.#word(this.#at(SMALL));
-      if (status < NOT_ALLOWED) throw new RangeError(`${JSON.stringify(spiffeId)} is no SPIFFE ID (byte ${offset}): ${ID_SENTENCES.get(status)}`);
-      const wanted = "Write spiffe://DOMAIN/PATH, spiffe://DOMAIN/PATH/* or spiffe://DOMAIN.";
-      throw new RangeError(`${JSON.stringify(pattern)} is no pattern of SPIFFE IDs (byte ${offset}): ${ID_SENTENCES.get(status)} ${wanted}`);
+      if (status < NOT_ALLOWED) throw new RangeError(`${JSON.stringify(spiffeId)} is no SPIFFE ID (byte ${offset}): ${wordsOf(status)}`);
+      throw new RangeError(`${JSON.stringify(pattern)} is no pattern of SPIFFE IDs (byte ${offset}): ${wordsOf(status)}`);
     });
   }
 

@@ -14,6 +14,8 @@ export const imported = (name = "index.js") => import(pathToFileURL(`${PACKAGE}/
 export const read = (name) => readFileSync(`${TOP}/${name}`, "utf8");
 export const hex = (bytes) => Buffer.from(bytes).toString("hex");
 export const bytesOf = (text) => Uint8Array.from(Buffer.from(text, "hex"));
+/** What lists/statuses.toml says. */
+export const listed = () => import(pathToFileURL(`${TOP}/lists/listed.mjs`));
 /** The time by the clock. */
 export const now = () => Math.floor(Date.now() / 1000);
 

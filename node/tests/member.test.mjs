@@ -207,7 +207,7 @@ test("a member that has no memory reads on once it has some", async () => {
   const spare = exhausted(calls);
   assert.equal(await said(other.check(text)), "accepted");
   await until(() => told.length, "the member lacks memory");
-  assert.match(told[0], /^the log can't be read: there is no memory left/);
+  assert.match(told[0], /^the log can't be read: There was no memory\./);
   spare.forEach((it) => calls.free_room(it));
   await until(() => member.size().uses === 1);
   assert.equal(await said(member.check(text)), "Replayed");

@@ -349,7 +349,7 @@ test("no memory is answered, and accepts nothing", async () => {
   assert.equal(calls.room(1n), 0n);
   // (all that a check lends stands ready, so that the library itself lacks memory)
   assert.equal(await said(validator.check(text)), "OutOfMemory");
-  assert.throws(() => validator.take(new Uint8Array(5)), { name: "OutOfMemory" });
+  assert.throws(() => validator.take(new Uint8Array(5)), { name: "OutOfMemory", message: "There was no memory. Make the call again." });
   assert.throws(() => validator.renew(bundles), { name: "OutOfMemory" });
   assert.throws(() => validator.bearer(["Bearer a"]), { name: "OutOfMemory" });
   assert.throws(() => validator.says(text), { name: "OutOfMemory" });

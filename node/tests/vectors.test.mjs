@@ -2,10 +2,11 @@
 
 import assert from "node:assert/strict";
 import { test } from "node:test";
-import { bytesOf, hex, imported, read } from "./making.mjs";
+import { bytesOf, hex, imported, listed, read } from "./making.mjs";
 
 const { BadBundles, BadMessages, Bundles, Refusal, SvidError, Validator, guard } = await imported();
 const { Library } = await imported("src/library.js");
+const { LISTED } = await listed();
 
 const ANY = 2n ** 64n - 1n;
 const READER = "python";
@@ -165,10 +166,8 @@ test("headers", async () => {
 
 // What is wrong with messages and due there, by the name of the reason, as lists/statuses.toml says it.
 const WORDS = new Map(
-  read("lists/statuses.toml").split("[[group.status]]").filter((it) => it.includes("\ndue = ")).map((it) => {
-    const [name, says, due] = ["name", "says", "due"].map((field) => it.match(new RegExp(`^${field} = "(.*)"$`, "m"))[1]);
-    return [name.replace(/([A-Z])([A-Z]*)_?/g, (_, first, rest) => first + rest.toLowerCase()), `${says}, and due is ${due}`];
-  }),
+  [...LISTED.values()].filter((it) => it.due).map(({ name, says, due }) =>
+    [name.replace(/([A-Z])([A-Z]*)_?/g, (_, first, rest) => first + rest.toLowerCase()), `${says}, and due is ${due}`]),
 );
 
 const empty = () => Validator.open({ audiences: "ledger", bundles: "{}", ahead: ANY });

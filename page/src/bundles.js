@@ -17,6 +17,17 @@ const KTY_OF = new Map([
 ]);
 const NO_KTY = "neither RSA nor EC";
 // lists:end
+
+// lists:begin bundles (written by tools/lists from lists/statuses.toml)
+/** Why bundles can't be read, by status (include/svid.h), and what to do. */
+export const BUNDLE_FAULTS = {
+  3: ["Bundles, a table or messages have more than 67,108,864 bytes.", "Give less at once."],
+  31: ["The bundles are no JSON object.", "Write one object that has a JWK Set under the name of each trust domain."],
+  32: ["A name of the bundles is no trust domain name.", "Correct that name, or take it out."],
+  33: ["A name of the bundles has no list of keys.", "Write a JWK Set under that name, or take it out."],
+};
+// lists:end
+
 const KTYS = new Set(KTY_OF.values());
 const encoder = new TextEncoder();
 

@@ -1,6 +1,6 @@
 // The page: what is in its fields, what the library says of it, and what a person does.
 
-import { countOf, domainsOf } from "./bundles.js";
+import { BUNDLE_FAULTS, countOf, domainsOf } from "./bundles.js";
 import { byId, fill, make } from "./dom.js";
 import { examine, readRecord, use, withdraw } from "./examine.js";
 import { drawChecks, drawKeys, drawParts, drawToken, makeChecks } from "./explain.js";
@@ -13,6 +13,7 @@ import { agoOf, clock, dateOf, readTime, spanOf } from "./time.js";
 import { Timeline } from "./timeline.js";
 
 const TICK = 1000, STEPS = 1000n, AHEAD = 10n;
+const BUNDLES_NOT_OBJECT = 31, BUNDLES_DOMAIN = 32, BUNDLES_KEYS = 33;
 const NOTHING = new Uint8Array();
 const fields = ["token", "bundles", "domain", "own", "time", "longest"];
 const value = (id) => byId(id).value;
@@ -180,16 +181,21 @@ function counted(n, one, many) {
   return `${n.toLocaleString("en")} ${n === 1 ? one : many}`;
 }
 
+// What is wrong with bundles, where, and what to do.
 function faultOf({ fault, bundles }) {
-  const name = JSON.stringify(domainsOf(bundles)[fault.offset] ?? "");
-  if (fault.status === 32) return `${name} is no name of a trust domain.`;
-  if (fault.status === 33) return `${name} has no list of keys.`;
+  const [says, advice] = BUNDLE_FAULTS[fault.status] ?? [`The library answered ${fault.status}.`, ""];
+  return [says, whereOf(fault, bundles), advice].filter(Boolean).join(" ");
+}
+
+function whereOf({ status, offset }, bundles) {
+  if (status === BUNDLES_DOMAIN || status === BUNDLES_KEYS) return `It is ${JSON.stringify(domainsOf(bundles)[offset] ?? "")}.`;
+  if (status !== BUNDLES_NOT_OBJECT) return "";
   try {
     parse(bundles);
-    return "This is JSON, but no object.";
+    return "They are JSON of another kind.";
   } catch ({ at, message }) {
     const line = bundles.slice(0, at).split("\n");
-    return `No JSON: in line ${line.length}, at character ${line.at(-1).length + 1}, ${message}.`;
+    return `In line ${line.length}, at character ${line.at(-1).length + 1}, ${message}.`;
   }
 }
 

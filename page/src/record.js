@@ -7,7 +7,7 @@ const SHOWN = 8;
 // lists:begin messages (written by tools/lists from lists/statuses.toml)
 /** Why messages are refused, by status (include/svid.h), and what is due where they are at fault. */
 export const MESSAGE_FAULTS = {
-  3: ["it has more than 67,108,864 bytes"],
+  3: ["bundles, a table or messages have more than 67,108,864 bytes: give less at once", ""],
   11: ["the first four bytes are those of no version", "4A 53 52, which is JSR, and then 02 or 01"],
   12: ["the fifth byte is that of no kind of message of the version", "01 for a batch, or 02 for a summary, which only version 2 has"],
   13: ["a batch tells of too many uses", "a number of at most 65,536 uses, or of 4,096 in version 1"],
@@ -63,7 +63,7 @@ export function changesOf(before, after) {
 /** What is wrong with a file that holds no messages, where, and what is due there; `status`, `message` and `offset` are of `Library.join`. */
 export function faultOfMessages(library, bytes, { status, message, offset }) {
   const [says, due] = MESSAGE_FAULTS[status] ?? [`the library answered ${status}`];
-  if (due === undefined) return `${says}.`;
+  if (!due) return `${says}.`;
   const at = startOf(library, bytes, message) + offset, stands = [...bytes.subarray(at, at + SHOWN)].map(hexOfByte);
   const begins = at === bytes.length ? "The file ends at" : "What is wrong begins at";
   const there = stands.length ? ` There ${stands.length === 1 ? "stands" : "stand"} ${stands.join(" ")}${at + SHOWN < bytes.length ? " …" : ""}.` : "";

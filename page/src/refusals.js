@@ -135,23 +135,29 @@ function wrong(it, which, name, fault) {
   return said(isThere ? `${name} ${fault}.` : `There is no ${name}.`, charactersOf(it, which, name));
 }
 
+// lists:begin ids (written by tools/lists from lists/statuses.toml)
+/** Why a text is no SPIFFE ID, by status (include/svid.h). */
 const ID_FAULTS = {
-  21: () => "it has more than 2,048 bytes",
-  22: () => "it does not begin with spiffe://",
-  23: () => "its trust domain is empty",
-  24: (at) => `${at} may not stand in a trust domain`,
-  25: () => "its trust domain has more than 255 bytes",
-  26: () => "a segment of its path is empty",
-  27: (at) => `a segment of its path is ${at}`,
-  28: (at) => `${at} may not stand in a path`,
+  21: "the ID has more than 2,048 bytes",
+  22: "the ID does not begin with spiffe://",
+  23: "the trust domain name of the ID is empty",
+  24: "the ID has a byte that may not stand in a trust domain name",
+  25: "the ID has a trust domain name of more than 255 bytes",
+  26: "the ID has an empty segment",
+  27: "the ID has a segment that is one or two periods",
+  28: "the ID has a byte that may not stand in a path segment",
 };
+// lists:end
+// Those about characters, which are shown.
+const ID_DOMAIN_BYTE = 24, ID_SEGMENT_DOTS = 27, ID_PATH_BYTE = 28;
 
 function noId(it) {
   const id = stringAt(objectOf(it.parts, 1), "sub");
   if (id === undefined) return wrong(it, 1, "sub", "is no text");
   const { status, offset } = it.library.parseId(id);
-  const rest = textOf(new TextEncoder().encode(id).subarray(offset)), bad = rest.match(/^\.*|^./u)[0] || [...id].at(-1);
-  return said(`sub is no SPIFFE ID: ${ID_FAULTS[status](JSON.stringify(status === 27 ? bad : [...rest][0] ?? ""))}.`, charactersOf(it, 1, "sub"));
+  const rest = textOf(new TextEncoder().encode(id).subarray(offset)), dots = rest.match(/^\.*/)[0];
+  const bad = { [ID_DOMAIN_BYTE]: [...rest][0], [ID_SEGMENT_DOTS]: dots, [ID_PATH_BYTE]: [...rest][0] }[status];
+  return said(`sub is no SPIFFE ID: ${ID_FAULTS[status]}${bad === undefined ? "" : `, ${JSON.stringify(bad)}`}.`, charactersOf(it, 1, "sub"));
 }
 
 /** A claim that is a time, if it is one. */

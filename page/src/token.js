@@ -8,12 +8,12 @@ const encoder = new TextEncoder();
 const OK = 0, SCHEME = 83, TOO_LONG = 101;
 
 // lists:begin bearer (written by tools/lists from lists/statuses.toml)
-/** Why a header field Authorization has no bearer token, by status (include/svid.h). */
+/** Why a request has no bearer token, by status (include/svid.h), and what to send. */
 export const BEARER_FAULTS = {
-  81: "no header field Authorization",
-  82: "more than one",
-  83: "its scheme is not Bearer",
-  84: "the scheme is not followed by one token",
+  81: "the request has no header field Authorization: send one such field, with Bearer and one token",
+  82: "the request has more than one header field Authorization: send one such field, with Bearer and one token",
+  83: "the header field Authorization has another scheme than Bearer: send one such field, with Bearer and one token",
+  84: "in the header field Authorization, Bearer is not followed by one token: send one such field, with Bearer and one token",
 };
 // lists:end
 

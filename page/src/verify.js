@@ -2,22 +2,29 @@
 //
 // The library says which key can be used with an algorithm, and gives it as SubjectPublicKeyInfo.
 
+import { MOST_RSA_BITS } from "./library.js";
+
 // lists:begin curves (written by tools/lists from lists/algorithms.toml)
 const CURVES = { ES256: "P-256", ES384: "P-384", ES512: "P-521" };
 // lists:end
 const OK = 0;
 const encoder = new TextEncoder();
 
-// Why a key can't be used, by the status of `Library.spki`.
-const FAULTS = {
-  73: (alg) => `its alg is not that of the token, ${alg}`,
-  74: () => "its modulus is no odd number in base64url, without a zero before it",
-  75: () => "its modulus must have from 2,048 to 4,096 bits",
-  76: () => "its exponent is no odd number from 3 to 2^31-1 in base64url, without a zero before it",
-  77: (alg) => `its curve is not ${CURVES[alg]}, which ${alg} needs`,
-  78: (alg) => `its first coordinate is not base64url of the length that ${CURVES[alg]} has`,
-  79: (alg) => `its second coordinate is not base64url of the length that ${CURVES[alg]} has`,
+// lists:begin keys (written by tools/lists from lists/statuses.toml)
+/** Why a key can't be used, by the status of `Library.spki`. */
+const KEY_FAULTS = {
+  70: "the algorithm is none of RS256 to RS512, ES256 to ES512 and PS256 to PS512",
+  71: "the key is no JSON object",
+  72: "the key's kty is not the algorithm's: RSA for RS and PS, EC for ES",
+  73: "the key's alg is there, and is not the algorithm",
+  74: "the key's n is no odd number in as few bytes of base64url as hold it",
+  75: "the key's n has fewer than 2,048 bits, more than most_bits, or more than 16,384",
+  76: "the key's e is no odd number from 3 to 2^31-1 in as few bytes of base64url as hold it",
+  77: "the key's crv is not the algorithm's: P-256 for ES256, P-384 for ES384, P-521 for ES512",
+  78: "the key's x is not base64url of 32, 48 or 66 bytes, as the curve has it",
+  79: "the key's y is not base64url of 32, 48 or 66 bytes, as the curve has it",
 };
+// lists:end
 
 const answered = new Map();
 
@@ -32,7 +39,7 @@ export function answer(row, signed, signature) {
 }
 
 async function ask({ alg, spki }, signed, signature) {
-  if (spki.status !== OK) return { is: "unusable", why: FAULTS[spki.status]?.(alg) ?? `the library says ${spki.status} of it` };
+  if (spki.status !== OK) return { is: "unusable", why: faultOf(spki.status) };
   if (!globalThis.crypto?.subtle) return { is: "unusable", why: "WebCrypto works only on https, localhost and files" };
   const [importing, verifying] = parametersOf(alg);
   try {
@@ -45,6 +52,11 @@ async function ask({ alg, spki }, signed, signature) {
     if (!(error instanceof DOMException)) throw error;
     return { is: "unusable", why: error.message || "the browser takes no such key" };
   }
+}
+
+// (what the library has as its parameter most_bits is a number here)
+function faultOf(status) {
+  return KEY_FAULTS[status]?.replace("most_bits", MOST_RSA_BITS.toLocaleString("en")) ?? `the library says ${status} of it`;
 }
 
 /**

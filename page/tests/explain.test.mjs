@@ -96,7 +96,7 @@ test("a text that begins with a byte order mark is the whole text", async () => 
   const unasked = (await examine(library, { ...input, own: [] })).verdict;
   assert.deepEqual([unasked.status, unasked.isUnasked], [0, true]);
   const bad = await sign(key, '{"alg":"ES256"}', '{"sub":"spiffe://example.org/\ufeffa","aud":"ledger","exp":1767229200}');
-  assert.equal((await examine(library, { ...input, token: bad })).verdict.why, 'sub is no SPIFFE ID: "\ufeff" may not stand in a path.');
+  assert.equal((await examine(library, { ...input, token: bad })).verdict.why, 'sub is no SPIFFE ID: the ID has a byte that may not stand in a path segment, "\ufeff".');
 });
 
 test("an entry with very many members is soon read", async () => {

@@ -57,7 +57,7 @@ const REFUSED = {
   PayloadSpelling: { token: async () => `${base64url(JSON.stringify(header))}.e31.c2ln`, marked: "1", why: /payload is misspelt at character 3.*left over/ },
   PayloadNotObject: { token: async () => unsigned(header, "[1]"), marked: base64url("[1]"), why: /JSON, but no object/ },
   SignatureSpelling: { token: async () => unsigned(header, GOOD, ""), marked: ".", why: /signature is empty/ },
-  Sub: { token: async () => signed({ sub: "spiffe://example.org/a//b" }), member: "sub", why: /a segment of its path is empty/ },
+  Sub: { token: async () => signed({ sub: "spiffe://example.org/a//b" }), member: "sub", why: /the ID has an empty segment/ },
   Aud: { token: async () => signed({ aud: [] }), member: "aud", why: /neither a text nor a list/ },
   Exp: { token: async () => sign(key, header, `{"sub":"${SUB}","aud":"ledger","exp":1e10}`), member: "exp", why: /no number in digits alone/ },
   Nbf: { token: async () => signed({ nbf: "soon" }), member: "nbf", why: /nbf is no number/ },
@@ -136,7 +136,11 @@ export function testVerdicts(start) {
   });
 
   // What each `why` of headers.json is in the words of the page.
-  const NO_TOKEN = { Scheme: "its scheme is not Bearer", Spelling: "the scheme is not followed by one token" };
+  const SEND = "send one such field, with Bearer and one token";
+  const NO_TOKEN = {
+    Scheme: `the header field Authorization has another scheme than Bearer: ${SEND}`,
+    Spelling: `in the header field Authorization, Bearer is not followed by one token: ${SEND}`,
+  };
 
   test("the vectors of headers", async () => {
     const { setting, vectors } = vectorsOf("headers");
@@ -172,7 +176,7 @@ export function testVerdicts(start) {
   });
 
   test("a header field without a bearer token is told, and no token is judged", async () => {
-    for (const [text, why] of [["Authorization: Basic YTpi", /its scheme is not Bearer\.$/], [`Bearer ${await signed()} ${await signed()}`, /is not followed by one token\.$/], [`Authorization: ${await signed()}`, /its scheme/]]) {
+    for (const [text, why] of [["Authorization: Basic YTpi", /another scheme than Bearer: send one .*\.$/], [`Bearer ${await signed()} ${await signed()}`, /is not followed by one token: send one .*\.$/], [`Authorization: ${await signed()}`, /another scheme/]]) {
       await page.write({ ...fresh(), token: text });
       const it = await shown();
       assert.deepEqual([it.said, it.why], ["Not judged", "No token can be taken out of the header field."]);
@@ -257,7 +261,7 @@ export function testVerdicts(start) {
     rows.forEach(([, wanted], n) => assert.match(rowsSaid[n], wanted));
     assert.equal((await shown()).said, "Accepted");
     await page.write({ ...fresh(), bundles: `{"example.org":{"keys":[${JSON.stringify(curve.entry)}]}}`, token: await signed() });
-    assert.match((await said())[0], /^can't be used: its curve is not P-256, which ES256 needs/);
+    assert.match((await said())[0], /^can't be used: the key's crv is not the algorithm's: P-256 for ES256, /);
   });
 
   test("a key that is too weak, or is of another algorithm, verifies nothing", async () => {
@@ -267,31 +271,31 @@ export function testVerdicts(start) {
       "RS256": [rsa, [
         [{}, /^verifies the signature/],
         [{ alg: "RS256" }, /^verifies the signature/],
-        [{ alg: "RS512" }, /^can't be used: its alg is not that of the token, RS256/],
-        [{ alg: null }, /^can't be used: its alg is not that of the token, RS256/],
-        [{ n: small.entry.n }, /^can't be used: its modulus must have from 2,048 to 4,096 bits/],
-        [{ n: number([0x7f, ...Array(255).fill(255)]) }, /^can't be used: its modulus must have from 2,048/],
-        [{ n: number([1, ...Array(512).fill(1)]) }, /^can't be used: its modulus must have from 2,048/],
-        [{ n: number([128, ...Array(511).fill(1)]) }, /^(does not verify the signature|can't be used: (?!its modulus))/],
-        [{ n: undefined }, /^can't be used: its modulus is no odd number/],
-        [{ e: number([1]) }, /^can't be used: its exponent is no odd number/],
-        [{ e: number([2]) }, /^can't be used: its exponent/],
-        [{ e: number([1, 0, 0, 0, 1]) }, /^can't be used: its exponent/],
-        [{ e: "" }, /^can't be used: its exponent/],
-        [{ e: "AQAB==" }, /^can't be used: its exponent is no odd number/],
-        [{ e: 65537 }, /^can't be used: its exponent is no odd number/],
-        [{ e: number([0, 1, 0, 1]) }, /^can't be used: its exponent is no odd number/],
-        [{ n: number([0, 128, ...Array(254).fill(0), 1]) }, /^can't be used: its modulus is no odd number/],
-        [{ n: number([128, ...Array(254).fill(0), 2]) }, /^can't be used: its modulus is no odd number/],
+        [{ alg: "RS512" }, /^can't be used: the key's alg is there, and is not the algorithm/],
+        [{ alg: null }, /^can't be used: the key's alg is there, and is not the algorithm/],
+        [{ n: small.entry.n }, /^can't be used: the key's n has fewer than 2,048 bits, more than 4,096, or more than 16,384$/],
+        [{ n: number([0x7f, ...Array(255).fill(255)]) }, /^can't be used: the key's n has fewer than 2,048/],
+        [{ n: number([1, ...Array(512).fill(1)]) }, /^can't be used: the key's n has fewer than 2,048/],
+        [{ n: number([128, ...Array(511).fill(1)]) }, /^(does not verify the signature|can't be used: (?!the key's n))/],
+        [{ n: undefined }, /^can't be used: the key's n is no odd number/],
+        [{ e: number([1]) }, /^can't be used: the key's e is no odd number/],
+        [{ e: number([2]) }, /^can't be used: the key's e/],
+        [{ e: number([1, 0, 0, 0, 1]) }, /^can't be used: the key's e/],
+        [{ e: "" }, /^can't be used: the key's e/],
+        [{ e: "AQAB==" }, /^can't be used: the key's e is no odd number/],
+        [{ e: 65537 }, /^can't be used: the key's e is no odd number/],
+        [{ e: number([0, 1, 0, 1]) }, /^can't be used: the key's e is no odd number/],
+        [{ n: number([0, 128, ...Array(254).fill(0), 1]) }, /^can't be used: the key's n is no odd number/],
+        [{ n: number([128, ...Array(254).fill(0), 2]) }, /^can't be used: the key's n is no odd number/],
       ]],
       "ES256": [ec, [
         [{}, /^verifies the signature/],
-        [{ x: base64url(Buffer.concat([Buffer.alloc(1), Buffer.from(ec.entry.x, "base64url")])) }, /^can't be used: its first coordinate is not base64url of the length that P-256 has/],
-        [{ y: `AAAA${ec.entry.y}` }, /^can't be used: its second coordinate is not base64url of the length/],
-        [{ x: `${ec.entry.x}\n` }, /^can't be used: its first coordinate is not/],
-        [{ y: ec.entry.y.slice(0, 42) }, /^can't be used: its second coordinate is not/],
+        [{ x: base64url(Buffer.concat([Buffer.alloc(1), Buffer.from(ec.entry.x, "base64url")])) }, /^can't be used: the key's x is not base64url of 32, 48 or 66 bytes, as the curve has it/],
+        [{ y: `AAAA${ec.entry.y}` }, /^can't be used: the key's y is not base64url of 32, 48 or 66 bytes/],
+        [{ x: `${ec.entry.x}\n` }, /^can't be used: the key's x is not/],
+        [{ y: ec.entry.y.slice(0, 42) }, /^can't be used: the key's y is not/],
         [{ x: base64url(Buffer.alloc(32)) }, /^can't be used: /],
-        [{ crv: "secp256k1" }, /^can't be used: its curve is not P-256/],
+        [{ crv: "secp256k1" }, /^can't be used: the key's crv is not the algorithm's/],
       ]],
     };
     for (const [alg, [mine, changes]] of Object.entries(cases)) {
@@ -346,14 +350,14 @@ export function testVerdicts(start) {
     await page.write({ domain: "", token: await signed() });
     assert.deepEqual(await said(), ["Accepted", "of example.org", `${taken}It is taken as that of example.org, the trust domain of the token.`, "false"]);
     await page.write({ token: "", domain: "Not A Name" });
-    assert.deepEqual([await page.text("bundles-said"), await page.run(() => document.getElementById("bundles").getAttribute("aria-invalid"))], ['"Not A Name" is no name of a trust domain.', "true"]);
+    assert.deepEqual([await page.text("bundles-said"), await page.run(() => document.getElementById("bundles").getAttribute("aria-invalid"))], ['A name of the bundles is no trust domain name. It is "Not A Name". Correct that name, or take it out.', "true"]);
     await page.write({ domain: "", bundles: bundlesOf(key.entry) });
     assert.deepEqual([await keysSaid(), await page.text("keys-of")], [["may sign tokens"], "of example.org"]);
     await page.write({ bundles: '{"keys":[]}' });
     assert.match(await page.text("bundles-said"), /with 0 entries/);
     assert.equal(await page.text("keys-none"), "The bundle has no key.");
     await page.write({ bundles: `{"keys":${"[".repeat(126)}${"]".repeat(126)}}` });
-    assert.match(await page.text("bundles-said"), /^No JSON: in line 1/);
+    assert.match(await page.text("bundles-said"), /^The bundles are no JSON object\. In line 1/);
   });
 
   test("a malformed token with a bundle alone: which part is malformed, and where", async () => {
@@ -363,7 +367,7 @@ export function testVerdicts(start) {
       [`${head}.${payload.slice(0, 9)} ${payload.slice(9)}.${signature}`, "PayloadSpelling", `The payload is misspelt at character 10, which is character ${head.length + 11} of the token. " " is no character of base64url.`, " "],
       [`${head}.${base64url('{"sub" 1}')}.${signature}`, "PayloadNotObject", "The payload is no JSON: at character 8, a colon should stand here.", base64url('{"sub" 1}').slice(9)],
       [`${head}.${payload}`, "NotThreeParts", "It has one period, so it is no token in compact form.", undefined],
-      [`${head}.${base64url('{"sub":"example.org"}')}.${signature}`, "Sub", "sub is no SPIFFE ID: it does not begin with spiffe://.", undefined],
+      [`${head}.${base64url('{"sub":"example.org"}')}.${signature}`, "Sub", "sub is no SPIFFE ID: the ID does not begin with spiffe://.", undefined],
       [`${head}.${payload}.${signature}=`, "SignatureSpelling", `The signature is misspelt at character ${signature.length + 1}, which is character ${head.length + payload.length + signature.length + 3} of the token. "=" is no character of base64url.`, "="],
     ];
     for (const [token, name, why, marked] of cases) {
@@ -378,11 +382,16 @@ export function testVerdicts(start) {
   });
 
   test("bundles that can't be read are told, and where", async () => {
-    const wanted = [["{", /line 1, at character 2/], ["[]", /no object/], ['{"a":{"keys":[]},"B":{"keys":[]}}', /"B" is no name of a trust domain/], ['{"a":{"keys":1}}', /"a" has no list of keys/]];
+    const wanted = [
+      ["{", "The bundles are no JSON object. In line 1, at character 2, a name in quotation marks should stand here. Write one object that has a JWK Set under the name of each trust domain."],
+      ["[]", "The bundles are no JSON object. They are JSON of another kind. Write one object that has a JWK Set under the name of each trust domain."],
+      ['{"a":{"keys":[]},"B":{"keys":[]}}', 'A name of the bundles is no trust domain name. It is "B". Correct that name, or take it out.'],
+      ['{"a":{"keys":1}}', 'A name of the bundles has no list of keys. It is "a". Write a JWK Set under that name, or take it out.'],
+    ];
     for (const [bundles, why] of wanted) {
       await page.write({ ...fresh(), bundles, token: await signed() });
       assert.equal((await shown()).said, "Not judged");
-      assert.match(await page.text("bundles-said"), why);
+      assert.equal(await page.text("bundles-said"), why);
     }
   });
 

@@ -7,7 +7,7 @@ from collections.abc import Iterable
 
 from . import _library as lib
 from ._validator import Validator
-from ._words import SENTENCES
+from ._words import no_memory, said
 
 _ANYBODY = "spiffe://example.org"
 _ROOM = 1024
@@ -27,15 +27,14 @@ def allows(pattern: str, spiffe_id: str) -> bool:
     lent = [it for text in texts for it in (text, len(text))]
     status = lib.quick.svid_id_allows(*lent, lib.address(out))
     if status == lib.NO_MEMORY:
-        raise MemoryError
+        raise no_memory()
     if status in (lib.OK, lib.NOT_ALLOWED):
         return bool(status == lib.OK)
     if status > lib.NOT_ALLOWED:
         raise ValueError(
-            f"{pattern!r} is no pattern of SPIFFE IDs (byte {out.offset}): {SENTENCES[status]} "
-            "Write spiffe://DOMAIN/PATH, spiffe://DOMAIN/PATH/* or spiffe://DOMAIN."
+            f"{pattern!r} is no pattern of SPIFFE IDs (byte {out.offset}): {said(status)}"
         )
-    raise ValueError(f"{spiffe_id!r} is no SPIFFE ID (byte {out.offset}): {SENTENCES[status]}")
+    raise ValueError(f"{spiffe_id!r} is no SPIFFE ID (byte {out.offset}): {said(status)}")
 
 
 def patterns(allow: Iterable[str] | None) -> tuple[str, ...] | None:
@@ -75,7 +74,7 @@ def _subject(token: bytes) -> str | None:
         out = (lib.address(room), len(room), lib.address(told))
         status = lib.quick.svid_token_says(*lent, *out)
     if status == lib.NO_MEMORY:
-        raise MemoryError
+        raise no_memory()
     if status != lib.OK:
         return None
     begins = sum(lens[:_SUBJECT])

@@ -11,7 +11,7 @@ from collections.abc import Iterator, Mapping, Sequence
 from typing import Any, NamedTuple, Union
 
 from . import _library as lib
-from ._words import SENTENCES
+from ._words import no_memory, said
 from .errors import BadBundles
 
 Path = Union[str, "os.PathLike[str]"]
@@ -109,7 +109,7 @@ def _join(documents: Sequence[_Document], keys: bool = False) -> bytes:
         room = bytearray(told.len)
         status = join(*lent, lib.address(room), len(room), told_at)
     if status == lib.NO_MEMORY:
-        raise MemoryError
+        raise no_memory()
     if status != lib.OK:
         fault = _Unnamed if status == lib.BUNDLES_UNNAMED else BadBundles
         raise fault(f"{documents[told.input - 1].what}: {bundle_words(status, told.offset)}")
@@ -118,10 +118,9 @@ def _join(documents: Sequence[_Document], keys: bool = False) -> bytes:
 
 def bundle_words(status: int, offset: int) -> str:
     """What a status says of bundles, and of which name of them."""
-    said = SENTENCES[status]
     if status not in (lib.BUNDLES_DOMAIN, lib.BUNDLES_KEYS, lib.BUNDLES_TWICE):
-        return said
-    return f"{said} It is number {offset} of the names in rising order, counted from 0."
+        return said(status)
+    return said(status, f"It is number {offset} of the names in rising order, counted from 0.")
 
 
 def _joined(bundles: Mapping[str, Bundle]) -> bytes:

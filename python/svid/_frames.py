@@ -8,6 +8,7 @@ from typing import NamedTuple
 
 from . import _library as lib
 from ._folder import ID_FILE, Folder
+from ._words import no_memory
 from .errors import Damaged, OtherFormat, Unavailable
 
 
@@ -106,8 +107,6 @@ class Numbers:
 
 
 def _judge(status: int) -> None:
-    if status == lib.FOLDER_ENDED:
-        raise Unavailable("a sync failed: mend the disk, and start the service again")
     if status != lib.OK:
         raise Unavailable(lib.FOLDER_FAULTS.get(status, f"libsvid answered {status}"))
 
@@ -172,5 +171,5 @@ def _begins_as_messages(content: bytes) -> bool:
     lent = (text, len(text), None, 0, lib.address(told))
     status = lib.library.svid_entries_read(*lent)
     if status == lib.NO_MEMORY:
-        raise MemoryError
+        raise no_memory()
     return lib.MESSAGE_FAULTS.get(status) != "Magic" or told.message > 1

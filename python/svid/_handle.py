@@ -25,7 +25,7 @@ from .errors import (
     Jump,
     TooFar,
 )
-from ._words import SENTENCES
+from ._words import no_memory, said
 from .records import Accepted, Use
 
 _USE = struct.Struct("=QQ32s16s")
@@ -355,8 +355,8 @@ def fault(status: int, told: lib.Told) -> Exception:
     return RuntimeError(f"libsvid answered {status}, which include/svid.h does not explain")
 
 
-_FAULTS: dict[int, type[Exception]] = {
-    lib.NO_MEMORY: MemoryError,
+_FAULTS: dict[int, Callable[[], Exception]] = {
+    lib.NO_MEMORY: no_memory,
     lib.CLOSED: Closed,
     lib.GONE: Gone,
     lib.TOO_FAR: TooFar,
@@ -368,7 +368,7 @@ def _opened(bundles: bytes) -> Trust:
     """These bundles. Raises BadBundles."""
     trust = Trust(bundles)
     if trust.status == lib.TOO_MUCH:
-        raise BadBundles(SENTENCES[trust.status])
+        raise BadBundles(said(trust.status))
     if trust.status != lib.OK:
         raise fault(trust.status, trust.told)
     return trust

@@ -56,20 +56,22 @@ ORDER_GAP = 2
 # lists:begin folder (written by tools/lists from lists/statuses.toml)
 FOLDER_FAULTS = {
     41: "the numbers are not those of a folder, or of the file that is read",
-    42: "a sync failed",
-    43: "no journal grows yet",
-    44: "a call is due already",
+    42: "a sync failed: mend the disk, and start the service again",
+    43: "no journal grows yet: make the calls that are due",
+    44: "a call is due already: make it first",
     45: "no call is due",
-    46: "a frame was handed out, and is not synced yet",
+    46: "a frame was handed out, and is not synced yet: sync it first",
     47: "no frame was handed out",
     48: "no snapshot is being written",
-    49: "the snapshot has no mark at its end",
-    50: "the payload has more than 16,777,215 bytes",
-    51: "a number of the folder has come to its end",
+    49: "the snapshot has no mark at its end: put an empty piece after it",
+    50: "the payload has more than 16,777,215 bytes: append less at once",
+    51: (
+        "a number of the folder has come to its end: go on in a new folder, which takes the "
+        "messages of this one"
+    ),
 }
 # lists:end
 """Why a state folder takes no call, by status."""
-FOLDER_ENDED = 42
 FILE_END = 52
 FILE_TEAR = 53
 FILE_DAMAGE = 54

@@ -10,6 +10,7 @@ from cryptography.hazmat.primitives.asymmetric import ec, padding, rsa, utils
 from cryptography.hazmat.primitives.serialization import load_der_public_key
 
 from ._library import NO_MEMORY, OK, RSA_BITS, SPKI_ROOM, USUAL_RSA_BITS, Told, address, quick
+from ._words import no_memory
 
 __all__ = ["USUAL_RSA_BITS", "Verifier", "Verifies"]
 
@@ -58,7 +59,7 @@ def _spki(alg: str, key: bytes, rsa_bits: int) -> bytes | None:
         key, len(key), name, len(name), rsa_bits, address(room), SPKI_ROOM, address(told)
     )
     if status == NO_MEMORY:
-        raise MemoryError
+        raise no_memory()
     return bytes(room[: told.len]) if status == OK else None
 
 

@@ -10,6 +10,7 @@ from typing import Any
 
 from . import _library as lib
 from ._signatures import Verifies
+from ._words import no_memory
 
 _ROW = struct.Struct(">4x5sI")  # the algorithm, and the length of the key
 _SIGNATURE = 1024
@@ -110,5 +111,5 @@ def signing(token: bytes) -> tuple[bytes, bytes]:
         lent = (lib.address(over), lib.address(room), len(room), lib.address(told))
         status = lib.quick.svid_token_signature(token, len(token), *lent)
     if status == lib.NO_MEMORY:
-        raise MemoryError
+        raise no_memory()
     return token[: over.len], bytes(room[: told.len])

@@ -52,9 +52,67 @@ SENTENCES: dict[int, str] = {
     99: "The pattern has a byte that may not stand in a path segment.",
 }
 """What each status says, as a sentence."""
+ADVICE: dict[int, str] = {
+    2: "Make the call again.",
+    3: "Give less at once.",
+    4: "Give the summary of another validator.",
+    5: "Make a new one.",
+    8: "Set the clocks of both validators right.",
+    9: "Set the clock right, or let a new validator take the record.",
+    10: "Put the use of a judgment into the log, and read it.",
+    19: "Let it read one.",
+    21: "Write an ID as spiffe://DOMAIN/PATH.",
+    22: "Write an ID as spiffe://DOMAIN/PATH.",
+    23: "Write an ID as spiffe://DOMAIN/PATH.",
+    24: "Write an ID as spiffe://DOMAIN/PATH.",
+    25: "Write an ID as spiffe://DOMAIN/PATH.",
+    26: "Write an ID as spiffe://DOMAIN/PATH.",
+    27: "Write an ID as spiffe://DOMAIN/PATH.",
+    28: "Write an ID as spiffe://DOMAIN/PATH.",
+    31: "Write one object that has a JWK Set under the name of each trust domain.",
+    32: "Correct that name, or take it out.",
+    33: "Write a JWK Set under that name, or take it out.",
+    37: "Name it.",
+    38: "Leave one of them out.",
+    92: (
+        "Write spiffe://DOMAIN/PATH for one ID, spiffe://DOMAIN/PATH/* for all below it, or "
+        "spiffe://DOMAIN for all of a trust domain."
+    ),
+    93: (
+        "Write spiffe://DOMAIN/PATH for one ID, spiffe://DOMAIN/PATH/* for all below it, or "
+        "spiffe://DOMAIN for all of a trust domain."
+    ),
+    94: (
+        "Write spiffe://DOMAIN/PATH for one ID, spiffe://DOMAIN/PATH/* for all below it, or "
+        "spiffe://DOMAIN for all of a trust domain."
+    ),
+    95: (
+        "Write spiffe://DOMAIN/PATH for one ID, spiffe://DOMAIN/PATH/* for all below it, or "
+        "spiffe://DOMAIN for all of a trust domain."
+    ),
+    96: (
+        "Write spiffe://DOMAIN/PATH for one ID, spiffe://DOMAIN/PATH/* for all below it, or "
+        "spiffe://DOMAIN for all of a trust domain."
+    ),
+    97: (
+        "Write spiffe://DOMAIN/PATH for one ID, spiffe://DOMAIN/PATH/* for all below it, or "
+        "spiffe://DOMAIN for all of a trust domain."
+    ),
+    98: (
+        "Write spiffe://DOMAIN/PATH for one ID, spiffe://DOMAIN/PATH/* for all below it, or "
+        "spiffe://DOMAIN for all of a trust domain."
+    ),
+    99: (
+        "Write spiffe://DOMAIN/PATH for one ID, spiffe://DOMAIN/PATH/* for all below it, or "
+        "spiffe://DOMAIN for all of a trust domain."
+    ),
+}
+"""What to do about a status, as a sentence, where there is something to do."""
 MESSAGE_WORDS: dict[str, str] = {
-    "TooMuch": "bundles, a table or messages have more than 67,108,864 bytes",
-    "NotSummary": "the first input is messages, but not one summary",
+    "TooMuch": "bundles, a table or messages have more than 67,108,864 bytes: give less at once",
+    "NotSummary": (
+        "the first input is messages, but not one summary: give the summary of another validator"
+    ),
     "Magic": (
         "the first four bytes are those of no version, and due is 4A 53 52, which is JSR, and "
         "then 02 or 01"
@@ -86,3 +144,13 @@ MESSAGE_WORDS: dict[str, str] = {
 }
 """Why bytes are no messages, by the name of the reason, as the rest of a sentence."""
 # lists:end
+
+
+def said(status: int, where: str = "") -> str:
+    """What a status says: what is wrong, where that is, and what to do."""
+    return " ".join(filter(None, (SENTENCES[status], where, ADVICE.get(status))))
+
+
+def no_memory() -> MemoryError:
+    """What a call raises that has no memory."""
+    return MemoryError(said(2))

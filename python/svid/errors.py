@@ -21,7 +21,7 @@ A call that has no memory raises `MemoryError`. It accepted no token, and you ca
 
 from __future__ import annotations
 
-from ._words import MESSAGE_WORDS, SENTENCES
+from ._words import MESSAGE_WORDS, said
 
 
 class Error(Exception):
@@ -32,7 +32,7 @@ class Closed(Error):
     """The validator is closed. Make a new one."""
 
     def __init__(self) -> None:
-        super().__init__(f"{SENTENCES[5]} Make a new one.")
+        super().__init__(said(5))
 
 
 class Forked(Error):
@@ -55,21 +55,21 @@ class Jump(Error, ValueError):
     """
 
     def __init__(self) -> None:
-        super().__init__(SENTENCES[9])
+        super().__init__(said(9))
 
 
 class Gone(Error, ValueError):
     """The token has expired, so there is nothing to withdraw."""
 
     def __init__(self) -> None:
-        super().__init__(SENTENCES[7])
+        super().__init__(said(7))
 
 
 class TooFar(Error, ValueError):
     """The messages tell of a time more than `ahead` seconds past `now`. None of them was taken."""
 
     def __init__(self) -> None:
-        super().__init__(SENTENCES[8])
+        super().__init__(said(8))
 
 
 class BadBundles(Error, ValueError):

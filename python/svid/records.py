@@ -7,6 +7,7 @@ from collections.abc import Iterable
 from dataclasses import dataclass
 
 from . import _library as lib
+from ._words import no_memory, said
 
 _ENTRY = struct.Struct("@QQQ32s16s")
 """`svid_entry`, as the C library has it in memory."""
@@ -49,9 +50,10 @@ def batches(uses: Iterable[Use]) -> bytes:
         lent = (lib.address(room) if room else None, len(room), lib.address(told))
         status = lib.quick.svid_entries_write(entries, len(packed), *lent)
     if status == lib.NO_MEMORY:
-        raise MemoryError
+        raise no_memory()
     if status != lib.OK:
-        raise ValueError(f"use {told.offset} expires when it was made, or before")
+        where = f"It is number {told.offset} of the uses, counted from 0."
+        raise ValueError(said(status, where))
     return bytes(room[: told.len])
 
 

@@ -1,25 +1,20 @@
 """What an error says, in the words of lists/statuses.toml."""
 
-import json
-import pathlib
 import tomllib
 
 import pytest
 
 import svid
 from making import NOW, token, validator
+from svid import _frames, _handle, _library
+from vectors import HERE, read
 
-TOP = pathlib.Path(__file__).parents[2]
 STATUSES = {
-    it["name"]: it
-    for group in tomllib.loads((TOP / "lists/statuses.toml").read_text())["group"]
+    group.get("prefix", "") + it["name"]: {"advice": group.get("advice", ""), **it}
+    for group in tomllib.loads((HERE.parent / "lists/statuses.toml").read_text())["group"]
     for it in group["status"]
 }
-BAD_MESSAGES = {
-    it["fault"]["reason"]: it
-    for it in json.loads((TOP / "vectors/messages.json").read_text())["vectors"]
-    if "fault" in it
-}
+BAD_MESSAGES = {it["fault"]["reason"]: it for it in read("messages")["vectors"] if "fault" in it}
 REASONS = {
     "Magic": "MAGIC",
     "Kind": "KIND",
@@ -32,13 +27,15 @@ REASONS = {
 }
 
 
-def sentence(name):
-    """What a status says, as a sentence without marks."""
+def sentence(name, where=""):
+    """What is wrong by a status, as a sentence without marks; where that is; and what to do."""
     said = STATUSES[name]
-    if "words" in said:
-        return said["words"]
-    text = said["says"]
-    return (text[0].upper() + text[1:] + ".").replace("`", "")
+    words, advice = said.get("words", capital(said.get("says", ""))), capital(said["advice"])
+    return " ".join(filter(None, (words.replace("`", ""), where, advice)))
+
+
+def capital(text):
+    return text and f"{text[0].upper()}{text[1:]}."
 
 
 def test_each_reason_is_tried():
@@ -55,14 +52,26 @@ def test_what_is_wrong_with_messages(reason):
     assert str(raised.value) == f"{where}: {said['says']}, and due is {said['due']}"
 
 
+def test_a_use_that_no_message_tells():
+    uses = [svid.Use(exp, bytes(32), bytes(16), 1, withdrawn=False) for exp in (2, 1)]
+    with pytest.raises(ValueError) as raised:
+        svid.records.batches(uses)
+    where = "It is number 1 of the uses, counted from 0."
+    assert str(raised.value) == sentence("USE_EXPIRED", where)
+
+
+def clause(name):
+    return f"{STATUSES[name]['says']}: {STATUSES[name]['advice']}"
+
+
 def test_messages_that_nothing_is_read_of():
     with validator() as checks:
         with pytest.raises(svid.BadMessages) as raised:
             checks.answer(b"JSR\x02\x01" + bytes(12), NOW)
-        assert str(raised.value) == f"NotSummary: {STATUSES['NOT_SUMMARY']['says']}"
+        assert str(raised.value) == f"NotSummary: {clause('NOT_SUMMARY')}"
         with pytest.raises(svid.BadMessages) as raised:
             checks.take((b"JSR\x02\x01" + bytes(12)) * 3_947_581, NOW)
-        assert str(raised.value) == f"TooMuch: {STATUSES['TOO_MUCH']['says']}"
+        assert str(raised.value) == f"TooMuch: {clause('TOO_MUCH')}"
 
 
 @pytest.mark.parametrize(
@@ -76,8 +85,8 @@ def test_messages_that_nothing_is_read_of():
 def test_what_is_wrong_with_bundles(bundles, name, rank):
     with pytest.raises(svid.BadBundles) as raised:
         validator(bundles)
-    more = f" It is number {rank} of the names in rising order, counted from 0." if rank else ""
-    assert str(raised.value) == sentence(name) + more
+    where = f"It is number {rank} of the names in rising order, counted from 0." if rank else ""
+    assert str(raised.value) == sentence(name, where)
 
 
 def test_what_a_validator_does_not_do():
@@ -95,7 +104,18 @@ def test_what_a_validator_does_not_do():
         assert str(raised.value) == sentence("JUMP")
     with pytest.raises(svid.Closed) as raised:
         checks.tick(NOW)
-    assert str(raised.value) == f"{sentence('CLOSED')} Make a new one."
+    assert str(raised.value) == sentence("CLOSED")
+
+
+FOLDER = [name for name in STATUSES if name.startswith("FOLDER_")]
+
+
+@pytest.mark.parametrize("name", FOLDER)
+def test_what_a_folder_does_not_do(name):
+    said = STATUSES[name]
+    with pytest.raises(svid.Unavailable) as raised:
+        _frames._judge(said["number"])
+    assert str(raised.value) == ": ".join(filter(None, (said["says"], said["advice"])))
 
 
 @pytest.mark.parametrize(
@@ -115,12 +135,18 @@ def test_what_a_validator_does_not_do():
 def test_what_is_no_pattern(pattern, name, offset):
     with pytest.raises(ValueError) as raised:
         svid.allows(pattern, "spiffe://a/b")
-    said = f"{pattern!r} is no pattern of SPIFFE IDs (byte {offset}): {sentence(name)} Write "
-    assert str(raised.value).startswith(said)
+    said = f"{pattern!r} is no pattern of SPIFFE IDs (byte {offset}): {sentence(name)}"
+    assert str(raised.value) == said
+
+
+def test_want_of_memory():
+    why = _handle.fault(STATUSES["NO_MEMORY"]["number"], _library.Told())
+    assert isinstance(why, MemoryError)
+    assert str(why) == sentence("NO_MEMORY")
 
 
 def test_what_is_no_id():
     with pytest.raises(ValueError) as raised:
         svid.allows("spiffe://a", "spiffe://a//b")
-    said = f"'spiffe://a//b' is no SPIFFE ID (byte 11): {sentence('SEGMENT_EMPTY')}"
+    said = f"'spiffe://a//b' is no SPIFFE ID (byte 11): {sentence('ID_SEGMENT_EMPTY')}"
     assert str(raised.value) == said

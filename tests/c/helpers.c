@@ -30,6 +30,7 @@ static void names(void) {
     holds(!strcmp(svid_strstatus(SVID_OK), "SVID_OK") && !strcmp(svid_strstatus(SVID_WITHDRAWN), "SVID_WITHDRAWN") && !strcmp(svid_strstatus(UINT32_MAX), "SVID_?"), "another name");
     holds(!strcmp(svid_strsentence(SVID_WITHDRAWN), "The token was withdrawn."), "another sentence");
     holds(!strcmp(svid_strsentence(SVID_TRUNCATED), "The bytes end before the message does."), "another sentence");
+    holds(!strcmp(svid_strsentence(SVID_CLOSED), "The validator is closed, or the bundles are. Make a new one."), "another sentence");
     printf("%d names", named);
 }
 

@@ -85,7 +85,7 @@ func TestAnRSAKeyHasABound(t *testing.T) {
 	if err := os.WriteFile(file, []byte(bundle), 0o600); err != nil {
 		t.Fatal(err)
 	}
-	one, why := signed+"."+encode(signature), "an RSA key of too few or too many bits; it must have from 2048 to 4096"
+	one, why := signed+"."+encode(signature), "the key's n has fewer than 2,048 bits, more than 4096, or more than 16,384"
 	for _, row := range []struct {
 		option []string
 		want   string

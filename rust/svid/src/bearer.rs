@@ -117,23 +117,43 @@ impl std::error::Error for Denied {
 #[non_exhaustive]
 // lists:begin bearer (written by tools/lists from lists/statuses.toml)
 pub enum BearerFault {
-    /// No header field Authorization.
+    /// The request has no header field Authorization.
     Absent,
-    /// More than one.
+    /// The request has more than one header field Authorization.
     Several,
-    /// Its scheme is not Bearer.
+    /// The header field Authorization has another scheme than Bearer.
     Scheme,
-    /// The scheme is not followed by one token.
+    /// In the header field Authorization, Bearer is not followed by one token.
     Spelling,
 }
 
 impl BearerFault {
-    // Each with its number, its name and what it says.
+    // Each with its number, its name, and what it says and advises.
     pub(crate) const ROWS: [(BearerFault, u32, &'static str, &'static str); 4] = [
-        (BearerFault::Absent, ffi::BEARER_ABSENT, "Absent", "no header field Authorization"),
-        (BearerFault::Several, ffi::BEARER_SEVERAL, "Several", "more than one"),
-        (BearerFault::Scheme, ffi::BEARER_SCHEME, "Scheme", "its scheme is not Bearer"),
-        (BearerFault::Spelling, ffi::BEARER_SPELLING, "Spelling", "the scheme is not followed by one token"),
+        (
+            BearerFault::Absent,
+            ffi::BEARER_ABSENT,
+            "Absent",
+            "the request has no header field Authorization: send one such field, with Bearer and one token",
+        ),
+        (
+            BearerFault::Several,
+            ffi::BEARER_SEVERAL,
+            "Several",
+            "the request has more than one header field Authorization: send one such field, with Bearer and one token",
+        ),
+        (
+            BearerFault::Scheme,
+            ffi::BEARER_SCHEME,
+            "Scheme",
+            "the header field Authorization has another scheme than Bearer: send one such field, with Bearer and one token",
+        ),
+        (
+            BearerFault::Spelling,
+            ffi::BEARER_SPELLING,
+            "Spelling",
+            "in the header field Authorization, Bearer is not followed by one token: send one such field, with Bearer and one token",
+        ),
     ];
 }
 // lists:end

@@ -4,6 +4,7 @@ use std::fmt;
 
 use crate::ffi::{self, Told};
 use crate::refusal::Refusal;
+use crate::words;
 
 /// Why a call did nothing. Whatever the error of a check is, the token was not accepted.
 ///
@@ -89,16 +90,16 @@ impl fmt::Display for Error {
     fn fmt(&self, f: &mut fmt::Formatter<'_>) -> fmt::Result {
         match self {
             Error::Refused(why) => why.fmt(f),
-            Error::NoMemory => f.write_str("there is no memory: make the call again"),
-            Error::Jump => f.write_str("now is more than `step` seconds past the record's moment: set the clock, or make a new validator"),
-            Error::TooFar => f.write_str("the messages tell of a time more than `ahead` seconds past now: set the clocks"),
-            Error::Gone => f.write_str("the token has expired: there is nothing to withdraw"),
+            Error::NoMemory => words::write_plain(f, ffi::NO_MEMORY),
+            Error::Jump => words::write_plain(f, ffi::JUMP),
+            Error::TooFar => words::write_plain(f, ffi::TOO_FAR),
+            Error::Gone => words::write_plain(f, ffi::GONE),
             Error::Unsupported => f.write_str("the verifier can't verify with this algorithm or by this key: use another one"),
             Error::Bundles(why) => why.fmt(f),
             Error::Messages(why) => why.fmt(f),
-            Error::NotSummary => f.write_str("the bytes are messages, but not one summary"),
-            Error::TooMuch => f.write_str("the bytes are more than 67,108,864: cut the messages"),
-            Error::TooShort => f.write_str("the room is too short for any piece of a record: give it 82 bytes or more"),
+            Error::NotSummary => words::write_plain(f, ffi::NOT_SUMMARY),
+            Error::TooMuch => words::write_plain(f, ffi::TOO_MUCH),
+            Error::TooShort => words::write(f, ffi::TOO_SHORT, format_args!(": give a piece of a record 82 bytes or more")),
             Error::NoClock => f.write_str("the system's clock is before 1970: set it"),
             Error::NoRandom => f.write_str("the system gives no random bytes: read them from another source, and choose a validator ID"),
             Error::Unexpected(why) => why.fmt(f),
@@ -136,23 +137,14 @@ pub enum BundlesFault {
     },
 }
 
-// lists:begin bundles (written by tools/lists from lists/statuses.toml)
-const BUNDLES_NOT_OBJECT: &str = "no JSON object";
-const BUNDLES_DOMAIN: &str = "a name is no trust domain name";
-const BUNDLES_KEYS: &str = "a name has no list of keys";
-// lists:end
-
 impl fmt::Display for BundlesFault {
     fn fmt(&self, f: &mut fmt::Formatter<'_>) -> fmt::Result {
-        match self {
-            BundlesFault::NotObject => write!(f, "the bundles can't be read: {BUNDLES_NOT_OBJECT}"),
-            BundlesFault::Domain { number } => {
-                write!(f, "the bundles can't be read: {BUNDLES_DOMAIN}: number {number} (from 0) of the names in rising order")
-            }
-            BundlesFault::Keys { number } => {
-                write!(f, "the bundles can't be read: {BUNDLES_KEYS}: number {number} (from 0) of the names in rising order")
-            }
-        }
+        let (status, number) = match self {
+            BundlesFault::NotObject => return words::write_plain(f, ffi::BUNDLES_NOT_OBJECT),
+            BundlesFault::Domain { number } => (ffi::BUNDLES_DOMAIN, number),
+            BundlesFault::Keys { number } => (ffi::BUNDLES_KEYS, number),
+        };
+        words::write(f, status, format_args!(" (number {number} of the names in rising order, counted from 0)"))
     }
 }
 
@@ -164,7 +156,7 @@ impl std::error::Error for BundlesFault {}
 pub struct MessagesError {
     /// What is wrong.
     pub fault: MessageFault,
-    /// Which of the messages, counted from 1. It is 0 for a value of a log, and for the claims beside a record.
+    /// Which of the messages, counted from 1. It is 0 for a value of a log, for the claims beside a record, and for a use.
     pub message: usize,
     /// Which byte of that message, counted from 0.
     pub offset: usize,
@@ -173,7 +165,11 @@ pub struct MessagesError {
 impl fmt::Display for MessagesError {
     fn fmt(&self, f: &mut fmt::Formatter<'_>) -> fmt::Result {
         let MessagesError { fault, message, offset } = self;
-        write!(f, "{fault}: message {message} at byte {offset}")
+        let (name, says) = (fault.name(), fault.says());
+        match message {
+            0 => write!(f, "{name} at offset {offset}: {says}"),
+            message => write!(f, "{name} in message {message} at byte {offset}: {says}"),
+        }
     }
 }
 
@@ -203,16 +199,51 @@ pub enum MessageFault {
 }
 
 impl MessageFault {
-    // Each with its number, its name and what it says.
+    // Each with its number, its name, and what it says and advises.
     pub(crate) const ROWS: [(MessageFault, u32, &'static str, &'static str); 8] = [
-        (MessageFault::Magic, ffi::MAGIC, "Magic", "the first four bytes are those of no version"),
-        (MessageFault::Kind, ffi::KIND, "Kind", "the fifth byte is that of no kind of message of the version"),
-        (MessageFault::Count, ffi::COUNT, "Count", "a batch tells of too many uses"),
-        (MessageFault::UseKind, ffi::USE_KIND, "UseKind", "the last byte of a use is neither 0 nor 1"),
-        (MessageFault::UseExpired, ffi::USE_EXPIRED, "UseExpired", "a use expires at its batch's moment or before it"),
-        (MessageFault::UseFuture, ffi::USE_FUTURE, "UseFuture", "a use was made after its batch's moment"),
-        (MessageFault::UseOrder, ffi::USE_ORDER, "UseOrder", "a use is not greater than the one before it"),
-        (MessageFault::Truncated, ffi::TRUNCATED, "Truncated", "the bytes end before the message does"),
+        (
+            MessageFault::Magic,
+            ffi::MAGIC,
+            "Magic",
+            "the first four bytes are those of no version, and due is 4A 53 52, which is JSR, and then 02 or 01",
+        ),
+        (
+            MessageFault::Kind,
+            ffi::KIND,
+            "Kind",
+            "the fifth byte is that of no kind of message of the version, and due is 01 for a batch, or 02 for a summary, which only version 2 has",
+        ),
+        (
+            MessageFault::Count,
+            ffi::COUNT,
+            "Count",
+            "a batch tells of too many uses, and due is a number of at most 65,536 uses, or of 4,096 in version 1",
+        ),
+        (
+            MessageFault::UseKind,
+            ffi::USE_KIND,
+            "UseKind",
+            "the last byte of a use is neither 0 nor 1, and due is a use whose last byte is 00 or 01",
+        ),
+        (
+            MessageFault::UseExpired,
+            ffi::USE_EXPIRED,
+            "UseExpired",
+            "a use expires at its batch's moment or before it, and due is a use that expires after the batch's moment",
+        ),
+        (
+            MessageFault::UseFuture,
+            ffi::USE_FUTURE,
+            "UseFuture",
+            "a use was made after its batch's moment, and due is a use that was made at the batch's moment or before it",
+        ),
+        (
+            MessageFault::UseOrder,
+            ffi::USE_ORDER,
+            "UseOrder",
+            "a use is not greater than the one before it, and due is a use that is greater than the one before it",
+        ),
+        (MessageFault::Truncated, ffi::TRUNCATED, "Truncated", "the bytes end before the message does, and due is the rest of the message"),
     ];
 }
 // lists:end

@@ -77,7 +77,7 @@ pub struct IdError {
 
 impl fmt::Display for IdError {
     fn fmt(&self, f: &mut fmt::Formatter<'_>) -> fmt::Result {
-        write!(f, "{}, at byte {}", self.fault, self.offset)
+        write!(f, "no SPIFFE ID (byte {}): {}", self.offset, self.fault.says())
     }
 }
 
@@ -88,35 +88,60 @@ impl std::error::Error for IdError {}
 #[non_exhaustive]
 // lists:begin ids (written by tools/lists from lists/statuses.toml)
 pub enum IdFault {
-    /// More than 2,048 bytes.
+    /// The ID has more than 2,048 bytes.
     TooLong,
-    /// Does not begin with spiffe://.
+    /// The ID does not begin with spiffe://.
     Scheme,
-    /// The trust domain name is empty.
+    /// The trust domain name of the ID is empty.
     DomainEmpty,
-    /// A byte that may not stand in a trust domain name.
+    /// The ID has a byte that may not stand in a trust domain name.
     DomainByte,
-    /// A trust domain name of more than 255 bytes.
+    /// The ID has a trust domain name of more than 255 bytes.
     DomainLong,
-    /// An empty segment.
+    /// The ID has an empty segment.
     SegmentEmpty,
-    /// A segment that is . or ...
+    /// The ID has a segment that is one or two periods.
     SegmentDots,
-    /// A byte that may not stand in a path segment.
+    /// The ID has a byte that may not stand in a path segment.
     PathByte,
 }
 
 impl IdFault {
-    // Each with its number, its name and what it says.
+    // Each with its number, its name, and what it says and advises.
     pub(crate) const ROWS: [(IdFault, u32, &'static str, &'static str); 8] = [
-        (IdFault::TooLong, ffi::ID_TOO_LONG, "TooLong", "more than 2,048 bytes"),
-        (IdFault::Scheme, ffi::ID_SCHEME, "Scheme", "does not begin with spiffe://"),
-        (IdFault::DomainEmpty, ffi::ID_DOMAIN_EMPTY, "DomainEmpty", "the trust domain name is empty"),
-        (IdFault::DomainByte, ffi::ID_DOMAIN_BYTE, "DomainByte", "a byte that may not stand in a trust domain name"),
-        (IdFault::DomainLong, ffi::ID_DOMAIN_LONG, "DomainLong", "a trust domain name of more than 255 bytes"),
-        (IdFault::SegmentEmpty, ffi::ID_SEGMENT_EMPTY, "SegmentEmpty", "an empty segment"),
-        (IdFault::SegmentDots, ffi::ID_SEGMENT_DOTS, "SegmentDots", "a segment that is . or .."),
-        (IdFault::PathByte, ffi::ID_PATH_BYTE, "PathByte", "a byte that may not stand in a path segment"),
+        (IdFault::TooLong, ffi::ID_TOO_LONG, "TooLong", "the ID has more than 2,048 bytes: write an ID as spiffe://DOMAIN/PATH"),
+        (IdFault::Scheme, ffi::ID_SCHEME, "Scheme", "the ID does not begin with spiffe://: write an ID as spiffe://DOMAIN/PATH"),
+        (
+            IdFault::DomainEmpty,
+            ffi::ID_DOMAIN_EMPTY,
+            "DomainEmpty",
+            "the trust domain name of the ID is empty: write an ID as spiffe://DOMAIN/PATH",
+        ),
+        (
+            IdFault::DomainByte,
+            ffi::ID_DOMAIN_BYTE,
+            "DomainByte",
+            "the ID has a byte that may not stand in a trust domain name: write an ID as spiffe://DOMAIN/PATH",
+        ),
+        (
+            IdFault::DomainLong,
+            ffi::ID_DOMAIN_LONG,
+            "DomainLong",
+            "the ID has a trust domain name of more than 255 bytes: write an ID as spiffe://DOMAIN/PATH",
+        ),
+        (IdFault::SegmentEmpty, ffi::ID_SEGMENT_EMPTY, "SegmentEmpty", "the ID has an empty segment: write an ID as spiffe://DOMAIN/PATH"),
+        (
+            IdFault::SegmentDots,
+            ffi::ID_SEGMENT_DOTS,
+            "SegmentDots",
+            "the ID has a segment that is one or two periods: write an ID as spiffe://DOMAIN/PATH",
+        ),
+        (
+            IdFault::PathByte,
+            ffi::ID_PATH_BYTE,
+            "PathByte",
+            "the ID has a byte that may not stand in a path segment: write an ID as spiffe://DOMAIN/PATH",
+        ),
     ];
 }
 // lists:end

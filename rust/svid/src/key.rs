@@ -5,6 +5,7 @@ use std::fmt;
 use crate::error::{Error, Unexpected};
 use crate::ffi::{self, Told};
 use crate::record::Question;
+use crate::words;
 
 /// An algorithm of JWT-SVIDs (JWT-SVID, section 2.1).
 #[derive(Debug, Clone, Copy, PartialEq, Eq, Hash)]
@@ -189,7 +190,7 @@ impl fmt::Display for KeyError {
     fn fmt(&self, f: &mut fmt::Formatter<'_>) -> fmt::Result {
         match self {
             KeyError::Unfit(why) => why.fmt(f),
-            KeyError::NoMemory => f.write_str("there is no memory: make the call again"),
+            KeyError::NoMemory => words::write_plain(f, ffi::NO_MEMORY),
             KeyError::Unexpected(why) => why.fmt(f),
         }
     }
@@ -212,36 +213,36 @@ impl std::error::Error for KeyError {
 pub enum KeyFault {
     /// The key is no JSON object.
     NotObject,
-    /// Its `kty` is not the algorithm's: RSA for RS and PS, EC for ES.
+    /// The key's `kty` is not the algorithm's: RSA for RS and PS, EC for ES.
     Kty,
-    /// Its `alg` is there, and is not the algorithm.
+    /// The key's `alg` is there, and is not the algorithm.
     Alg,
-    /// Its `n` is no odd number in as few bytes of base64url as hold it.
+    /// The key's `n` is no odd number in as few bytes of base64url as hold it.
     N,
-    /// Its `n` has fewer than 2,048 bits, more than `most_bits`, or more than 16,384.
+    /// The key's `n` has fewer than 2,048 bits, more than `most_bits`, or more than 16,384.
     Bits,
-    /// Its `e` is no odd number from 3 to 2^31-1 in as few bytes of base64url as hold it.
+    /// The key's `e` is no odd number from 3 to 2^31-1 in as few bytes of base64url as hold it.
     E,
-    /// Its `crv` is not the algorithm's: P-256 for ES256, P-384 for ES384, P-521 for ES512.
+    /// The key's `crv` is not the algorithm's: P-256 for ES256, P-384 for ES384, P-521 for ES512.
     Crv,
-    /// Its `x` is not base64url of 32, 48 or 66 bytes, as the curve has it.
+    /// The key's `x` is not base64url of 32, 48 or 66 bytes, as the curve has it.
     X,
-    /// Its `y` is not that.
+    /// The key's `y` is not base64url of 32, 48 or 66 bytes, as the curve has it.
     Y,
 }
 
 impl KeyFault {
-    // Each with its number, its name and what it says.
+    // Each with its number, its name, and what it says and advises.
     pub(crate) const ROWS: [(KeyFault, u32, &'static str, &'static str); 9] = [
         (KeyFault::NotObject, ffi::KEY_NOT_OBJECT, "NotObject", "the key is no JSON object"),
-        (KeyFault::Kty, ffi::KEY_KTY, "Kty", "its `kty` is not the algorithm's: RSA for RS and PS, EC for ES"),
-        (KeyFault::Alg, ffi::KEY_ALG, "Alg", "its `alg` is there, and is not the algorithm"),
-        (KeyFault::N, ffi::KEY_N, "N", "its `n` is no odd number in as few bytes of base64url as hold it"),
-        (KeyFault::Bits, ffi::KEY_BITS, "Bits", "its `n` has fewer than 2,048 bits, more than `most_bits`, or more than 16,384"),
-        (KeyFault::E, ffi::KEY_E, "E", "its `e` is no odd number from 3 to 2^31-1 in as few bytes of base64url as hold it"),
-        (KeyFault::Crv, ffi::KEY_CRV, "Crv", "its `crv` is not the algorithm's: P-256 for ES256, P-384 for ES384, P-521 for ES512"),
-        (KeyFault::X, ffi::KEY_X, "X", "its `x` is not base64url of 32, 48 or 66 bytes, as the curve has it"),
-        (KeyFault::Y, ffi::KEY_Y, "Y", "its `y` is not that"),
+        (KeyFault::Kty, ffi::KEY_KTY, "Kty", "the key's kty is not the algorithm's: RSA for RS and PS, EC for ES"),
+        (KeyFault::Alg, ffi::KEY_ALG, "Alg", "the key's alg is there, and is not the algorithm"),
+        (KeyFault::N, ffi::KEY_N, "N", "the key's n is no odd number in as few bytes of base64url as hold it"),
+        (KeyFault::Bits, ffi::KEY_BITS, "Bits", "the key's n has fewer than 2,048 bits, more than most_bits, or more than 16,384"),
+        (KeyFault::E, ffi::KEY_E, "E", "the key's e is no odd number from 3 to 2^31-1 in as few bytes of base64url as hold it"),
+        (KeyFault::Crv, ffi::KEY_CRV, "Crv", "the key's crv is not the algorithm's: P-256 for ES256, P-384 for ES384, P-521 for ES512"),
+        (KeyFault::X, ffi::KEY_X, "X", "the key's x is not base64url of 32, 48 or 66 bytes, as the curve has it"),
+        (KeyFault::Y, ffi::KEY_Y, "Y", "the key's y is not base64url of 32, 48 or 66 bytes, as the curve has it"),
     ];
 }
 // lists:end

@@ -56,6 +56,7 @@ mod refusal;
 mod token;
 mod validator;
 mod verify;
+mod words;
 
 pub use crate::bearer::{bearer_token, BearerFault, Denied};
 pub use crate::bundles::Bundles;

@@ -11,10 +11,16 @@ macro_rules! named {
             }
         }
 
+        impl $kind {
+            /// What is wrong, and what to do.
+            pub(crate) fn says(self) -> &'static str {
+                Self::ROWS.iter().find(|row| row.0 == self).map_or("", |row| row.3)
+            }
+        }
+
         impl std::fmt::Display for $kind {
             fn fmt(&self, f: &mut std::fmt::Formatter<'_>) -> std::fmt::Result {
-                let says = Self::ROWS.iter().find(|row| row.0 == *self).map_or("", |row| row.3);
-                write!(f, "{}: {says}", self.name())
+                write!(f, "{}: {}", self.name(), self.says())
             }
         }
 

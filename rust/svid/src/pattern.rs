@@ -4,6 +4,7 @@ use std::fmt;
 
 use crate::error::Unexpected;
 use crate::ffi::{self, Id};
+use crate::words;
 use crate::SpiffeId;
 
 /// A pattern of SPIFFE IDs (docs/FORMATS.md, "Patterns of IDs"): "spiffe://example.org/billing/api" allows that ID,
@@ -81,11 +82,8 @@ pub enum PatternError {
 impl fmt::Display for PatternError {
     fn fmt(&self, f: &mut fmt::Formatter<'_>) -> fmt::Result {
         match self {
-            PatternError::Bad { fault, offset } => write!(
-                f,
-                "no pattern of SPIFFE IDs: {fault}, at byte {offset}: write spiffe://DOMAIN/PATH for one ID, spiffe://DOMAIN/PATH/* for all below it, or spiffe://DOMAIN"
-            ),
-            PatternError::NoMemory => f.write_str("out of memory"),
+            PatternError::Bad { fault, offset } => write!(f, "no pattern of SPIFFE IDs (byte {offset}): {}", fault.says()),
+            PatternError::NoMemory => words::write_plain(f, ffi::NO_MEMORY),
             PatternError::Unexpected(why) => why.fmt(f),
         }
     }
@@ -110,28 +108,63 @@ pub enum PatternFault {
     DomainLong,
     /// The pattern has an empty segment.
     SegmentEmpty,
-    /// The pattern has a segment that is . or ...
+    /// The pattern has a segment that is one or two periods.
     SegmentDots,
     /// The pattern has a byte that may not stand in a path segment.
     PathByte,
 }
 
 impl PatternFault {
-    // Each with its number, its name and what it says.
+    // Each with its number, its name, and what it says and advises.
     pub(crate) const ROWS: [(PatternFault, u32, &'static str, &'static str); 8] = [
-        (PatternFault::TooLong, ffi::PATTERN_TOO_LONG, "TooLong", "the ID in the pattern has more than 2,048 bytes"),
-        (PatternFault::Scheme, ffi::PATTERN_SCHEME, "Scheme", "the pattern does not begin with spiffe://"),
-        (PatternFault::DomainEmpty, ffi::PATTERN_DOMAIN_EMPTY, "DomainEmpty", "the trust domain name of the pattern is empty"),
+        (
+            PatternFault::TooLong,
+            ffi::PATTERN_TOO_LONG,
+            "TooLong",
+            "the ID in the pattern has more than 2,048 bytes: write spiffe://DOMAIN/PATH for one ID, spiffe://DOMAIN/PATH/* for all below it, or spiffe://DOMAIN for all of a trust domain",
+        ),
+        (
+            PatternFault::Scheme,
+            ffi::PATTERN_SCHEME,
+            "Scheme",
+            "the pattern does not begin with spiffe://: write spiffe://DOMAIN/PATH for one ID, spiffe://DOMAIN/PATH/* for all below it, or spiffe://DOMAIN for all of a trust domain",
+        ),
+        (
+            PatternFault::DomainEmpty,
+            ffi::PATTERN_DOMAIN_EMPTY,
+            "DomainEmpty",
+            "the trust domain name of the pattern is empty: write spiffe://DOMAIN/PATH for one ID, spiffe://DOMAIN/PATH/* for all below it, or spiffe://DOMAIN for all of a trust domain",
+        ),
         (
             PatternFault::DomainByte,
             ffi::PATTERN_DOMAIN_BYTE,
             "DomainByte",
-            "the pattern has a byte that may not stand in a trust domain name",
+            "the pattern has a byte that may not stand in a trust domain name: write spiffe://DOMAIN/PATH for one ID, spiffe://DOMAIN/PATH/* for all below it, or spiffe://DOMAIN for all of a trust domain",
         ),
-        (PatternFault::DomainLong, ffi::PATTERN_DOMAIN_LONG, "DomainLong", "the pattern has a trust domain name of more than 255 bytes"),
-        (PatternFault::SegmentEmpty, ffi::PATTERN_SEGMENT_EMPTY, "SegmentEmpty", "the pattern has an empty segment"),
-        (PatternFault::SegmentDots, ffi::PATTERN_SEGMENT_DOTS, "SegmentDots", "the pattern has a segment that is . or .."),
-        (PatternFault::PathByte, ffi::PATTERN_PATH_BYTE, "PathByte", "the pattern has a byte that may not stand in a path segment"),
+        (
+            PatternFault::DomainLong,
+            ffi::PATTERN_DOMAIN_LONG,
+            "DomainLong",
+            "the pattern has a trust domain name of more than 255 bytes: write spiffe://DOMAIN/PATH for one ID, spiffe://DOMAIN/PATH/* for all below it, or spiffe://DOMAIN for all of a trust domain",
+        ),
+        (
+            PatternFault::SegmentEmpty,
+            ffi::PATTERN_SEGMENT_EMPTY,
+            "SegmentEmpty",
+            "the pattern has an empty segment: write spiffe://DOMAIN/PATH for one ID, spiffe://DOMAIN/PATH/* for all below it, or spiffe://DOMAIN for all of a trust domain",
+        ),
+        (
+            PatternFault::SegmentDots,
+            ffi::PATTERN_SEGMENT_DOTS,
+            "SegmentDots",
+            "the pattern has a segment that is one or two periods: write spiffe://DOMAIN/PATH for one ID, spiffe://DOMAIN/PATH/* for all below it, or spiffe://DOMAIN for all of a trust domain",
+        ),
+        (
+            PatternFault::PathByte,
+            ffi::PATTERN_PATH_BYTE,
+            "PathByte",
+            "the pattern has a byte that may not stand in a path segment: write spiffe://DOMAIN/PATH for one ID, spiffe://DOMAIN/PATH/* for all below it, or spiffe://DOMAIN for all of a trust domain",
+        ),
     ];
 }
 // lists:end

@@ -7,6 +7,7 @@ use std::sync::Arc;
 
 use crate::error::{Error, Unexpected};
 use crate::ffi;
+use crate::words;
 
 /// Why a state folder can't be opened, or does not keep what it was given.
 #[derive(Debug, Clone)]
@@ -111,11 +112,11 @@ impl fmt::Display for JournalError {
                 write!(f, "{} is not 32 hexadecimal digits: put back a copy: no file of the folder can be read without it", file.display())
             }
             JournalError::Io { file, why } => write!(f, "{}: {why}", file.display()),
-            JournalError::Ended => f.write_str("a sync failed: mend the disk, and open the folder again"),
+            JournalError::Ended => words::write_plain(f, ffi::FOLDER_ENDED),
             JournalError::Late => f.write_str("the disk did not answer in time: the messages may be kept or not"),
             JournalError::Full => f.write_str("the disk does not answer, and too much waits for it: try again later"),
             JournalError::TooLong => f.write_str("the messages are more than 16,777,187 bytes: cut them"),
-            JournalError::NoMemory => f.write_str("there is no memory: make the call again"),
+            JournalError::NoMemory => words::write_plain(f, ffi::NO_MEMORY),
             JournalError::Record(why) => write!(f, "the record can't be written: {why}"),
             JournalError::Unexpected(why) => why.fmt(f),
         }

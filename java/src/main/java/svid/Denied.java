@@ -46,7 +46,7 @@ public abstract sealed class Denied extends Exception permits Refusal, Denied.No
         private static final long serialVersionUID = 1;
 
         NotAllowed() {
-            super("NotAllowed: no pattern allows the subject of the token", 403,
+            super("NotAllowed: the caller's SPIFFE ID is not among those that may call", 403,
                     "Bearer error=\"insufficient_scope\", error_description=\"NotAllowed\"");
         }
     }

@@ -50,7 +50,7 @@ public abstract sealed class SvidException extends RuntimeException {
         private static final long serialVersionUID = 1;
 
         OutOfMemory(OutOfMemoryError cause) {
-            super("there is no memory: make the call again", cause);
+            super(Status.NO_MEMORY.says(), cause);
         }
     }
 
@@ -59,7 +59,7 @@ public abstract sealed class SvidException extends RuntimeException {
         private static final long serialVersionUID = 1;
 
         Closed() {
-            super("the validator is closed: open a new one", null);
+            super(Status.CLOSED.says(), null);
         }
     }
 
@@ -68,7 +68,7 @@ public abstract sealed class SvidException extends RuntimeException {
         private static final long serialVersionUID = 1;
 
         Jump() {
-            super("the clock is more than `step` past the record's moment: set the clock, or open a new validator", null);
+            super(Status.JUMP.says(), null);
         }
     }
 
@@ -86,7 +86,7 @@ public abstract sealed class SvidException extends RuntimeException {
         private static final long serialVersionUID = 1;
 
         TooFar() {
-            super("the messages tell of a time more than `ahead` past the clock: set the clocks", null);
+            super(Status.TOO_FAR.says(), null);
         }
     }
 
@@ -95,7 +95,7 @@ public abstract sealed class SvidException extends RuntimeException {
         private static final long serialVersionUID = 1;
 
         Gone() {
-            super("the token has expired: there is nothing to withdraw", null);
+            super(Status.GONE.says(), null);
         }
     }
 
@@ -104,7 +104,7 @@ public abstract sealed class SvidException extends RuntimeException {
         private static final long serialVersionUID = 1;
 
         TooMuch() {
-            super("the bytes are more than 67,108,864: give fewer", null);
+            super(Status.TOO_MUCH.says(), null);
         }
     }
 
@@ -116,8 +116,9 @@ public abstract sealed class SvidException extends RuntimeException {
         private final long index;
 
         BadBundles(Status status, long index) {
-            super("the bundles can't be read: " + status.says()
-                            + (status == Status.BUNDLES_NOT_OBJECT ? "" : ": number " + index + " (from 0) of the names in rising order"),
+            super(status.says(status == Status.BUNDLES_NOT_OBJECT
+                                  ? ""
+                                  : " It is number " + index + " of the names in rising order, counted from 0."),
                     null);
             this.reason = status.label();
             this.index = index;
@@ -143,7 +144,7 @@ public abstract sealed class SvidException extends RuntimeException {
         private final long offset;
 
         BadMessages(Status status, long message, long offset) {
-            super(status.says() + (message == 0 ? "" : ": message " + message + " at byte " + offset), null);
+            super(status.label() + (message == 0 ? "" : " in message " + message + " at byte " + offset) + ": " + status.says(), null);
             this.reason = status.label();
             this.message = message;
             this.offset = offset;
@@ -173,7 +174,9 @@ public abstract sealed class SvidException extends RuntimeException {
         private final long offset;
 
         BadId(Status status, long offset) {
-            super(status.says() + ", at byte " + offset, null);
+            super((status.isFrom(Status.PATTERN_TOO_LONG, Status.PATTERN_PATH_BYTE) ? "no pattern of SPIFFE IDs" : "no SPIFFE ID")
+                            + " (byte " + offset + "): " + status.says(),
+                    null);
             this.fault = status.label();
             this.offset = offset;
         }

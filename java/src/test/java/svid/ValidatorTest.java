@@ -390,7 +390,7 @@ public class ValidatorTest {
         assertTrue(pattern.allows(id));
         assertFalse(pattern.allows(SpiffeId.parse("spiffe://example.org")));
         SvidException.BadId why = assertThrows(SvidException.BadId.class, () -> SpiffeId.parse("spiffe://example.org/a//b"));
-        assertEquals("an empty segment, at byte 23", why.getMessage());
+        assertEquals("no SPIFFE ID (byte 23): The ID has an empty segment. Write an ID as spiffe://DOMAIN/PATH.", why.getMessage());
         assertEquals(TokenKey.of(new byte[32]), TokenKey.of(new byte[32]));
         assertEquals("00".repeat(32), TokenKey.of(new byte[32]).toString());
     }

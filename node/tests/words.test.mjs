@@ -1,0 +1,48 @@
+// What an error says, in the words of lists/statuses.toml. (What is wrong with messages: vectors.test.mjs.)
+
+import assert from "node:assert/strict";
+import { test } from "node:test";
+import { imported, listed, now } from "./making.mjs";
+
+const { Validator } = await imported();
+const { sentences, wholeClause } = await listed();
+
+const open = (options = {}) => Validator.open({ audiences: "ledger", bundles: "{}", ...options });
+const EMPTY = Uint8Array.from([...Buffer.from("JSR\x02\x01"), ...Array(12).fill(0)]);
+
+test("calls that do nothing", async () => {
+  const time = now(), validator = await open({ step: 100 }), late = await open({ ahead: undefined });
+  validator.tick(time);
+  late.tick(time + 11);
+  assert.throws(() => validator.tick(time + 101), { name: "Jump", message: sentences("JUMP") });
+  await assert.rejects(validator.withdrawKey(new Uint8Array(32), time, time), { name: "Gone", message: sentences("GONE") });
+  assert.throws(() => validator.take(late.record(), time), { name: "TooFar", message: sentences("TOO_FAR") });
+  assert.throws(() => validator.answer(EMPTY, time), { name: "BadMessages", message: `NotSummary: ${wholeClause("NOT_SUMMARY")}` });
+  const many = Buffer.alloc(17 * 3_947_581, EMPTY);
+  assert.throws(() => validator.take(many, time), { name: "BadMessages", message: `TooMuch: ${wholeClause("TOO_MUCH")}` });
+  validator.close();
+  assert.throws(() => validator.tick(time), { name: "Closed", message: sentences("CLOSED") });
+});
+
+test("bundles that can't be read", async () => {
+  const rank = (number) => `It is number ${number} of the names in rising order, counted from 0.`;
+  const rows = [["[]", "NOT_OBJECT", ""], ['{"a":{"keys":[]},"B":{}}', "DOMAIN", rank(0)], ['{"a":{"keys":[]},"b":{}}', "KEYS", rank(1)]];
+  for (const [bundles, name, where] of rows) {
+    await assert.rejects(open({ bundles }), { name: "BadBundles", message: sentences(`BUNDLES_${name}`, where) });
+  }
+});
+
+test("texts that are no SPIFFE IDs, and no patterns", async () => {
+  const rows = {
+    TOO_LONG: [`spiffe://${"a".repeat(2040)}`, 0], SCHEME: ["example.org", 0], DOMAIN_EMPTY: ["spiffe://", 0], DOMAIN_BYTE: ["spiffe://A", 9],
+    DOMAIN_LONG: [`spiffe://${"a".repeat(256)}`, 0], SEGMENT_EMPTY: ["spiffe://a//b", 11], SEGMENT_DOTS: ["spiffe://a/../b", 11],
+    PATH_BYTE: ["spiffe://a/b*", 12],
+  };
+  const validator = await open();
+  for (const [name, [text, offset]] of Object.entries(rows)) {
+    const said = (what, prefix) => ({ name: "RangeError", message: `${JSON.stringify(text)} is no ${what} (byte ${offset}): ${sentences(`${prefix}_${name}`)}` });
+    assert.throws(() => validator.allows("spiffe://a", text), said("SPIFFE ID", "ID"));
+    assert.throws(() => validator.allows(text, "spiffe://a"), said("pattern of SPIFFE IDs", "PATTERN"));
+  }
+  validator.close();
+});
