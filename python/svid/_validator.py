@@ -267,6 +267,7 @@ class Validator:
 
         Raises BadBundles, and OSError for a file of bundles; then the old ones stay.
         """
+        self._handle.stand()  # (before the lock: a thread of the parent process may have held it)
         with self._renewing:
             source = self._source if bundles is None else Source(bundles)
             stamp = source.stamp()
