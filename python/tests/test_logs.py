@@ -10,6 +10,7 @@ import subprocess
 import tempfile
 import threading
 import time
+import traceback
 
 import pytest
 import svid
@@ -190,6 +191,13 @@ def test_a_name_of_a_group(kind, name):
 def test_a_url_with_a_wrong_parameter(url):
     with pytest.raises(ValueError):
         open_log(url, KEEP)
+
+
+def test_a_wrong_url_does_not_tell_its_password():
+    url = "postgresql://svid:secret@[::1/postgres"
+    with pytest.raises(ValueError, match="none of PostgreSQL: .*IPv6") as why:
+        open_log(url, KEEP)
+    assert "secret" not in "".join(traceback.format_exception(why.value))
 
 
 def test_a_socket_of_the_machine(tmp_path):
