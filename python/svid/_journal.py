@@ -445,7 +445,7 @@ class _Keeper:
             return why
         try:
             self._write_frame(frame, at)
-        except OSError as why:
+        except (OSError, MemoryError) as why:
             self._numbers.unwritten()
             return why
         try:
@@ -458,14 +458,14 @@ class _Keeper:
         return None
 
     def _write_frame(self, frame: bytes, at: int) -> None:
-        """Writes a frame. Where the file is too short it grows, if the disk has room for that."""
+        """Writes a frame. Where the file is too short it grows, if there is room for that."""
         end = at + len(frame)
         if end > self._room:
             try:
                 write(self._file, frame + _GROWTH, at)
                 self._room = end + len(_GROWTH)
                 return
-            except OSError:
+            except (OSError, MemoryError):
                 pass
         write(self._file, frame, at)
 

@@ -841,6 +841,27 @@ def test_nothing_is_kept_behind_a_sync_that_failed(tmp_path, monkeypatch):
     assert {1} <= found(tmp_path) <= {1, 2}
 
 
+def test_want_of_memory_is_a_passing_fault(tmp_path, monkeypatch):
+    """To make the file grow, and to write the frame alone."""
+    monkeypatch.setattr(_journal, "_QUIET", PATIENCE)
+    with contextlib.closing(svid.Journal(tmp_path)) as journal:
+        real, fails = _journal.write, [True]
+
+        def write(*given):
+            if fails:
+                fails.pop()
+                raise MemoryError
+            real(*given)
+
+        monkeypatch.setattr(_journal, "write", write)
+        append(journal, 1)
+        fails += [True, True]
+        with pytest.raises(svid.Unavailable, match="the use is not kept"):
+            append(journal, 2)
+        append(journal, 3)
+    assert found(tmp_path) == {1, 3}
+
+
 def test_a_full_disk_is_a_passing_fault(tmp_path):
     """By a limit of the process on the length of a file."""
     text = """
