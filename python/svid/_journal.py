@@ -235,7 +235,13 @@ class _Keeper:
         work = threading.Thread(
             target=self._snapshot, args=(parts,), name="svid-snapshot", daemon=True
         )
-        work.start()
+        try:
+            work.start()
+        except RuntimeError as why:  # (the process may have no other thread)
+            self._pause = time.monotonic() + _PAUSE
+            with self._gate:
+                self._snapshots -= 1
+            _LOG.warning("the snapshot stays as it is: %s", why)
 
     def drop(self) -> None:
         """Lets the thread that writes end. Waits for nothing, since a collector may call it."""

@@ -412,6 +412,24 @@ def test_a_snapshot_that_fails_is_told_and_loses_nothing(tmp_path, monkeypatch, 
     assert found(tmp_path) == {1, 2, 3}
 
 
+def test_a_snapshot_for_which_there_is_no_thread(tmp_path, monkeypatch, caplog):
+    """What was appended stays so, and the next snapshot is taken."""
+
+    def start(_):
+        raise RuntimeError("can't start new thread")
+
+    with contextlib.closing(svid.Journal(tmp_path)) as journal:
+        append(journal, 1)
+        with monkeypatch.context() as patch, caplog.at_level(logging.WARNING, "svid"):
+            patch.setattr(threading.Thread, "start", start)
+            journal.snapshot_soon(lambda: [use(1).message])
+        assert caplog.messages == ["the snapshot stays as it is: can't start new thread"]
+        assert not journal.wants_snapshot  # for a minute
+        journal.snapshot_soon(lambda: [use(1).message])
+        until(lambda: "snapshot" in names(tmp_path))
+    assert found(tmp_path) == {1}
+
+
 def test_an_empty_part_does_not_end_a_snapshot(tmp_path):
     with contextlib.closing(svid.Journal(tmp_path)) as journal:
         append(journal, 1, 2)
