@@ -346,7 +346,7 @@ class Member(Validator):
                 if self._closing:
                     return
                 these = self._next()
-            if these and self._append(batches(it.use for it in these)):
+            if these and self._append(these):
                 for it in these:
                     it.landed()
 
@@ -360,12 +360,12 @@ class Member(Validator):
                 these.append(it)
         return these
 
-    def _append(self, value: bytes) -> bool:
+    def _append(self, these: list[_Put]) -> bool:
         """Puts a value into the log, and says whether it is there: tries while anybody waits."""
         end = time.monotonic() + self._wait
         while True:
             try:
-                self._log.append(value)
+                self._log.append(batches(it.use for it in these))
                 return True
             except Exception as why:
                 self._say(f"the log takes no value: {why}")

@@ -272,6 +272,23 @@ def test_a_log_that_takes_nothing(log, caplog):
     assert [it.getMessage() for it in caplog.records] == ["the log takes no value: full"]
 
 
+def test_want_of_memory_for_a_value(log, monkeypatch, caplog):
+    """It passes, and the thread that puts values goes on."""
+    real, fails = batches, [True]
+
+    def no_memory(uses):
+        if fails:
+            fails.pop()
+            raise MemoryError("no room")
+        return real(uses)
+
+    with member(log) as checks, caplog.at_level(logging.WARNING, "svid"):
+        monkeypatch.setattr(svid._member, "batches", no_memory)
+        assert isinstance(verdict(checks, fresh(jti="1")), svid.Use)
+        assert isinstance(verdict(checks, fresh(jti="2")), svid.Use)
+    assert "the log takes no value: no room" in caplog.messages
+
+
 def test_a_log_that_can_not_be_read_for_a_while(log, caplog):
     class Away(MemoryLog):
         is_away = True
