@@ -206,7 +206,7 @@ class Member(Validator):
             ended.wait(max(0.0, end - time.monotonic()))
             if claim is mine:
                 return self._outcome(mine)
-            if not claim.is_ended:
+            if not claim.is_ended or claim.is_late:
                 raise Unavailable(_OTHER)
 
     def judge(self, token: Token, now: float | None = None) -> Accepted:
@@ -243,7 +243,7 @@ class Member(Validator):
                 timer.cancel()
             if claim is mine:
                 return self._outcome(mine)
-            if not claim.is_ended:
+            if not claim.is_ended or claim.is_late:
                 raise Unavailable(_OTHER)
 
     def withdraw_key(self, key: bytes, expires: int, now: float | None = None) -> Use:
@@ -302,14 +302,15 @@ class Member(Validator):
     def _outcome(self, mine: _Claim) -> Accepted:
         """What became of a claim that has ended, or whose time is up."""
         if not mine.is_ended:
-            self._give_up(mine)
+            self._give_up(mine, is_late=True)
         if mine.why is not None:
             raise mine.why
         return mine.accepted
 
-    def _give_up(self, mine: _Claim) -> None:
+    def _give_up(self, mine: _Claim, is_late: bool = False) -> None:
         """Ends a claim that is still open, and does not send it where it has not gone out."""
         with self._gate:
+            mine.is_late = is_late and not mine.is_ended
             tells = [] if mine.is_ended else self._end(mine, Unavailable(_LATE))
         _call(tells)
 
@@ -554,6 +555,7 @@ class _Claim(_Put):
         self.token = token
         self.edition = edition
         self.why: Exception | None = None
+        self.is_late = False  # the log was too late: nobody who waits for it tries again
         self.tells: list[_Tell] = []  # are called at its end
 
 

@@ -853,6 +853,31 @@ def test_an_event_loop_waits_no_longer_than_it_may(log):
         assert asyncio.run(main(checks, made, 2)) == ["Replayed"] * 2
 
 
+def test_requests_that_wait_for_a_late_claim_are_judged_once(log):
+    """Else each of them would verify the signature again whenever the time of one is up."""
+    count = itertools.count()
+
+    async def soon(checks, made):
+        tasks = []
+        for _ in range(30):
+            tasks.append(asyncio.create_task(said_soon(checks, made)))
+            await asyncio.sleep(0.01)
+        return await asyncio.gather(*tasks)
+
+    def in_threads(checks, made):
+        answers = []
+        for _ in range(10):
+            answers.append(in_thread(verdict, checks, made))
+            time.sleep(0.01)
+        return [it() for it in answers]
+
+    with member(log, wait=1, verifies=lambda *_: next(count) >= 0) as checks:
+        log.hold()
+        assert asyncio.run(soon(checks, fresh(jti="1"))) == ["Unavailable"] * 30
+        assert in_threads(checks, fresh(jti="2")) == ["Unavailable"] * 10
+    assert next(count) == 40
+
+
 def test_a_check_that_is_cancelled_holds_nothing_up(log):
     async def main(checks):
         first = asyncio.create_task(said_soon(checks, made))
