@@ -628,6 +628,16 @@ def test_old_values_are_removed(server):
         assert other.bounds() == (100, 101)
 
 
+def test_values_that_were_removed_come_some_at_a_time(shared_redis):
+    """One that was away for long has missed many of them."""
+    with opened(shared_redis) as log:
+        stream, head = (f"svid:{{{log.group}}}:{it}" for it in ("log", "head"))
+        execute(shared_redis, "XADD", stream, "1-10001", *"at 1 kind c value young".split())
+        execute(shared_redis, "HSET", head, "gone", 10_000)
+        assert 0 < len(list(log.read(0, 0))) <= 5000
+        assert all_of(log) == [*((it, b"") for it in range(1, 10_001)), (10_001, b"young")]
+
+
 def test_young_values_stay(server):
     with opened(server) as log:
         for it in range(5):
