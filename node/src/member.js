@@ -24,6 +24,7 @@ const PAUSE = 0.1;
 // How many seconds a warning is not said again.
 const SAYS = 60;
 const MISSED = "values of the log are missing, and a claim of the token may be among them";
+const UNREAD = "the log was not read yet, or values of it are missing";
 const LATE = "the log did not answer in time";
 const OTHER = "another request with the token has no answer yet";
 
@@ -114,6 +115,14 @@ export class Member extends Validator {
       if (claim === mine) return this.#outcome(mine);
       if (!claim.isEnded) throw new Unavailable(OTHER);
     }
+  }
+
+  /** Answers what `check` would, by what was read of the log. It waits for nothing. */
+  async judge(token, now) {
+    const knows = this.isReady; // (what is read from here on may be missing in the answer)
+    const accepted = await super.judge(token, now);
+    if (!knows) throw new Unavailable(UNREAD);
+    return accepted;
   }
 
   /** Withdraws the token with this key. It returns once the log has the withdrawal. */

@@ -261,6 +261,27 @@ test("a withdrawal goes through the log", async () => {
   await closed(...members, away);
 });
 
+test("a member judges by a log that it has read", async () => {
+  const log = new TestLog(), read = gate(), other = await opened(log), text = token(one);
+  await other.withdraw(text);
+  await other.close();
+  log.holds.read = read.passed;
+  const member = await opened(log);
+  for (const it of [text, token(one)]) await assert.rejects(member.judge(it), { name: "Unavailable", message: /was not read yet/ });
+  assert.equal(await said(member.judge(token(issuer()))), "BadSignature");
+  log.holds.read = undefined;
+  read.open();
+  await until(() => member.isReady);
+  assert.equal(await said(member.judge(text)), "Withdrawn");
+  assert.equal(await said(member.judge(token(one))), "accepted");
+  log.skipped = 3n;
+  assert.equal(await said(member.check(token(one))), "Unavailable");
+  await assert.rejects(member.judge(token(one)), { name: "Unavailable", message: /values of it are missing/ });
+  member.goOn();
+  assert.equal(await said(member.judge(token(one))), "accepted");
+  await member.close();
+});
+
 test("a member that is closed ends the checks that wait, and frees all", async () => {
   const log = new TestLog(), append = gate(), member = await opened(log, { wait: 60 });
   log.holds.append = append.passed;
