@@ -113,7 +113,7 @@ export class Member extends Validator {
       const { mine, claim } = await this.#claimed(token, now);
       await claim.ended.within(end - performance.now());
       if (claim === mine) return this.#outcome(mine);
-      if (!claim.isEnded) throw new Unavailable(OTHER);
+      if (!claim.isEnded || claim.isLate) throw new Unavailable(OTHER);
     }
   }
 
@@ -161,7 +161,8 @@ export class Member extends Validator {
 
   // What became of a claim that has ended, or whose time is up. (One that has not gone out is not sent then.)
   #outcome(mine) {
-    if (!mine.isEnded) this.#end(mine, new Unavailable(LATE));
+    mine.isLate = !mine.isEnded;
+    this.#end(mine, new Unavailable(LATE));
     if (mine.why) throw mine.why;
     return mine.accepted;
   }
@@ -409,6 +410,7 @@ class Signal {
 class Claim {
   isSent = false;
   isEnded = false;
+  isLate = false; // the log was too late: nobody who waits for it tries again
   why = null;
   ended = new Signal();
 

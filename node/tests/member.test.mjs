@@ -115,6 +115,21 @@ test("where the log takes no claim in time, the check says so, and the claim is 
   await closed(member, patient);
 });
 
+test("requests that wait for a claim that is late are judged once", async () => {
+  const log = new TestLog(), read = gate(), text = token(one), answers = [];
+  log.holds.read = read.passed;
+  let count = 0;
+  const member = await opened(log, { wait: 0.5, verify: () => (count += 1) > 0 });
+  for (let n = 0; n < 30; n++) {
+    answers.push(said(member.check(text)));
+    await new Promise((resolve) => setTimeout(resolve, 5));
+  }
+  assert.deepEqual(counted(await Promise.all(answers)), { Unavailable: 30 });
+  assert.equal(count, 30);
+  read.open();
+  await member.close();
+});
+
 test("a claim whose answer was given up is used up, and nobody else is let in", async () => {
   const log = new TestLog(), read = gate(), member = await opened(log, { wait: 0.1 });
   log.holds.read = read.passed;
