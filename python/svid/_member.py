@@ -28,7 +28,7 @@ from ._frames import LogPosition
 from ._handle import JUDGE, Read
 from ._log import Log, OtherLog
 from ._signatures import USUAL_RSA_BITS, Verifies
-from ._validator import Token, Validator
+from ._validator import Token, Validator, _seconds
 from .errors import REFUSALS, Closed, Error, Forked, Jump, Refused, Unavailable
 from .logs import GROUP, Carrier, open_log
 from .records import Accepted, Use, batches
@@ -416,7 +416,7 @@ class Member(Validator):
             f"the log ends at {last}, and this member has read it up to {before.passed}: it is "
             f"another one, or an older copy: no token is accepted for {self._lasts} seconds"
         )
-        return max(before.deaf, min(int(time.time()) + self._lasts, lib.NO_LIMIT))
+        return max(before.deaf, min(_seconds(time.time()) + self._lasts, lib.NO_LIMIT))
 
     def _read_all(self) -> None:
         """Reads one value after the other."""
@@ -438,7 +438,7 @@ class Member(Validator):
         """Begins to read another log. What was in the one before may be gone."""
         self._miss(f"the log is another one ({why})")
         try:
-            deaf = min(int(time.time()) + self._lasts, lib.NO_LIMIT)
+            deaf = min(_seconds(time.time()) + self._lasts, lib.NO_LIMIT)
             self._begin(self._handle.beside(), deaf)
         except Exception as error:
             self._say(f"the log can't be read: {error}")
@@ -468,7 +468,7 @@ class Member(Validator):
         edition = self._handle.edition
         self._judge_renewed(edition)
         try:
-            return self._handle.read(int(time.time()), position, value, edition)
+            return self._handle.read(_seconds(time.time()), position, value, edition)
         except Jump:
             pass
         try:

@@ -338,7 +338,7 @@ def _key(token: bytes) -> tuple[bytes, int]:
 
 def _seconds(now: float | None) -> int:
     if now is None:
-        return int(time.time())
+        now = time.time()
     if not isinstance(now, (int, float)):
         raise TypeError(f"now is a number of seconds, and not {type(now).__name__}")
     if not 0 <= now < _YEAR_5138:

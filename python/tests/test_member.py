@@ -707,6 +707,16 @@ def test_a_clock_that_jumps_ahead(log, clock):
         assert isinstance(verdict(checks, fresh(jti="3")), svid.Use)
 
 
+def test_a_clock_before_1970(log, clock, caplog):
+    """What is on its way is read once the clock is right."""
+    with member(log) as checks, caplog.at_level(logging.WARNING, "svid"):
+        clock.ahead = -2 * time.time()
+        answer = in_thread(verdict, checks, fresh())
+        until(lambda: any("seconds since 1970" in it for it in caplog.messages))
+        clock.ahead = 0
+        assert isinstance(answer(), svid.Use)
+
+
 def test_a_gap_waits_for_the_clock(log, clock, caplog):
     with member(log, step=600) as checks, caplog.at_level(logging.WARNING, "svid"):
         assert isinstance(verdict(checks, fresh(jti="1")), svid.Use)
