@@ -9,7 +9,7 @@
 // - a validator ID of its own, and `ready` at least the last position that an earlier life may have read.
 
 import { Closed, Jump, OtherLog, Refusal, SvidError, Unavailable, ofStatus } from "./errors.js";
-import { bytesOf, keyOf, limit, seconds, tokenOf } from "./given.js";
+import { bytesOf, expiryOf, keyOf, seconds, tokenOf } from "./given.js";
 import { ANY, FATE_ACCEPTED, FATE_TOO_FAR_AHEAD } from "./library.js";
 import { Validator, joined } from "./validator.js";
 
@@ -128,7 +128,7 @@ export class Member extends Validator {
   /** Withdraws the token with this key. It returns once the log has the withdrawal. */
   async withdrawKey(key, expires, now) {
     const end = performance.now() + this.#wait;
-    const use = await super.withdrawKey(keyOf(key), limit("expires", expires), seconds(now));
+    const use = await super.withdrawKey(keyOf(key), expiryOf(expires), seconds(now));
     const landed = new Signal();
     this.#put({ message: use.message, isSent: false, isEnded: false, landed: () => landed.tell() });
     if (!(await landed.within(end - performance.now()))) throw new Unavailable("the log did not take the withdrawal in time");
