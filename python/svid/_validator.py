@@ -175,6 +175,8 @@ class Validator:
         """
         if len(key) != 32:
             raise ValueError("a key has 32 bytes")
+        if expires is None:  # (as no limit, the withdrawal would stay in each record)
+            raise TypeError("expires is a number of seconds")
         use = self._handle.withdraw(_seconds(now), _lent(key), _limit("expires", expires))
         self._keep(use)
         return use

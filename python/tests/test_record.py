@@ -214,6 +214,8 @@ def test_a_withdrawal_by_the_key():
             checks.withdraw_key(b"short", NOW + 1, NOW)
         with pytest.raises(ValueError):
             checks.withdraw_key(use.key, -1, NOW)
+        with pytest.raises(TypeError):
+            checks.withdraw_key(use.key, None, NOW)
 
 
 def test_a_token_of_others_is_withdrawn_too():
