@@ -1084,7 +1084,8 @@ static inline const char *svid_strsentence(uint32_t status) {
     }
 }
 
-/* Your verifier of signatures. Not 0 if the key `jwk`, as JSON, made the token's signature with the algorithm of this name. */
+/* Your verifier of signatures. More than 0 if the key `jwk`, as JSON, made the token's signature with the algorithm of this name. 0 is no, and so
+ * is less: OpenSSL answers -1 of a signature that it can't read. */
 typedef int (*svid_verify)(void *context, const uint8_t *alg, size_t alg_len, const uint8_t *jwk, size_t jwk_len,
                            const uint8_t *token, size_t token_len);
 
@@ -1109,7 +1110,7 @@ static inline uint32_t svid_validator_verify(svid_validator *v, uint64_t now, co
             field[i] = rows + at + 4;
             at += 4 + len[i];
         }
-        if (!verify(context, field[0], len[0], field[1], len[1], token, token_len)) continue;
+        if (verify(context, field[0], len[0], field[1], len[1], token, token_len) <= 0) continue;
         for (i = 0; i < 32; i++) rows[i] = question[i];
         count = 1;
         break;

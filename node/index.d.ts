@@ -252,6 +252,12 @@ export class Member extends Validator {
   static open(options: MemberOptions): Promise<Member>;
   /** Accepts a token, once in the group. Throws `Unavailable` where the log does not say so in time: the token may be used up then. */
   check(token: Token, now?: Seconds): Promise<Accepted>;
+  /**
+   * Answers what `check` would, but puts no claim into the log: `check` may still accept it. It does not wait: it answers by what this member has read
+   * of the log. Throws `Unavailable` until it has read what the log had at first, and while values are missing, since the token may have been used or
+   * withdrawn there.
+   */
+  judge(token: Token, now?: Seconds): Promise<Accepted>;
   /** Whether it accepts tokens: it has read the log, and no value is missing that may live. */
   readonly isReady: boolean;
   /** Before this moment it accepts nothing: values are missing. */

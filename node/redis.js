@@ -10,6 +10,8 @@ import { limit } from "./src/given.js";
 const FORMAT = "1", CLAIMS = "c";
 // How many bytes a value has at the most, and how many values are read at once.
 const MOST_VALUE = 1_048_576, AT_ONCE = 64;
+// How many values that were removed are passed over at once: who was away for long has missed many.
+const MOST_GONE = 4096n;
 // How many milliseconds pass between two looks for values that are too old.
 const TRIMS = 60_000;
 // In about so many steps values grow too old.
@@ -140,7 +142,9 @@ export class RedisLog {
     const glance = await this.#glance(after);
     this.#other ||= this.#otherness(glance, after, known);
     if (this.#other) throw new OtherLog(this.#other);
-    const rows = glance.rows.filter((it) => it.position > after);
+    const rows = glance.rows.filter((it) => it.position > after), gone = [...expired(after, glance.gone, rows)];
+    // (what stands behind them comes with the next look)
+    if (BigInt(gone.length) === MOST_GONE) return gone;
     if (rows.length) {
       const kept = [...this.#stamps].filter(([it]) => it === after);
       this.#stamps = new Map([...kept, ...rows.map((it) => [it.position, stampOf(it)])]);
@@ -148,7 +152,7 @@ export class RedisLog {
       if (last > this.#last) this.#last = last;
       this.#growOlder(rows, glance.now);
     }
-    return [...expired(after, glance.gone, rows), ...rows.map((it) => [it.position, it.value])];
+    return [...gone, ...rows.map((it) => [it.position, it.value])];
   }
 
   // Why the log is another one than was read so far, or nothing.
@@ -391,6 +395,7 @@ function stampOf({ at, value }) {
 
 // Values that were removed since they were too old: nothing in them lives.
 function* expired(after, gone, rows) {
-  const before = rows.length ? rows[0].position - 1n : gone, end = gone < before ? gone : before;
+  const before = rows.length ? rows[0].position - 1n : gone;
+  const end = [gone, before, after + MOST_GONE].reduce((a, b) => (a < b ? a : b));
   for (let position = after + 1n; position <= end; position++) yield [position, new Uint8Array()];
 }

@@ -68,10 +68,10 @@ def der_of_raw(signature):
 class Signer:
     """A new private key, in a file of the folder."""
 
-    def __init__(self, kind, path):
+    def __init__(self, kind, path, bits=2048):
         self.kind = kind
         self.path = str(path)
-        how = {"EC": ["EC", "-pkeyopt", "ec_paramgen_curve:P-256"], "RSA": ["RSA", "-pkeyopt", "rsa_keygen_bits:2048"]}
+        how = {"EC": ["EC", "-pkeyopt", "ec_paramgen_curve:P-256"], "RSA": ["RSA", "-pkeyopt", f"rsa_keygen_bits:{bits}"]}
         openssl("genpkey", "-algorithm", *how[kind], "-out", self.path)
 
     def entry(self, kid):
@@ -106,9 +106,35 @@ def public_key(entry):
     return b"-----BEGIN PUBLIC KEY-----\n" + base64.encodebytes(text) + b"-----END PUBLIC KEY-----\n"
 
 
+def number(text):
+    """The number of a member, or 0 where it is not in as few bytes of base64url as hold it."""
+    value = int.from_bytes(unbase64url(text), "big")
+    return value if base64url(value.to_bytes((value.bit_length() + 7) // 8, "big")) == text else 0
+
+
+def is_coordinate(text):
+    data = unbase64url(text)
+    return len(data) == 32 and base64url(data) == text
+
+
+def fits(entry, alg):
+    """Whether a key can be used with an algorithm (docs/FORMATS.md, "Keys that can be used"). Else it made no signature."""
+    if entry.get("alg", alg) != alg:
+        return False
+    try:
+        if (alg, entry["kty"]) == ("ES256", "EC"):
+            return entry["crv"] == "P-256" and is_coordinate(entry["x"]) and is_coordinate(entry["y"])
+        if (alg, entry["kty"]) == ("RS256", "RSA"):
+            n, e = number(entry["n"]), number(entry["e"])
+            return 2048 <= n.bit_length() <= 4096 and n % 2 == 1 and 3 <= e < 2**31 and e % 2 == 1
+    except (KeyError, TypeError, ValueError):
+        pass  # a member is missing, or is none
+    return False
+
+
 def is_good(entry, alg, signing_input, signature):
     """Whether a signature is good for the key of a bundle's entry."""
-    if (alg, entry["kty"]) not in (("ES256", "EC"), ("RS256", "RSA")):
+    if not fits(entry, alg):
         return False
     if alg == "ES256":
         if len(signature) != 64:
@@ -203,7 +229,18 @@ def main(svid, folder):
         ]
         texts = [token(signer, header, body) for _, signer, header, body, _, _ in cases]
 
-    table, failed = [], False
+        signed, weak = b"header.payload", Signer("RSA", keys / "weak", bits=1024)
+        of_ec, of_rsa = entries
+        unfit = [
+            ("of 1,024 bits", "RS256", weak, weak.entry("weak")),
+            ("for another algorithm", "ES256", ec, dict(of_ec, alg="RS256")),
+            ("whose modulus begins with a zero", "RS256", rsa, dict(of_rsa, n=base64url(b"\0" + unbase64url(of_rsa["n"])))),
+            ("without a coordinate", "ES256", ec, {name: it for name, it in of_ec.items() if name != "y"}),
+        ]
+        answers = [(what, is_good(entry, alg, signed, signer.sign(signed))) for what, alg, signer, entry in unfit]
+    failed = not all([say(f"signed by a key {what}", ["signature good" if good else "signature bad"], ["signature bad"]) for what, good in answers])
+
+    table = []
     for (said, _, _, _, due, due_good), text in zip(cases, texts):
         lines = candidates(svid, str(bundles), text)
         if isinstance(due, str):

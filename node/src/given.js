@@ -18,6 +18,9 @@ export function limit(name, given) {
   return given === undefined || given === null ? ANY : wholeOf(name, given);
 }
 
+/** When a token expires. (It has no default: a withdrawal without an end would stay in each record.) */
+export const expiryOf = (given) => wholeOf("expires", given);
+
 function wholeOf(name, given) {
   if (typeof given === "number" && given >= 0 && Number.isFinite(given)) return bounded(name, BigInt(Math.floor(given)));
   if (typeof given === "bigint" && given >= 0n) return bounded(name, given);

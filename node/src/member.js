@@ -9,7 +9,7 @@
 // - a validator ID of its own, and `ready` at least the last position that an earlier life may have read.
 
 import { Closed, Jump, OtherLog, Refusal, SvidError, Unavailable, ofStatus } from "./errors.js";
-import { bytesOf, keyOf, limit, seconds, tokenOf } from "./given.js";
+import { bytesOf, expiryOf, keyOf, seconds, tokenOf } from "./given.js";
 import { ANY, FATE_ACCEPTED, FATE_TOO_FAR_AHEAD } from "./library.js";
 import { Validator, joined } from "./validator.js";
 
@@ -24,6 +24,7 @@ const PAUSE = 0.1;
 // How many seconds a warning is not said again.
 const SAYS = 60;
 const MISSED = "values of the log are missing, and a claim of the token may be among them";
+const UNREAD = "the log was not read yet, or values of it are missing";
 const LATE = "the log did not answer in time";
 const OTHER = "another request with the token has no answer yet";
 
@@ -112,14 +113,22 @@ export class Member extends Validator {
       const { mine, claim } = await this.#claimed(token, now);
       await claim.ended.within(end - performance.now());
       if (claim === mine) return this.#outcome(mine);
-      if (!claim.isEnded) throw new Unavailable(OTHER);
+      if (!claim.isEnded || claim.isLate) throw new Unavailable(OTHER);
     }
+  }
+
+  /** Answers what `check` would, by what was read of the log. It waits for nothing. */
+  async judge(token, now) {
+    const knows = this.isReady; // (what is read from here on may be missing in the answer)
+    const accepted = await super.judge(token, now);
+    if (!knows) throw new Unavailable(UNREAD);
+    return accepted;
   }
 
   /** Withdraws the token with this key. It returns once the log has the withdrawal. */
   async withdrawKey(key, expires, now) {
     const end = performance.now() + this.#wait;
-    const use = await super.withdrawKey(keyOf(key), limit("expires", expires), seconds(now));
+    const use = await super.withdrawKey(keyOf(key), expiryOf(expires), seconds(now));
     const landed = new Signal();
     this.#put({ message: use.message, isSent: false, isEnded: false, landed: () => landed.tell() });
     if (!(await landed.within(end - performance.now()))) throw new Unavailable("the log did not take the withdrawal in time");
@@ -152,7 +161,8 @@ export class Member extends Validator {
 
   // What became of a claim that has ended, or whose time is up. (One that has not gone out is not sent then.)
   #outcome(mine) {
-    if (!mine.isEnded) this.#end(mine, new Unavailable(LATE));
+    mine.isLate = !mine.isEnded;
+    this.#end(mine, new Unavailable(LATE));
     if (mine.why) throw mine.why;
     return mine.accepted;
   }
@@ -400,6 +410,7 @@ class Signal {
 class Claim {
   isSent = false;
   isEnded = false;
+  isLate = false; // the log was too late: nobody who waits for it tries again
   why = null;
   ended = new Signal();
 

@@ -1,7 +1,7 @@
 // A validator that remembers which tokens were used, and bundles that judge tokens without a record.
 
 import { Refusal } from "./errors.js";
-import { audiences, bundlesText, bytesOf, keyOf, limit, nameOf, seconds, tokenOf, validatorId } from "./given.js";
+import { audiences, bundlesText, bytesOf, expiryOf, keyOf, limit, nameOf, seconds, tokenOf, validatorId } from "./given.js";
 import { ANY, BATCH, LEAST_RSA_BITS, Library, MOST_RSA_BITS, USUAL_RSA_BITS, utf8 } from "./library.js";
 import { Verifier } from "./signatures.js";
 
@@ -117,7 +117,7 @@ export class Validator {
 
   /** Withdraws the token with this key, which expires then. */
   async withdrawKey(key, expires, now) {
-    const use = this._library.withdraw(seconds(now), keyOf(key), limit("expires", expires));
+    const use = this._library.withdraw(seconds(now), keyOf(key), expiryOf(expires));
     return { ...use, message: await withdrawalOf(use) };
   }
 

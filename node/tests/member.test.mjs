@@ -115,6 +115,21 @@ test("where the log takes no claim in time, the check says so, and the claim is 
   await closed(member, patient);
 });
 
+test("requests that wait for a claim that is late are judged once", async () => {
+  const log = new TestLog(), read = gate(), text = token(one), answers = [];
+  log.holds.read = read.passed;
+  let count = 0;
+  const member = await opened(log, { wait: 0.5, verify: () => (count += 1) > 0 });
+  for (let n = 0; n < 30; n++) {
+    answers.push(said(member.check(text)));
+    await new Promise((resolve) => setTimeout(resolve, 5));
+  }
+  assert.deepEqual(counted(await Promise.all(answers)), { Unavailable: 30 });
+  assert.equal(count, 30);
+  read.open();
+  await member.close();
+});
+
 test("a claim whose answer was given up is used up, and nobody else is let in", async () => {
   const log = new TestLog(), read = gate(), member = await opened(log, { wait: 0.1 });
   log.holds.read = read.passed;
@@ -259,6 +274,27 @@ test("a withdrawal goes through the log", async () => {
   const away = await opened(log, { wait: 0.05 });
   assert.equal(await said(away.withdraw(token(one))), "Unavailable");
   await closed(...members, away);
+});
+
+test("a member judges by a log that it has read", async () => {
+  const log = new TestLog(), read = gate(), other = await opened(log), text = token(one);
+  await other.withdraw(text);
+  await other.close();
+  log.holds.read = read.passed;
+  const member = await opened(log);
+  for (const it of [text, token(one)]) await assert.rejects(member.judge(it), { name: "Unavailable", message: /was not read yet/ });
+  assert.equal(await said(member.judge(token(issuer()))), "BadSignature");
+  log.holds.read = undefined;
+  read.open();
+  await until(() => member.isReady);
+  assert.equal(await said(member.judge(text)), "Withdrawn");
+  assert.equal(await said(member.judge(token(one))), "accepted");
+  log.skipped = 3n;
+  assert.equal(await said(member.check(token(one))), "Unavailable");
+  await assert.rejects(member.judge(token(one)), { name: "Unavailable", message: /values of it are missing/ });
+  member.goOn();
+  assert.equal(await said(member.judge(token(one))), "accepted");
+  await member.close();
 });
 
 test("a member that is closed ends the checks that wait, and frees all", async () => {

@@ -242,6 +242,23 @@ test("values that are too old are removed", async () => {
   await member.close();
 });
 
+test("values that were removed are passed over some at a time", async () => {
+  const log = new RedisLog(server.made(), { longest: LONGEST, group: "long" }), last = 10_001n;
+  assert.deepEqual(await log.bounds(), [0n, 0n]);
+  await server.run("XADD", "svid:{long}:log", `1-${last}`, "at", "1", "kind", "c", "value", "young");
+  await server.run("HSET", "svid:{long}:head", "gone", String(last - 1n));
+  let after = 0n;
+  while (after < last) {
+    const values = await log.read(after, 0);
+    assert.ok(values.length > 0 && values.length <= 5000, `${values.length} at once`);
+    for (const [position, value] of values) {
+      assert.equal(position, (after += 1n));
+      assert.equal(Buffer.from(value).toString(), position === last ? "young" : "");
+    }
+  }
+  await log.close();
+});
+
 test("options of a log that can't be are refused", () => {
   const client = server.made();
   for (const it of [{ group: "pg_x" }, { group: "" }, { group: "a b" }, { replicas: 0 }, { replicas: 65 }, { settings: "no" }, { timeout: 0 }]) {

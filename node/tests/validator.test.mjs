@@ -150,6 +150,7 @@ test("a withdrawn token is refused, here and by whoever takes the message", asyn
   assert.equal(await said(validator.withdraw(token(one, { exp: now() - 1 }))), "Gone");
   assert.equal(await said(validator.withdraw("a.b")), "NotThreeParts");
   assert.equal(await said(validator.withdrawKey(new Uint8Array(31), 1)), "TypeError");
+  for (const it of [undefined, null, "1", NaN, -1]) assert.equal(await said(validator.withdrawKey(new Uint8Array(32), it)), "TypeError");
   for (const it of [validator, other]) it.close();
 });
 

@@ -139,6 +139,11 @@ class Handle:
         self._lock = _LeftBehind()
         self._trust.leave(self._lock)
 
+    def stand(self) -> None:
+        """Raises Forked, and waits for nothing."""
+        if isinstance(self._lock, _LeftBehind):
+            raise Forked
+
     @property
     def edition(self) -> int:
         """How often the bundles were replaced."""

@@ -235,7 +235,13 @@ class _Keeper:
         work = threading.Thread(
             target=self._snapshot, args=(parts,), name="svid-snapshot", daemon=True
         )
-        work.start()
+        try:
+            work.start()
+        except RuntimeError as why:  # (the process may have no other thread)
+            self._pause = time.monotonic() + _PAUSE
+            with self._gate:
+                self._snapshots -= 1
+            _LOG.warning("the snapshot stays as it is: %s", why)
 
     def drop(self) -> None:
         """Lets the thread that writes end. Waits for nothing, since a collector may call it."""
@@ -445,7 +451,7 @@ class _Keeper:
             return why
         try:
             self._write_frame(frame, at)
-        except OSError as why:
+        except (OSError, MemoryError) as why:
             self._numbers.unwritten()
             return why
         try:
@@ -458,14 +464,14 @@ class _Keeper:
         return None
 
     def _write_frame(self, frame: bytes, at: int) -> None:
-        """Writes a frame. Where the file is too short it grows, if the disk has room for that."""
+        """Writes a frame. Where the file is too short it grows, if there is room for that."""
         end = at + len(frame)
         if end > self._room:
             try:
                 write(self._file, frame + _GROWTH, at)
                 self._room = end + len(_GROWTH)
                 return
-            except OSError:
+            except (OSError, MemoryError):
                 pass
         write(self._file, frame, at)
 

@@ -28,7 +28,7 @@ from ._frames import LogPosition
 from ._handle import JUDGE, Read
 from ._log import Log, OtherLog
 from ._signatures import USUAL_RSA_BITS, Verifies
-from ._validator import Token, Validator
+from ._validator import Token, Validator, _seconds
 from .errors import REFUSALS, Closed, Error, Forked, Jump, Refused, Unavailable
 from .logs import GROUP, Carrier, open_log
 from .records import Accepted, Use, batches
@@ -206,7 +206,7 @@ class Member(Validator):
             ended.wait(max(0.0, end - time.monotonic()))
             if claim is mine:
                 return self._outcome(mine)
-            if not claim.is_ended:
+            if not claim.is_ended or claim.is_late:
                 raise Unavailable(_OTHER)
 
     def judge(self, token: Token, now: float | None = None) -> Accepted:
@@ -243,7 +243,7 @@ class Member(Validator):
                 timer.cancel()
             if claim is mine:
                 return self._outcome(mine)
-            if not claim.is_ended:
+            if not claim.is_ended or claim.is_late:
                 raise Unavailable(_OTHER)
 
     def withdraw_key(self, key: bytes, expires: int, now: float | None = None) -> Use:
@@ -302,14 +302,15 @@ class Member(Validator):
     def _outcome(self, mine: _Claim) -> Accepted:
         """What became of a claim that has ended, or whose time is up."""
         if not mine.is_ended:
-            self._give_up(mine)
+            self._give_up(mine, is_late=True)
         if mine.why is not None:
             raise mine.why
         return mine.accepted
 
-    def _give_up(self, mine: _Claim) -> None:
+    def _give_up(self, mine: _Claim, is_late: bool = False) -> None:
         """Ends a claim that is still open, and does not send it where it has not gone out."""
         with self._gate:
+            mine.is_late = is_late and not mine.is_ended
             tells = [] if mine.is_ended else self._end(mine, Unavailable(_LATE))
         _call(tells)
 
@@ -346,7 +347,7 @@ class Member(Validator):
                 if self._closing:
                     return
                 these = self._next()
-            if these and self._append(batches(it.use for it in these)):
+            if these and self._append(these):
                 for it in these:
                     it.landed()
 
@@ -360,12 +361,12 @@ class Member(Validator):
                 these.append(it)
         return these
 
-    def _append(self, value: bytes) -> bool:
+    def _append(self, these: list[_Put]) -> bool:
         """Puts a value into the log, and says whether it is there: tries while anybody waits."""
         end = time.monotonic() + self._wait
         while True:
             try:
-                self._log.append(value)
+                self._log.append(batches(it.use for it in these))
                 return True
             except Exception as why:
                 self._say(f"the log takes no value: {why}")
@@ -415,7 +416,7 @@ class Member(Validator):
             f"the log ends at {last}, and this member has read it up to {before.passed}: it is "
             f"another one, or an older copy: no token is accepted for {self._lasts} seconds"
         )
-        return max(before.deaf, min(int(time.time()) + self._lasts, lib.NO_LIMIT))
+        return max(before.deaf, min(_seconds(time.time()) + self._lasts, lib.NO_LIMIT))
 
     def _read_all(self) -> None:
         """Reads one value after the other."""
@@ -437,7 +438,7 @@ class Member(Validator):
         """Begins to read another log. What was in the one before may be gone."""
         self._miss(f"the log is another one ({why})")
         try:
-            deaf = min(int(time.time()) + self._lasts, lib.NO_LIMIT)
+            deaf = min(_seconds(time.time()) + self._lasts, lib.NO_LIMIT)
             self._begin(self._handle.beside(), deaf)
         except Exception as error:
             self._say(f"the log can't be read: {error}")
@@ -467,7 +468,7 @@ class Member(Validator):
         edition = self._handle.edition
         self._judge_renewed(edition)
         try:
-            return self._handle.read(int(time.time()), position, value, edition)
+            return self._handle.read(_seconds(time.time()), position, value, edition)
         except Jump:
             pass
         try:
@@ -554,6 +555,7 @@ class _Claim(_Put):
         self.token = token
         self.edition = edition
         self.why: Exception | None = None
+        self.is_late = False  # the log was too late: nobody who waits for it tries again
         self.tells: list[_Tell] = []  # are called at its end
 
 

@@ -16,7 +16,8 @@ __all__ = ["USUAL_RSA_BITS", "Verifier", "Verifies"]
 
 Verifies = Callable[[str, bytes, bytes, bytes], bool]
 """Whether a key made a signature: called with the algorithm's name (as "ES256"), the key as JSON
-(RFC 7517), the bytes that are signed, and the signature's bytes."""
+(RFC 7517), the bytes that are signed, and the signature's bytes. It returns True or False; anything
+else raises TypeError, and no token is accepted."""
 
 _Good = Callable[[bytes, bytes], bool]
 """Whether the one key that it knows made the signature (second) of some bytes (first)."""

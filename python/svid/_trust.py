@@ -96,10 +96,17 @@ def first(
     while begins < len(rows):
         *_, alg, size = form.unpack_from(rows, begins)
         ends = begins + form.size + size
-        if verifies(alg.decode(), rows[ends - size : ends], signed, signature):
+        if _is_yes(verifies(alg.decode(), rows[ends - size : ends], signed, signature)):
             return number, begins
         number, begins = number + 1, ends
     return None
+
+
+def _is_yes(answer: object) -> bool:
+    """Whether a verifier says yes. (The coroutine of an async one is true of any signature.)"""
+    if not isinstance(answer, bool):
+        raise TypeError(f"verifies returns True or False, and not a {type(answer).__name__}")
+    return answer
 
 
 def signing(token: bytes) -> tuple[bytes, bytes]:

@@ -175,6 +175,8 @@ class Validator:
         """
         if len(key) != 32:
             raise ValueError("a key has 32 bytes")
+        if expires is None:  # (as no limit, the withdrawal would stay in each record)
+            raise TypeError("expires is a number of seconds")
         use = self._handle.withdraw(_seconds(now), _lent(key), _limit("expires", expires))
         self._keep(use)
         return use
@@ -267,6 +269,7 @@ class Validator:
 
         Raises BadBundles, and OSError for a file of bundles; then the old ones stay.
         """
+        self._handle.stand()  # (before the lock: a thread of the parent process may have held it)
         with self._renewing:
             source = self._source if bundles is None else Source(bundles)
             stamp = source.stamp()
@@ -337,7 +340,7 @@ def _key(token: bytes) -> tuple[bytes, int]:
 
 def _seconds(now: float | None) -> int:
     if now is None:
-        return int(time.time())
+        now = time.time()
     if not isinstance(now, (int, float)):
         raise TypeError(f"now is a number of seconds, and not {type(now).__name__}")
     if not 0 <= now < _YEAR_5138:

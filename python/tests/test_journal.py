@@ -412,6 +412,24 @@ def test_a_snapshot_that_fails_is_told_and_loses_nothing(tmp_path, monkeypatch, 
     assert found(tmp_path) == {1, 2, 3}
 
 
+def test_a_snapshot_for_which_there_is_no_thread(tmp_path, monkeypatch, caplog):
+    """What was appended stays so, and the next snapshot is taken."""
+
+    def start(_):
+        raise RuntimeError("can't start new thread")
+
+    with contextlib.closing(svid.Journal(tmp_path)) as journal:
+        append(journal, 1)
+        with monkeypatch.context() as patch, caplog.at_level(logging.WARNING, "svid"):
+            patch.setattr(threading.Thread, "start", start)
+            journal.snapshot_soon(lambda: [use(1).message])
+        assert caplog.messages == ["the snapshot stays as it is: can't start new thread"]
+        assert not journal.wants_snapshot  # for a minute
+        journal.snapshot_soon(lambda: [use(1).message])
+        until(lambda: "snapshot" in names(tmp_path))
+    assert found(tmp_path) == {1}
+
+
 def test_an_empty_part_does_not_end_a_snapshot(tmp_path):
     with contextlib.closing(svid.Journal(tmp_path)) as journal:
         append(journal, 1, 2)
@@ -839,6 +857,27 @@ def test_nothing_is_kept_behind_a_sync_that_failed(tmp_path, monkeypatch):
             with pytest.raises(svid.Unavailable, match="start the service again"):
                 journal.snapshot(lambda: [use(1).message])
     assert {1} <= found(tmp_path) <= {1, 2}
+
+
+def test_want_of_memory_is_a_passing_fault(tmp_path, monkeypatch):
+    """To make the file grow, and to write the frame alone."""
+    monkeypatch.setattr(_journal, "_QUIET", PATIENCE)
+    with contextlib.closing(svid.Journal(tmp_path)) as journal:
+        real, fails = _journal.write, [True]
+
+        def write(*given):
+            if fails:
+                fails.pop()
+                raise MemoryError
+            real(*given)
+
+        monkeypatch.setattr(_journal, "write", write)
+        append(journal, 1)
+        fails += [True, True]
+        with pytest.raises(svid.Unavailable, match="the use is not kept"):
+            append(journal, 2)
+        append(journal, 3)
+    assert found(tmp_path) == {1, 3}
 
 
 def test_a_full_disk_is_a_passing_fault(tmp_path):

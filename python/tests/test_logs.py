@@ -10,6 +10,7 @@ import subprocess
 import tempfile
 import threading
 import time
+import traceback
 
 import pytest
 import svid
@@ -190,6 +191,13 @@ def test_a_name_of_a_group(kind, name):
 def test_a_url_with_a_wrong_parameter(url):
     with pytest.raises(ValueError):
         open_log(url, KEEP)
+
+
+def test_a_wrong_url_does_not_tell_its_password():
+    url = "postgresql://svid:secret@[::1/postgres"
+    with pytest.raises(ValueError, match="none of PostgreSQL: .*IPv6") as why:
+        open_log(url, KEEP)
+    assert "secret" not in "".join(traceback.format_exception(why.value))
 
 
 def test_a_socket_of_the_machine(tmp_path):
@@ -618,6 +626,16 @@ def test_old_values_are_removed(server):
         # One that slept for longer reads nothing in their place.
         assert all_of(other) == [*((it, b"") for it in range(1, 101)), (101, b"young")]
         assert other.bounds() == (100, 101)
+
+
+def test_values_that_were_removed_come_some_at_a_time(shared_redis):
+    """One that was away for long has missed many of them."""
+    with opened(shared_redis) as log:
+        stream, head = (f"svid:{{{log.group}}}:{it}" for it in ("log", "head"))
+        execute(shared_redis, "XADD", stream, "1-10001", *"at 1 kind c value young".split())
+        execute(shared_redis, "HSET", head, "gone", 10_000)
+        assert 0 < len(list(log.read(0, 0))) <= 5000
+        assert all_of(log) == [*((it, b"") for it in range(1, 10_001)), (10_001, b"young")]
 
 
 def test_young_values_stay(server):

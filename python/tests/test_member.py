@@ -272,6 +272,23 @@ def test_a_log_that_takes_nothing(log, caplog):
     assert [it.getMessage() for it in caplog.records] == ["the log takes no value: full"]
 
 
+def test_want_of_memory_for_a_value(log, monkeypatch, caplog):
+    """It passes, and the thread that puts values goes on."""
+    real, fails = batches, [True]
+
+    def no_memory(uses):
+        if fails:
+            fails.pop()
+            raise MemoryError("no room")
+        return real(uses)
+
+    with member(log) as checks, caplog.at_level(logging.WARNING, "svid"):
+        monkeypatch.setattr(svid._member, "batches", no_memory)
+        assert isinstance(verdict(checks, fresh(jti="1")), svid.Use)
+        assert isinstance(verdict(checks, fresh(jti="2")), svid.Use)
+    assert "the log takes no value: no room" in caplog.messages
+
+
 def test_a_log_that_can_not_be_read_for_a_while(log, caplog):
     class Away(MemoryLog):
         is_away = True
@@ -690,6 +707,16 @@ def test_a_clock_that_jumps_ahead(log, clock):
         assert isinstance(verdict(checks, fresh(jti="3")), svid.Use)
 
 
+def test_a_clock_before_1970(log, clock, caplog):
+    """What is on its way is read once the clock is right."""
+    with member(log) as checks, caplog.at_level(logging.WARNING, "svid"):
+        clock.ahead = -2 * time.time()
+        answer = in_thread(verdict, checks, fresh())
+        until(lambda: any("seconds since 1970" in it for it in caplog.messages))
+        clock.ahead = 0
+        assert isinstance(answer(), svid.Use)
+
+
 def test_a_gap_waits_for_the_clock(log, clock, caplog):
     with member(log, step=600) as checks, caplog.at_level(logging.WARNING, "svid"):
         assert isinstance(verdict(checks, fresh(jti="1")), svid.Use)
@@ -834,6 +861,31 @@ def test_an_event_loop_waits_no_longer_than_it_may(log):
         log.go()
         until(lambda: checks.report().uses)
         assert asyncio.run(main(checks, made, 2)) == ["Replayed"] * 2
+
+
+def test_requests_that_wait_for_a_late_claim_are_judged_once(log):
+    """Else each of them would verify the signature again whenever the time of one is up."""
+    count = itertools.count()
+
+    async def soon(checks, made):
+        tasks = []
+        for _ in range(30):
+            tasks.append(asyncio.create_task(said_soon(checks, made)))
+            await asyncio.sleep(0.01)
+        return await asyncio.gather(*tasks)
+
+    def in_threads(checks, made):
+        answers = []
+        for _ in range(10):
+            answers.append(in_thread(verdict, checks, made))
+            time.sleep(0.01)
+        return [it() for it in answers]
+
+    with member(log, wait=1, verifies=lambda *_: next(count) >= 0) as checks:
+        log.hold()
+        assert asyncio.run(soon(checks, fresh(jti="1"))) == ["Unavailable"] * 30
+        assert in_threads(checks, fresh(jti="2")) == ["Unavailable"] * 10
+    assert next(count) == 40
 
 
 def test_a_check_that_is_cancelled_holds_nothing_up(log):

@@ -3,6 +3,7 @@
 import dataclasses
 import os
 import time
+import types
 
 import pytest
 import svid
@@ -66,6 +67,20 @@ def test_the_clock_of_the_system_is_the_default_of_each_call(tmp_path):
         with validator() as checks:
             call(checks)
             assert soon <= checks.report().moment <= soon + 60
+
+
+def test_a_clock_before_1970(monkeypatch):
+    """It is no time far ahead, by which the record has forgotten all."""
+    with validator() as checks:
+        made = token()
+        checks.check(made, NOW)
+        told = types.SimpleNamespace(time=lambda: -5.0, monotonic=time.monotonic)
+        monkeypatch.setattr(svid._validator, "time", told)
+        for call in checks.tick, lambda: checks.check(made):
+            with pytest.raises(ValueError, match="since 1970"):
+                call()
+        with pytest.raises(svid.Replayed):
+            checks.check(made, NOW)
 
 
 @pytest.mark.parametrize(
@@ -199,6 +214,8 @@ def test_a_withdrawal_by_the_key():
             checks.withdraw_key(b"short", NOW + 1, NOW)
         with pytest.raises(ValueError):
             checks.withdraw_key(use.key, -1, NOW)
+        with pytest.raises(TypeError):
+            checks.withdraw_key(use.key, None, NOW)
 
 
 def test_a_token_of_others_is_withdrawn_too():

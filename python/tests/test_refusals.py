@@ -126,6 +126,17 @@ def test_a_verifier_that_fails_changes_nothing():
         assert checks.report().uses == ()
 
 
+@pytest.mark.parametrize("answer", [1, "no", None, object()])
+def test_a_verifier_says_true_or_false(answer):
+    """What an async one returns is true of any signature."""
+    with validator(verifies=lambda *_: answer) as checks:
+        for made in token(), token(long="x" * 9000):
+            for call in checks.check, checks.judge:
+                with pytest.raises(TypeError, match="True or False"):
+                    call(made, NOW)
+        assert checks.report().uses == ()
+
+
 def test_a_verifier_is_asked_of_the_key_and_the_signature():
     asked = []
     with validator(verifies=lambda *it: asked.append(it) or True) as checks:

@@ -185,7 +185,7 @@ def forked(work):
             writer.send(type(error).__name__)
         os._exit(0)
 
-    made = multiprocessing.get_context("fork").Process(target=child)
+    made = multiprocessing.get_context("fork").Process(target=child, daemon=True)
     made.start()
     assert reader.poll(PATIENCE)
     said = reader.recv()
@@ -208,13 +208,15 @@ def test_a_fork_makes_its_own():
         assert forked(lambda: verdict(validator(), token())).startswith("accepted")
 
 
-def test_a_fork_while_a_thread_is_in_a_call():
+@pytest.mark.parametrize("call", ["report", "renew"])
+def test_a_fork_while_a_thread_is_in_a_call(call):
     """The fork does not wait for a lock that only the thread would free."""
     with validator() as checks:
         held, free = threading.Event(), threading.Event()
+        lock = checks._renewing if call == "renew" else checks._handle._lock
 
         def hold():
-            with checks._handle._lock:
+            with lock:
                 held.set()
                 free.wait(PATIENCE)
 
@@ -222,11 +224,11 @@ def test_a_fork_while_a_thread_is_in_a_call():
         thread.start()
         held.wait(PATIENCE)
         try:
-            assert forked(checks.report) == "Forked"
+            assert forked(getattr(checks, call)) == "Forked"
         finally:
             free.set()
             thread.join()
-        checks.report()
+        getattr(checks, call)()
 
 
 def test_a_program_that_ends_without_closing():

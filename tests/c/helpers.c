@@ -71,7 +71,7 @@ static int says(void *context, const uint8_t *alg, size_t alg_len, const uint8_t
 static void answers(void) {
     static uint8_t rows[300000], out[SVID_ID_ROOM];
     static const svid_terms terms = { UINT64_MAX, 10, 86400, { 1 } };
-    static const int words[] = { 1, -1, 256, INT_MIN, 1 << 16 };
+    static const int words[] = { 1, 256, 1 << 16, INT_MAX, -1, INT_MIN }; /* the last two are no */
     static const struct { const char *what; int keys, good; size_t first, longest; int calls; uint32_t due; } rows_due[] = {
         { "the first key", 3, 1, 0, 0, 1, SVID_OK }, { "the second key", 3, 2, 0, 0, 2, SVID_OK }, { "the last key", 3, 3, 0, 0, 3, SVID_OK },
         { "no key", 3, 9, 0, 0, 3, SVID_BAD_SIGNATURE }, { "the last one that is tried", 6, SVID_MOST_CANDIDATES, 0, 0, SVID_MOST_CANDIDATES, SVID_OK },
@@ -85,14 +85,15 @@ static void answers(void) {
             svid_told told;
             svid_use used;
             verifier it = { rows_due[n].good, words[w], 0, 0 };
+            int tried = rows_due[n].keys < SVID_MOST_CANDIDATES ? rows_due[n].keys : SVID_MOST_CANDIDATES;
             at = rows_due[n].what;
             holds(svid_validator_open(&v, &terms, (const uint8_t *)"ledger", 6, (const uint8_t *)text, bundles_of(rows_due[n].keys, rows_due[n].first), &told) == SVID_OK, "it does not open");
             make_token("{\"alg\":\"ES256\"}", "ledger", ++jti);
             answered = svid_validator_verify(&v, NOW, token, token_len, says, &it, rows, 10, out, sizeof out, &used, &told);
             holds(answered == SVID_TOO_SHORT && it.calls == 0 && told.len > 10, "a small room for rows");
             answered = svid_validator_verify(&v, NOW, token, token_len, says, &it, rows, sizeof rows, out, sizeof out, &used, &told);
-            holds(answered == rows_due[n].due, "another answer");
-            holds(it.calls == rows_due[n].calls, "as many calls as keys up to the good one");
+            holds(answered == (words[w] > 0 ? rows_due[n].due : SVID_BAD_SIGNATURE), "another answer");
+            holds(it.calls == (words[w] > 0 ? rows_due[n].calls : tried), "as many calls as keys up to the good one");
             holds(it.longest >= rows_due[n].longest, "the key is cut");
             if (answered == SVID_OK) {
                 holds(told.len == 22 && !memcmp(out, "spiffe://example.org/a", 22) && used.exp == 1767226000, "another use");

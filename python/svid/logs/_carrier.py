@@ -16,6 +16,8 @@ MOST_VALUE = 1_048_576
 """How many bytes a value has at the most."""
 AT_ONCE = 64
 """How many values are read at once."""
+_MOST_GONE = 4096
+"""How many values that were removed are passed over at once: who was away for long missed many."""
 _TRIMS = 60.0
 """How many seconds pass between two looks for values that are too old."""
 _AGES = 64
@@ -169,12 +171,15 @@ class Carrier:
             if self._other:
                 raise OtherLog(self._other)
             rows = [it for it in glance.rows if it.position > after]
+            gone = list(_expired(after, glance.gone, rows))
+            if len(gone) == _MOST_GONE:
+                return gone  # (what stands behind them comes with the next look)
             if rows:
                 stamps = {it: stamp for it, stamp in self._stamps.items() if it == after}
                 self._stamps = {**stamps, **{it.position: _stamp(it) for it in rows}}
                 self._last = max(self._last, rows[-1].position)
                 self._grow_older(rows, glance.now)
-        return [*_expired(after, glance.gone, rows), *((it.position, it.value) for it in rows)]
+        return [*gone, *((it.position, it.value) for it in rows)]
 
     def _otherness(self, glance: Glance, after: int, known: int) -> str:
         """Why the log is another one than was read so far, or nothing."""
@@ -233,7 +238,7 @@ def _stamp(row: Row) -> _Stamp:
 def _expired(after: int, gone: int, rows: list[Row]) -> Iterator[tuple[int, bytes]]:
     """Values that were removed since they were too old: nothing in them lives."""
     end = rows[0].position - 1 if rows else gone
-    for position in range(after + 1, min(gone, end) + 1):
+    for position in range(after + 1, min(gone, end, after + _MOST_GONE) + 1):
         yield position, b""
 
 

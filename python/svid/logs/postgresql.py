@@ -63,7 +63,9 @@ class PostgresLog(Carrier):
         try:
             extensions.parse_dsn(url)
         except psycopg2.ProgrammingError as why:
-            raise ValueError(f"the URL of the log is none of PostgreSQL: {_text(why)}") from why
+            # (it may say the whole URL, and with that the password)
+            said = _text(why).replace(url, "..")
+            raise ValueError(f"the URL of the log is none of PostgreSQL: {said}") from None
         self._joiner = _Line(url, timeout, _WAITS_FOR_THE_DISK)
         self._writer = _Line(url, timeout, _WAITS_FOR_THE_DISK)
         self._reader = _Line(url, timeout, f'LISTEN "svid_{group}"')

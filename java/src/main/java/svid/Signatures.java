@@ -1,6 +1,7 @@
 package svid;
 
 import com.sun.jna.Pointer;
+import java.math.BigInteger;
 import java.nio.ByteBuffer;
 import java.nio.charset.StandardCharsets;
 import java.security.GeneralSecurityException;
@@ -10,6 +11,7 @@ import java.security.ProviderException;
 import java.security.PublicKey;
 import java.security.Signature;
 import java.security.SignatureException;
+import java.security.interfaces.ECKey;
 import java.security.interfaces.RSAKey;
 import java.security.spec.InvalidKeySpecException;
 import java.security.spec.MGF1ParameterSpec;
@@ -82,7 +84,7 @@ final class Signatures {
     private boolean isMadeBy(String name, byte[] jwk, byte[] token, int signed, byte[] signature) throws GeneralSecurityException {
         Algorithm algorithm = Algorithm.valueOf(name);
         PublicKey key = key(algorithm, jwk).orElse(null);
-        if (key == null || signature.length != algorithm.lengthBy(key)) {
+        if (key == null || signature.length != algorithm.lengthBy(key) || !isInRange(key, signature)) {
             return false;
         }
         Signature verifier = Signature.getInstance(algorithm.signature);
@@ -96,6 +98,21 @@ final class Signatures {
         } catch (InvalidKeyException | SignatureException why) {
             return false;
         }
+    }
+
+    /**
+     * Whether the two numbers of an EC signature are from 1 to one less than the order of the curve (FIPS 186-5, section 6.4.2). OpenJDK
+     * before 17.0.3 does not look, and takes two zeros as a signature of any text by any key.
+     */
+    private static boolean isInRange(PublicKey key, byte[] signature) {
+        if (!(key instanceof ECKey ec)) {
+            return true;
+        }
+        BigInteger order = ec.getParams().getOrder();
+        int half = signature.length / 2;
+        BigInteger r = new BigInteger(1, signature, 0, half);
+        BigInteger s = new BigInteger(1, signature, half, half);
+        return r.signum() > 0 && r.compareTo(order) < 0 && s.signum() > 0 && s.compareTo(order) < 0;
     }
 
     /** A key as java.security has it, or none where it can't be used with the algorithm. */

@@ -34,6 +34,7 @@ import java.util.concurrent.TimeUnit;
 import java.util.concurrent.atomic.AtomicBoolean;
 import java.util.concurrent.atomic.AtomicInteger;
 import java.util.function.Supplier;
+import java.util.function.UnaryOperator;
 import org.junit.After;
 import org.junit.Test;
 
@@ -357,6 +358,19 @@ public class ThreadsTest {
     /** A signature of another length is none, whatever a provider says of it. */
     @Test
     public void aProviderThatTakesAnyLength() {
+        String usual = "a bit in the middle changed";
+        byAProviderThatTakesAll(it -> it.endsWith(usual) ? "accepted" : it.contains(" byte") ? "BadSignature" : null);
+    }
+
+    /** Nor is one of a number that is 0, or that is the order of the curve or more. */
+    @Test
+    public void aProviderThatTakesAnyNumbers() {
+        String beyond = ".* (of 0|of 0 and s of 1|of the order|the order more|all ones|all zeros)";
+        byAProviderThatTakesAll(it -> it.endsWith("small r and s") ? "accepted" : it.matches(beyond) ? "BadSignature" : null);
+    }
+
+    /** What is due of the signatures of ES256, by the names of the vectors; null of those that are not asked. */
+    private static void byAProviderThatTakesAll(UnaryOperator<String> dueOf) {
         Provider provider = new Meanwhile(() -> true);
         AtomicInteger count = new AtomicInteger();
         Security.insertProviderAt(provider, 1);
@@ -365,7 +379,7 @@ public class ThreadsTest {
                 String bundles = "{\"example.org\":{\"keys\":[" + String.join(",", Vectors.list(it, "keys")) + "]}}";
                 try (Validator validator = Validator.open(ledgerAt(NOW), bundles)) {
                     String name = of(it, "name");
-                    String due = name.endsWith("a bit in the middle changed") ? "accepted" : name.contains(" byte") ? "BadSignature" : null;
+                    String due = dueOf.apply(name);
                     if (due != null) {
                         assertEquals(name, due, checked(validator, of(it, "token")));
                         count.getAndIncrement();
