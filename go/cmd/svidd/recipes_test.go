@@ -288,19 +288,46 @@ func TestCaddyRecipe(t *testing.T) {
 func TestHAProxyRecipe(t *testing.T) {
 	t.Parallel()
 	r := newRecipe(t)
+	r.runsHAProxy("", "")
+	r.holds()
+}
+
+// HAProxy goes on where Lua fails. Nothing passes then, be it before the sidecar is asked or behind its refusal.
+func TestHAProxyWhoseLuaFails(t *testing.T) {
+	t.Parallel()
+	for _, at := range []string{"  local headers = txn.http", "  local client = core.", "  local function of(", "  if said.status == 401 or"} {
+		at := at
+		t.Run(at, func(t *testing.T) {
+			t.Parallel()
+			r := newRecipe(t)
+			r.runsHAProxy(at, "  if true then error('it fails') end\n"+at)
+			answer, _ := r.send("GET", "/", "", forged...)
+			if got := r.served(); answer.StatusCode != 503 || answer.Header.Get("Retry-After") == "" || got != nil {
+				t.Errorf("%d %v, and the service hears of %+v", answer.StatusCode, answer.Header, got)
+			}
+		})
+	}
+}
+
+// runsHAProxy starts HAProxy, whose Lua has another text in the place of this one.
+func (r *recipe) runsHAProxy(old, other string) {
+	r.t.Helper()
 	lua := r.file("haproxy-svidd.lua", "")
 	// (an abstract name is one of the whole machine)
 	name := fmt.Sprintf("abns@svidd-%s", r.front)
 	text, err := os.ReadFile(lua)
 	if err != nil {
-		t.Fatal(err)
+		r.t.Fatal(err)
 	}
-	if err := os.WriteFile(lua, []byte(strings.ReplaceAll(string(text), "abns@svidd-ask", name)), 0o644); err != nil {
-		t.Fatal(err)
+	changed := strings.ReplaceAll(string(text), "abns@svidd-ask", name)
+	if strings.Count(changed, old) != 1 && old != "" {
+		r.t.Fatalf("%q stands there %d times", old, strings.Count(changed, old))
+	}
+	if err := os.WriteFile(lua, []byte(strings.Replace(changed, old, other, 1)), 0o644); err != nil {
+		r.t.Fatal(err)
 	}
 	r.replaced = strings.NewReplacer("/etc/haproxy/haproxy-svidd.lua", lua, "abns@svidd-ask", name, "127.0.0.1:9901", r.address, "127.0.0.1:8081", r.replaced.Replace("127.0.0.1:8081"), "127.0.0.1:8080", r.front)
 	r.runs(nil, "haproxy", "-db", "-f", r.file("haproxy.cfg", ""))
-	r.holds()
 }
 
 func TestApacheRecipe(t *testing.T) {
