@@ -219,6 +219,13 @@ func (r *recipe) holds() {
 			t.Errorf("Connection: %s: %d, and the service hears of %+v", named, answer.StatusCode, got)
 		}
 	}
+	// Nor does one get another protocol, behind which nobody checks what it sends.
+	for _, protocol := range []string{"h2c", "websocket", "other/1"} {
+		answer, _ := r.send("GET", "/", "", "Connection: Upgrade, HTTP2-Settings", "Upgrade: "+protocol, "HTTP2-Settings: AAMAAABkAAQAAP__", "Authorization: Bearer "+token(t, protocol, lasting))
+		if got := r.served(); got != nil && got.Header.Get("Upgrade") != "" {
+			t.Errorf("Upgrade: %s: %d, and the service hears of %+v", protocol, answer.StatusCode, got.Header)
+		}
+	}
 	long := example.Token("ES256", map[string]any{"sub": "spiffe://example.org/web", "aud": "ledger", "exp": time.Now().Add(lasting).Unix(), "pad": strings.Repeat("a", 45000)})
 	if answer, _ := r.send("GET", "/", "", "Authorization: Bearer "+long); answer.StatusCode != 200 || r.served() == nil {
 		t.Errorf("a token of %d bytes: %d", len(long), answer.StatusCode)
