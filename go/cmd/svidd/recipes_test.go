@@ -139,6 +139,7 @@ func (r *recipe) served() *heard {
 var forged = func() (all []string) {
 	for _, name := range []string{"X-Spiffe-Id", "X-Svid-Audience", "X-Svid-Expires"} {
 		for _, spelling := range []string{name, strings.ToLower(name), strings.ReplaceAll(name, "-", "_"), strings.Replace(name, "-", "_", 1),
+			strings.ReplaceAll(name, "-", "."), strings.Replace(name, "-", "~", 1), strings.ToLower(strings.ReplaceAll(name, "-", "!")),
 			name[:strings.LastIndex(name, "-")] + "_" + name[strings.LastIndex(name, "-")+1:], strings.ToUpper(strings.ReplaceAll(name, "-", "_"))} {
 			all = append(all, spelling+": spiffe://example.org/admin")
 		}
@@ -151,7 +152,12 @@ var forged = func() (all []string) {
 func (h *heard) identity() map[string][]string {
 	all := map[string][]string{}
 	for name, values := range h.Header {
-		name = strings.ReplaceAll(strings.ToLower(name), "_", "-")
+		name = strings.Map(func(c rune) rune {
+			if c >= 'a' && c <= 'z' || c >= '0' && c <= '9' {
+				return c
+			}
+			return '-' // (as lighttpd takes it for its programs)
+		}, strings.ToLower(name))
 		if name == "authorization" || strings.HasPrefix(name, "x-svid") || strings.HasPrefix(name, "x-spiffe") {
 			all[name] = append(all[name], values...)
 		}
