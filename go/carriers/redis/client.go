@@ -34,8 +34,9 @@ var errProtocol = errors.New("no answer of Redis")
 // may come at any time.
 type conn struct {
 	net.Conn
-	in  *bufio.Reader
-	out *bufio.Writer
+	in      *bufio.Reader
+	out     *bufio.Writer
+	address string // of the server, as its URL has it
 }
 
 // dial connects to an address, and over TLS where there is a configuration.
@@ -50,7 +51,7 @@ func dial(ctx context.Context, address string, config *tls.Config) (*conn, error
 	if err != nil {
 		return nil, err
 	}
-	return &conn{raw, bufio.NewReaderSize(raw, mostLine), bufio.NewWriterSize(raw, mostLine)}, nil
+	return &conn{Conn: raw, in: bufio.NewReaderSize(raw, mostLine), out: bufio.NewWriterSize(raw, mostLine)}, nil
 }
 
 // do sends commands, each as its words, and returns an answer for each: a string, an int64, a []any, nil, a tooLong, or a

@@ -238,6 +238,109 @@ func TestFailover(t *testing.T) {
 	}
 }
 
+// A server that was started again as a primary, at another address, says nothing of the one before it. It may lack values all the
+// same.
+func TestAnotherServer(t *testing.T) {
+	before, after := start(t), start(t)
+	after.Kill(t)
+	store, err := New(Options{URLs: []string{before.URL, after.URL}, Name: "svid", Keep: time.Hour})
+	if err != nil {
+		t.Fatal(err)
+	}
+	defer store.Close()
+	ctx, cancel := context.WithTimeout(context.Background(), patience.Long)
+	defer cancel()
+	if _, err := store.Open(ctx); err != nil {
+		t.Fatal(err)
+	}
+	before.Stop(t)
+	copyAll(t, before.Dir, after.Dir)
+	before.Start(t)
+	var state carriers.State
+	look := func() bool { state, err = store.State(ctx, 0); return err == nil }
+	logtest.Await(t, "the server to be found", look)
+	if state.Lost {
+		t.Errorf("the same server, which has all that it had: %+v", state)
+	}
+	before.Kill(t)
+	after.Start(t)
+	logtest.Await(t, "the other server to be found", look)
+	if !state.Lost {
+		t.Errorf("another server: %+v", state)
+	}
+	if look(); err != nil || state.Lost {
+		t.Errorf("another server, again: %+v %v", state, err)
+	}
+}
+
+// A primary that becomes a replica, and takes over what its new primary has, is read no more: it has other values at the positions of
+// those that it gave up.
+func TestAPrimaryThatBecomesAReplica(t *testing.T) {
+	primary := start(t)
+	host, port, _ := strings.Cut(primary.Redis.Address, ":")
+	replica := start(t, "--replicaof", host+" "+port)
+	isUp := func(of *machine) func() bool {
+		return func() bool {
+			answer, err := of.Do("EVAL", "return redis.call('INFO', 'replication'):match('master_link_status:up') or 'down'", "0")
+			return err == nil && strings.HasPrefix(answer, "$21")
+		}
+	}
+	logtest.Await(t, "the replica", isUp(replica))
+	store, err := New(Options{URLs: []string{primary.URL, replica.URL}, Name: "svid", Keep: time.Hour})
+	if err != nil {
+		t.Fatal(err)
+	}
+	defer store.Close()
+	ctx, cancel := context.WithTimeout(context.Background(), patience.Long)
+	defer cancel()
+	state, err := store.Open(ctx)
+	if err != nil {
+		t.Fatal(err)
+	}
+	put := func(text string) {
+		t.Helper()
+		if _, err := store.Append(ctx, state.Made, carriers.Claims, []byte(text)); err != nil {
+			t.Fatal(err)
+		}
+	}
+	put("there")
+	values, err := store.Read(ctx, 0)
+	if err != nil || len(values) != 1 {
+		t.Fatal(values, err)
+	}
+	logtest.AwaitFor(t, 3*time.Minute, "the replica to have it", func() bool {
+		answer, err := replica.Do("EVAL", "return redis.call('XLEN', 'svid:{svid}:log')", "0")
+		return err == nil && answer == ":1"
+	})
+	replica.do(t, "REPLICAOF", "NO", "ONE")
+	put("lost") // (the primary alone has it)
+	host, port, _ = strings.Cut(replica.Redis.Address, ":")
+	primary.do(t, "REPLICAOF", host, port)
+	logtest.AwaitFor(t, 3*time.Minute, "the primary to be a replica", isUp(primary))
+	other, err := New(Options{URLs: []string{replica.URL}, Name: "svid", Keep: time.Hour})
+	if err != nil {
+		t.Fatal(err)
+	}
+	defer other.Close()
+	if _, err := other.Append(ctx, state.Made, carriers.Claims, []byte("behind")); err != nil {
+		t.Fatal(err)
+	}
+	logtest.AwaitFor(t, 3*time.Minute, "the replica of now to have it", func() bool {
+		answer, err := primary.Do("EVAL", "return redis.call('XLEN', 'svid:{svid}:log')", "0")
+		return err == nil && answer == ":2"
+	})
+	if values, err := store.Read(ctx, 1); err == nil {
+		t.Errorf("it reads %q from a replica", values)
+	}
+	logtest.Await(t, "the primary to be found", func() bool { state, err = store.State(ctx, 1); return err == nil })
+	if !state.Lost {
+		t.Errorf("%+v", state)
+	}
+	if values, err := store.Read(ctx, 1); err != nil || len(values) != 1 || string(values[0].Message) != "behind" {
+		t.Errorf("%q %v", values, err)
+	}
+}
+
 // told is a member, with what its sink is told.
 type told struct {
 	*carriers.Member
