@@ -341,6 +341,44 @@ func TestAPrimaryThatBecomesAReplica(t *testing.T) {
 	}
 }
 
+// What is known of the ages of a log's values says nothing of those of another one.
+func TestAgesOfAnotherLog(t *testing.T) {
+	s := start(t)
+	store, err := New(Options{URLs: []string{s.URL}, Name: "svid", Keep: time.Second})
+	if err != nil {
+		t.Fatal(err)
+	}
+	defer store.Close()
+	ctx, cancel := context.WithTimeout(context.Background(), patience.Long)
+	defer cancel()
+	state, err := store.Open(ctx)
+	if err != nil {
+		t.Fatal(err)
+	}
+	put := func() {
+		t.Helper()
+		if _, err := store.Append(ctx, state.Made, carriers.Claims, []byte("x")); err != nil {
+			t.Fatal(err)
+		}
+	}
+	put()
+	if _, err := store.Read(ctx, 0); err != nil {
+		t.Fatal(err)
+	}
+	time.Sleep(2*time.Second + time.Second/10) // It is too old now, in whole seconds.
+	s.Destroy(t, "svid")
+	if state, err = store.Open(ctx); err != nil {
+		t.Fatal(err)
+	}
+	put()
+	if err := store.Expire(ctx, state.Made); err != nil {
+		t.Fatal(err)
+	}
+	if state, err = store.State(ctx, 1); err != nil || state.Gone != 0 || state.First != 1 || state.Last != 1 {
+		t.Errorf("%+v %v", state, err)
+	}
+}
+
 // told is a member, with what its sink is told.
 type told struct {
 	*carriers.Member

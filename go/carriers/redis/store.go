@@ -89,6 +89,7 @@ type Store struct {
 	open   map[*conn]bool
 	idle   []*conn
 	keeps  time.Duration
+	made   string // the log of the ages
 	ages   []age
 }
 
@@ -321,6 +322,9 @@ func (s *Store) State(ctx context.Context, at uint64) (carriers.State, error) {
 	s.mu.Lock()
 	defer s.mu.Unlock()
 	s.keeps = state.Keeps
+	if state.Made != s.made {
+		s.made, s.ages = state.Made, nil
+	}
 	state.Unsafe = s.unsafe
 	return state, nil
 }
@@ -620,7 +624,7 @@ func (s *Store) Expire(ctx context.Context, made string) error {
 	if own := time.Now().UnixMicro(); own < now {
 		now = own
 	}
-	position := s.olderThan(now)
+	position := s.olderThan(made, now)
 	if position == 0 {
 		return nil
 	}
@@ -628,10 +632,13 @@ func (s *Store) Expire(ctx context.Context, made string) error {
 	return err
 }
 
-// olderThan is the position of the last value that is too old at this time.
-func (s *Store) olderThan(now int64) (position uint64) {
+// olderThan is the position of the last value of this log that is too old at this time; 0 if none is known.
+func (s *Store) olderThan(made string, now int64) (position uint64) {
 	s.mu.Lock()
 	defer s.mu.Unlock()
+	if made != s.made {
+		return 0
+	}
 	n := 0
 	for n < len(s.ages) && s.ages[n].at < now-int64(s.keeps/time.Microsecond) {
 		position = s.ages[n].position
