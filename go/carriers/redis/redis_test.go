@@ -3,6 +3,8 @@ package redis
 import (
 	"context"
 	"fmt"
+	"io"
+	"net"
 	"os"
 	"os/exec"
 	"strings"
@@ -376,6 +378,52 @@ func TestAgesOfAnotherLog(t *testing.T) {
 	}
 	if state, err = store.State(ctx, 1); err != nil || state.Gone != 0 || state.First != 1 || state.Last != 1 {
 		t.Errorf("%+v %v", state, err)
+	}
+}
+
+// A server that tells some of the settings tells nothing of the others.
+func TestSettingsThatAreNotTold(t *testing.T) {
+	s := start(t)
+	l, err := net.Listen("tcp", "127.0.0.1:0")
+	if err != nil {
+		t.Fatal(err)
+	}
+	defer l.Close()
+	go func() { // It stands before the server, and leaves out what CONFIG GET answers about the last setting.
+		for {
+			client, err := l.Accept()
+			if err != nil {
+				return
+			}
+			server, err := net.Dial("tcp", s.Redis.Address)
+			if err != nil {
+				client.Close()
+				return
+			}
+			go func() { defer server.Close(); _, _ = io.Copy(server, client) }()
+			go func() {
+				defer client.Close()
+				text := make([]byte, 1<<16)
+				for {
+					n, err := server.Read(text)
+					if err != nil {
+						return
+					}
+					some := strings.Replace(string(text[:n]), "*8\r\n", "*6\r\n", 1)
+					some = strings.Replace(some, "$16\r\nmaxmemory-policy\r\n$10\r\nnoeviction\r\n", "", 1)
+					if _, err := client.Write([]byte(some)); err != nil {
+						return
+					}
+				}
+			}()
+		}
+	}()
+	url := "redis://" + l.Addr().String()
+	if _, err := join(t, Options{URLs: []string{url}}, deaf{}, nil); err == nil || !strings.Contains(err.Error(), "does not tell its settings") {
+		t.Errorf("%v", err)
+	}
+	if _, err := join(t, Options{URLs: []string{url + "?settings=unchecked"}}, deaf{}, nil); err != nil {
+		t.Error(err)
 	}
 }
 

@@ -252,13 +252,17 @@ func (s *Store) check(ctx context.Context) error {
 			return carriers.Unfitf("the server is of version %s, and the group's log needs Redis %d.0", info(answers[0])["redis_version"], leastVersion)
 		}
 	}
-	is, ok := answers[1].([]any)
+	is, _ := answers[1].([]any)
+	ok := len(is) == 2*len(settings)
 	unchecked := false
 	for i := range s.servers {
 		unchecked = unchecked || s.servers[i].unchecked
 	}
 	if !ok && !unchecked {
-		why, _ := answers[1].(failure)
+		why, failed := answers[1].(failure)
+		if !failed {
+			why = failure(fmt.Sprintf("it tells %d of %d", len(is)/2, len(settings)))
+		}
 		return carriers.Unfitf("the server does not tell its settings (CONFIG GET: %s): see that it has appendonly yes, appendfsync always, "+
 			"no-appendfsync-on-rewrite no and maxmemory-policy noeviction, and write ?settings=unchecked after the address", string(why))
 	}
