@@ -15,6 +15,7 @@ import (
 const (
 	mostText  = 1<<20 + 64 // bytes of a text that is kept: more than a value has. What is longer is passed over.
 	mostItems = 1 << 10    // of a list, for the same reason
+	mostParts = 6          // of a list whose texts may have more than mostText bytes together: the fields of a value are so many
 	mostDepth = 8          // of lists in lists
 	mostLine  = 64 << 10   // the size of a buffer, so of a line too
 )
@@ -133,16 +134,22 @@ func (c *conn) text(n int64) (any, error) {
 
 func (c *conn) list(n int64, depth int) (any, error) {
 	var list []any
+	isTooLong, size := n > mostItems, 0
 	for i := int64(0); i < n; i++ {
 		item, err := c.answer(depth + 1)
 		if err != nil {
 			return nil, err
 		}
-		if n <= mostItems {
+		if text, is := item.(string); is {
+			size += len(text)
+		}
+		if isTooLong = isTooLong || n > mostParts && size > mostText; isTooLong {
+			list = nil
+		} else {
 			list = append(list, item)
 		}
 	}
-	if n > mostItems {
+	if isTooLong {
 		return tooLong{}, nil
 	}
 	return list, nil

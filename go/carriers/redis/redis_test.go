@@ -1,6 +1,7 @@
 package redis
 
 import (
+	"bufio"
 	"context"
 	"fmt"
 	"io"
@@ -425,6 +426,39 @@ func TestSettingsThatAreNotTold(t *testing.T) {
 	if _, err := join(t, Options{URLs: []string{url + "?settings=unchecked"}}, deaf{}, nil); err != nil {
 		t.Error(err)
 	}
+}
+
+// An entry that is no value takes no more memory than one, however many fields it has.
+func TestAnEntryOfManyTexts(t *testing.T) {
+	half := "$524288\r\n" + strings.Repeat("x", 1<<19) + "\r\n"
+	for n, isKept := range map[int]bool{6: true, 7: false, 1000: false} {
+		in := bufio.NewReaderSize(io.MultiReader(strings.NewReader(fmt.Sprintf("*2\r\n$3\r\n1-1\r\n*%d\r\n", n)), &again{text: half, left: n}), mostLine)
+		answer, err := (&conn{in: in}).answer(0)
+		if err != nil {
+			t.Fatal(err)
+		}
+		if _, is := answer.([]any)[1].([]any); is != isKept {
+			t.Errorf("%d texts: kept %v", n, is)
+		}
+	}
+}
+
+// again reads as a text, so often.
+type again struct {
+	text string
+	at   int
+	left int
+}
+
+func (a *again) Read(b []byte) (int, error) {
+	if a.left == 0 {
+		return 0, io.EOF
+	}
+	n := copy(b, a.text[a.at:])
+	if a.at += n; a.at == len(a.text) {
+		a.at, a.left = 0, a.left-1
+	}
+	return n, nil
 }
 
 // told is a member, with what its sink is told.
