@@ -346,10 +346,11 @@ func (w *Watcher) fetch(ctx context.Context, s Spec) ([]byte, error) {
 }
 
 // httpsOnly is a client that is led to no address without TLS. Its transport is its own: a service may have replaced
-// http.DefaultTransport.
+// http.DefaultTransport. It speaks HTTP/1.1, whose connection ends with a request that takes too long: of HTTP/2 it would go on to read
+// what the server sends.
 func httpsOnly(roots *x509.CertPool) *http.Client {
 	transport := &http.Transport{
-		Proxy: http.ProxyFromEnvironment, ForceAttemptHTTP2: true, MaxIdleConns: mostIdle, IdleConnTimeout: idleWait,
+		Proxy: http.ProxyFromEnvironment, MaxIdleConns: mostIdle, IdleConnTimeout: idleWait,
 		TLSHandshakeTimeout: handshakeWait, TLSClientConfig: &tls.Config{RootCAs: roots, MinVersion: tls.VersionTLS12},
 	}
 	transport.DialTLSContext = func(ctx context.Context, network, address string) (net.Conn, error) {
