@@ -18,6 +18,7 @@ import (
 	"encoding/json"
 	"errors"
 	"fmt"
+	"net"
 	"net/http"
 	"os"
 	"path/filepath"
@@ -345,11 +346,15 @@ func (w *Watcher) fetch(ctx context.Context, s Spec) ([]byte, error) {
 }
 
 // httpsOnly is a client that is led to no address without TLS. Its transport is its own: a service may have replaced
-// http.DefaultTransport.
+// http.DefaultTransport. It speaks HTTP/1.1, whose connection ends with a request that takes too long: of HTTP/2 it would go on to read
+// what the server sends.
 func httpsOnly(roots *x509.CertPool) *http.Client {
 	transport := &http.Transport{
-		Proxy: http.ProxyFromEnvironment, ForceAttemptHTTP2: true, MaxIdleConns: mostIdle, IdleConnTimeout: idleWait,
+		Proxy: http.ProxyFromEnvironment, MaxIdleConns: mostIdle, IdleConnTimeout: idleWait,
 		TLSHandshakeTimeout: handshakeWait, TLSClientConfig: &tls.Config{RootCAs: roots, MinVersion: tls.VersionTLS12},
+	}
+	transport.DialTLSContext = func(ctx context.Context, network, address string) (net.Conn, error) {
+		return dialTLS(ctx, network, address, transport.TLSClientConfig)
 	}
 	return &http.Client{Transport: transport, CheckRedirect: func(next *http.Request, before []*http.Request) error {
 		if next.URL.Scheme != "https" || len(before) > mostRedirects {
@@ -357,6 +362,35 @@ func httpsOnly(roots *x509.CertPool) *http.Client {
 		}
 		return nil
 	}}
+}
+
+// dialTLS connects by TLS. What a server shows is read before anything is known of it, and by a key of an unknown algorithm it lets
+// package crypto/x509 panic (CVE-2024-24783): that is an error here, and ends no process.
+func dialTLS(ctx context.Context, network, address string, config *tls.Config) (conn net.Conn, err error) {
+	host, _, err := net.SplitHostPort(address)
+	if err != nil {
+		return nil, err
+	}
+	raw, err := new(net.Dialer).DialContext(ctx, network, address)
+	if err != nil {
+		return nil, err
+	}
+	defer func() {
+		if fault := recover(); fault != nil {
+			err = fmt.Errorf("its certificates can't be judged: %v", fault)
+		}
+		if err != nil {
+			conn = nil
+			raw.Close()
+		}
+	}()
+	if config = config.Clone(); config.ServerName == "" {
+		config.ServerName = host
+	}
+	ctx, cancel := context.WithTimeout(ctx, handshakeWait)
+	defer cancel()
+	secured := tls.Client(raw, config)
+	return secured, secured.HandshakeContext(ctx)
 }
 
 // judge puts what a source gave in the place of its last good bundle, if it is one. It returns whether that is another

@@ -1,6 +1,7 @@
 package bundles
 
 import (
+	"bytes"
 	"crypto/ecdsa"
 	"crypto/elliptic"
 	"crypto/rand"
@@ -201,6 +202,36 @@ func ofItself(t *testing.T) tls.Certificate {
 	key, cert := a.make(&x509.Certificate{SerialNumber: big.NewInt(serial), NotBefore: time.Now().Add(-time.Hour), NotAfter: time.Now().Add(time.Hour), BasicConstraintsValid: true,
 		ExtraExtensions: []pkix.Extension{names(t, serverID)}}, nil)
 	return tls.Certificate{Certificate: [][]byte{cert.Raw}, PrivateKey: key}
+}
+
+// No certificate that a server shows ends the process, be the server known by its name or by its ID.
+func TestAKeyOfAnUnknownAlgorithm(t *testing.T) {
+	known, bad := newAuthority(t), &authority{t: t}
+	file := filepath.Join(t.TempDir(), "first.json")
+	write(t, file, signed(known))
+	serial++
+	template := &x509.Certificate{SerialNumber: big.NewInt(serial), Subject: pkix.Name{CommonName: "of all"}, NotBefore: time.Now().Add(-time.Hour),
+		NotAfter: time.Now().Add(time.Hour), ExtraExtensions: []pkix.Extension{names(t, serverID)}}
+	key, leaf := bad.make(template, nil)
+	_, above := bad.make(template, nil)
+	usual := []byte{6, 7, 0x2a, 0x86, 0x48, 0xce, 0x3d, 2, 1} // the object identifier of keys of elliptic curves
+	other := append(append([]byte(nil), usual[:8]...), 99)
+	unknown := bytes.Replace(above.Raw, usual, other, 1)
+	if c, err := x509.ParseCertificate(unknown); err != nil || c.PublicKeyAlgorithm != x509.UnknownPublicKeyAlgorithm {
+		t.Fatal(c, err)
+	}
+	e := newShowing(t, tls.Certificate{Certificate: [][]byte{leaf.Raw, unknown}, PrivateKey: key})
+	for what, spec := range map[string]Spec{
+		"by its name": {Domain: "example.org", Source: e.URL}, "by its ID": {Domain: "example.org", Source: e.URL, ID: serverID, Authorities: file},
+	} {
+		_, o := watch(t, e.trusted, spec)
+		o.await(t, what, o.says("bundle not read"))
+		o.mu.Lock()
+		if o.calls > 0 {
+			t.Errorf("%s: the bundle is taken", what)
+		}
+		o.mu.Unlock()
+	}
 }
 
 // A server that is known by its own bundle is known by the last good one: the authorities of before count no more, not even on a

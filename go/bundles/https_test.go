@@ -1,6 +1,8 @@
 package bundles
 
 import (
+	"bufio"
+	"bytes"
 	"crypto/tls"
 	"crypto/x509"
 	"encoding/json"
@@ -11,6 +13,8 @@ import (
 	"strings"
 	"testing"
 	"time"
+
+	"golang.org/x/net/http2"
 )
 
 // A bundle comes over TLS 1.2 or 1.3 (SPIFFE Federation, profile https_web).
@@ -30,6 +34,58 @@ func TestVersionsOfTLS(t *testing.T) {
 			t.Errorf("version %x: %q", version, o.lines)
 		}
 		e.Close()
+	}
+}
+
+// A server that never ends its headers is left once its time is over: it costs no processor behind that.
+func TestHeadersWithoutEnd(t *testing.T) {
+	e := newEndpoint(t)
+	l, err := tls.Listen("tcp", "127.0.0.1:0", &tls.Config{Certificates: e.TLS.Certificates, NextProtos: []string{"h2", "http/1.1"}})
+	if err != nil {
+		t.Fatal(err)
+	}
+	defer l.Close()
+	const limit = 2 * time.Second
+	left := make(chan string, 1)
+	go func() {
+		conn, err := l.Accept()
+		if err != nil {
+			return
+		}
+		defer conn.Close()
+		send := func() error { _, err := io.WriteString(conn, "X: "+strings.Repeat("x", 1000)+"\r\n"); return err }
+		_ = conn.(*tls.Conn).Handshake()
+		if conn.(*tls.Conn).ConnectionState().NegotiatedProtocol == "h2" {
+			framer := http2.NewFramer(conn, conn)
+			_, err := io.ReadFull(conn, make([]byte, len(http2.ClientPreface)))
+			_ = framer.WriteSettings()
+			for stream := uint32(0); err == nil && stream == 0; {
+				var frame http2.Frame
+				if frame, err = framer.ReadFrame(); err == nil && frame.Header().Type == http2.FrameHeaders {
+					stream = frame.Header().StreamID
+				}
+			}
+			_ = framer.WriteHeaders(http2.HeadersFrameParam{StreamID: 1, BlockFragment: []byte{0x88}})
+			send = func() error { return framer.WriteContinuation(1, false, bytes.Repeat([]byte{0x88}, 1000)) }
+		} else if _, err := http.ReadRequest(bufio.NewReader(conn)); err == nil {
+			_, _ = io.WriteString(conn, "HTTP/1.1 200 OK\r\n")
+		}
+		for end := time.Now().Add(2 * limit); time.Now().Before(end); time.Sleep(time.Millisecond) {
+			_ = conn.SetWriteDeadline(end)
+			if err := send(); err != nil {
+				left <- ""
+				return
+			}
+		}
+		left <- conn.(*tls.Conn).ConnectionState().NegotiatedProtocol
+	}()
+	_, o := watch(t, func(o *Options) {
+		e.trusted(o)
+		o.Limit = limit
+	}, Spec{Domain: "example.org", Source: "https://" + l.Addr().String()})
+	o.await(t, "the end of its time", o.says("bundle not read"))
+	if by := <-left; by != "" {
+		t.Errorf("it still reads what comes by %s", by)
 	}
 }
 

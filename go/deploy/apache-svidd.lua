@@ -10,17 +10,12 @@ http.TIMEOUT = 5 -- seconds until the sidecar must have answered
 -- what the sidecar says of an accepted token
 local accepted = { "X-Spiffe-Id", "X-Svid-Audience", "X-Svid-Expires" }
 
--- No header of the client may stand in the place of one of these. Some services read X_Spiffe_Id as X-Spiffe-Id.
+-- No header of the client may stand in the place of one of these. Some services read X_Spiffe_Id or X.Spiffe.Id as X-Spiffe-Id.
 local function forget(r)
-  for _, name in ipairs(accepted) do
-    local parts = {}
-    for part in name:gmatch("[^-]+") do
-      parts[#parts + 1] = part
-    end
-    for _, a in ipairs({ "-", "_" }) do
-      for _, b in ipairs({ "-", "_" }) do
-        r.headers_in[parts[1] .. a .. parts[2] .. b .. parts[3]] = nil
-      end
+  for name in pairs(r:headers_in_table()) do
+    local small = name:lower()
+    if small:find("spiffe") or small:find("svid") then
+      r.headers_in[name] = nil
     end
   end
 end

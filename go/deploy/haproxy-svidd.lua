@@ -47,6 +47,7 @@ core.register_action("svidd", { "http-req" }, function(txn)
     for _, name in ipairs(accepted) do
       txn.http:req_set_header(name, of(name) or "")
     end
+    txn:set_var("txn.svidd", "accepted") -- haproxy.cfg lets nothing pass without that
     return
   end
   if said.status == 401 or said.status == 403 then

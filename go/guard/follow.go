@@ -19,7 +19,9 @@ type following struct {
 	end     context.CancelFunc // of that watcher; turning guards it
 
 	mu     sync.Mutex
-	number int // of the watcher that counts
+	number int                        // of the watcher that counts
+	given  map[string]json.RawMessage // by trust domain, what the engine has
+	by     int                        // the watcher that gave it
 }
 
 // domainsOf are the trust domains that have sources of their own.
@@ -33,7 +35,7 @@ func domainsOf(specs []bundles.Spec) (domains []string) {
 }
 
 // Follow follows these sources of bundles from now on, and no others. What they give replaces all bundles, once one of them can be
-// read. An error says that a source is none, and changes nothing.
+// read. Until then those stay whose trust domains still have a source. An error says that a source is none, and changes nothing.
 func (g *Guard) Follow(specs []bundles.Spec) error {
 	if _, err := bundles.ParseSpecs(nil, "", specs...); err != nil {
 		return err // before the watcher of those that stay counts no more, even for a moment: what it gave then would be lost
@@ -55,7 +57,31 @@ func (g *Guard) Follow(specs []bundles.Spec) error {
 	}
 	g.follows.end = cancel
 	g.follows.watcher.Store(watcher)
+	g.leave(number, specs)
 	return nil
+}
+
+// leave takes away the bundles of trust domains that none of these sources gives, where the watcher of this number has not replaced
+// all yet: who was taken out of the options is not to be let in until another source answers. (What a Workload API gives is
+// not known before.)
+func (g *Guard) leave(number int, specs []bundles.Spec) {
+	g.follows.mu.Lock()
+	defer g.follows.mu.Unlock()
+	stay := map[string]json.RawMessage{}
+	for _, spec := range specs {
+		if spec.Domain == "" && spec.IsRemote() {
+			return
+		}
+		if bundle, is := g.follows.given[spec.Domain]; is {
+			stay[spec.Domain] = bundle
+		}
+	}
+	if g.follows.by == number || len(stay) == len(g.follows.given) {
+		return
+	}
+	if err := g.take(g.follows.by, stay); err != nil {
+		g.said("bundles not taken; those before stay", "why", err)
+	}
 }
 
 // Admit accepts tokens for these audiences, of callers whose SPIFFE IDs one of the patterns allows, from now on, and no others. As
@@ -92,9 +118,15 @@ func (g *Guard) renew(number int, domains map[string]json.RawMessage) error {
 	if number != g.follows.number {
 		return nil
 	}
+	return g.take(number, domains)
+}
+
+// take gives the engine these bundles, which come from the watcher of this number. The caller holds mu.
+func (g *Guard) take(number int, domains map[string]json.RawMessage) error {
 	if err := g.engine.SetBundles(domains); err != nil {
 		return err
 	}
+	g.follows.given, g.follows.by = domains, number
 	g.options.Lines.Event("bundles", "trust_domains", len(domains))
 	return nil
 }

@@ -495,6 +495,39 @@ func TestBundlesOfASourceThatIsLeft(t *testing.T) {
 	}
 }
 
+// A trust domain that has no source any more goes at once, though no other source can be read. One that has a source stays until
+// that gives another bundle.
+func TestATrustDomainWithoutASource(t *testing.T) {
+	other, err := issuer.New("example.net")
+	if err != nil {
+		t.Fatal(err)
+	}
+	o, ofOther := usual(t), bundleFile(t, other)
+	ofOther.Domain = "example.net"
+	o.Mode, o.Bundles = Reuse, []bundles.Spec{bundleFile(t, example), ofOther}
+	g := open(t, o)
+	of := func(i *issuer.Issuer, domain string) error {
+		_, err := g.Check(context.Background(), i.Token("ES256", map[string]any{"sub": "spiffe://" + domain + "/web", "aud": "ledger", "exp": time.Now().Add(time.Hour / 2).Unix()}))
+		return err
+	}
+	if err, err2 := of(example, "example.org"), of(other, "example.net"); err != nil || err2 != nil {
+		t.Fatal(err, err2)
+	}
+	away := []bundles.Spec{{Domain: "example.org", Source: "https://127.0.0.1:1/"}}
+	if err := g.Follow(away); err != nil {
+		t.Fatal(err)
+	}
+	if err, err2 := of(example, "example.org"), of(other, "example.net"); err != nil || err2 != svid.UnknownDomain {
+		t.Errorf("%v, and of the trust domain without a source: %v", err, err2)
+	}
+	if err := g.Follow([]bundles.Spec{bundles.Folder(t.TempDir())}); err != nil {
+		t.Fatal(err)
+	}
+	if err := of(example, "example.org"); !errors.Is(err, server.ErrNotReady) {
+		t.Errorf("of an empty folder: %v", err)
+	}
+}
+
 // What a source gives while another one is tried that is none, counts: a key that is gone must not stay.
 func TestBundlesThatComeWhileABadSourceIsTried(t *testing.T) {
 	o, taken := usual(t), 0

@@ -3,6 +3,7 @@ package jetstream
 import (
 	"context"
 	"encoding/json"
+	"errors"
 	"fmt"
 	"time"
 
@@ -33,6 +34,10 @@ type stored struct {
 	Time     time.Time
 }
 
+// errDelivered: what came is a value of some stream, which has a subject for its acknowledgement. A member may let the broker deliver values
+// to the inboxes of others, and the client takes one for the answer to the one request that waits, whatever it is.
+var errDelivered = errors.New("a value came in the place of the broker's answer")
+
 // ask asks the API, waits so long, and reads the answer into out.
 func (g *Group) ask(ctx context.Context, wait time.Duration, what string, in, out any) error {
 	ctx, cancel := context.WithTimeout(ctx, wait)
@@ -47,6 +52,9 @@ func (g *Group) ask(ctx context.Context, wait time.Duration, what string, in, ou
 	m, err := g.conn.RequestWithContext(ctx, "$JS.API."+what, request)
 	if err != nil {
 		return err
+	}
+	if m.Reply != "" {
+		return errDelivered
 	}
 	var failed struct{ Error *nats.APIError }
 	if err := json.Unmarshal(m.Data, &failed); err != nil {

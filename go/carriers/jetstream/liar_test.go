@@ -267,6 +267,38 @@ func TestValuesOfAnotherFeed(t *testing.T) {
 	wantValues(t, a, want...)
 }
 
+// A value that someone lets the broker deliver in the place of its answer is none.
+func TestAValueInThePlaceOfAnAnswer(t *testing.T) {
+	t.Parallel()
+	s := natstest.Start(t)
+	a := join(t, options(1, s.URL))
+	l := newLiar(t, s.URL)
+	if err := l.put("u.liar.1", []byte(`{"message":{"seq":7,"subject":"$KV.test.c.liar.1"}}`), nil); err != nil {
+		t.Fatal(err)
+	}
+	// (Nobody but the liar answers this question. Of others it must be faster than the broker. It listens itself where the values are to
+	// go, since the broker wants somebody there.)
+	if _, err := l.conn.Subscribe("$JS.API.OF.NOBODY", func(m *nats.Msg) {
+		if _, err := l.conn.SubscribeSync(m.Reply); err == nil {
+			_, _ = l.js.AddConsumer("KV_test", &nats.ConsumerConfig{DeliverSubject: m.Reply, AckPolicy: nats.AckNonePolicy})
+		}
+	}); err != nil {
+		t.Fatal(err)
+	}
+	if err := l.conn.Flush(); err != nil {
+		t.Fatal(err)
+	}
+	// (The client takes a value for an answer where one request alone waits, and the reader has some, too.)
+	natstest.Await(t, "a value in the place of an answer", func() bool {
+		var answer struct{ Message stored }
+		err := a.ask(patient(t), time.Second, "OF.NOBODY", nil, &answer)
+		if err == nil || answer.Message.Position != 0 {
+			t.Fatalf("%v: %+v", err, answer)
+		}
+		return err == errDelivered
+	})
+}
+
 // A liar that takes the next keys of a member does not suppress what it says.
 func TestALiarThatTakesTheNextKeys(t *testing.T) {
 	t.Parallel()

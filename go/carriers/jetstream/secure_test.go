@@ -161,6 +161,53 @@ func TestTheServersOfDeploy(t *testing.T) {
 	if c.Taken() != 3 {
 		t.Errorf("a member that comes anew reads %d values", c.Taken())
 	}
+	// What a member may not do, it does not get by a summary that wants its answer there: neither does another one answer, with an empty
+	// message at the end, nor does who is asked get the right to publish there.
+	before, err := b.info(patient(t), patience.Long)
+	if err != nil {
+		t.Fatal(err)
+	}
+	liar, err := nats.Connect(server, mustConnect(t, own)...)
+	if err != nil {
+		t.Fatal(err)
+	}
+	defer liar.Close()
+	asked, err := liar.SubscribeSync("svid.svid.summary")
+	if err == nil {
+		err = liar.Flush()
+	}
+	if err != nil {
+		t.Fatal(err)
+	}
+	for _, reply := range []string{"$JS.API.STREAM.DELETE.KV_svid", "$JS.API.STREAM.PURGE.KV_svid", "$KV.svid.u.liar.1", "svid.svid.summary"} {
+		if err := b.conn.PublishRequest("svid.svid.summary", reply, []byte("of a liar")); err != nil {
+			t.Fatal(err)
+		}
+		// (a answers them one after the other)
+		if err := b.repair("svid.svid.summary", func() ([]byte, error) { return []byte("of b"), nil }); err != nil {
+			t.Fatal(err)
+		}
+		for { // (b asks others too, at times)
+			m, err := asked.NextMsg(patience.Long)
+			if err != nil {
+				t.Fatal(err)
+			}
+			if m.Reply == reply {
+				break
+			}
+		}
+		if reply[0] == '$' && reply[1] == 'J' {
+			if err := liar.Publish(reply, nil); err != nil {
+				t.Fatal(err)
+			}
+		}
+		if err := liar.Flush(); err != nil {
+			t.Fatal(err)
+		}
+		if after, err := b.info(patient(t), patience.Long); err != nil || !after.Created.Equal(before.Created) || after.State != before.State {
+			t.Fatalf("an answer to %s: the bucket is %+v, and was %+v: %v", reply, after.State, before.State, err)
+		}
+	}
 	for what, header := range map[string]nats.Header{"all": {"Nats-Rollup": {"all"}}, "a key": {"Nats-Rollup": {"sub"}}, "nothing": {}} {
 		lie := &nats.Msg{Subject: "$KV.svid." + a.keyOf(Uses, 1), Header: header, Data: batchOf()}
 		if _, err := a.js.PublishMsg(lie); err == nil {

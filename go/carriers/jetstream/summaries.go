@@ -3,6 +3,7 @@ package jetstream
 import (
 	"errors"
 	"math/rand"
+	"strings"
 	"time"
 
 	"github.com/nats-io/nats.go"
@@ -44,13 +45,14 @@ func (g *Group) Summaries(every time.Duration, summary func() ([]byte, error), a
 	}()
 }
 
-// repair sends a summary to one other member, and takes its answer. It is no error that no other member is there.
+// repair sends a summary to one other member, and takes its answer, at an inbox where members may publish. (To let them publish wherever
+// they are asked to answer would let them publish anywhere.) It is no error that no other member is there.
 func (g *Group) repair(subject string, summary func() ([]byte, error)) error {
 	text, err := summary()
 	if err != nil {
 		return err
 	}
-	answers, err := g.conn.SubscribeSync(g.conn.NewRespInbox())
+	answers, err := g.conn.SubscribeSync(nats.InboxPrefix + "svid." + g.options.Name + ".answer." + strings.TrimPrefix(nats.NewInbox(), nats.InboxPrefix))
 	if err != nil {
 		return err
 	}
@@ -74,9 +76,16 @@ func (g *Group) repair(subject string, summary func() ([]byte, error)) error {
 	return errors.New("it took too long")
 }
 
+// errNotInbox: a summary wants its answer elsewhere than a member does. Who asks could let another member delete the bucket, by the
+// empty message at the end, if that may publish there.
+var errNotInbox = errors.New("the summary wants its answer at a subject that is no inbox")
+
 // answer answers the summary of another member; an empty message ends the answer.
 func (g *Group) answer(m *nats.Msg, answer func([]byte, int) ([][]byte, error)) {
-	parts, err := answer(m.Data, int(g.conn.MaxPayload())-headroom)
+	parts, err := [][]byte(nil), errNotInbox
+	if strings.HasPrefix(m.Reply, nats.InboxPrefix) {
+		parts, err = answer(m.Data, int(g.conn.MaxPayload())-headroom)
+	}
 	if err != nil {
 		if held, ok := g.asked.Speak(time.Now()); ok {
 			g.log("a summary was not answered", "why", err, "bytes", len(m.Data), "unlogged", held)

@@ -15,6 +15,7 @@ import (
 const (
 	mostText  = 1<<20 + 64 // bytes of a text that is kept: more than a value has. What is longer is passed over.
 	mostItems = 1 << 10    // of a list, for the same reason
+	mostParts = 6          // of a list whose texts may have more than mostText bytes together: the fields of a value are so many
 	mostDepth = 8          // of lists in lists
 	mostLine  = 64 << 10   // the size of a buffer, so of a line too
 )
@@ -34,8 +35,9 @@ var errProtocol = errors.New("no answer of Redis")
 // may come at any time.
 type conn struct {
 	net.Conn
-	in  *bufio.Reader
-	out *bufio.Writer
+	in      *bufio.Reader
+	out     *bufio.Writer
+	address string // of the server, as its URL has it
 }
 
 // dial connects to an address, and over TLS where there is a configuration.
@@ -50,7 +52,7 @@ func dial(ctx context.Context, address string, config *tls.Config) (*conn, error
 	if err != nil {
 		return nil, err
 	}
-	return &conn{raw, bufio.NewReaderSize(raw, mostLine), bufio.NewWriterSize(raw, mostLine)}, nil
+	return &conn{Conn: raw, in: bufio.NewReaderSize(raw, mostLine), out: bufio.NewWriterSize(raw, mostLine)}, nil
 }
 
 // do sends commands, each as its words, and returns an answer for each: a string, an int64, a []any, nil, a tooLong, or a
@@ -132,16 +134,22 @@ func (c *conn) text(n int64) (any, error) {
 
 func (c *conn) list(n int64, depth int) (any, error) {
 	var list []any
+	isTooLong, size := n > mostItems, 0
 	for i := int64(0); i < n; i++ {
 		item, err := c.answer(depth + 1)
 		if err != nil {
 			return nil, err
 		}
-		if n <= mostItems {
+		if text, is := item.(string); is {
+			size += len(text)
+		}
+		if isTooLong = isTooLong || n > mostParts && size > mostText; isTooLong {
+			list = nil
+		} else {
 			list = append(list, item)
 		}
 	}
-	if n > mostItems {
+	if isTooLong {
 		return tooLong{}, nil
 	}
 	return list, nil

@@ -1,8 +1,11 @@
 package redis
 
 import (
+	"bufio"
 	"context"
 	"fmt"
+	"io"
+	"net"
 	"os"
 	"os/exec"
 	"strings"
@@ -236,6 +239,226 @@ func TestFailover(t *testing.T) {
 			}
 		})
 	}
+}
+
+// A server that was started again as a primary, at another address, says nothing of the one before it. It may lack values all the
+// same.
+func TestAnotherServer(t *testing.T) {
+	before, after := start(t), start(t)
+	after.Kill(t)
+	store, err := New(Options{URLs: []string{before.URL, after.URL}, Name: "svid", Keep: time.Hour})
+	if err != nil {
+		t.Fatal(err)
+	}
+	defer store.Close()
+	ctx, cancel := context.WithTimeout(context.Background(), patience.Long)
+	defer cancel()
+	if _, err := store.Open(ctx); err != nil {
+		t.Fatal(err)
+	}
+	before.Stop(t)
+	copyAll(t, before.Dir, after.Dir)
+	before.Start(t)
+	var state carriers.State
+	look := func() bool { state, err = store.State(ctx, 0); return err == nil }
+	logtest.Await(t, "the server to be found", look)
+	if state.Lost {
+		t.Errorf("the same server, which has all that it had: %+v", state)
+	}
+	before.Kill(t)
+	after.Start(t)
+	logtest.Await(t, "the other server to be found", look)
+	if !state.Lost {
+		t.Errorf("another server: %+v", state)
+	}
+	if look(); err != nil || state.Lost {
+		t.Errorf("another server, again: %+v %v", state, err)
+	}
+}
+
+// A primary that becomes a replica, and takes over what its new primary has, is read no more: it has other values at the positions of
+// those that it gave up.
+func TestAPrimaryThatBecomesAReplica(t *testing.T) {
+	primary := start(t)
+	host, port, _ := strings.Cut(primary.Redis.Address, ":")
+	replica := start(t, "--replicaof", host+" "+port)
+	isUp := func(of *machine) func() bool {
+		return func() bool {
+			answer, err := of.Do("EVAL", "return redis.call('INFO', 'replication'):match('master_link_status:up') or 'down'", "0")
+			return err == nil && strings.HasPrefix(answer, "$21")
+		}
+	}
+	logtest.Await(t, "the replica", isUp(replica))
+	store, err := New(Options{URLs: []string{primary.URL, replica.URL}, Name: "svid", Keep: time.Hour})
+	if err != nil {
+		t.Fatal(err)
+	}
+	defer store.Close()
+	ctx, cancel := context.WithTimeout(context.Background(), patience.Long)
+	defer cancel()
+	state, err := store.Open(ctx)
+	if err != nil {
+		t.Fatal(err)
+	}
+	put := func(text string) {
+		t.Helper()
+		if _, err := store.Append(ctx, state.Made, carriers.Claims, []byte(text)); err != nil {
+			t.Fatal(err)
+		}
+	}
+	put("there")
+	values, err := store.Read(ctx, 0)
+	if err != nil || len(values) != 1 {
+		t.Fatal(values, err)
+	}
+	logtest.AwaitFor(t, 3*time.Minute, "the replica to have it", func() bool {
+		answer, err := replica.Do("EVAL", "return redis.call('XLEN', 'svid:{svid}:log')", "0")
+		return err == nil && answer == ":1"
+	})
+	replica.do(t, "REPLICAOF", "NO", "ONE")
+	put("lost") // (the primary alone has it)
+	host, port, _ = strings.Cut(replica.Redis.Address, ":")
+	primary.do(t, "REPLICAOF", host, port)
+	logtest.AwaitFor(t, 3*time.Minute, "the primary to be a replica", isUp(primary))
+	other, err := New(Options{URLs: []string{replica.URL}, Name: "svid", Keep: time.Hour})
+	if err != nil {
+		t.Fatal(err)
+	}
+	defer other.Close()
+	if _, err := other.Append(ctx, state.Made, carriers.Claims, []byte("behind")); err != nil {
+		t.Fatal(err)
+	}
+	logtest.AwaitFor(t, 3*time.Minute, "the replica of now to have it", func() bool {
+		answer, err := primary.Do("EVAL", "return redis.call('XLEN', 'svid:{svid}:log')", "0")
+		return err == nil && answer == ":2"
+	})
+	if values, err := store.Read(ctx, 1); err == nil {
+		t.Errorf("it reads %q from a replica", values)
+	}
+	logtest.Await(t, "the primary to be found", func() bool { state, err = store.State(ctx, 1); return err == nil })
+	if !state.Lost {
+		t.Errorf("%+v", state)
+	}
+	if values, err := store.Read(ctx, 1); err != nil || len(values) != 1 || string(values[0].Message) != "behind" {
+		t.Errorf("%q %v", values, err)
+	}
+}
+
+// What is known of the ages of a log's values says nothing of those of another one.
+func TestAgesOfAnotherLog(t *testing.T) {
+	s := start(t)
+	store, err := New(Options{URLs: []string{s.URL}, Name: "svid", Keep: time.Second})
+	if err != nil {
+		t.Fatal(err)
+	}
+	defer store.Close()
+	ctx, cancel := context.WithTimeout(context.Background(), patience.Long)
+	defer cancel()
+	state, err := store.Open(ctx)
+	if err != nil {
+		t.Fatal(err)
+	}
+	put := func() {
+		t.Helper()
+		if _, err := store.Append(ctx, state.Made, carriers.Claims, []byte("x")); err != nil {
+			t.Fatal(err)
+		}
+	}
+	put()
+	if _, err := store.Read(ctx, 0); err != nil {
+		t.Fatal(err)
+	}
+	time.Sleep(2*time.Second + time.Second/10) // It is too old now, in whole seconds.
+	s.Destroy(t, "svid")
+	if state, err = store.Open(ctx); err != nil {
+		t.Fatal(err)
+	}
+	put()
+	if err := store.Expire(ctx, state.Made); err != nil {
+		t.Fatal(err)
+	}
+	if state, err = store.State(ctx, 1); err != nil || state.Gone != 0 || state.First != 1 || state.Last != 1 {
+		t.Errorf("%+v %v", state, err)
+	}
+}
+
+// A server that tells some of the settings tells nothing of the others.
+func TestSettingsThatAreNotTold(t *testing.T) {
+	s := start(t)
+	l, err := net.Listen("tcp", "127.0.0.1:0")
+	if err != nil {
+		t.Fatal(err)
+	}
+	defer l.Close()
+	go func() { // It stands before the server, and leaves out what CONFIG GET answers about the last setting.
+		for {
+			client, err := l.Accept()
+			if err != nil {
+				return
+			}
+			server, err := net.Dial("tcp", s.Redis.Address)
+			if err != nil {
+				client.Close()
+				return
+			}
+			go func() { defer server.Close(); _, _ = io.Copy(server, client) }()
+			go func() {
+				defer client.Close()
+				text := make([]byte, 1<<16)
+				for {
+					n, err := server.Read(text)
+					if err != nil {
+						return
+					}
+					some := strings.Replace(string(text[:n]), "*8\r\n", "*6\r\n", 1)
+					some = strings.Replace(some, "$16\r\nmaxmemory-policy\r\n$10\r\nnoeviction\r\n", "", 1)
+					if _, err := client.Write([]byte(some)); err != nil {
+						return
+					}
+				}
+			}()
+		}
+	}()
+	url := "redis://" + l.Addr().String()
+	if _, err := join(t, Options{URLs: []string{url}}, deaf{}, nil); err == nil || !strings.Contains(err.Error(), "does not tell its settings") {
+		t.Errorf("%v", err)
+	}
+	if _, err := join(t, Options{URLs: []string{url + "?settings=unchecked"}}, deaf{}, nil); err != nil {
+		t.Error(err)
+	}
+}
+
+// An entry that is no value takes no more memory than one, however many fields it has.
+func TestAnEntryOfManyTexts(t *testing.T) {
+	half := "$524288\r\n" + strings.Repeat("x", 1<<19) + "\r\n"
+	for n, isKept := range map[int]bool{6: true, 7: false, 1000: false} {
+		in := bufio.NewReaderSize(io.MultiReader(strings.NewReader(fmt.Sprintf("*2\r\n$3\r\n1-1\r\n*%d\r\n", n)), &again{text: half, left: n}), mostLine)
+		answer, err := (&conn{in: in}).answer(0)
+		if err != nil {
+			t.Fatal(err)
+		}
+		if _, is := answer.([]any)[1].([]any); is != isKept {
+			t.Errorf("%d texts: kept %v", n, is)
+		}
+	}
+}
+
+// again reads as a text, so often.
+type again struct {
+	text string
+	at   int
+	left int
+}
+
+func (a *again) Read(b []byte) (int, error) {
+	if a.left == 0 {
+		return 0, io.EOF
+	}
+	n := copy(b, a.text[a.at:])
+	if a.at += n; a.at == len(a.text) {
+		a.at, a.left = 0, a.left-1
+	}
+	return n, nil
 }
 
 // told is a member, with what its sink is told.

@@ -80,6 +80,7 @@ type Store struct {
 	// State and Read alone use these.
 	reader  *conn
 	run     string    // of the primary, as its replication has it
+	at      string    // where it was
 	checked time.Time // when its settings were looked at
 	unsafe  string    // what is wrong with them
 
@@ -88,6 +89,7 @@ type Store struct {
 	open   map[*conn]bool
 	idle   []*conn
 	keeps  time.Duration
+	made   string // the log of the ages
 	ages   []age
 }
 
@@ -250,13 +252,17 @@ func (s *Store) check(ctx context.Context) error {
 			return carriers.Unfitf("the server is of version %s, and the group's log needs Redis %d.0", info(answers[0])["redis_version"], leastVersion)
 		}
 	}
-	is, ok := answers[1].([]any)
+	is, _ := answers[1].([]any)
+	ok := len(is) == 2*len(settings)
 	unchecked := false
 	for i := range s.servers {
 		unchecked = unchecked || s.servers[i].unchecked
 	}
 	if !ok && !unchecked {
-		why, _ := answers[1].(failure)
+		why, failed := answers[1].(failure)
+		if !failed {
+			why = failure(fmt.Sprintf("it tells %d of %d", len(is)/2, len(settings)))
+		}
 		return carriers.Unfitf("the server does not tell its settings (CONFIG GET: %s): see that it has appendonly yes, appendfsync always, "+
 			"no-appendfsync-on-rewrite no and maxmemory-policy noeviction, and write ?settings=unchecked after the address", string(why))
 	}
@@ -293,13 +299,16 @@ func (s *Store) State(ctx context.Context, at uint64) (carriers.State, error) {
 		return carriers.State{}, err
 	}
 	position := id(at)
-	answers, err := s.ask(ctx, []string{"INFO", "replication"}, []string{"MULTI"}, []string{"EXISTS", s.stream, s.head},
+	answers, err := s.ask(ctx, []string{"INFO", "replication"}, []string{"ROLE"}, []string{"MULTI"}, []string{"EXISTS", s.stream, s.head},
 		[]string{"HMGET", s.head, "format", "made", "keep", "gone"}, []string{"XRANGE", s.stream, position, position},
 		[]string{"XINFO", "STREAM", s.stream}, []string{"EXEC"})
 	if err != nil {
 		return carriers.State{}, err
 	}
-	all, ok := answers[6].([]any)
+	if err := s.isPrimary(answers[1]); err != nil {
+		return carriers.State{}, err
+	}
+	all, ok := answers[7].([]any)
 	if !ok || len(all) != 4 {
 		return carriers.State{}, errProtocol
 	}
@@ -317,6 +326,9 @@ func (s *Store) State(ctx context.Context, at uint64) (carriers.State, error) {
 	s.mu.Lock()
 	defer s.mu.Unlock()
 	s.keeps = state.Keeps
+	if state.Made != s.made {
+		s.made, s.ages = state.Made, nil
+	}
 	state.Unsafe = s.unsafe
 	return state, nil
 }
@@ -361,11 +373,25 @@ func (s *Store) stateOf(head, stream any) (state carriers.State, err error) {
 
 // replication sees whether another server has taken over from the one that was read before: a replica, which may lack values that
 // nobody here has read. Where values wait for replicas, these have all that counts.
+//
+// A replica that took over as it ran names its primary of before. One that was started again as a primary does not, and is known by
+// its address alone.
 func (s *Store) replication(lines map[string]string, state *carriers.State) {
 	run, before := lines["master_replid"], lines["master_replid2"]
-	promoted := s.run != "" && run != s.run && strings.Trim(before, "0") != ""
-	s.run = run
+	promoted := s.run != "" && run != s.run && (strings.Trim(before, "0") != "" || s.reader.address != s.at)
+	s.run, s.at = run, s.reader.address
 	state.Lost = promoted && s.options.Replicas <= 1
+}
+
+// isPrimary ends the reader's connection if its server has become a replica: that gives up values which a primary has not, and the
+// reader would take other ones at their positions for the next ones.
+func (s *Store) isPrimary(role any) error {
+	err := primary(role)
+	if err != nil {
+		s.drop(s.reader)
+		s.reader = nil
+	}
+	return err
 }
 
 // number reads a decimal number.
@@ -442,8 +468,11 @@ func (s *Store) Read(ctx context.Context, behind uint64) ([]carriers.Stored, err
 		return nil, errAway
 	}
 	answers, err := s.ask(ctx, []string{"XREAD", "COUNT", strconv.Itoa(mostAtOnce), "BLOCK", strconv.FormatInt(int64(carriers.Patience/time.Millisecond), 10),
-		"STREAMS", s.stream, id(behind)})
-	if err != nil || answers[0] == nil {
+		"STREAMS", s.stream, id(behind)}, []string{"ROLE"})
+	if err != nil {
+		return nil, err
+	}
+	if err := s.isPrimary(answers[1]); err != nil || answers[0] == nil {
 		return nil, err
 	}
 	streams, _ := answers[0].([]any)
@@ -599,7 +628,7 @@ func (s *Store) Expire(ctx context.Context, made string) error {
 	if own := time.Now().UnixMicro(); own < now {
 		now = own
 	}
-	position := s.olderThan(now)
+	position := s.olderThan(made, now)
 	if position == 0 {
 		return nil
 	}
@@ -607,10 +636,13 @@ func (s *Store) Expire(ctx context.Context, made string) error {
 	return err
 }
 
-// olderThan is the position of the last value that is too old at this time.
-func (s *Store) olderThan(now int64) (position uint64) {
+// olderThan is the position of the last value of this log that is too old at this time; 0 if none is known.
+func (s *Store) olderThan(made string, now int64) (position uint64) {
 	s.mu.Lock()
 	defer s.mu.Unlock()
+	if made != s.made {
+		return 0
+	}
 	n := 0
 	for n < len(s.ages) && s.ages[n].at < now-int64(s.keeps/time.Microsecond) {
 		position = s.ages[n].position

@@ -179,15 +179,22 @@ func (s *server) connect(ctx context.Context) (*conn, error) {
 		}
 	}
 	if err == nil {
-		if role, is := answers[len(answers)-1].([]any); !is || len(role) == 0 || role[0] != "master" {
-			err = errReplica
-		}
+		err = primary(answers[len(answers)-1])
 	}
 	if err != nil {
 		c.Close()
 		return nil, err
 	}
+	c.address = s.address
 	return c, nil
+}
+
+// primary is nil for an answer to ROLE that says that the server is a primary.
+func primary(answer any) error {
+	if role, is := answer.([]any); !is || len(role) == 0 || role[0] != "master" {
+		return errReplica
+	}
+	return nil
 }
 
 var errReplica = errors.New("it is a replica, or does not say that it is a primary")

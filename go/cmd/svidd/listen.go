@@ -86,9 +86,10 @@ func (s *sidecar) addresses() []answering {
 	return all
 }
 
+// (Nothing reads a query. Without AllowQuerySemicolons package http would log an error for each one that has a semicolon.)
 func (s *sidecar) server(handler http.Handler) *http.Server {
 	return &http.Server{
-		Handler: handler, ReadHeaderTimeout: headerWait, ReadTimeout: requestWait, WriteTimeout: requestWait,
+		Handler: http.AllowQuerySemicolons(handler), ReadHeaderTimeout: headerWait, ReadTimeout: requestWait, WriteTimeout: requestWait,
 		IdleTimeout: idleWait, MaxHeaderBytes: svidhttp.MaxHeader, ErrorLog: s.log.Standard("http"),
 	}
 }

@@ -139,6 +139,7 @@ func (r *recipe) served() *heard {
 var forged = func() (all []string) {
 	for _, name := range []string{"X-Spiffe-Id", "X-Svid-Audience", "X-Svid-Expires"} {
 		for _, spelling := range []string{name, strings.ToLower(name), strings.ReplaceAll(name, "-", "_"), strings.Replace(name, "-", "_", 1),
+			strings.ReplaceAll(name, "-", "."), strings.Replace(name, "-", "~", 1), strings.ToLower(strings.ReplaceAll(name, "-", "!")),
 			name[:strings.LastIndex(name, "-")] + "_" + name[strings.LastIndex(name, "-")+1:], strings.ToUpper(strings.ReplaceAll(name, "-", "_"))} {
 			all = append(all, spelling+": spiffe://example.org/admin")
 		}
@@ -151,7 +152,12 @@ var forged = func() (all []string) {
 func (h *heard) identity() map[string][]string {
 	all := map[string][]string{}
 	for name, values := range h.Header {
-		name = strings.ReplaceAll(strings.ToLower(name), "_", "-")
+		name = strings.Map(func(c rune) rune {
+			if c >= 'a' && c <= 'z' || c >= '0' && c <= '9' {
+				return c
+			}
+			return '-' // (as lighttpd takes it for its programs)
+		}, strings.ToLower(name))
 		if name == "authorization" || strings.HasPrefix(name, "x-svid") || strings.HasPrefix(name, "x-spiffe") {
 			all[name] = append(all[name], values...)
 		}
@@ -217,6 +223,13 @@ func (r *recipe) holds() {
 		got := r.served()
 		if answer.StatusCode == 200 && (got == nil || len(got.identity()) != 3) || answer.StatusCode != 200 && got != nil {
 			t.Errorf("Connection: %s: %d, and the service hears of %+v", named, answer.StatusCode, got)
+		}
+	}
+	// Nor does one get another protocol, behind which nobody checks what it sends.
+	for _, protocol := range []string{"h2c", "websocket", "other/1"} {
+		answer, _ := r.send("GET", "/", "", "Connection: Upgrade, HTTP2-Settings", "Upgrade: "+protocol, "HTTP2-Settings: AAMAAABkAAQAAP__", "Authorization: Bearer "+token(t, protocol, lasting))
+		if got := r.served(); got != nil && got.Header.Get("Upgrade") != "" {
+			t.Errorf("Upgrade: %s: %d, and the service hears of %+v", protocol, answer.StatusCode, got.Header)
 		}
 	}
 	long := example.Token("ES256", map[string]any{"sub": "spiffe://example.org/web", "aud": "ledger", "exp": time.Now().Add(lasting).Unix(), "pad": strings.Repeat("a", 45000)})
@@ -288,19 +301,46 @@ func TestCaddyRecipe(t *testing.T) {
 func TestHAProxyRecipe(t *testing.T) {
 	t.Parallel()
 	r := newRecipe(t)
+	r.runsHAProxy("", "")
+	r.holds()
+}
+
+// HAProxy goes on where Lua fails. Nothing passes then, be it before the sidecar is asked or behind its refusal.
+func TestHAProxyWhoseLuaFails(t *testing.T) {
+	t.Parallel()
+	for _, at := range []string{"  local headers = txn.http", "  local client = core.", "  local function of(", "  if said.status == 401 or"} {
+		at := at
+		t.Run(at, func(t *testing.T) {
+			t.Parallel()
+			r := newRecipe(t)
+			r.runsHAProxy(at, "  if true then error('it fails') end\n"+at)
+			answer, _ := r.send("GET", "/", "", forged...)
+			if got := r.served(); answer.StatusCode != 503 || answer.Header.Get("Retry-After") == "" || got != nil {
+				t.Errorf("%d %v, and the service hears of %+v", answer.StatusCode, answer.Header, got)
+			}
+		})
+	}
+}
+
+// runsHAProxy starts HAProxy, whose Lua has another text in the place of this one.
+func (r *recipe) runsHAProxy(old, other string) {
+	r.t.Helper()
 	lua := r.file("haproxy-svidd.lua", "")
 	// (an abstract name is one of the whole machine)
 	name := fmt.Sprintf("abns@svidd-%s", r.front)
 	text, err := os.ReadFile(lua)
 	if err != nil {
-		t.Fatal(err)
+		r.t.Fatal(err)
 	}
-	if err := os.WriteFile(lua, []byte(strings.ReplaceAll(string(text), "abns@svidd-ask", name)), 0o644); err != nil {
-		t.Fatal(err)
+	changed := strings.ReplaceAll(string(text), "abns@svidd-ask", name)
+	if strings.Count(changed, old) != 1 && old != "" {
+		r.t.Fatalf("%q stands there %d times", old, strings.Count(changed, old))
+	}
+	if err := os.WriteFile(lua, []byte(strings.Replace(changed, old, other, 1)), 0o644); err != nil {
+		r.t.Fatal(err)
 	}
 	r.replaced = strings.NewReplacer("/etc/haproxy/haproxy-svidd.lua", lua, "abns@svidd-ask", name, "127.0.0.1:9901", r.address, "127.0.0.1:8081", r.replaced.Replace("127.0.0.1:8081"), "127.0.0.1:8080", r.front)
 	r.runs(nil, "haproxy", "-db", "-f", r.file("haproxy.cfg", ""))
-	r.holds()
 }
 
 func TestApacheRecipe(t *testing.T) {

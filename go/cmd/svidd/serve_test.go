@@ -108,6 +108,21 @@ func TestServeOnce(t *testing.T) {
 	}
 }
 
+// No request of a stranger is an error that an operator must look at.
+func TestRequestsAreNoErrors(t *testing.T) {
+	t.Parallel()
+	p := start(t, bundleOption(bundleFile(t, example)), "--replay", "reuse", "--log", "errors")
+	for _, path := range []string{"/check", "/check?a;b", "/check/a;b?c;d", "/nothing?a;b", "/readyz?a;b"} {
+		if status, _ := p.get(path); status == 0 {
+			t.Errorf("%s has no answer", path)
+		}
+	}
+	p.end()
+	if text := p.log.String(); strings.Contains(text, `"level":"error"`) {
+		t.Errorf("the log: %s", text)
+	}
+}
+
 func TestReuseAcceptsUntilWithdrawn(t *testing.T) {
 	t.Parallel()
 	admin := filepath.Join(t.TempDir(), "admin.sock")
