@@ -30,6 +30,7 @@ PREFIXES = {
     "Next": "FILE_",
     "NoBearer": "BEARER_",
     "KeyFault": "KEY_",
+    "EntryFault": "ENTRY_",
 }
 LISTS = ("Reason", "Refusal", *PREFIXES)
 # What stands in these lists but has the name or the number of another one.
@@ -180,7 +181,11 @@ def test_a_number_by_hand(path):
 
 @pytest.mark.parametrize(
     "path, name, least, most",
-    [("page/src/refusals.js", "ID_FAULTS", "ID_TOO_LONG", "ID_PATH_BYTE"), ("page/src/verify.js", "FAULTS", "KEY_ALG", "KEY_Y")],
+    [
+        ("page/src/refusals.js", "ID_FAULTS", "ID_TOO_LONG", "ID_PATH_BYTE"),
+        ("page/src/verify.js", "FAULTS", "KEY_ALG", "KEY_Y"),
+        ("page/src/bundles.js", "ENTRY_FAULTS", "ENTRY_NOT_OBJECT", "ENTRY_TOO_LONG"),
+    ],
 )
 def test_the_page_has_words_for_each(path, name, least, most):
     body = re.search(rf"^const {name} = \{{\n(.*?)^\}};", text_of(path), re.M | re.S)[1]
