@@ -8,4 +8,4 @@ returns-in-Ok c =
 
 pub returns-in-Err : goal.returns-in-Err
 returns-in-Err c =
-    no_key c.in-Err.fault c.in-Err.ensures.fault (c.only-in-Err.ensures.status ∙ c.entry_number.ensures) c.only-in-Err.ensures.told refl
+    no_key c.in-Err.fault c.in-Err.ensures.fault (c.only.ensures.status ∙ c.entry_number.ensures) c.only.ensures.told refl
