@@ -175,9 +175,24 @@ static size_t decoded(const uint8_t *text, size_t len, uint8_t *to) {
     return n;
 }
 
+/* The longest part that a token may have, with its two periods at the first byte and at this one; and a token of one byte more. */
+static void longest(int which, size_t second, svid_bundles *b, svid_validator *v) {
+    static answer a;
+    static uint8_t most[65537];
+    loan l = lent(b, v, &a);
+    memset(most, 'A', sizeof most);
+    most[0] = most[second] = '.';
+    l.in[TOKEN].bytes = most, l.in[TOKEN].len = sizeof most - 1;
+    answered = call_with(which, &l);
+    holds(answered == SVID_TOO_SHORT && a.told.len == SVID_SIGNATURE_ROOM, "the longest one");
+    l.in[TOKEN].len = sizeof most;
+    answered = call_with(which, &l);
+    holds(answered == SVID_TOO_LONG && a.told.len == 0, "a token that is too long");
+}
+
 static void signatures(svid_bundles *b, svid_validator *v) {
     static answer a, c;
-    static uint8_t due[64], most[65537];
+    static uint8_t due[64];
     call(SIGNATURE, b, v, &a);
     size_t over = token_len - 87;
     holds(a.status == SVID_OK && a.over.len == over && token[over] == '.' && a.told.len == 64, "how long it is, and what it is over");
@@ -204,21 +219,13 @@ static void signatures(svid_bundles *b, svid_validator *v) {
         holds(answered == rows[i].due && c.told.len == rows[i].len, rows[i].token);
         holds(answered == SVID_OK ? c.over.len == rows[i].over : untouched(&c.over, sizeof c.over) && untouched(c.out, sizeof c.out), rows[i].token);
     }
-    memset(most, 'A', sizeof most);
-    most[0] = most[1] = '.';
-    loan l = lent(b, v, &c);
-    l.in[TOKEN].bytes = most, l.in[TOKEN].len = sizeof most - 1;
-    answered = call_with(SIGNATURE, &l);
-    holds(answered == SVID_TOO_SHORT && c.told.len == SVID_SIGNATURE_ROOM, "the longest one");
-    l.in[TOKEN].len = sizeof most;
-    answered = call_with(SIGNATURE, &l);
-    holds(answered == SVID_TOO_LONG && c.told.len == 0, "a token that is too long");
+    longest(SIGNATURE, 1, b, v);
 }
 
 /* The payload is that of the folder's token by the same reading, and no other part is read. */
 static void payloads(svid_bundles *b, svid_validator *v) {
     static answer a, c;
-    static uint8_t due[4096], most[65537];
+    static uint8_t due[4096];
     const uint8_t *from = (const uint8_t *)memchr(token, '.', token_len) + 1;
     size_t len = decoded(from, token_len - 87 - (size_t)(from - token), due);
     call(PAYLOAD, b, v, &a);
@@ -243,15 +250,7 @@ static void payloads(svid_bundles *b, svid_validator *v) {
         answered = call_with(PAYLOAD, &l);
         holds(answered == rows[i].due && c.told.len == rows[i].len && untouched(c.out + rows[i].len, sizeof c.out - rows[i].len), rows[i].token);
     }
-    memset(most, 'A', sizeof most);
-    most[0] = most[65535] = '.';
-    loan l = lent(b, v, &c);
-    l.in[TOKEN].bytes = most, l.in[TOKEN].len = sizeof most - 1;
-    answered = call_with(PAYLOAD, &l);
-    holds(answered == SVID_TOO_SHORT && c.told.len == SVID_SIGNATURE_ROOM, "the longest one");
-    l.in[TOKEN].len = sizeof most;
-    answered = call_with(PAYLOAD, &l);
-    holds(answered == SVID_TOO_LONG && c.told.len == 0, "a token that is too long");
+    longest(PAYLOAD, 65535, b, v);
 }
 
 static void judgments(svid_bundles *b, svid_validator *v) {
