@@ -52,11 +52,12 @@ extern "C" {
 #define SVID_FRAME_MORE 39           /* a frame has at most so many bytes more than its payload */
 #define SVID_MOST_CANDIDATES 3       /* how many keys svidd, the Go library and the Python package try for a token: give svid_validator_ask
                                         the same, so that all answer the same (docs/FORMATS.md, "Candidates") */
-#define SVID_SIGNATURE_ROOM 49150    /* enough room for any signature of svid_token_signature */
+#define SVID_SIGNATURE_ROOM 49150    /* enough room for any signature of svid_token_signature, and for any payload of svid_token_payload */
 #define SVID_USUAL_RSA_BITS 4096     /* how many bits they let an RSA key have, unless an option says more */
 #define SVID_MOST_RSA_BITS 16384     /* no RSA key may have more */
 #define SVID_LEAST_RSA_BITS 2048     /* nor fewer */
 #define SVID_SPKI_ROOM 2100          /* enough room for any key of svid_key_spki */
+#define SVID_KEY_ROOM 65536          /* enough room for any key of svid_key_text */
 
 enum svid_status {
     /* lists:begin statuses (written by tools/lists from lists/) */
@@ -128,6 +129,16 @@ enum svid_status {
     SVID_FILE_TEAR = 53,   /* a write was cut off: nobody was told that it is on the disk; only a journal has one */
     SVID_FILE_DAMAGE = 54, /* what was synced here has changed */
     SVID_FILE_OTHER = 55,  /* a frame of another format stands here; frame->format is its number */
+
+    /* what svid_key_text answers of an entry of a trust bundle that is no key for JWT-SVIDs: the first that holds, in this order */
+    SVID_ENTRY_NOT_OBJECT = 61, /* it is no JSON object */
+    SVID_ENTRY_NO_USE = 62,     /* it has no `use`, which must be "jwt-svid" */
+    SVID_ENTRY_X509 = 63,       /* it is for X.509-SVIDs */
+    SVID_ENTRY_USE = 64,        /* its `use` is not "jwt-svid" */
+    SVID_ENTRY_KID = 65,        /* its `kid` is not there, or no text */
+    SVID_ENTRY_KTY = 66,        /* its `kty` is neither RSA nor EC */
+    SVID_ENTRY_NUMBER = 67,     /* a number in it is no whole number of 64 bits */
+    SVID_ENTRY_TOO_LONG = 68,   /* it has more than 65,536 bytes as compact JSON */
 
     /* why a key can't be used with an algorithm: the first that holds, in this order. 74 to 76 are of RSA keys alone, and 77 to 79 of EC keys */
     SVID_NO_ALGORITHM = 70,   /* the algorithm is none of RS256 to RS512, ES256 to ES512 and PS256 to PS512 */
@@ -794,6 +805,21 @@ uint32_t svid_token_says(const uint8_t *token, size_t token_len, svid_said *said
 uint32_t svid_token_signature(const uint8_t *token, size_t token_len, svid_signed *over,
                               uint8_t *out, size_t out_len, svid_told *told);
 
+/* Writes the payload of a token (RFC 7515, section 5.2): the claims as JSON, byte for byte as they were signed. Nobody has vouched for them: the
+ * call judges nothing, and reads no other part. So call it behind a check that accepted the token.
+ *
+ * SVID_TOO_SHORT if the payload is longer than `out`, which it never is if that has SVID_SIGNATURE_ROOM bytes. SVID_TOO_LONG;
+ * SVID_NOT_THREE_PARTS; SVID_PAYLOAD_SPELLING; SVID_NO_MEMORY. Unless the status is SVID_OK, `out` stays. */
+uint32_t svid_token_payload(const uint8_t *token, size_t token_len, uint8_t *out, size_t out_len, svid_told *told);
+
+/* Says whether an entry of a trust bundle, one of the list `keys` (RFC 7517, section 5), is a key for JWT-SVIDs, and writes that key as
+ * svid_bundles_ask lists it: as JSON without blanks, its names in rising order of their bytes. `entry` is the entry's JSON. Every call that
+ * reads bundles keeps these entries, and passes over all others.
+ *
+ * SVID_TOO_SHORT if the key is longer than `out`, which it never is if that has SVID_KEY_ROOM bytes: so with `out_len` 0 it says that the
+ * entry is a key. SVID_ENTRY_NOT_OBJECT to SVID_ENTRY_TOO_LONG if the entry is none. SVID_NO_MEMORY. */
+uint32_t svid_key_text(const uint8_t *entry, size_t entry_len, uint8_t *out, size_t out_len, svid_told *told);
+
 /* Writes a public key as SubjectPublicKeyInfo in DER (RFC 5280, section 4.1.2.7), which d2i_PUBKEY of OpenSSL, and its like elsewhere, read
  * in one call. `key` is the key as JSON (RFC 7517) and `alg` the name of the algorithm, both as svid_bundles_ask lists them. An RSA key may
  * have up to `most_bits` bits, and never more than SVID_MOST_RSA_BITS. Each verification by a long key costs more, so pass
@@ -921,6 +947,14 @@ static inline const char *svid_strstatus(uint32_t status) {
     case SVID_FILE_TEAR: return "SVID_FILE_TEAR";
     case SVID_FILE_DAMAGE: return "SVID_FILE_DAMAGE";
     case SVID_FILE_OTHER: return "SVID_FILE_OTHER";
+    case SVID_ENTRY_NOT_OBJECT: return "SVID_ENTRY_NOT_OBJECT";
+    case SVID_ENTRY_NO_USE: return "SVID_ENTRY_NO_USE";
+    case SVID_ENTRY_X509: return "SVID_ENTRY_X509";
+    case SVID_ENTRY_USE: return "SVID_ENTRY_USE";
+    case SVID_ENTRY_KID: return "SVID_ENTRY_KID";
+    case SVID_ENTRY_KTY: return "SVID_ENTRY_KTY";
+    case SVID_ENTRY_NUMBER: return "SVID_ENTRY_NUMBER";
+    case SVID_ENTRY_TOO_LONG: return "SVID_ENTRY_TOO_LONG";
     case SVID_NO_ALGORITHM: return "SVID_NO_ALGORITHM";
     case SVID_KEY_NOT_OBJECT: return "SVID_KEY_NOT_OBJECT";
     case SVID_KEY_KTY: return "SVID_KEY_KTY";
@@ -1031,6 +1065,14 @@ static inline const char *svid_strsentence(uint32_t status) {
     case SVID_FILE_TEAR: return "A write was cut off: nobody was told that it is on the disk.";
     case SVID_FILE_DAMAGE: return "What was synced here has changed.";
     case SVID_FILE_OTHER: return "A frame of another format stands here.";
+    case SVID_ENTRY_NOT_OBJECT: return "The entry is no JSON object.";
+    case SVID_ENTRY_NO_USE: return "The entry has no use, which must be \"jwt-svid\".";
+    case SVID_ENTRY_X509: return "The entry is for X.509-SVIDs.";
+    case SVID_ENTRY_USE: return "The entry's use is not \"jwt-svid\".";
+    case SVID_ENTRY_KID: return "The entry's kid is not there, or no text.";
+    case SVID_ENTRY_KTY: return "The entry's kty is neither RSA nor EC.";
+    case SVID_ENTRY_NUMBER: return "A number in the entry is no whole number of 64 bits.";
+    case SVID_ENTRY_TOO_LONG: return "The entry has more than 65,536 bytes as compact JSON.";
     case SVID_NO_ALGORITHM: return "The algorithm is none of RS256 to RS512, ES256 to ES512 and PS256 to PS512.";
     case SVID_KEY_NOT_OBJECT: return "The key is no JSON object.";
     case SVID_KEY_KTY: return "The key's kty is not the algorithm's: RSA for RS and PS, EC for ES.";

@@ -22,10 +22,7 @@ RULES = {
     # base64url is read by the core: the parts of a token, the members of a key
     "base64url": (
         r"encoding/base64|RawURLEncoding|urlsafe_b64|binascii|\batob\(|\bbtoa\(|fn base64|util\.Base64|\"base64url\"|'base64url'|ABCDEFGHIJKLMNOPQRSTUVWXYZ",
-        {
-            "go/cmd/svidd/verify.go": "it prints the claims of a token behind its judgment, whole, and no call of the library gives them",
-            "page/src/page.js": "the module in the page is base64",
-        },
+        {"page/src/page.js": "the module in the page is base64"},
     ),
     # the first bytes of a message, and the lengths of its parts
     "messages": (
@@ -39,19 +36,12 @@ RULES = {
     "ids": (
         r"(TrimPrefix|HasPrefix|CutPrefix|removeprefix|startswith|startsWith|strip_prefix|partition|split)\(.*spiffe:|spiffe_?id\[\d|\[9:\]"
         r"|(slice|substring)\(9\)",
-        {
-            "go/bundles/endpoint.go": "which server an address may have: it asks the library for the ID, and cuts it for the certificate",
-            "go/bundles/workload.go": "a Workload API names a trust domain by its ID, and its bundles stand beside others by the name",
-        },
+        {},
     ),
     # members of a JSON Web Key
     "keys": (
         r"[\"'](kty|crv)[\"']|\.(kty|crv)\b|(\[|get\()[\"'][nexy][\"']",
-        {
-            "go/bundles/document.go": "why an entry of a bundle is passed over, for the log: until the core says it of a bundle",
-            "page/src/bundles.js": "why a key can't be used, for people: until the core says it of a bundle",
-            "page/src/explain.js": "which key it is, for people: with bundles.js",
-        },
+        {"page/src/explain.js": "which key it is, for people"},
     ),
 }
 

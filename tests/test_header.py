@@ -31,6 +31,7 @@ PREFIXES = {
     "Next": "FILE_",
     "NoBearer": "BEARER_",
     "KeyFault": "KEY_",
+    "EntryFault": "ENTRY_",
 }
 LISTS = ("Reason", "Refusal", *PREFIXES)
 # What stands in these lists but has the name or the number of another one.
@@ -185,6 +186,7 @@ def test_a_number_by_hand(path):
         ("page/src/refusals.js", "ID_FAULTS", "ID_TOO_LONG", "ID_PATH_BYTE"),
         ("page/src/verify.js", "KEY_FAULTS", "NO_ALGORITHM", "KEY_Y"),
         ("page/src/token.js", "BEARER_FAULTS", "BEARER_ABSENT", "BEARER_SPELLING"),
+        ("page/src/bundles.js", "ENTRY_FAULTS", "ENTRY_NOT_OBJECT", "ENTRY_TOO_LONG"),
     ],
 )
 def test_the_page_has_words_for_each(path, name, least, most):

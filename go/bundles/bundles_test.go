@@ -470,14 +470,14 @@ func TestEntriesThatArePassedOver(t *testing.T) {
 	for entry, want := range map[string]string{
 		`{"use":"jwt-svid","kid":"","kty":"EC"}`:   "",
 		`{"use":"jwt-svid","kid":"a","kty":"RSA"}`: "",
-		`1`:                                        "it is no object",
-		`null`:                                     "it is no object",
-		`{"kid":"a","kty":"EC"}`:                   `its "use" is not "jwt-svid"`,
-		`{"use":"sig","kid":"a","kty":"EC"}`:       `its "use" is not "jwt-svid"`,
+		`1`:                                        "it is no JSON object",
+		`null`:                                     "it is no JSON object",
+		`{"kid":"a","kty":"EC"}`:                   `it has no use, which must be "jwt-svid"`,
+		`{"use":"sig","kid":"a","kty":"EC"}`:       `its use is not "jwt-svid"`,
 		`{"use":"x509-svid","kty":"EC"}`:           "it is for X.509-SVIDs",
-		`{"use":"jwt-svid","kty":"EC"}`:            `its "kid" is no text`,
-		`{"use":"jwt-svid","kid":1,"kty":"EC"}`:    `its "kid" is no text`,
-		`{"use":"jwt-svid","kid":"a","kty":"OKP"}`: `its "kty" is neither "RSA" nor "EC"`,
+		`{"use":"jwt-svid","kty":"EC"}`:            "its kid is not there, or no text",
+		`{"use":"jwt-svid","kid":1,"kty":"EC"}`:    "its kid is not there, or no text",
+		`{"use":"jwt-svid","kid":"a","kty":"OKP"}`: "its kty is neither RSA nor EC",
 	} {
 		if got := passedOver(json.RawMessage(entry)); got != want {
 			t.Errorf("%s: %q, want %q", entry, got, want)

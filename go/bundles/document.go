@@ -1,13 +1,14 @@
 package bundles
 
 import (
-	"bytes"
 	"encoding/json"
 	"errors"
 	"fmt"
 	"io"
 	"time"
 	"unicode/utf8"
+
+	"svid.example/go/v2/svid"
 )
 
 // mostDocument is how many bytes a bundle has at the most. One of SPIRE has 2,000 for each key and certificate; and JSON
@@ -69,37 +70,17 @@ func (d document) refresh() time.Duration {
 	return time.Duration(hint) * time.Second
 }
 
-// lists:begin ktys (written by tools/lists from lists/algorithms.toml)
-
-// ktys are the types of keys that algorithms have, and noKty says that a key has none of them.
-var ktys = map[string]bool{"RSA": true, "EC": true}
-
-const noKty = `its "kty" is neither "RSA" nor "EC"`
-
-// lists:end
-
 // passedOver says why an entry of keys signs no token, or nothing where it may: docs/FORMATS.md, "Bundles".
 func passedOver(entry json.RawMessage) (why string) {
-	var key map[string]any
-	numbers := json.NewDecoder(bytes.NewReader(entry))
-	numbers.UseNumber()
-	if err := numbers.Decode(&key); err != nil || key == nil {
-		return "it is no object"
-	}
-	use, _ := key["use"].(string)
-	kty, _ := key["kty"].(string)
-	_, named := key["kid"].(string)
+	err := svid.CheckEntry(entry)
+	var fault svid.EntryFault
 	switch {
-	case use == "x509-svid":
-		return "it is for X.509-SVIDs"
-	case use != "jwt-svid":
-		return `its "use" is not "jwt-svid"`
-	case !named:
-		return `its "kid" is no text`
-	case !ktys[kty]:
-		return noKty
+	case err == nil:
+		return ""
+	case errors.As(err, &fault):
+		return fault.String()
 	}
-	return ""
+	return err.Error()
 }
 
 // readAll reads a bundle of bearable length.

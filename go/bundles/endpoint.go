@@ -10,6 +10,8 @@ import (
 	"net/http"
 	"strings"
 	"time"
+
+	"svid.example/go/v2/svid"
 )
 
 // How the server of an address shows that it is the right one (SPIFFE Federation, section 5.2). Profile https_web: by a
@@ -204,9 +206,8 @@ func (s Spec) CheckAuthorities() error {
 
 // domainOf is the trust domain of a SPIFFE ID, or "" where a text is none with a path.
 func domainOf(id string) string {
-	rest := strings.TrimPrefix(id, "spiffe://")
-	domain, path, found := strings.Cut(rest, "/")
-	if rest == id || !found || path == "" {
+	domain, path, err := svid.ParseID(id)
+	if err != nil || path == "" {
 		return ""
 	}
 	return domain

@@ -98,7 +98,7 @@ func TestNamesOfTrustDomains(t *testing.T) {
 	_, o := watch(t, nil, Folder(folder))
 	o.wantLines(t, 1, `is no trust domain's name`)
 	agent := agenttest.Start(t)
-	agent.Give(t, map[string]string{"spiffe://a/b": spire, "spiffe://a": spire, "spiffe://spiffe://b": spire})
+	agent.Give(t, map[string]string{"spiffe://c/b": spire, "spiffe://a": spire, "spiffe://spiffe://b": spire})
 	_, o = watch(t, nil, ofAgent(t, agent.Address))
 	o.await(t, "the bundle", o.calledTimes(1))
 	if len(o.last) != 1 || o.last["a"] == "" {

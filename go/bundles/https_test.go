@@ -167,9 +167,10 @@ func TestWhatIsNoBundle(t *testing.T) {
 		}
 	}
 	for entry, want := range map[string]string{
-		`{"use":"jwt-svid","kid":"a","kty":"EC","n":1e999}`: "", // a number that no float is
-		`{"use":"jwt-svid","kid":"a","kty":"oct"}`:          `its "kty" is neither "RSA" nor "EC"`,
-		`{"use":"jwt-svid","kid":"a"}`:                      `its "kty" is neither "RSA" nor "EC"`,
+		`{"use":"jwt-svid","kid":"a","kty":"EC","n":1e999}`: "it is no JSON object", // a number that no float is
+		`{"use":"jwt-svid","kid":"a","kty":"EC","n":1.5}`:   "a number in it is no whole number of 64 bits",
+		`{"use":"jwt-svid","kid":"a","kty":"oct"}`:          "its kty is neither RSA nor EC",
+		`{"use":"jwt-svid","kid":"a"}`:                      "its kty is neither RSA nor EC",
 	} {
 		if got := passedOver(json.RawMessage(entry)); got != want {
 			t.Errorf("%s: %q, want %q", entry, got, want)

@@ -7,6 +7,8 @@ import (
 	"net/url"
 	"strings"
 	"time"
+
+	"svid.example/go/v2/svid"
 )
 
 // A Spec says where bundles come from: one trust domain's from a file or an https address, or those of many from a folder
@@ -105,13 +107,12 @@ func (s Spec) isAddress() bool { return !s.isFolder() && strings.HasPrefix(s.Sou
 
 // checkDomain is an error where a name is not a trust domain's (SPIFFE-ID, section 2.1).
 func checkDomain(name string) error {
-	if name == "" || len(name) > 255 {
-		return errors.New("bundles: a trust domain's name has 1 to 255 bytes")
-	}
-	for _, c := range []byte(name) {
-		if !(c >= 'a' && c <= 'z' || c >= '0' && c <= '9' || c == '.' || c == '-' || c == '_') {
-			return fmt.Errorf("bundles: %q is no trust domain's name: it has letters of a to z, digits, '.', '-' and '_' alone", name)
-		}
+	_, path, err := svid.ParseID("spiffe://" + name)
+	switch {
+	case errors.Is(err, svid.ErrNoMemory):
+		return err
+	case err != nil || path != "":
+		return fmt.Errorf("bundles: %q is no trust domain's name: write 1 to 255 letters of a to z, digits, '.', '-' and '_'", name)
 	}
 	return nil
 }

@@ -69,7 +69,7 @@ func (w *Watcher) adopt(s Spec, bundles map[string][]byte) {
 	})
 	changed, there, room := false, map[string]bool{}, mostDocument
 	for _, name := range names {
-		domain := strings.TrimPrefix(name, "spiffe://")
+		domain := domainNamed(name)
 		if _, named := w.specOf(domain); named {
 			continue
 		}
@@ -84,6 +84,15 @@ func (w *Watcher) adopt(s Spec, bundles map[string][]byte) {
 	if w.dropOthers(s, there) || changed {
 		w.tell()
 	}
+}
+
+// domainNamed is the trust domain that a Workload API names by its SPIFFE ID. Another name stays as it is.
+func domainNamed(name string) string {
+	domain, path, err := svid.ParseID(name)
+	if err != nil || path != "" {
+		return name
+	}
+	return domain
 }
 
 // mended is a bundle of a Workload API as the validator wants it, if there is room for it among the bytes that all of them may

@@ -61,10 +61,8 @@ func Allows(pattern, id string) (bool, error) {
 		return false, nil
 	case status >= C.SVID_PATTERN_TOO_LONG && status <= C.SVID_PATTERN_PATH_BYTE:
 		return false, &PatternError{pattern, int(out.offset), idWords[status]}
-	case status == C.SVID_NO_MEMORY:
-		return false, ErrNoMemory
 	}
-	return false, fmt.Errorf("svid: %q is no SPIFFE ID (byte %d): %s", id, int(out.offset), idWords[status])
+	return false, idError(id, status, &out)
 }
 
 // CheckPattern returns why a text is no pattern, a *PatternError or ErrNoMemory, or nil.

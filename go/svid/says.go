@@ -6,6 +6,10 @@ package svid
 static uint32_t says(_GoString_ token, svid_said *said, size_t *lens, size_t lens_len, uint8_t *out, size_t out_len, svid_told *told) {
     return svid_token_says((const uint8_t *)_GoStringPtr(token), _GoStringLen(token), said, lens, lens_len, out, out_len, told);
 }
+
+static uint32_t payload(_GoString_ token, uint8_t *out, size_t out_len, svid_told *told) {
+    return svid_token_payload((const uint8_t *)_GoStringPtr(token), _GoStringLen(token), out, out_len, told);
+}
 */
 import "C"
 
@@ -52,6 +56,18 @@ func Read(token string) (Said, error) {
 		}
 		return saidBy(&s.said, s.lens[:s.said.texts], string(s.out[:s.told.len])), nil
 	}
+}
+
+// Payload returns the payload of a token, which has its claims as JSON, as it was signed. It judges nothing. The error is the
+// Refusal TooLong, NotThreeParts or PayloadSpelling, or ErrNoMemory.
+func Payload(token string) ([]byte, error) {
+	var told C.svid_told
+	out := make([]byte, len(token)) // (its base64url is longer)
+	status := C.payload(token, start(out), C.size_t(len(out)), &told)
+	if err := failure(status, &told); err != nil {
+		return nil, err
+	}
+	return out[:told.len], nil
 }
 
 // grow makes room for what the last call told.

@@ -30,6 +30,9 @@ EXPORT(svid_key_spki,
        (const uint8_t *key, size_t key_len, const uint8_t *alg, size_t alg_len, size_t most_bits, uint8_t *out, size_t out_len,
         svid_told *told),
        (key, key_len, alg, alg_len, most_bits, out, out_len, told))
+EXPORT(svid_key_text,
+       (const uint8_t *entry, size_t entry_len, uint8_t *out, size_t out_len, svid_told *told),
+       (entry, entry_len, out, out_len, told))
 EXPORT(svid_bundles_join,
        (const uint8_t *bytes, size_t bytes_len, const svid_document *documents, size_t documents_len, uint8_t *out, size_t out_len,
         svid_told *told),

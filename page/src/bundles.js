@@ -1,21 +1,23 @@
 // Trust bundles as the page takes them, and why an entry of one is no candidate for a token (docs/FORMATS.md, "Bundles", "Candidates").
 
-import { firstFraction, lastMembers, member, parse, stringAt } from "./json.js";
+import { member, parse } from "./json.js";
+import { textOf } from "./library.js";
 
-const KEY_MOST = 65536;
-// lists:begin ktys (written by tools/lists from lists/algorithms.toml)
-const KTY_OF = new Map([
-  ["RS256", "RSA"],
-  ["RS384", "RSA"],
-  ["RS512", "RSA"],
-  ["ES256", "EC"],
-  ["ES384", "EC"],
-  ["ES512", "EC"],
-  ["PS256", "RSA"],
-  ["PS384", "RSA"],
-  ["PS512", "RSA"],
-]);
-const NO_KTY = "neither RSA nor EC";
+const OK = 0;
+// lists:begin entries (written by tools/lists from lists/statuses.toml)
+/** Why an entry of a bundle is no key for JWT-SVIDs, by status (include/svid.h). */
+const ENTRY_FAULTS = {
+  61: "it is no JSON object",
+  62: "it has no use, which must be \"jwt-svid\"",
+  63: "it is for X.509-SVIDs",
+  64: "its use is not \"jwt-svid\"",
+  65: "its kid is not there, or no text",
+  66: "its kty is neither RSA nor EC",
+  67: "a number in it is no whole number of 64 bits",
+  68: "it has more than 65,536 bytes as compact JSON",
+};
+const KEY_KTY = 72;
+const OTHER_KTY = "its kty is not the algorithm's: RSA for RS and PS, EC for ES";
 // lists:end
 
 // lists:begin bundles (written by tools/lists from lists/statuses.toml)
@@ -28,7 +30,6 @@ export const BUNDLE_FAULTS = {
 };
 // lists:end
 
-const KTYS = new Set(KTY_OF.values());
 const encoder = new TextEncoder();
 
 function nodeOf(text) {
@@ -62,37 +63,22 @@ export function entriesOf(bundles, domain) {
 }
 
 /**
- * Why an entry is no candidate: the first reason of the list in docs/FORMATS.md. Undefined where it is one.
- * @param entry a node of JSON; @param text the text that it stands in; @param wanted `{ alg, kid }` of the token, each of which may be absent
+ * The key that an entry is: `{ key }`, as the library lists keys; or `{ reason }`, why it is passed over for a token.
+ * @param entry the text of the entry
+ * @param names what the token says, as `library.says`: `alg` and `kid`, each of which may be absent
+ * @param fitting the keys that may have signed the token, as the library lists them
  */
-export function passedOver(entry, text, { alg, kid }) {
-  if (entry.kind !== "object") return "it is no object";
-  const use = member(entry, "use"), name = stringAt(entry, "kid"), kty = stringAt(entry, "kty");
-  if (!use) return "it has no use, which must be jwt-svid";
-  if (stringAt(entry, "use") !== "jwt-svid") return `its use is ${shown(use, text)}, and not jwt-svid`;
-  if (name === undefined) return member(entry, "kid") ? "its kid is no text" : "it has no kid";
-  if (kty === undefined) return member(entry, "kty") ? "its kty is no text" : "it has no kty";
-  if (!KTYS.has(kty)) return `its kty is ${shown(member(entry, "kty"), text)}, and ${NO_KTY}`;
-  const fraction = firstFraction(entry);
-  if (fraction) return `it has the number ${fraction.text}, which is no whole number of 64 bits`;
-  if (encoder.encode(compact(entry)).length > KEY_MOST) return "it has more than 65,536 bytes";
-  if (KTY_OF.has(alg) && kty !== KTY_OF.get(alg)) return `its kty is ${kty}, and ${alg} needs ${KTY_OF.get(alg)}`;
-  if (kid !== undefined && name !== kid) return `its kid is not that of the token, ${JSON.stringify(kid)}`;
-  return undefined;
+export function keyOf(library, entry, { alg, kid }, fitting) {
+  const { status, bytes } = library.keyText(entry);
+  if (status !== OK) return { reason: ENTRY_FAULTS[status] ?? refuse(status) };
+  const key = textOf(bytes);
+  if (alg === undefined || fitting.has(key)) return { key };
+  const reason = library.spki(key, alg).status === KEY_KTY ? OTHER_KTY : `its kid is not that of the token, ${JSON.stringify(kid)}`;
+  return { reason };
 }
 
-function shown(found, text) {
-  const value = text.slice(found.value.from, found.value.to);
-  return value.length > 40 ? `${value.slice(0, 40)}…` : value;
-}
-
-/** The compact text of an entry: no blanks, names in rising order of their bytes, each once with its last value. */
-export function compact(node) {
-  if (node.kind === "number") return node.text;
-  if (node.kind === "array") return `[${node.items.map(compact).join(",")}]`;
-  if (node.kind !== "object") return JSON.stringify(node.value);
-  const members = lastMembers(node).sort((a, b) => byBytes(a.name, b.name));
-  return `{${members.map((it) => `${JSON.stringify(it.name)}:${compact(it.value)}`).join(",")}}`;
+function refuse(status) {
+  throw new Error(`the library answered ${status}`);
 }
 
 function byBytes(a, b) {

@@ -1,6 +1,6 @@
 // What the library says of a token. Everything here is a function of its input: the page draws what comes out.
 
-import { bundlesOf, compact, domainsOf, entriesOf, passedOver } from "./bundles.js";
+import { bundlesOf, domainsOf, entriesOf, keyOf } from "./bundles.js";
 import { parse } from "./json.js";
 import { MOST_CANDIDATES, textOf } from "./library.js";
 import { refusalOf, REFUSALS } from "./refusals.js";
@@ -45,7 +45,7 @@ export async function examine(library, input) {
     Object.assign(verdict, { key, exp });
   }
   const domain = names.domain ?? onlyOf(domainsOf(shown));
-  const keys = keysOf(rows, shown, { ...names, domain }, asked.value);
+  const keys = keysOf(library, rows, shown, { ...names, domain }, input.token);
   return { parts, names, bundles, isUnnamed, domain: isUnnamed ? undefined : domain, keys, yes, judgedAt, verdict };
 }
 
@@ -115,16 +115,16 @@ function explained(judged, known) {
   return { status: judged.status, refusal: refusal.name, passed: REFUSALS.indexOf(refusal), ...refusal.holds(known) };
 }
 
-// Each entry of the bundle: its answer where it is a candidate, or why it was passed over. A candidate is known by its compact text. One
-// that the library names and no entry fits would be shown by itself.
-function keysOf(rows, bundles, names, { status, more }) {
-  const untried = more ? `only the first ${MOST_CANDIDATES} keys that fit are tried` : "the library does not name it";
-  const left = [...rows];
+// Each entry of the bundle: its answer where it is a candidate, or why it was passed over. A candidate is known by its text as the library
+// lists it. One that no entry is would be shown by itself.
+function keysOf(library, rows, bundles, names, token) {
+  const fitting = new Set(library.candidates(bundles, token)), left = [...rows];
   const entries = entriesOf(bundles, names.domain).map((entry) => {
-    const reason = passedOver(entry, bundles, names), text = bundles.slice(entry.from, entry.to);
+    const text = bundles.slice(entry.from, entry.to), { key, reason } = keyOf(library, text, names, fitting);
     if (reason !== undefined) return { entry, text, reason };
-    const found = left.findIndex((it) => it.key === compact(entry));
-    return found === -1 ? { entry, text, reason: status === OK ? untried : undefined } : { entry, text, row: left.splice(found, 1)[0] };
+    const found = left.findIndex((it) => it.key === key);
+    if (found !== -1) return { entry, text, row: left.splice(found, 1)[0] };
+    return { entry, text, reason: fitting.has(key) ? `only the first ${MOST_CANDIDATES} keys that fit are tried` : undefined };
   });
   return [...entries, ...left.map((row) => ({ entry: parse(row.key), text: row.key, row }))];
 }

@@ -34,39 +34,10 @@ export function member(node, name) {
   return node?.kind === "object" ? node.members.findLast((it) => it.name === name) : undefined;
 }
 
-/** The members of an object that count, in the order of the text: the last one of each name. */
-export function lastMembers(node) {
-  const last = new Map(node.members.map((it) => [it.name, it]));
-  return node.members.filter((it) => last.get(it.name) === it);
-}
-
 /** The value of a member if it is a string. */
 export function stringAt(node, name) {
   const value = member(node, name)?.value;
   return value?.kind === "string" ? value.value : undefined;
-}
-
-/** Whether a number is whole as the library takes it: digits alone, from -2^63 to 2^64-1, and not -0. */
-export function isWhole(node) {
-  if (!/^-?\d+$/.test(node.text) || node.text === "-0") return false;
-  const value = BigInt(node.text);
-  return -(2n ** 63n) <= value && value < 2n ** 64n;
-}
-
-/** The first number inside a value that is not whole, if there is one; a value that a later member of its name replaces is passed over. */
-export function firstFraction(node) {
-  if (node.kind === "number") return isWhole(node) ? undefined : node;
-  for (const it of children(node)) {
-    const found = firstFraction(it);
-    if (found) return found;
-  }
-  return undefined;
-}
-
-function children(node) {
-  if (node.kind === "array") return node.items;
-  if (node.kind !== "object") return [];
-  return lastMembers(node).map((it) => it.value);
 }
 
 class Reader {

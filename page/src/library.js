@@ -1,7 +1,7 @@
 // The library svid as a WebAssembly module: the calls of include/svid.h that the page makes. A length, a time and an address in memory are
 // BigInts here, as they have 64 bits; a status is a number.
 
-const TOLD = 40, ID = 24, TERMS = 40, USE = 64, VALIDATOR = 16, DIGEST = 32, BEARER = 16, SAID = 48, DOCUMENT = 24;
+const TOLD = 40, ID = 24, TERMS = 40, USE = 64, VALIDATOR = 16, BUNDLES = 16, DIGEST = 32, BEARER = 16, SAID = 48, DOCUMENT = 24;
 const ID_ROOM = 2048, SIGNATURE_ROOM = 49150;
 const ANY = 2n ** 64n - 1n;
 const OK = 0, TOO_SHORT = 1, BUNDLES_UNNAMED = 37;
@@ -115,6 +115,25 @@ export class Library {
     return this.text((memory, ...out) => this.calls.svid_key_spki(...memory.lend(key), ...memory.lend(alg), MOST_RSA_BITS, ...out));
   }
 
+  /** The key for JWT-SVIDs that an entry of a bundle is, which is JSON, as `candidates` lists it: `{ status, bytes }`, or the status that says why it is none. */
+  keyText(entry) {
+    return this.text((memory, ...out) => this.calls.svid_key_text(...memory.lend(entry), ...out));
+  }
+
+  /** All keys that may have signed a token, as JSON: none where the token is refused before, or the bundles can't be read. */
+  candidates(bundles, token) {
+    return this.within((memory) => {
+      const handle = memory.zeroed(BUNDLES);
+      if (this.calls.svid_bundles_open(handle, ...memory.lend(bundles), memory.zeroed(TOLD)) !== OK) return [];
+      try {
+        const said = this.text((room, ...out) => this.calls.svid_bundles_ask(handle, ...room.lend(token), ANY, ...out));
+        return said.status === OK ? rowsOf(said.bytes, 0).map((it) => it.key) : [];
+      } finally {
+        this.calls.svid_bundles_close(handle);
+      }
+    });
+  }
+
   /** What both inputs tell, as messages: `{ status, input, message, offset, bytes }`. */
   join(a, b, now = 0n) {
     return this.text((memory, ...out) => this.calls.svid_join(...memory.lend(a), ...memory.lend(b), now, ...out));
@@ -187,7 +206,7 @@ class Validator {
     const said = this.library.text((memory, ...out) =>
       this.calls.svid_validator_ask(this.handle, ...memory.lend(token), MOST_CANDIDATES, ...out),
     );
-    const rows = said.status === OK ? rowsOf(said.bytes) : [];
+    const rows = said.status === OK ? rowsOf(said.bytes, DIGEST) : [];
     return { status: said.status, rows: rows.map((it) => ({ ...it, spki: this.library.spki(it.key, it.alg) })), more: said.more === 1 };
   }
 
@@ -301,7 +320,7 @@ function textsOf(bytes, lengths) {
 }
 
 // The rows of svid_validator_ask.
-function rowsOf(bytes) {
+function rowsOf(bytes, asked) {
   const view = new DataView(bytes.buffer, bytes.byteOffset, bytes.length), rows = [];
   let at = 0;
   const field = () => {
@@ -310,8 +329,8 @@ function rowsOf(bytes) {
     return textOf(bytes.subarray(at - length, at));
   };
   while (at < bytes.length) {
-    const question = hexOf(bytes.subarray(at, at + DIGEST));
-    at += DIGEST;
+    const question = hexOf(bytes.subarray(at, at + asked));
+    at += asked;
     rows.push({ question, alg: field(), key: field() });
   }
   return rows;

@@ -3,9 +3,9 @@
 import assert from "node:assert/strict";
 import { readFileSync } from "node:fs";
 import { test } from "node:test";
-import { bundlesOf, compact, domainsOf, entriesOf } from "../src/bundles.js";
-import { parse } from "../src/json.js";
-import { Library } from "../src/library.js";
+import { bundlesOf, domainsOf, entriesOf } from "../src/bundles.js";
+import { Library, textOf } from "../src/library.js";
+import { makeKey, sign } from "./tokens.mjs";
 
 const library = await Library.load(readFileSync(process.env.SVID_MODULE));
 
@@ -24,7 +24,21 @@ test("the name of a bundle is a name, whatever stands in it", () => {
   assert.equal(bundlesOf(library, '{"a":{"keys":[]}}', "b"), '{"a":{"keys":[]}}');
 });
 
-test("an entry's compact text has each name once, in the order of its bytes", () => {
-  const text = ' { "b" : [ 1 , { "z" : null , "a" : "\\u00e9" } ] , "\\ud83d\\ude00" : 1 , "\\uffee" : 2 , "b" : [ ] , "a" : true } ';
-  assert.equal(compact(parse(text)), '{"a":true,"b":[],"\uffee":2,"\u{1F600}":1}');
+test("trust domains are counted in the order of the bytes of their names", () => {
+  // (U+FFEE has the bytes EF BF AE, and U+1F600 F0 9F 98 80)
+  assert.deepEqual(domainsOf('{"b":1,"\u{1F600}":2,"\uffee":3,"b":4,"a":5}'), ["a", "b", "\uffee", "\u{1F600}"]);
+});
+
+test("the text of a key has each name once, in the order of its bytes", () => {
+  const text = ' { "use" : "jwt-svid" , "n" : [ 1 , { "z" : null , "a" : "\\u00e9" } ] , "\\ud83d\\ude00" : 1 , "\\uffee" : 2 , "n" : [ ] , "kty" : "EC" , "kid" : "k" } ';
+  const { status, bytes } = library.keyText(text);
+  assert.deepEqual([status, textOf(bytes)], [0, '{"kid":"k","kty":"EC","n":[],"use":"jwt-svid","\uffee":2,"\u{1F600}":1}']);
+});
+
+test("all keys that may have signed a token are listed, and none where bundles or the token are refused", async () => {
+  const keys = await Promise.all(Array.from({ length: 5 }, (_, n) => makeKey("ES256", `k${n}`)));
+  const bundles = JSON.stringify({ "example.org": { keys: [7, ...keys.map((it) => it.entry)] } });
+  const token = await sign(keys[0], '{"alg":"ES256"}', '{"sub":"spiffe://example.org/a","aud":"ledger","exp":1767229200}');
+  assert.deepEqual(library.candidates(bundles, token).map((it) => JSON.parse(it).kid), ["k0", "k1", "k2", "k3", "k4"]);
+  for (const [other, text] of [["{", token], [bundles, ""], ["{}", token]]) assert.deepEqual(library.candidates(other, text), []);
 });

@@ -2,19 +2,13 @@
 
 import assert from "node:assert/strict";
 import { test } from "node:test";
-import { isWhole, JsonFault, member, parse, stringAt } from "../src/json.js";
+import { JsonFault, member, parse, stringAt } from "../src/json.js";
 
 test("of members of one name the last one counts", () => {
   const node = parse('{"a":1,"b":"y","a":"x","b":2}');
   assert.equal(member(node, "a").value.value, "x");
   assert.equal(stringAt(node, "a"), "x");
   assert.equal(stringAt(node, "b"), undefined);
-});
-
-test("a number is whole as the library takes it", () => {
-  const rows = { 0: true, "-0": false, "-1": true, 18446744073709551615n: true, 18446744073709551616n: false, 36893488147419103231n: false,
-    "-9223372036854775808": true, "-9223372036854775809": false, "-18446744073709551615": false, "1.0": false, "1e3": false };
-  for (const [text, want] of [...Object.entries(rows), ["18446744073709551615", true], ["18446744073709551616", false]]) assert.equal(isWhole(parse(text)), want, text);
 });
 
 test("the depth of a text has its bound", () => {

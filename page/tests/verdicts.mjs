@@ -237,17 +237,18 @@ export function testVerdicts(start) {
     const other = await makeKey("ES256", "key-ES256"), curve = await makeKey("ES384", "key-ES256"), rsa = await makeKey("RS256", "key-ES256");
     const omit = (name) => Object.fromEntries(Object.entries(key.entry).filter(([it]) => it !== name));
     const rows = [
-      ["7", /passed over: it is no object/],
-      [JSON.stringify(omit("use")), /it has no use/],
-      [JSON.stringify({ ...key.entry, use: "x509-svid" }), /its use is "x509-svid", and not jwt-svid/],
-      [JSON.stringify(omit("kid")), /it has no kid/],
-      [JSON.stringify({ ...key.entry, kid: 1 }), /its kid is no text/],
-      [JSON.stringify(omit("kty")), /it has no kty/],
-      [JSON.stringify({ ...key.entry, kty: "OKP" }), /its kty is "OKP", and neither RSA nor EC/],
-      [JSON.stringify(key.entry).replace("{", '{"n":1.5,'), /the number 1.5, which is no whole number/],
-      [JSON.stringify(key.entry).replace("{", '{"n":18446744073709551616,'), /the number 18446744073709551616, which/],
+      ["7", /passed over: it is no JSON object/],
+      [JSON.stringify(omit("use")), /it has no use, which must be "jwt-svid"/],
+      [JSON.stringify({ ...key.entry, use: "x509-svid" }), /it is for X.509-SVIDs/],
+      [JSON.stringify({ ...key.entry, use: "sig" }), /its use is not "jwt-svid"/],
+      [JSON.stringify(omit("kid")), /its kid is not there, or no text/],
+      [JSON.stringify({ ...key.entry, kid: 1 }), /its kid is not there, or no text/],
+      [JSON.stringify(omit("kty")), /its kty is neither RSA nor EC/],
+      [JSON.stringify({ ...key.entry, kty: "OKP" }), /its kty is neither RSA nor EC/],
+      [JSON.stringify(key.entry).replace("{", '{"n":1.5,'), /a number in it is no whole number of 64 bits/],
+      [JSON.stringify(key.entry).replace("{", '{"n":18446744073709551616,'), /a number in it is no whole number of 64 bits/],
       [JSON.stringify({ ...key.entry, more: "m".repeat(66000) }), /more than 65,536 bytes/],
-      [JSON.stringify(rsa.entry), /its kty is RSA, and ES256 needs EC/],
+      [JSON.stringify(rsa.entry), /its kty is not the algorithm's: RSA for RS and PS, EC for ES/],
       [JSON.stringify({ ...key.entry, kid: "other" }), /its kid is not that of the token, "key-ES256"/],
       [JSON.stringify(other.entry), /^does not verify the signature/],
       [JSON.stringify({ ...key.entry, x: "AA" }), /^can't be used: /],
@@ -338,7 +339,7 @@ export function testVerdicts(start) {
 
   test("a bundle as SPIRE prints it is known before any token: its trust domain is asked for, and its keys are shown", async () => {
     const said = async () => [(await shown()).said, await page.text("keys-of"), await page.text("bundles-said"), await page.run(() => document.getElementById("bundles").getAttribute("aria-invalid"))];
-    const taken = "A bundle as SPIRE prints it, with 2 entries. ", rows = [/^passed over: its use is "x509-svid", and not jwt-svid$/, /^may sign tokens$/];
+    const taken = "A bundle as SPIRE prints it, with 2 entries. ", rows = [/^passed over: it is for X.509-SVIDs$/, /^may sign tokens$/];
     await page.write({ ...fresh(), bundles: spires(), token: "" });
     assert.deepEqual(await said(), ["Paste a token", "of a bundle whose trust domain is not known yet", `${taken}Which trust domain is it of? Write the name below. If you leave it empty, the trust domain of the token is taken.`, "false"]);
     assert.equal(await page.run(() => document.getElementById("domain-row").hidden), false);

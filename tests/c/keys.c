@@ -1,9 +1,9 @@
-/* Reads keys as SubjectPublicKeyInfo (svid_key_spki of svid.h).
+/* Reads keys as SubjectPublicKeyInfo (svid_key_spki of svid.h), and entries of trust bundles as the text of keys (svid_key_text).
  *
  *   keys refused    the call with each of its allocations refused in turn; linked with --wrap for malloc, realloc and free
  *   keys guarded    all that it is lent between pages that can't be touched, right before the one and right behind the other
  *   keys nulls      NULL for each input of no bytes, and for a room of none: the answer is that of another pointer
- *   keys answers    the bytes of keys, in rooms of each length, and each reason why a key can't be used
+ *   keys answers    the bytes and texts of keys, in rooms of each length, and each reason why a key can't be used, or an entry is no key
  *   keys stack      the call on a painted stack, which tells how much of it the call needs */
 #include "harness.h"
 
@@ -14,6 +14,21 @@ static void call(const char *key, const char *alg, size_t most, answer *a) {
     clear(a);
     answered = a->status = svid_key_spki((const uint8_t *)key, strlen(key), (const uint8_t *)alg, strlen(alg), most, a->out, sizeof a->out, &a->told);
 }
+
+static void call_text(const char *entry, size_t room, answer *a) {
+    clear(a);
+    answered = a->status = svid_key_text((const uint8_t *)entry, strlen(entry), a->out, room, &a->told);
+}
+
+/* The call that an algorithm is for, or svid_key_text where none is given. */
+static void call_for(const char *key, const char *alg, answer *a) {
+    at = alg ? alg : "svid_key_text";
+    if (alg) call(key, alg, SVID_USUAL_RSA_BITS, a); else call_text(key, sizeof a->out, a);
+}
+
+/* An entry, and its text as Python's json.dumps(.., sort_keys=True, separators=(",", ":")) writes it. */
+static const char ENTRY[] = "{ \"use\": \"jwt-svid\", \"kty\": \"EC\", \"kid\": \"k\", \"n\": 18446744073709551615 }";
+static const char ENTRY_TEXT[] = "{\"kid\":\"k\",\"kty\":\"EC\",\"n\":18446744073709551615,\"use\":\"jwt-svid\"}";
 
 /* The key of RFC 7515, appendix A.3.1, and its SubjectPublicKeyInfo, as OpenSSL writes it. */
 #define X "f83OJ3D2xF1Bg8vub9tLe1gHMzV76e8Tus9uPHvRVEU"
@@ -52,18 +67,19 @@ static void refused(void) {
     static answer due, got, none;
     static char rsa_key[8192];
     strcpy(rsa_key, rsa(256, 0xff, 0xff, "AQAB"));
-    static const struct { const char *key, *alg; } keys[] = { { EC_KEY, "ES256" }, { rsa_key, "PS384" }, { EC_KEY, "ES384" }, { "{", "ES256" } };
+    static const struct { const char *key, *alg; } keys[] = {
+        { EC_KEY, "ES256" }, { rsa_key, "PS384" }, { EC_KEY, "ES384" }, { "{", "ES256" }, { ENTRY, NULL }, { EC_KEY, NULL }, { "{", NULL },
+    };
     long tried = 0;
     for (size_t i = 0; i < sizeof keys / sizeof *keys; i++) {
-        at = keys[i].alg;
         refused_at = asked = 0;
-        call(keys[i].key, keys[i].alg, SVID_USUAL_RSA_BITS, &due);
+        call_for(keys[i].key, keys[i].alg, &due);
         long all = asked;
         holds(due.status != SVID_NO_MEMORY && standing == 0, "memory is held");
-        holds(i == 3 || all > 0, "no allocation was seen");
+        holds(!keys[i].key[1] || all > 0, "no allocation was seen");
         for (long n = 1; n <= all; n++, tried++) {
             asked = 0, refused_at = n;
-            call(keys[i].key, keys[i].alg, SVID_USUAL_RSA_BITS, &got);
+            call_for(keys[i].key, keys[i].alg, &got);
             refused_at = 0;
             holds(standing == 0, "memory is held");
             if (got.status != SVID_NO_MEMORY) { holds(!memcmp(&got, &due, sizeof due), "the answer differs"); continue; }
@@ -93,6 +109,19 @@ static void guarded(void) {
         memcpy(got.out, out, room), got.told = *told;
         holds(!memcmp(&got, &due, sizeof got), "the answer differs");
     }
+    const char *entries[] = { ENTRY, EC_KEY, "", "{\"use\":" };
+    const size_t text_rooms[] = { 0, 1, sizeof ENTRY_TEXT - 2, sizeof ENTRY_TEXT - 1, sizeof ENTRY_TEXT, SVID_SPKI_ROOM };
+    for (int turn = 0; turn < 2 * 4 * 6; turn++, calls++) {
+        const char *entry = entries[turn / 2 % 4];
+        size_t room = text_rooms[turn / 8], len = strlen(entry);
+        int first = turn % 2;
+        call_text(entry, room, &due), clear(&got);
+        svid_told *told = between(&got.told, sizeof got.told, first);
+        uint8_t *out = between(got.out, room, first);
+        answered = got.status = svid_key_text(between(entry, len, first), len, out, room, told);
+        memcpy(got.out, out, room), got.told = *told;
+        holds(!memcmp(&got, &due, sizeof got), "the answer differs");
+    }
     printf("%ld calls between pages that can't be touched", calls);
 }
 
@@ -111,6 +140,16 @@ static void nulls(void) {
         }
         holds(!memcmp(&got, &due, sizeof got), "NULL is answered otherwise");
     }
+    for (int which = 0; which < 2; which++) {
+        answer *both[] = { &due, &got };
+        for (int i = 0; i < 2; i++) {
+            clear(both[i]);
+            const uint8_t *none = i ? NULL : nothing;
+            answered = both[i]->status = svid_key_text(which == 0 ? none : (const uint8_t *)ENTRY, which == 0 ? 0 : sizeof ENTRY - 1,
+                which == 1 && i ? NULL : both[i]->out, which == 1 ? 0 : sizeof both[i]->out, &both[i]->told);
+        }
+        holds(!memcmp(&got, &due, sizeof got), "NULL is answered otherwise");
+    }
     printf("NULL for each input");
 }
 
@@ -124,9 +163,51 @@ static void wants(const char *key, const char *alg, size_t most, uint32_t due) {
     holds(a.told.len == 0 && !memcmp(a.out, none.out, sizeof none.out), "a key that can't be used writes, or tells more");
 }
 
+/* The beginning of an entry, up to the name of its key. */
+#define HEAD "{\"use\":\"jwt-svid\",\"kty\":\"EC\",\"kid\":"
+
+static void wants_entry(const char *entry, uint32_t due) {
+    static answer a, none;
+    at = entry;
+    call_text(entry, sizeof a.out, &a);
+    clear(&none);
+    holds(a.status == due && a.told.len == 0 && !memcmp(a.out, none.out, sizeof none.out), svid_strstatus(due));
+}
+
+/* The rows of docs/FORMATS.md, "Bundles", in their order. */
+static void entries(void) {
+    static answer a;
+    static char long_entry[65600];
+    size_t len = sizeof ENTRY_TEXT - 1;
+    at = "the text of a key";
+    for (size_t room = 0; room <= len + 1; room++) {
+        call_text(ENTRY, room, &a);
+        holds(a.told.len == len && a.told.input == 0 && a.told.offset == 0 && a.told.more == 0, "tells otherwise");
+        holds(a.status == (room < len ? SVID_TOO_SHORT : SVID_OK) && a.out[room < len ? 0 : len] == 0xA5, "a room of another length");
+        holds(room < len || !memcmp(a.out, ENTRY_TEXT, len), "differs");
+    }
+    wants_entry("", SVID_ENTRY_NOT_OBJECT);
+    wants_entry("[]", SVID_ENTRY_NOT_OBJECT);
+    wants_entry("{\"use\":\"jwt-svid\"", SVID_ENTRY_NOT_OBJECT);
+    wants_entry("{\"use\":\"jwt-svid\",\"n\":\"\xff\"}", SVID_ENTRY_NOT_OBJECT);
+    wants_entry("{}", SVID_ENTRY_NO_USE);
+    wants_entry("{\"use\":\"x509-svid\"}", SVID_ENTRY_X509);
+    wants_entry("{\"use\":\"sig\"}", SVID_ENTRY_USE);
+    wants_entry("{\"use\":null}", SVID_ENTRY_USE);
+    wants_entry("{\"use\":\"jwt-svid\",\"kid\":1}", SVID_ENTRY_KID);
+    wants_entry("{\"use\":\"jwt-svid\",\"kid\":\"\",\"kty\":\"oct\"}", SVID_ENTRY_KTY);
+    wants_entry("{\"use\":\"jwt-svid\",\"kid\":\"\",\"kty\":\"EC\",\"n\":-0}", SVID_ENTRY_NUMBER);
+    memset(long_entry, 'k', sizeof long_entry - 1);
+    memcpy(long_entry, HEAD, sizeof HEAD - 1);
+    long_entry[sizeof HEAD - 1] = '"';
+    memcpy(long_entry + sizeof long_entry - 3, "\"}", 2);
+    wants_entry(long_entry, SVID_ENTRY_TOO_LONG);
+}
+
 static void answers(void) {
     static answer a;
     static uint8_t der[SVID_SPKI_ROOM];
+    entries();
     size_t len = of_hex(EC_DER, sizeof EC_DER - 1, der);
     at = "the bytes of an EC key";
     call(EC_KEY, "ES256", 0, &a);
@@ -183,18 +264,37 @@ static void *run(void *given) {
     return NULL;
 }
 
+static void *run_text(void *given) {
+    static answer a;
+    call_text(given, sizeof a.out, &a);
+    return NULL;
+}
+
+/* Objects one within the other, so many. */
+static char *nested(char *to, int depth) {
+    for (int n = 0; n < depth; n++) to += sprintf(to, "{\"\":");
+    *to++ = '0';
+    for (int n = 0; n < depth; n++) *to++ = '}';
+    *to = 0;
+    return to;
+}
+
 static void stack(void) {
     static char deep[65536];
     static const int depths[] = { 100, 126, 127, 10000 };
     at = "svid_key_spki";
     size_t most = stack_of(run, (void *)(size_t)EC_KEY);
     for (size_t i = 0; i < sizeof depths / sizeof *depths; i++) {
-        char *to = deep;
-        for (int n = 0; n < depths[i]; n++) to += sprintf(to, "{\"\":");
-        *to++ = '0';
-        for (int n = 0; n < depths[i]; n++) *to++ = '}';
-        *to = 0;
+        nested(deep, depths[i]);
         size_t used = stack_of(run, deep);
+        if (used > most) most = used;
+    }
+    at = "svid_key_text";
+    for (size_t i = 0; i < sizeof depths / sizeof *depths; i++) {
+        char *to = nested(deep + sprintf(deep, HEAD "\"k\",\"n\":"), depths[i] - 1);
+        sprintf(to, "}");
+        size_t used = stack_of(run_text, deep);
+        holds(answered == (depths[i] <= 127 ? SVID_OK : SVID_ENTRY_NOT_OBJECT), "a deep entry");
         if (used > most) most = used;
     }
     is_stack(most, STACK_MOST);

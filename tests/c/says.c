@@ -1,5 +1,5 @@
-/* Calls what svid.h has for a request and its token without a record: svid_bearer_token, svid_token_says, svid_token_signature, svid_bundles_judge; and
- * svid_validator_size. Runs in the folder examples/.
+/* Calls what svid.h has for a request and its token without a record: svid_bearer_token, svid_token_says, svid_token_signature, svid_token_payload,
+ * svid_bundles_judge; and svid_validator_size. Runs in the folder examples/.
  *
  *   says answers   what each answers, beside what is known of the files here and of RFC 6750
  *   says refused   each call with each of its allocations refused in turn; linked with --wrap for malloc, realloc and free
@@ -14,8 +14,8 @@ _Static_assert(sizeof(svid_bearer) == 16 && sizeof(svid_said) == 48 && sizeof(sv
 
 static svid_question question;
 
-enum { BEARER, SAYS, SIGNATURE, JUDGE, SIZE, CALLS };
-static const char *const NAMES[] = { "svid_bearer_token", "svid_token_says", "svid_token_signature", "svid_bundles_judge", "svid_validator_size" };
+enum { BEARER, SAYS, SIGNATURE, PAYLOAD, JUDGE, SIZE, CALLS };
+static const char *const NAMES[] = { "svid_bearer_token", "svid_token_says", "svid_token_signature", "svid_token_payload", "svid_bundles_judge", "svid_validator_size" };
 
 /* What a call wrote: its status, and all that it may write. */
 typedef struct { uint32_t status; svid_told told; svid_bearer bearer; svid_said said; svid_signed over; svid_size size; svid_use used; size_t lens[8]; uint8_t out[4096]; } answer;
@@ -54,6 +54,7 @@ static uint32_t call_with(int which, const loan *l) {
     case BEARER: return svid_bearer_token(1, in[VALUE].bytes, in[VALUE].len, l->bearer);
     case SAYS: return svid_token_says(in[TOKEN].bytes, in[TOKEN].len, l->said, l->lens, l->lens_len, l->out, l->room, l->told);
     case SIGNATURE: return svid_token_signature(in[TOKEN].bytes, in[TOKEN].len, l->over, l->out, l->room, l->told);
+    case PAYLOAD: return svid_token_payload(in[TOKEN].bytes, in[TOKEN].len, l->out, l->room, l->told);
     case JUDGE: return svid_bundles_judge(l->b, l->setting, in[OWN].bytes, in[OWN].len, in[LENS].bytes, in[LENS].len / sizeof(size_t), in[YES].bytes, in[YES].len / sizeof question,
                                           in[TOKEN].bytes, in[TOKEN].len, l->out, l->room, l->used, l->told);
     default: return svid_validator_size(l->v, l->size, l->told);
@@ -174,9 +175,24 @@ static size_t decoded(const uint8_t *text, size_t len, uint8_t *to) {
     return n;
 }
 
+/* The longest part that a token may have, with its two periods at the first byte and at this one; and a token of one byte more. */
+static void longest(int which, size_t second, svid_bundles *b, svid_validator *v) {
+    static answer a;
+    static uint8_t most[65537];
+    loan l = lent(b, v, &a);
+    memset(most, 'A', sizeof most);
+    most[0] = most[second] = '.';
+    l.in[TOKEN].bytes = most, l.in[TOKEN].len = sizeof most - 1;
+    answered = call_with(which, &l);
+    holds(answered == SVID_TOO_SHORT && a.told.len == SVID_SIGNATURE_ROOM, "the longest one");
+    l.in[TOKEN].len = sizeof most;
+    answered = call_with(which, &l);
+    holds(answered == SVID_TOO_LONG && a.told.len == 0, "a token that is too long");
+}
+
 static void signatures(svid_bundles *b, svid_validator *v) {
     static answer a, c;
-    static uint8_t due[64], most[65537];
+    static uint8_t due[64];
     call(SIGNATURE, b, v, &a);
     size_t over = token_len - 87;
     holds(a.status == SVID_OK && a.over.len == over && token[over] == '.' && a.told.len == 64, "how long it is, and what it is over");
@@ -203,15 +219,38 @@ static void signatures(svid_bundles *b, svid_validator *v) {
         holds(answered == rows[i].due && c.told.len == rows[i].len, rows[i].token);
         holds(answered == SVID_OK ? c.over.len == rows[i].over : untouched(&c.over, sizeof c.over) && untouched(c.out, sizeof c.out), rows[i].token);
     }
-    memset(most, 'A', sizeof most);
-    most[0] = most[1] = '.';
-    loan l = lent(b, v, &c);
-    l.in[TOKEN].bytes = most, l.in[TOKEN].len = sizeof most - 1;
-    answered = call_with(SIGNATURE, &l);
-    holds(answered == SVID_TOO_SHORT && c.told.len == SVID_SIGNATURE_ROOM, "the longest one");
-    l.in[TOKEN].len = sizeof most;
-    answered = call_with(SIGNATURE, &l);
-    holds(answered == SVID_TOO_LONG && c.told.len == 0, "a token that is too long");
+    longest(SIGNATURE, 1, b, v);
+}
+
+/* The payload is that of the folder's token by the same reading, and no other part is read. */
+static void payloads(svid_bundles *b, svid_validator *v) {
+    static answer a, c;
+    static uint8_t due[4096];
+    const uint8_t *from = (const uint8_t *)memchr(token, '.', token_len) + 1;
+    size_t len = decoded(from, token_len - 87 - (size_t)(from - token), due);
+    call(PAYLOAD, b, v, &a);
+    holds(a.status == SVID_OK && a.told.len == len && !memcmp(a.out, due, len) && untouched(a.out + len, sizeof a.out - len), "its bytes");
+    holds(due[0] == '{' && due[len - 1] == '}', "it is no object");
+    for (size_t room = 0; room <= len; room++) {
+        loan l = lent(b, v, &c);
+        clear(&c);
+        l.room = room;
+        answered = call_with(PAYLOAD, &l);
+        holds(answered == (room == len ? SVID_OK : SVID_TOO_SHORT) && c.told.len == len && (room == len || untouched(c.out, sizeof c.out)), "rooms");
+    }
+    static const struct { const char *token; uint32_t due; size_t len; } rows[] = {
+        { "..", SVID_OK, 0 }, { "%.AA.%", SVID_OK, 1 }, { ".-_8.", SVID_OK, 2 }, { ".A.", SVID_PAYLOAD_SPELLING, 0 }, { ".AA==.", SVID_PAYLOAD_SPELLING, 0 },
+        { ".AB.", SVID_PAYLOAD_SPELLING, 0 }, { ".A+.", SVID_PAYLOAD_SPELLING, 0 }, { "", SVID_NOT_THREE_PARTS, 0 }, { "a.AA", SVID_NOT_THREE_PARTS, 0 },
+        { "a.AA.b.", SVID_NOT_THREE_PARTS, 0 },
+    };
+    for (size_t i = 0; i < sizeof rows / sizeof *rows; i++) {
+        loan l = lent(b, v, &c);
+        clear(&c);
+        l.in[TOKEN].bytes = rows[i].token, l.in[TOKEN].len = strlen(rows[i].token);
+        answered = call_with(PAYLOAD, &l);
+        holds(answered == rows[i].due && c.told.len == rows[i].len && untouched(c.out + rows[i].len, sizeof c.out - rows[i].len), rows[i].token);
+    }
+    longest(PAYLOAD, 65535, b, v);
 }
 
 static void judgments(svid_bundles *b, svid_validator *v) {
@@ -273,6 +312,7 @@ static void answers(void) {
     begin(&b, &v);
     sayings(&b, &v);
     signatures(&b, &v);
+    payloads(&b, &v);
     judgments(&b, &v);
     sizes(&b, &v);
     end(&b, &v);

@@ -10,6 +10,7 @@ pub mod Handle
 pub mod Inputs
 pub mod Joined
 pub mod Journal
+pub mod KeyText
 pub mod Payloads
 pub mod Live
 pub mod Log
@@ -23,6 +24,7 @@ pub mod Signs
 pub mod Size
 pub mod Spki
 pub mod Status
+pub mod TokenPayload
 pub mod Trust
 pub mod TrustHandle
 pub mod Written

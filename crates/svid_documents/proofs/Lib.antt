@@ -1,4 +1,5 @@
 pub mod DepthLemmas
+pub mod EntryLemmas
 pub mod JoinLemmas
 pub mod LawLemmas
 pub mod ViewLemmas

@@ -1,3 +1,4 @@
 pub mod Document
+pub mod Entry
 pub mod Join
 pub mod Uses

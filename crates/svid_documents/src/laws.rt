@@ -1,11 +1,13 @@
-//! What holds of the bundles that documents are joined to: the contracts of functions that do nothing.
+//! What holds of the bundles that documents are joined to, and of their entries: the contracts of functions that do nothing.
 
 ghost use Rattle.std.specs.Prelude.{◌≡◌, ℕ, List, ◌∷◌, ◌++◌, IsSome, Ok, Some};
+ghost use Rattle.std.specs.Result.{result_ok};
 ghost use Rattle.serde_json.specs.Data.{Data, Members};
 ghost use Rattle.serde_json.specs.Find.{get_member};
 ghost use Rattle.svid_keys.specs.Bundles.{bundles_in, bundles_of as kept_of};
 ghost use Rattle.svid_keys.specs.Candidates.{bundle_at};
 ghost use Rattle.svid_documents.specs.Document.{DocumentData, bundles_of};
+ghost use Rattle.svid_documents.specs.Entry.{kept_text, key_due};
 ghost use Rattle.svid_documents.specs.Join.{IsJoined, joined};
 
 /// The text of joined bundles is bundles, as `svid_keys` reads them: those that were joined.
@@ -27,4 +29,10 @@ pub fn each_domain_is_read_as_alone()
     ensures { (before : List DocumentData) (one : DocumentData) (after : List DocumentData) (all own : Members)
         → joined (before ++ one ∷ after) ≡ Ok all → bundles_of one ≡ Ok own
         → (name : List ℕ) → IsSome (get_member name own) → bundle_at name (kept_of all) ≡ bundle_at name (kept_of own) }
+{}
+
+/// There is no reason against an entry exactly if `svid_keys` makes a key of it, in the bundle of any trust domain;
+/// and the text that is answered is that of this key.
+pub fn entries_without_a_reason_are_kept()
+    ensures { (domain entry : List ℕ) → result_ok (key_due entry) ≡ kept_text domain entry }
 {}

@@ -1,4 +1,4 @@
-use svid_documents::{Document, DocumentFault, join};
+use svid_documents::{Document, DocumentFault, EntryFault, join, key_text};
 use svid_script_base::byte_words::bytes;
 use svid_script_base::env::Env;
 use svid_script_base::out::Out;
@@ -10,6 +10,7 @@ use svid_script_base::words::{from, word};
 pub fn call(out: &mut Out<'_>, env: &Env, words: &[&str]) -> Result<(), Stop> {
     match word(words, 0) {
         "documents" => documents(out, env, from(words, 1)),
+        "key_text" => entry(out, env, word(words, 1)),
         _ => Err(Stop::NoCall),
     }
 }
@@ -45,6 +46,17 @@ fn documents(out: &mut Out<'_>, env: &Env, words: &[&str]) -> Result<(), Stop> {
         Ok(text) => say_lines(out, &text),
         Err(fault) => {
             let is_out_of_memory = matches!(fault.fault, DocumentFault::OutOfMemory);
+            say_fault(out, fault, is_out_of_memory)
+        }
+    }
+}
+
+// `key_text BYTES`
+fn entry(out: &mut Out<'_>, env: &Env, text: &str) -> Result<(), Stop> {
+    match key_text(env.alloc, &bytes(env, text)?) {
+        Ok(text) => say_lines(out, text.as_bytes()),
+        Err(fault) => {
+            let is_out_of_memory = matches!(fault, EntryFault::OutOfMemory);
             say_fault(out, fault, is_out_of_memory)
         }
     }

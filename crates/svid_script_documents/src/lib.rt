@@ -1,4 +1,4 @@
-//! The test driver's call on documents that have trust bundles.
+//! The test driver's calls on documents that have trust bundles, and on their entries.
 #![tactic(auto)]
 
 mod calls;

@@ -2,7 +2,6 @@ package main
 
 import (
 	"context"
-	"encoding/base64"
 	"encoding/json"
 	"errors"
 	"fmt"
@@ -47,7 +46,7 @@ func verify(args []string, std stdio) int {
 	case err != nil:
 		return fail(std, err)
 	}
-	payload, err := base64.RawURLEncoding.DecodeString(strings.Split(token, ".")[1])
+	payload, err := svid.Payload(token)
 	if err != nil {
 		return fail(std, err)
 	}
