@@ -535,7 +535,8 @@ class Member(Validator):
         kind, now = what.partition(":")[0], time.monotonic()
         if now - self._said.get(kind, -_SAYS) >= _SAYS:
             self._said[kind] = now
-            _LOG.warning("%s", what)
+            with contextlib.suppress(Exception):  # (who is warned must not end the reading)
+                _LOG.warning("%s", what)
 
 
 class _Put:

@@ -17,7 +17,7 @@ import types
 import pytest
 import svid
 from logs import FileLog, MemoryLog
-from making import PATIENCE, SUBJECT, bundle, entry, fresh, private_key
+from making import PATIENCE, SUBJECT, bundle, entry, fresh, no_logger, private_key
 from svid import _journal
 from svid._frames import LogPosition
 from svid.asgi import SvidMiddleware
@@ -420,6 +420,12 @@ def test_a_value_that_is_no_messages(log, value, caplog):
         until(lambda: b._position == len(log.values) == 2)
         assert verdict(b, made) == "Replayed"
     assert bool(caplog.messages) == bool(value)
+
+
+def test_a_warning_that_fails_ends_no_reading(log):
+    with no_logger(), member(log) as checks:
+        log.append(b"no messages")
+        assert isinstance(verdict(checks, fresh()), svid.Use)
 
 
 def test_many_uses_in_a_value(log):
