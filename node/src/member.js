@@ -270,11 +270,15 @@ export class Member extends Validator {
   // Begins to read another log. What was in the one before may be gone.
   async #beginAnew(why) {
     this.#miss(`the log is another one (${why.message})`);
-    try {
-      const deaf = seconds() + this.#lasts;
-      await this.#begin(this._library.beside(), deaf < ANY ? deaf : ANY);
-    } catch (error) {
-      this.#warn("the log can't be read", error);
+    this.#isBegun = false; // (no value of it is read by a position in the one before)
+    while (!this.#isBegun && !this.#isClosing) {
+      try {
+        const until = seconds() + this.#lasts, deaf = until > this.#deaf ? until : this.#deaf;
+        await this.#begin(this._library.beside(), deaf < ANY ? deaf : ANY);
+      } catch (error) {
+        this.#warn("the log can't be read", error);
+        await this.#pause();
+      }
     }
   }
 

@@ -208,6 +208,54 @@ test("another log makes a member deaf, and what it knows stays", async () => {
   await member.close();
 });
 
+test("where another log can't begin for want of memory, nothing is read there by the position in the log before", async () => {
+  const told = [], other = await opened(new MemoryLog()), text = token(one), { use } = await other.check(text);
+  const logs = [[], [use.message, new Uint8Array(), new Uint8Array()]];
+  let at = 0, begun = 0, spare, calls;
+  const log = {
+    bounds: async () => {
+      begun = at;
+      if (at) spare ??= exhausted(calls);
+      return [0n, BigInt(logs[at].length)];
+    },
+    append: async (value) => void logs[at].push(value),
+    read: async (after) => {
+      if (begun !== at) throw new OtherLog("it was removed");
+      return logs[at].map((value, n) => [BigInt(n + 1), value]).filter(([position]) => position > after);
+    },
+  };
+  const [member, exports] = await seen(() => opened(log, { onWarning: (it) => told.push(it) }));
+  calls = exports;
+  for (let n = 0; n < 3; n++) assert.equal(await said(member.check(token(one))), "accepted");
+  at = 1;
+  await until(() => told.some((it) => /there is no memory left/.test(it)), "the member lacks memory");
+  spare.forEach((it) => calls.free_room(it));
+  assert.match(await said(member.check(text)), /Unavailable|Replayed/);
+  await until(() => member.deafUntil > 0n);
+  member.goOn();
+  await until(() => member.isReady);
+  assert.equal(await said(member.check(text)), "Replayed");
+  await closed(member, other);
+});
+
+test("another log ends no time before which a member accepts nothing", async () => {
+  const log = new TestLog(), member = await opened(log), clock = Date.now;
+  assert.equal(await said(member.check(token(one))), "accepted");
+  Date.now = () => clock() + 5_000_000;
+  log.skipped = 3n;
+  await log.append(new Uint8Array());
+  await until(() => member.deafUntil > 0n);
+  Date.now = clock;
+  const due = member.deafUntil;
+  log.fails.read = new OtherLog("it was removed");
+  const begun = log.begun.bounds;
+  await until(() => log.begun.bounds > begun);
+  log.fails = {};
+  await until(() => member.isReady === false && member.deafUntil > 0n);
+  assert.equal(member.deafUntil, due);
+  await member.close();
+});
+
 test("bytes in the log that are no messages are passed over", async () => {
   const log = new TestLog(), told = [], member = await opened(log, { onWarning: (it) => told.push(it) });
   await log.append(Buffer.from("no messages"));

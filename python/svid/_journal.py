@@ -412,7 +412,8 @@ class _Keeper:
                     commit.done.set()
                     quiet = _QUIET
             if commit is not None and commit.is_soon and commit.why is not None:
-                _LOG.warning("uses are not kept: %s", commit.why)
+                with contextlib.suppress(Exception):  # (who is warned must not end the writing)
+                    _LOG.warning("uses are not kept: %s", commit.why)
         with self._switching, self._writing:
             self._mark()
             done, self._file = self._file, -1

@@ -437,12 +437,14 @@ class Member(Validator):
     def _begin_anew(self, why: OtherLog) -> None:
         """Begins to read another log. What was in the one before may be gone."""
         self._miss(f"the log is another one ({why})")
-        try:
-            deaf = min(_seconds(time.time()) + self._lasts, lib.NO_LIMIT)
-            self._begin(self._handle.beside(), deaf)
-        except Exception as error:
-            self._say(f"the log can't be read: {error}")
-            self._pause()
+        self._is_begun = False  # (no value of it is read by a position in the one before)
+        while not (self._is_begun or self._closing):
+            try:
+                deaf = max(self._deaf, min(_seconds(time.time()) + self._lasts, lib.NO_LIMIT))
+                self._begin(self._handle.beside(), deaf)
+            except Exception as error:
+                self._say(f"the log can't be read: {error}")
+                self._pause()
 
     def _read(self, position: int, value: bytes) -> None:
         """Reads a value to its end, and ends the claims in it."""
@@ -533,7 +535,8 @@ class Member(Validator):
         kind, now = what.partition(":")[0], time.monotonic()
         if now - self._said.get(kind, -_SAYS) >= _SAYS:
             self._said[kind] = now
-            _LOG.warning("%s", what)
+            with contextlib.suppress(Exception):  # (who is warned must not end the reading)
+                _LOG.warning("%s", what)
 
 
 class _Put:

@@ -1,10 +1,12 @@
 """Keys, bundles and tokens for the tests, and what the program says of them."""
 
 import base64
+import contextlib
 import datetime
 import functools
 import hashlib
 import json
+import logging
 import os
 import struct
 import subprocess
@@ -136,6 +138,22 @@ def verdict(checks, text, now=NOW):
         return f"accepted {accepted.spiffe_id} {accepted.expires}"
     except svid.Refused as why:
         return f"refused {why.name}"
+
+
+@contextlib.contextmanager
+def no_logger():
+    """The handler of the logger "svid" fails, as one whose server is away."""
+
+    class Fails(logging.Handler):
+        def emit(self, record):
+            raise ConnectionError("no logger")
+
+    handler = Fails()
+    logging.getLogger("svid").addHandler(handler)
+    try:
+        yield
+    finally:
+        logging.getLogger("svid").removeHandler(handler)
 
 
 def compact(value):

@@ -19,7 +19,7 @@ import time
 
 import pytest
 import svid
-from making import PATIENCE, SUBJECT, fresh, validator
+from making import PATIENCE, SUBJECT, fresh, no_logger, validator
 from svid import _folder, _journal
 from svid._frames import LogPosition
 
@@ -654,6 +654,21 @@ def test_what_is_kept_behind_an_answer_may_fail(tmp_path, monkeypatch, caplog):
     assert found(tmp_path) == {1, 3}
     journal.append_soon(use(4).message)
     assert "closed" in caplog.text
+
+
+def test_a_warning_that_fails_ends_no_writing(tmp_path, monkeypatch):
+    def fails(*_):
+        failed.append(True)
+        raise OSError(28, "no space")
+
+    failed = []
+    with no_logger(), contextlib.closing(svid.Journal(tmp_path)) as journal:
+        with monkeypatch.context() as patch:
+            patch.setattr(_journal, "write", fails)
+            journal.append_soon(use(1).message)
+            until(lambda: len(failed) == 2)
+        append(journal, 2)
+    assert found(tmp_path) == {2}
 
 
 def test_a_folder_of_an_older_version(tmp_path):

@@ -17,7 +17,7 @@ import types
 import pytest
 import svid
 from logs import FileLog, MemoryLog
-from making import PATIENCE, SUBJECT, bundle, entry, fresh, private_key
+from making import PATIENCE, SUBJECT, bundle, entry, fresh, no_logger, private_key
 from svid import _journal
 from svid._frames import LogPosition
 from svid.asgi import SvidMiddleware
@@ -422,6 +422,12 @@ def test_a_value_that_is_no_messages(log, value, caplog):
     assert bool(caplog.messages) == bool(value)
 
 
+def test_a_warning_that_fails_ends_no_reading(log):
+    with no_logger(), member(log) as checks:
+        log.append(b"no messages")
+        assert isinstance(verdict(checks, fresh()), svid.Use)
+
+
 def test_many_uses_in_a_value(log):
     """More than are read at once; the last one is a claim of this member."""
     with member(log) as checks:
@@ -621,6 +627,30 @@ def test_a_log_that_is_another_one(log, caplog):
     assert any("the log is another one" in it for it in caplog.messages)
 
 
+def test_want_of_memory_where_another_log_begins(log, monkeypatch):
+    """Nothing is read there by the position in the log before."""
+    with member(log) as checks:
+        for it in "123":
+            assert isinstance(verdict(checks, fresh(jti=it)), svid.Use)
+        until(lambda: checks._position == 3)
+        real, fails = checks._handle.log, [True]
+
+        def begin(*given):
+            if fails:
+                fails.pop()
+                raise MemoryError
+            real(*given)
+
+        monkeypatch.setattr(checks._handle, "log", begin)
+        made = fresh(jti="made")
+        log.replace([batches([other_use(checks.judge(made).use)]), b"", b""])
+        until(lambda: not fails)
+        assert verdict(checks, made) in ("Unavailable", "Replayed")
+        until(lambda: checks.deaf_until)
+        checks.go_on()
+        assert verdict(checks, made) == "Replayed"
+
+
 def test_claims_that_were_read_in_the_log_before(log):
     """Those too that the record has not: from too far ahead."""
     with member(log) as checks:
@@ -705,6 +735,24 @@ def test_a_clock_that_jumps_ahead(log, clock):
         assert isinstance(verdict(checks, fresh(jti="2")), svid.Use)
         clock.ahead = 0
         assert isinstance(verdict(checks, fresh(jti="3")), svid.Use)
+
+
+def test_another_log_ends_no_time_in_which_nothing_is_accepted(log, clock, caplog):
+    """Though the clock went back in between: values that are missing may live for as long."""
+    with member(log) as checks, caplog.at_level(logging.WARNING, "svid"):
+        assert isinstance(verdict(checks, fresh()), svid.Use)
+        log.hold()
+        log.append(b"")
+        log.append(b"")
+        log.remove(2)
+        clock.ahead = 5000
+        log.go()
+        until(lambda: checks.deaf_until)
+        clock.ahead, due = 0, checks.deaf_until
+        log.replace([])
+        until(lambda: any("the log is another one" in it for it in caplog.messages))
+        until(lambda: checks._is_begun and checks._position == 0)
+        assert checks.deaf_until == due
 
 
 def test_a_clock_before_1970(log, clock, caplog):
