@@ -14,6 +14,7 @@ type follower struct {
 	seen   uint64    // the position of the last value that was read, or of the last one that was gone before
 	stamp  string    // of that value; "" if it was not read
 	looked time.Time // when the log was looked at last; zero behind a failure
+	since  time.Time // no value behind the last one was appended before; zero if nothing is known
 	unsafe string    // what was said about settings by which it may lose values
 }
 
@@ -97,6 +98,7 @@ func (f *follower) values(values []Stored) error {
 // was put back from an older copy gives the positions of values that it lost to others, which would be passed over, so all is read
 // again then: anew says so.
 func (f *follower) look() (anew bool, err error) {
+	now := time.Now()
 	ctx, cancel := context.WithTimeout(f.member.life, attemptWait)
 	state, err := f.member.store.State(ctx, f.seen)
 	cancel()
@@ -114,7 +116,9 @@ func (f *follower) look() (anew bool, err error) {
 		f.begin(state, true)
 		return true, nil
 	}
-	f.state = state
+	if f.state = state; state.Last <= f.seen {
+		f.since = now
+	}
 	return false, nil
 }
 
@@ -137,12 +141,15 @@ func (f *follower) reopen() (State, error) {
 // missing passes over values after the last one, up to this position, that were gone before they were read. The sink sees that by
 // the position of the next value, unless they have expired: then it begins anew after them. anew says that reading began
 // anew, since it is another log.
+//
+// That they have expired is what the log says, and a member that lies may write it, or the server's clock jump. So values that came in
+// less than their age have not.
 func (f *follower) missing(to uint64) (anew bool, err error) {
 	if anew, err := f.look(); anew || err != nil {
 		return anew, err
 	}
 	fields := []any{"from", f.seen + 1, "to", to}
-	expired := to <= f.state.Gone
+	expired := to <= f.state.Gone && (f.since.IsZero() || time.Since(f.since) >= f.member.options.Keep)
 	if !expired {
 		fields = append(fields, "why", errGone)
 	}
@@ -158,7 +165,7 @@ func (f *follower) missing(to uint64) (anew bool, err error) {
 // begin lets the follower read a log from its first value on. lost says that it read another one before, or values that are
 // lost: there may have been more of them.
 func (f *follower) begin(state State, lost bool) {
-	f.state, f.seen, f.stamp = state, state.First-1, ""
+	f.state, f.seen, f.stamp, f.since = state, state.First-1, "", time.Time{}
 	f.member.made.Store(&state.Made)
 	missed := f.seen > state.Gone
 	if f.seen > 0 {

@@ -726,6 +726,38 @@ func TestLiar(t *testing.T) {
 	}
 }
 
+// A member that lies may remove a value, and write that it has expired. Who reads the log, and knows that it had no such value before,
+// sees that this one is missing.
+func TestAYoungValueHasNotExpired(t *testing.T) {
+	s := start(t)
+	m := &told{begun: make(chan carriers.Start, 100), taken: make(chan carriers.Value, 1000)}
+	var err error
+	if m.Member, err = join(t, Options{URLs: []string{s.URL}}, m, m.log); err != nil {
+		t.Fatal(err)
+	}
+	<-m.begun
+	put := func(text string) {
+		t.Helper()
+		ctx, cancel := context.WithTimeout(context.Background(), patience.Long)
+		defer cancel()
+		if err := m.Put(ctx, carriers.Claims, 1, []byte(text)); err != nil {
+			t.Fatal(err)
+		}
+	}
+	put("first")
+	m.want(t, "first")
+	time.Sleep(3 * time.Second) // (It looks at the log each second.)
+	s.do(t, "EVAL", "redis.call('XADD', KEYS[1], '1-*', 'at', '0', 'kind', 'c', 'value', 'hidden'); redis.call('HSET', KEYS[2], 'gone', '2'); return redis.call('XTRIM', KEYS[1], 'MAXLEN', '0')",
+		"2", stream("svid"), "svid:{svid}:head")
+	put("third")
+	for v := range m.taken {
+		if v.Position != 3 || len(m.begun) > 0 {
+			t.Errorf("it takes %d, and has begun %d times: %q", v.Position, len(m.begun), m.said())
+		}
+		break
+	}
+}
+
 // starts tells of beginnings.
 type starts chan carriers.Start
 
