@@ -241,19 +241,33 @@ func TestFailover(t *testing.T) {
 	}
 }
 
+// opened is a store of these servers, and how long it may take.
+func opened(t *testing.T, keep time.Duration, urls ...string) (*Store, context.Context) {
+	t.Helper()
+	store, err := New(Options{URLs: urls, Name: "svid", Keep: keep})
+	if err != nil {
+		t.Fatal(err)
+	}
+	ctx, cancel := context.WithTimeout(context.Background(), patience.Long)
+	t.Cleanup(func() { store.Close(); cancel() })
+	return store, ctx
+}
+
+func appendTo(ctx context.Context, t *testing.T, store *Store, made, text string) {
+	t.Helper()
+	if _, err := store.Append(ctx, made, carriers.Claims, []byte(text)); err != nil {
+		t.Fatal(err)
+	}
+}
+
 // A server that was started again as a primary, at another address, says nothing of the one before it. It may lack values all the
 // same.
 func TestAnotherServer(t *testing.T) {
 	before, after := start(t), start(t)
 	after.Kill(t)
-	store, err := New(Options{URLs: []string{before.URL, after.URL}, Name: "svid", Keep: time.Hour})
+	store, ctx := opened(t, time.Hour, before.URL, after.URL)
+	_, err := store.Open(ctx)
 	if err != nil {
-		t.Fatal(err)
-	}
-	defer store.Close()
-	ctx, cancel := context.WithTimeout(context.Background(), patience.Long)
-	defer cancel()
-	if _, err := store.Open(ctx); err != nil {
 		t.Fatal(err)
 	}
 	before.Stop(t)
@@ -289,23 +303,12 @@ func TestAPrimaryThatBecomesAReplica(t *testing.T) {
 		}
 	}
 	logtest.Await(t, "the replica", isUp(replica))
-	store, err := New(Options{URLs: []string{primary.URL, replica.URL}, Name: "svid", Keep: time.Hour})
-	if err != nil {
-		t.Fatal(err)
-	}
-	defer store.Close()
-	ctx, cancel := context.WithTimeout(context.Background(), patience.Long)
-	defer cancel()
+	store, ctx := opened(t, time.Hour, primary.URL, replica.URL)
 	state, err := store.Open(ctx)
 	if err != nil {
 		t.Fatal(err)
 	}
-	put := func(text string) {
-		t.Helper()
-		if _, err := store.Append(ctx, state.Made, carriers.Claims, []byte(text)); err != nil {
-			t.Fatal(err)
-		}
-	}
+	put := func(text string) { appendTo(ctx, t, store, state.Made, text) }
 	put("there")
 	values, err := store.Read(ctx, 0)
 	if err != nil || len(values) != 1 {
@@ -320,14 +323,8 @@ func TestAPrimaryThatBecomesAReplica(t *testing.T) {
 	host, port, _ = strings.Cut(replica.Redis.Address, ":")
 	primary.do(t, "REPLICAOF", host, port)
 	logtest.AwaitFor(t, 3*time.Minute, "the primary to be a replica", isUp(primary))
-	other, err := New(Options{URLs: []string{replica.URL}, Name: "svid", Keep: time.Hour})
-	if err != nil {
-		t.Fatal(err)
-	}
-	defer other.Close()
-	if _, err := other.Append(ctx, state.Made, carriers.Claims, []byte("behind")); err != nil {
-		t.Fatal(err)
-	}
+	other, _ := opened(t, time.Hour, replica.URL)
+	appendTo(ctx, t, other, state.Made, "behind")
 	logtest.AwaitFor(t, 3*time.Minute, "the replica of now to have it", func() bool {
 		answer, err := primary.Do("EVAL", "return redis.call('XLEN', 'svid:{svid}:log')", "0")
 		return err == nil && answer == ":2"
@@ -347,24 +344,12 @@ func TestAPrimaryThatBecomesAReplica(t *testing.T) {
 // What is known of the ages of a log's values says nothing of those of another one.
 func TestAgesOfAnotherLog(t *testing.T) {
 	s := start(t)
-	store, err := New(Options{URLs: []string{s.URL}, Name: "svid", Keep: time.Second})
-	if err != nil {
-		t.Fatal(err)
-	}
-	defer store.Close()
-	ctx, cancel := context.WithTimeout(context.Background(), patience.Long)
-	defer cancel()
+	store, ctx := opened(t, time.Second, s.URL)
 	state, err := store.Open(ctx)
 	if err != nil {
 		t.Fatal(err)
 	}
-	put := func() {
-		t.Helper()
-		if _, err := store.Append(ctx, state.Made, carriers.Claims, []byte("x")); err != nil {
-			t.Fatal(err)
-		}
-	}
-	put()
+	appendTo(ctx, t, store, state.Made, "old")
 	if _, err := store.Read(ctx, 0); err != nil {
 		t.Fatal(err)
 	}
@@ -373,7 +358,7 @@ func TestAgesOfAnotherLog(t *testing.T) {
 	if state, err = store.Open(ctx); err != nil {
 		t.Fatal(err)
 	}
-	put()
+	appendTo(ctx, t, store, state.Made, "young")
 	if err := store.Expire(ctx, state.Made); err != nil {
 		t.Fatal(err)
 	}
