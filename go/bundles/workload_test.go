@@ -61,7 +61,7 @@ func TestWorkloadAPI(t *testing.T) {
 	// The same again changes nothing. A bad bundle leaves the last good one in its place; a name that is none has no bundle.
 	agent.Give(t, map[string]string{"spiffe://example.org": bare, "example.com": spire})
 	agent.Give(t, map[string]string{"spiffe://example.org": "x", "spiffe://Example": bare, "example.com": spire})
-	o.await(t, "the bad ones", o.says("source Example of"))
+	o.await(t, "the bad ones", o.says("source spiffe://Example of"))
 	o.wantLines(t, 1, "bundle not read; the last good one stays source example.org of "+agent.Address+" why it is no JSON object")
 	o.mu.Lock()
 	if o.calls != 1 {
