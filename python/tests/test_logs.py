@@ -825,6 +825,35 @@ def test_a_replica_takes_over_that_may_lack_values():
             assert all_of(log) == [(1, b"1"), (2, b"2")]
 
 
+def test_a_primary_that_becomes_a_replica():
+    """It gives up what its new primary lacks, and has other values at those positions."""
+    with RedisServer() as primary, replica_of(primary) as replica:
+        proxy = Proxy(primary.port)
+        url = primary.url.replace(str(primary.port), str(proxy.listener.getsockname()[1]))
+        with opened(primary, url=url) as log, opened(primary, log.group) as other:
+            stream = f"svid:{{{log.group}}}:log"
+            log.append(b"there")
+            assert all_of(log) == [(1, b"there")]
+            until(lambda: execute(replica, "XLEN", stream) == 1)
+            execute(replica, "REPLICAOF", "NO", "ONE")
+            other.append(b"lost")
+            execute(primary, "REPLICAOF", "127.0.0.1", str(replica.port))
+            until(lambda: primary.client().info("replication")["master_link_status"] == "up")
+            with opened(replica, log.group) as new:
+                new.append(b"behind")
+            until(lambda: execute(primary, "XLEN", stream) == 2)
+            with pytest.raises(ConnectionError, match="is a replica: name the primary"):
+                log.read(1, 0)
+            # The name of the server leads to another one now.
+            proxy.port = replica.port
+            with pytest.raises(svid.OtherLog, match="another server has taken over"):
+                tried(log.read, 1, 0)
+            assert log.bounds() == (0, 2)
+            log.append(b"more")
+            assert all_of(log) == [(1, b"there"), (2, b"behind"), (3, b"more")]
+        proxy.listener.close()
+
+
 def test_a_value_waits_for_its_replica():
     """So none is missing where that takes over."""
     with RedisServer() as primary, replica_of(primary) as replica:

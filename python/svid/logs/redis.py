@@ -59,8 +59,6 @@ class RedisLog(Carrier):
         more: dict[str, Any] = {"socket_timeout": timeout}
         if at.scheme != "unix":
             more["socket_connect_timeout"] = timeout
-        more["redis_connect_func"] = self._connected
-        self._is_new = True  # a connection was made behind the last look at who the server is
         self._run_id, self._takeovers = "", 0
         if at.scheme == "rediss" and ("ssl_cert_reqs", "none") not in parse_qsl(at.query):
             more["ssl_check_hostname"] = True  # (the package's own default does not look at it)
@@ -82,7 +80,7 @@ class RedisLog(Carrier):
     def _join(self) -> None:
         with self._faults():
             self._run_id = ""
-            self._look_who_it_is()
+            self._see_who_it_is(self._client.info("replication"))
             if not self._is_unchecked:
                 self._check_settings()
             self._run(_MAKE, os.urandom(16).hex(), self.keep)
@@ -90,16 +88,14 @@ class RedisLog(Carrier):
     def _keeping(self, seconds: int) -> str:
         return f"HSET {self._keys[1]} keep {seconds}"
 
-    def _connected(self, connection: Any) -> None:
-        connection.on_connect()
-        self._is_new = True
+    def _see_who_it_is(self, told: dict[str, Any]) -> None:
+        """Sees whether a replica has taken over: it may lack values that nobody here has read.
 
-    def _look_who_it_is(self) -> None:
-        """Sees whether a replica has taken over: it may lack values that nobody here has read."""
-        self._is_new = False
-        told = self._client.info("replication")
+        A primary that became a replica as it ran gives up values, and has other ones at their
+        positions. So its connections are not used again.
+        """
         if told["role"] != "master":
-            self._is_new = True
+            self._client.connection_pool.disconnect(inuse_connections=False)
             raise ConnectionError(f"{self._server} is a replica: name the primary in the URL")
         run_id, before = str(told["master_replid"]), str(told["master_replid2"])
         if self._run_id not in ("", run_id) and before.strip("0") and not self._others:
@@ -125,9 +121,10 @@ class RedisLog(Carrier):
 
     def _glance(self, after: int) -> Glance:
         with self._faults():
-            head, now, last, entries = self._run(_GLANCE, after, AT_ONCE + 1)
-            if self._is_new:
-                self._look_who_it_is()
+            together = self._client.pipeline(transaction=False)  # (over one connection)
+            together.eval(_GLANCE, 2, *self._keys, after, AT_ONCE + 1)
+            (head, now, last, entries), told = together.info("replication").execute()
+            self._see_who_it_is(told)
             rows = [_row(*it) for it in entries]
             if self._others and any(it.position > after for it in rows):
                 self._await(self._client.pipeline(transaction=False).set(self._mark, 1))
