@@ -173,7 +173,7 @@ class Refused(Error):
         return type(self).__name__
 
     def __str__(self) -> str:
-        return f"{self.name}: {type(self).__doc__}"
+        return f"{self.name}: {' '.join((type(self).__doc__ or '').split())}"
 
 
 # lists:begin refusals (written by tools/lists from lists/refusals.toml)

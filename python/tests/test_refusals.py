@@ -59,7 +59,7 @@ def test_refusal(name, spelled):
 def test_refusals_say_what_is_wrong_and_nothing_of_the_token():
     for kind in REFUSALS.values():
         refused = kind()
-        assert kind.__doc__ and "\n" not in kind.__doc__
+        assert kind.__doc__ and "\n" not in str(refused) and "  " not in str(refused)
         assert str(pickle.loads(pickle.dumps(refused))) == str(refused)
 
 
