@@ -51,6 +51,7 @@ export class RedisLog {
   #own = new Map(); // when the server got values that were not read yet
   #other = ""; // why the log is another one
   #ages = []; // of the values that were read
+  #since = null; // no value behind those that were read is from before
   #trimsAt = performance.now() + TRIMS;
 
   /** Takes a client of node-redis, which it copies, and the terms of the group's members. */
@@ -102,6 +103,7 @@ export class RedisLog {
     this.#stamps.clear();
     this.#own.clear();
     this.#ages = [];
+    this.#since = null;
     return [glance.gone, last > glance.gone ? last : glance.gone];
   }
 
@@ -135,11 +137,15 @@ export class RedisLog {
   }
 
   async #values(after) {
-    const known = this.#last; // (before the look: values that are put meanwhile may not be in it)
+    const now = performance.now(), known = this.#last; // (before the look: values that are put meanwhile may not be in it)
     const glance = await this.#glance(after);
     this.#other ||= this.#otherness(glance, after, known);
     if (this.#other) throw new OtherLog(this.#other);
-    const rows = glance.rows.filter((it) => it.position > after), gone = [...expired(after, glance.gone, rows)];
+    const rows = glance.rows.filter((it) => it.position > after);
+    // (a member that lies may write what has expired, and a clock of a server may jump: a value that came in less than its age has not)
+    const hasAged = this.#since === null || now - this.#since >= Number(this.#keep) * 1000;
+    const gone = hasAged ? [...expired(after, glance.gone, rows)] : [];
+    if (glance.last !== null && glance.last <= after) this.#since = now;
     // (what stands behind them comes with the next look)
     if (BigInt(gone.length) === MOST_GONE) return gone;
     if (rows.length) {

@@ -293,6 +293,21 @@ test("values that were removed are passed over some at a time", async () => {
   await log.close();
 });
 
+test("a young value has not expired, though a member that lies writes so", async () => {
+  const log = new RedisLog(server.made(), { longest: LONGEST, group: "liar" });
+  await log.bounds();
+  await log.append(Buffer.from("first"));
+  assert.equal((await log.read(0n, 0)).length, 1);
+  assert.deepEqual(await log.read(1n, 0), []);
+  await server.run("XADD", "svid:{liar}:log", "1-*", "at", "0", "kind", "c", "value", "hidden");
+  await server.run("HSET", "svid:{liar}:head", "gone", "2");
+  await server.run("XTRIM", "svid:{liar}:log", "MAXLEN", "0");
+  await log.append(Buffer.from("third"));
+  const positions = (await log.read(1n, 0)).map(([position]) => position);
+  await log.close();
+  assert.deepEqual(positions, [3n]);
+});
+
 test("options of a log that can't be are refused", () => {
   const client = server.made();
   for (const it of [{ group: "pg_x" }, { group: "" }, { group: "a b" }, { replicas: 0 }, { replicas: 65 }, { settings: "no" }, { timeout: 0 }]) {
