@@ -22,6 +22,7 @@ const OWN = 256;
 const NOWHERE = 2n ** 63n - 2n;
 const SECOND = 1_000_000n;
 const MOST_REPLICAS = 64;
+const INFO = ["INFO", "replication"];
 // Those without which a crash, or want of memory, loses values.
 const SETTINGS = { appendonly: "yes", appendfsync: "always", "no-appendfsync-on-rewrite": "no", "maxmemory-policy": "noeviction" };
 
@@ -40,7 +41,6 @@ export class RedisLog {
   #mark;
   #writer;
   #reader;
-  #isNew = true; // a connection was made behind the last look at who the server is
   #runId = "";
   #takeovers = 0;
 
@@ -51,6 +51,7 @@ export class RedisLog {
   #own = new Map(); // when the server got values that were not read yet
   #other = ""; // why the log is another one
   #ages = []; // of the values that were read
+  #since = null; // no value behind those that were read is from before
   #trimsAt = performance.now() + TRIMS;
 
   /** Takes a client of node-redis, which it copies, and the terms of the group's members. */
@@ -69,11 +70,8 @@ export class RedisLog {
     this.#timeout = timeout * 1000;
     this.#keys = [`svid:{${group}}:log`, `svid:{${group}}:head`];
     this.#mark = `svid:{${group}}:sync`;
-    const connected = () => {
-      this.#isNew = true;
-    };
-    this.#writer = new Connection(client, this.#timeout, connected);
-    this.#reader = new Connection(client, this.#timeout, connected);
+    this.#writer = new Connection(client, this.#timeout);
+    this.#reader = new Connection(client, this.#timeout);
   }
 
   /** Closes its connections, once its member is closed. */
@@ -105,6 +103,7 @@ export class RedisLog {
     this.#stamps.clear();
     this.#own.clear();
     this.#ages = [];
+    this.#since = null;
     return [glance.gone, last > glance.gone ? last : glance.gone];
   }
 
@@ -138,11 +137,15 @@ export class RedisLog {
   }
 
   async #values(after) {
-    const known = this.#last; // (before the look: values that are put meanwhile may not be in it)
+    const now = performance.now(), known = this.#last; // (before the look: values that are put meanwhile may not be in it)
     const glance = await this.#glance(after);
     this.#other ||= this.#otherness(glance, after, known);
     if (this.#other) throw new OtherLog(this.#other);
-    const rows = glance.rows.filter((it) => it.position > after), gone = [...expired(after, glance.gone, rows)];
+    const rows = glance.rows.filter((it) => it.position > after);
+    // (a member that lies may write what has expired, and a clock of a server may jump: a value that came in less than its age has not)
+    const hasAged = this.#since === null || now - this.#since >= Number(this.#keep) * 1000;
+    const gone = hasAged ? [...expired(after, glance.gone, rows)] : [];
+    if (glance.last !== null && glance.last <= after) this.#since = now;
     // (what stands behind them comes with the next look)
     if (BigInt(gone.length) === MOST_GONE) return gone;
     if (rows.length) {
@@ -201,17 +204,18 @@ export class RedisLog {
   // Makes the log where there is none.
   async #join() {
     this.#runId = "";
-    await this.#lookWhoItIs();
+    this.#seeWhoItIs(await this.#run(this.#reader, INFO));
     if (!this.#isUnchecked) await this.#checkSettings();
     await this.#run(this.#reader, this.#script(MAKE, randomBytes(16).toString("hex"), String(this.#keep)));
   }
 
-  // Sees whether a replica has taken over: it may lack values that nobody here has read.
-  async #lookWhoItIs() {
-    this.#isNew = false;
-    const told = new Map(text(await this.#run(this.#reader, ["INFO", "replication"])).split("\r\n").map((it) => it.split(":")));
+  // Sees whether a replica has taken over: it may lack values that nobody here has read. A primary that became a replica as it ran gives up
+  // values, and has other ones at their positions. So its connections are not used again.
+  #seeWhoItIs(info) {
+    const told = new Map(text(info).split("\r\n").map((it) => it.split(":")));
     if (told.get("role") !== "master") {
-      this.#isNew = true;
+      this.#reader.leave();
+      this.#writer.leave();
       throw new Error("the server is a replica: name the primary in the URL");
     }
     const runId = told.get("master_replid") ?? "", before = told.get("master_replid2") ?? "";
@@ -241,8 +245,8 @@ export class RedisLog {
 
   // The log as it is, with the value at this position and those behind it.
   async #glance(after) {
-    const [head, now, last, entries] = await this.#run(this.#reader, this.#script(GLANCE, String(after), String(AT_ONCE + 1)));
-    if (this.#isNew) await this.#lookWhoItIs();
+    const [[head, now, last, entries], info] = await this.#all(this.#reader, this.#script(GLANCE, String(after), String(AT_ONCE + 1)), INFO);
+    this.#seeWhoItIs(info);
     const rows = entries.map(rowOf);
     if (this.#others && rows.some((it) => it.position > after)) await this.#awaited(this.#reader, ["SET", this.#mark, "1"]);
     const [format, made, keep, gone] = head.map((it) => (it === null ? "" : text(it)));
@@ -298,14 +302,12 @@ export class RedisLog {
 class Connection {
   #base;
   #timeout;
-  #connected;
   #client = null;
   #isClosed = false;
 
-  constructor(base, timeout, connected) {
+  constructor(base, timeout) {
     this.#base = base;
     this.#timeout = timeout;
-    this.#connected = connected;
   }
 
   /** Makes commands, one directly behind the other. Throws where they are not answered in time; whether they were made is not known then. */
@@ -340,7 +342,6 @@ class Connection {
     if (this.#isClosed || this.#client) this.#drop(client);
     if (this.#isClosed) throw new Error("the log is closed");
     this.#client ??= client;
-    this.#connected();
     return this.#client;
   }
 
@@ -358,9 +359,14 @@ class Connection {
     return Promise.race([promise, late]).finally(() => clearTimeout(timer));
   }
 
+  /** Ends the connection. The next commands make another one. */
+  leave() {
+    if (this.#client) this.#drop(this.#client);
+  }
+
   async close() {
     this.#isClosed = true;
-    if (this.#client) this.#drop(this.#client);
+    this.leave();
   }
 }
 

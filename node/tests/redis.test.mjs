@@ -2,7 +2,7 @@
 
 import assert from "node:assert/strict";
 import { execFile, spawn } from "node:child_process";
-import { mkdtemp, rm, writeFile } from "node:fs/promises";
+import { mkdtemp, rename, rm, writeFile } from "node:fs/promises";
 import { createRequire } from "node:module";
 import { tmpdir } from "node:os";
 import { join } from "node:path";
@@ -224,6 +224,40 @@ test("a value counts once so many servers have it", async () => {
   release();
 });
 
+test("a primary that becomes a replica is not read", async () => {
+  const [here, there] = await Promise.all([heldPort(), heldPort()]), listens = ({ port }) => ["--port", String(port), "--bind", "127.0.0.1"];
+  const of = ({ port }) => ["127.0.0.1", String(port)], isUp = async (it) => /master_link_status:up/.test(await it.run("INFO", "replication"));
+  const first = await new Server("before", ...SAFE, ...listens(here)).start();
+  const second = await new Server("behind", ...SAFE, ...listens(there), "--replicaof", ...of(here)).start();
+  await until(() => isUp(second), "the replica is there");
+  const opened = async (on) => {
+    const log = new RedisLog(on.made(), { longest: LONGEST, group: "moved", timeout: 30 });
+    await log.bounds();
+    return log;
+  };
+  const log = await opened(first), other = await opened(first), has = async (on) => Number(await on.run("XLEN", "svid:{moved}:log"));
+  await log.append(Buffer.from("there"));
+  assert.equal((await log.read(0n, 0)).length, 1);
+  await until(async () => (await has(second)) === 1, "the replica has the value");
+  await second.run("REPLICAOF", "NO", "ONE");
+  await other.append(Buffer.from("lost"));
+  await first.run("REPLICAOF", ...of(there));
+  await until(() => isUp(first), "the primary is a replica");
+  const late = await opened(second);
+  await late.append(Buffer.from("behind"));
+  await until(async () => (await has(first)) === 2, "the replica of now has the value");
+  await assert.rejects(log.read(1n, 0), /the server is a replica/);
+  // (its path leads to another server now)
+  await rename(second.path, first.path);
+  await assert.rejects(log.read(1n, 0), { name: "OtherLog", message: /another server has taken over/ });
+  assert.deepEqual(await log.bounds(), [0n, 2n]);
+  await log.append(Buffer.from("more"));
+  assert.deepEqual((await log.read(0n, 0)).map(([, value]) => Buffer.from(value).toString()), ["there", "behind", "more"]);
+  await Promise.all([log, other, late].map((it) => it.close()));
+  for (const it of [first, second]) await it.stop("SIGKILL");
+  for (const it of [here, there]) it.release();
+});
+
 test("values that are too old are removed", async () => {
   const longest = 1, member = await joined("ages", { longest, ahead: 0, log: { longest, ahead: 0 } });
   const clock = async () => Number((await server.run("TIME"))[0]), brief = () => token(one, { exp: now() + 1 });
@@ -257,6 +291,21 @@ test("values that were removed are passed over some at a time", async () => {
     }
   }
   await log.close();
+});
+
+test("a young value has not expired, though a member that lies writes so", async () => {
+  const log = new RedisLog(server.made(), { longest: LONGEST, group: "liar" });
+  await log.bounds();
+  await log.append(Buffer.from("first"));
+  assert.equal((await log.read(0n, 0)).length, 1);
+  assert.deepEqual(await log.read(1n, 0), []);
+  await server.run("XADD", "svid:{liar}:log", "1-*", "at", "0", "kind", "c", "value", "hidden");
+  await server.run("HSET", "svid:{liar}:head", "gone", "2");
+  await server.run("XTRIM", "svid:{liar}:log", "MAXLEN", "0");
+  await log.append(Buffer.from("third"));
+  const positions = (await log.read(1n, 0)).map(([position]) => position);
+  await log.close();
+  assert.deepEqual(positions, [3n]);
 });
 
 test("options of a log that can't be are refused", () => {

@@ -638,6 +638,20 @@ def test_values_that_were_removed_come_some_at_a_time(shared_redis):
         assert all_of(log) == [*((it, b"") for it in range(1, 10_001)), (10_001, b"young")]
 
 
+def test_a_young_value_has_not_expired(shared_redis):
+    """A member that lies may remove one, and write that it has expired."""
+    with opened(shared_redis) as log:
+        log.append(b"first")
+        assert all_of(log) == [(1, b"first")]
+        stream, head = (f"svid:{{{log.group}}}:{it}" for it in ("log", "head"))
+        execute(shared_redis, "XADD", stream, "1-*", *"at 0 kind c value hidden".split())
+        execute(shared_redis, "HSET", head, "gone", 2)
+        execute(shared_redis, "XTRIM", stream, "MAXLEN", 0)
+        assert all_of(log, 1) == []
+        log.append(b"third")
+        assert all_of(log, 1) == [(3, b"third")]
+
+
 def test_young_values_stay(server):
     with opened(server) as log:
         for it in range(5):

@@ -78,6 +78,7 @@ class Carrier:
         self._own: dict[int, int] = {}  # when the server got values that were not read yet
         self._other = ""  # why the log is another one
         self._ages: list[_Age] = []  # of the values that were read
+        self._since: float | None = None  # no value behind those that were read is from before
         self._trims_at = time.monotonic() + _TRIMS
 
     # -- What a kind of server does
@@ -131,7 +132,7 @@ class Carrier:
         with self._guard:
             self._made, self._last, self._other = glance.made, last, ""
             self._history = glance.history
-            self._stamps, self._own, self._ages = {}, {}, []
+            self._stamps, self._own, self._ages, self._since = {}, {}, [], None
         return glance.gone, max(glance.gone, last)
 
     def append(self, value: bytes) -> None:
@@ -164,6 +165,7 @@ class Carrier:
         return values
 
     def _values(self, after: int) -> list[tuple[int, bytes]]:
+        now = time.monotonic()
         known = self._last  # (before the look: values that are put meanwhile may not be in it)
         glance = self._glance(after)
         with self._guard:
@@ -171,7 +173,12 @@ class Carrier:
             if self._other:
                 raise OtherLog(self._other)
             rows = [it for it in glance.rows if it.position > after]
-            gone = list(_expired(after, glance.gone, rows))
+            # (a member that lies may write what has expired, and a clock of a server may jump: a
+            # value that came in less than its age has not)
+            has_aged = self._since is None or now - self._since >= self.keep
+            gone = list(_expired(after, glance.gone, rows)) if has_aged else []
+            if glance.last is not None and glance.last <= after:
+                self._since = now
             if len(gone) == _MOST_GONE:
                 return gone  # (what stands behind them comes with the next look)
             if rows:
