@@ -8,6 +8,7 @@ import (
 	"strconv"
 	"strings"
 	"syscall"
+	"time"
 )
 
 // A process is a server that runs, with what it has started.
@@ -39,8 +40,31 @@ func (p *process) end(signal syscall.Signal) {
 	}
 }
 
-// Kill ends the server as kill -9 does. Of a server that does not run it does nothing.
-func (p *process) Kill() { p.end(syscall.SIGKILL) }
+// Kill ends the server as kill -9 does, with all that it has started, which else writes to its folder for a while. Of a server
+// that does not run it does nothing.
+func (p *process) Kill() {
+	if p.run == nil {
+		return
+	}
+	p.run.Process.Signal(syscall.SIGSTOP) // From here on it starts nothing.
+	started := children(p.run.Process.Pid)
+	p.end(syscall.SIGKILL)
+	for _, pid := range started {
+		syscall.Kill(pid, syscall.SIGKILL)
+	}
+	for _, pid := range started {
+		for isRunning(pid) {
+			time.Sleep(time.Millisecond) // Nothing tells of the end of a process that another one has started.
+		}
+	}
+}
+
+// isRunning says whether a process has not ended yet.
+func isRunning(pid int) bool {
+	text, err := os.ReadFile(fmt.Sprintf("/proc/%d/stat", pid))
+	_, rest, _ := strings.Cut(string(text), ") ")
+	return err == nil && !strings.HasPrefix(rest, "Z")
+}
 
 // Pause stops the server and what it has started, as SIGSTOP does, until Resume.
 func (p *process) Pause() { p.all(syscall.SIGSTOP) }
