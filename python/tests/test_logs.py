@@ -17,6 +17,7 @@ import svid
 from making import PATIENCE, bundle, entry, fresh, private_key
 from servers import PostgresServer, RedisServer, held_port, until
 from svid.logs import open_log, postgresql
+from svid.logs.redis import _GLANCE
 
 KINDS = {"redis": RedisServer, "postgresql": PostgresServer}
 KEEP = 3620
@@ -258,6 +259,17 @@ def test_an_entry_that_no_member_has_put(shared_redis):
             execute(shared_redis, "XADD", f"svid:{{{log.group}}}:log", "1-*", *fields)
         log.append(b"last")
         assert all_of(log) == [*enumerate((it for _, it in rows), 1), (14, b"last")]
+
+
+def test_an_entry_that_is_no_value_takes_no_memory(shared_redis):
+    """However many fields it has, and however long they are."""
+    long = "x" * 2**20
+    with opened(shared_redis) as log:
+        for fields in (long,) * 20, ("at", "1", "kind", long, "value", "1"):
+            execute(shared_redis, "XADD", f"svid:{{{log.group}}}:log", "1-*", *fields)
+        entries = log._run(_GLANCE, 0, 65)[3]
+        assert [sum(map(len, fields)) for _, fields in entries] == [0, 13]
+        assert all_of(log) == [(1, b""), (2, b"1")]
 
 
 def test_an_entry_at_no_position(shared_redis):
