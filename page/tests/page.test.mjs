@@ -311,7 +311,7 @@ test("everything is reached by the Tab key, in the order of the page, and shows 
     assert.ok(it.isShown, `${it.name} does not show the focus`);
     reached.push(it.name);
   }
-  assert.deepEqual(reached, ["skip", "example", "open", "token", "bundles", "own", "time", "longest", "live", "slider", "use", "withdraw", "verifies the signature", "passed over: its kty is RSA, and ES256 needs EC", "save", "forget", "rows", "What this page rests on"]);
+  assert.deepEqual(reached, ["skip", "example", "open", "token", "bundles", "own", "time", "longest", "live", "slider", "use", "withdraw", "verifies the signature", "passed over: its kty is not the algorithm's: RSA for RS and PS, EC for ES", "save", "forget", "rows", "What this page rests on"]);
 });
 
 test("a token is used by keys alone", async () => {
