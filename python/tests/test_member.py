@@ -1244,9 +1244,11 @@ def test_a_gap_outlives_a_restart(log, tmp_path):
             assert verdict(one, fresh(jti="on")) == "Unavailable"
     with member(log, state=tmp_path) as one:
         until(lambda: one._position == 6)
+        # (it is quiet, so the journal writes nothing by itself)
+        until(lambda: kept(one) and one._journal._keeper._marked)
         before = kept(one)
         one.go_on()
-        until(lambda: kept(one) > before)  # (and not by the close alone, which a kill leaves out)
+        until(lambda: kept(one) > before)
     assert log_position(tmp_path) == (6, 0, 0)
     with member(log, state=tmp_path) as one:
         assert one.deaf_until == 0
