@@ -140,7 +140,10 @@ USUAL = [
     ("svid chekc", mistakes("unrecognized subcommand 'chekc'; a similar subcommand exists: 'check'")),
     ("svid reprot bad.json", mistakes("unrecognized subcommand 'reprot'; a similar subcommand exists: 'report'")),
     ("svid check --bundel x", mistakes("unexpected argument '--bundel' found; a similar argument exists: '--bundles'", "check")),
-    (f"{CHECK} --longets 1 ledger <token.txt", mistakes("unexpected argument '--longets' found; a similar argument exists: '--longest'", "check")),
+    (
+        f"{CHECK} --longets 1 ledger <token.txt",
+        mistakes("unexpected argument '--longets' found; a similar argument exists: '--longest'", "check"),
+    ),
     ("svid candidates --bundles", mistakes("a value is required for '--bundles <FILE>' but none was supplied", "candidates")),
     (
         "svid check --now 1 ledger <token.txt",

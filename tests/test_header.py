@@ -213,11 +213,14 @@ def test_each_number_has_its_name():
 
 def said_by_the_list():
     """What each status but those of keys says in words, and what it advises."""
+    ktys = dict.fromkeys(it["kty"] for it in tomllib.loads(text_of("lists/algorithms.toml"))["algorithm"])
     for group in tomllib.loads(text_of("lists/statuses.toml"))["group"]:
         for it in group["status"] if group["name"] != "keys" else []:
             words = it.get("words") or f"{capital(it['says'])}."
             advice = it.get("advice", group.get("advice"))
-            yield f"SVID_{group.get('prefix', '')}{it['name']}", words.replace("`", "") + (f" {capital(advice)}." if advice else "")
+            yield f"SVID_{group.get('prefix', '')}{it['name']}", words.replace("`", "").replace(
+                "NO_KTY", f"neither {' nor '.join(ktys)}"
+            ) + (f" {capital(advice)}." if advice else "")
 
 
 def capital(text):
@@ -226,7 +229,8 @@ def capital(text):
 
 def test_each_status_says_what_the_list_says():
     # (texts that stand beside each other are one)
-    said = dict(re.findall(r'case (\w+): return "(.* .*)";', text_of("include/svid.h").replace('" "', "")))
+    said = dict(re.findall(r'case (\w+): return "(.* .*)";', text_of("include/svid.h").replace('" "', "").replace('\\"', "\0")))
+    said = {name: text.replace("\0", '"') for name, text in said.items()}
     assert {name: said.get(name) for name, _ in said_by_the_list()} == dict(said_by_the_list())
 
 

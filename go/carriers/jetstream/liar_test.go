@@ -268,7 +268,7 @@ func TestValuesOfAnotherFeed(t *testing.T) {
 }
 
 // A value that someone lets the broker deliver in the place of its answer is none.
-func TestAValueInThePlaceOfAnAnswer(t *testing.T) {
+func TestAValueForAnAnswer(t *testing.T) {
 	t.Parallel()
 	s := natstest.Start(t)
 	a := join(t, options(1, s.URL))
