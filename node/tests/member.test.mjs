@@ -228,7 +228,7 @@ test("where another log can't begin for want of memory, nothing is read there by
   calls = exports;
   for (let n = 0; n < 3; n++) assert.equal(await said(member.check(token(one))), "accepted");
   at = 1;
-  await until(() => told.some((it) => /there is no memory left/.test(it)), "the member lacks memory");
+  await until(() => told.some((it) => /There was no memory/.test(it)), "the member lacks memory");
   spare.forEach((it) => calls.free_room(it));
   assert.match(await said(member.check(text)), /Unavailable|Replayed/);
   await until(() => member.deafUntil > 0n);
