@@ -8,9 +8,9 @@ ghost use Rattle.svid_keys.specs.Key.{is_for_svids, kty_in};
 ghost use Rattle.svid_documents.specs.Entry.{IsReason, entry_due, is_for_x509, key_due};
 
 use crate::entry_fault::EntryFault;
-use crate::whole::has_float;
 use serde_json::Value;
 use std::alloc::Global;
+use svid_keys::has_float;
 use svid_token::read_json;
 
 // The most bytes of a key, as compact JSON.

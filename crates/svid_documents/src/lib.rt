@@ -29,7 +29,6 @@ mod joined;
 pub mod laws;
 mod object;
 mod uses;
-mod whole;
 
 pub use crate::document::Document;
 pub use crate::document_fault::DocumentFault;

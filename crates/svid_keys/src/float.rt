@@ -6,8 +6,10 @@ ghost use Rattle.serde_json.specs.Written.{has_float, items_have_float, members_
 
 use serde_json::{Map, Value};
 
+/// Whether a JSON value holds, at any depth, a number that is not a whole number from -2^63 to 2^64-1, written
+/// with digits alone (RFC 8259, section 6). An entry of a bundle with such a number is passed over.
 #[cycle(float)]
-pub(crate) fn has_float(value: &Value) -> bool
+pub fn has_float(value: &Value) -> bool
     ensures { result ≡ has_float (view value.now) }
 {
     match value {

@@ -36,6 +36,7 @@ mod verifier;
 pub use crate::bundle_fault::BundleFault;
 pub use crate::bundles::Bundles;
 pub use crate::candidates::Candidates;
+pub use crate::float::has_float;
 pub use crate::jwt_key::JwtKey;
 pub use crate::lines::Lines;
 pub use crate::questions::question;
