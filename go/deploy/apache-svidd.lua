@@ -5,7 +5,8 @@ local http = require "socket.http"
 local ltn12 = require "ltn12"
 
 local sidecar = "http://127.0.0.1:9901/check"
-http.TIMEOUT = 5 -- seconds until the sidecar must have answered
+-- seconds until the sidecar must have answered: longer than its --wait, which is 2 unless you set it
+http.TIMEOUT = 5
 
 -- what the sidecar says of an accepted token
 local accepted = { "X-Spiffe-Id", "X-Svid-Audience", "X-Svid-Expires" }
