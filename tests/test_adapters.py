@@ -41,7 +41,7 @@ RULES = {
     # members of a JSON Web Key
     "keys": (
         r"[\"'](kty|crv)[\"']|\.(kty|crv)\b|(\[|get\()[\"'][nexy][\"']",
-        {"page/src/explain.js": "which key it is, for people"},
+        {},
     ),
 }
 

@@ -6,6 +6,8 @@ import { GROUPS, REFUSALS } from "./refusals.js";
 import { agoOf, dateOf } from "./time.js";
 
 const PARTS = ["header", "payload", "signature"];
+// How many short texts of a key are shown, and how many characters each has with its name.
+const MOST_WORDS = 6, LONGEST_WORD = 20;
 const TIMES = new Set(["exp", "nbf", "iat"]);
 const MEANINGS = [
   {
@@ -130,11 +132,17 @@ function isOpenAs(old, row) {
 const ANSWERS = { good: "verifies the signature", bad: "does not verify the signature", unusable: "can't be used" };
 
 function keyRow({ entry, text, reason, row }, token) {
-  const kid = stringAt(entry, "kid"), kind = [stringAt(entry, "kty"), stringAt(entry, "crv")].filter(Boolean).join(" ");
+  const kid = stringAt(entry, "kid");
   return make("tr", { "data-state": row ? row.answer.is : "over" },
     make("th", { scope: "row" }, make("code", {}, kid === undefined ? "no kid" : JSON.stringify(kid))),
-    make("td", {}, kind || "–"),
+    make("td", {}, wordsOf(entry) || "–"),
     make("td", {}, make("details", {}, make("summary", {}, answerText(reason, row, token)), make("pre", {}, text))));
+}
+
+// Which key an entry is, for people: its short texts, as it names them.
+function wordsOf(entry) {
+  const words = (entry.members ?? []).filter((it) => it.name !== "kid" && it.value.kind === "string" && it.name.length + it.value.value.length <= LONGEST_WORD);
+  return words.slice(0, MOST_WORDS).map((it) => `${it.name} ${it.value.value}`).join(", ");
 }
 
 function answerText(reason, row, token) {

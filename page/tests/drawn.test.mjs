@@ -113,6 +113,15 @@ test("of doubled members the last one counts", async () => {
   ]);
 });
 
+test("an entry of a bundle is shown by its short texts, as it names them", async () => {
+  const key = await makeKey("ES256"), other = { use: "jwt-svid", kid: "k2", long: "x".repeat(17), short: "x".repeat(15), count: 5, ...Object.fromEntries([..."abcdefg"].map((it) => [it, it])) };
+  await page.write({ token: "", bundles: JSON.stringify({ "example.org": { keys: [key.entry, other, 7, {}] } }) });
+  assert.deepEqual(await page.run(() => [...document.querySelectorAll("#keys tr")].map((it) => it.querySelector("td").textContent)), [
+    Object.entries(key.entry).filter(([name, value]) => name !== "kid" && value.length < 20).map((it) => it.join(" ")).join(", "),
+    `use jwt-svid, short ${"x".repeat(15)}, a a, b b, c c, d d`, "–", "–",
+  ]);
+});
+
 test("text that looks like markup stays text", async () => {
   const text = "<img src=x onerror=alert(1)>";
   await dropFile(text, batch(NOW, [use(1, 1, -10, 100)]));

@@ -11,6 +11,7 @@ pub mod out;
 pub mod piece_sink;
 pub mod piece_source;
 pub mod refusing;
+pub mod reports;
 pub mod say;
 pub mod stop;
 pub mod streams;

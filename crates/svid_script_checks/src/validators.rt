@@ -8,10 +8,10 @@ use svid_script_base::env::Env;
 use svid_script_base::kinds::{AnyRecord, record_of};
 use svid_script_base::out::Out;
 use svid_script_base::over_any;
+use svid_script_base::reports::{parts, report};
 use svid_script_base::say::{say_number, say_uses};
 use svid_script_base::stop::Stop;
 use svid_script_base::words::{from, id16, number, number_if_any, text, texts, word};
-use svid_script_records::records::{parts, report};
 use svid_script_tokens::Trust;
 
 // What a validator is given, but for its record.

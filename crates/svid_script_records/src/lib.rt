@@ -7,7 +7,7 @@ mod buckets;
 mod calls;
 mod feeds;
 mod messages;
-pub mod records;
+mod records;
 mod stores;
 mod summaries;
 mod tried_streams;

@@ -1,21 +1,14 @@
-use sha2::{Digest, Sha256};
 use std::alloc::{AllocError, Global};
-use std::io::Write;
-use svid_replay::{Batch, Record, Twice, Use, UseStore, Walk};
+use svid_replay::{Batch, Record, UseStore, Walk};
 use svid_script_base::env::Env;
 use svid_script_base::kinds::{AnyRecord, record_of};
 use svid_script_base::out::Out;
 use svid_script_base::over_any;
-use svid_script_base::say::{
-    done, hash_use, say_batches, say_bool, say_digest, say_number, say_use_if_any, say_uses,
-    short_digits,
-};
+use svid_script_base::reports::{parts, report};
+use svid_script_base::say::{done, say_bool, say_number, say_use_if_any, say_uses};
 use svid_script_base::stop::Stop;
 use svid_script_base::use_words::{one_use, use_if_any};
 use svid_script_base::words::{from, key, number, word};
-
-// How many keys of a report are printed one by one.
-const MOST_KEYS: usize = 16;
 
 /// `record NAME KIND`
 pub fn record(env: &mut Env, words: &[&str]) -> Result<(), Stop> {
@@ -95,55 +88,6 @@ fn add<S: UseStore>(out: &mut Out<'_>, record: &mut Record<S>, words: &[&str]) -
 fn uses<S: UseStore>(out: &mut Out<'_>, record: &Record<S>, alloc: Global) -> Result<(), Stop> {
     let listed = record.uses(alloc)?;
     say_uses(out, &listed)
-}
-
-fn say_key_once(out: &mut Out<'_>, twice: &Twice) -> Result<(), Stop> {
-    let count = twice.uses.len();
-    write!(out, "= twice ")?;
-    short_digits(out, &twice.key)?;
-    writeln!(out, " {count}")?;
-    say_uses(out, twice.uses.as_slice())
-}
-
-fn hash_uses(hasher: &mut Sha256, uses: &[Use]) {
-    for used in uses {
-        hash_use(hasher, used);
-    }
-}
-
-/// Prints the keys that were used twice.
-fn say_report(out: &mut Out<'_>, listed: &[Twice]) -> Result<(), Stop> {
-    if listed.len() > MOST_KEYS {
-        let mut hasher = Sha256::new();
-        for twice in listed {
-            hash_uses(&mut hasher, twice.uses.as_slice());
-        }
-        return say_digest(out, "twice", listed.len() as u64, hasher);
-    }
-    for twice in listed {
-        say_key_once(out, twice)?;
-    }
-    Ok(())
-}
-
-/// Prints the report of a record.
-pub fn report<S: UseStore>(
-    out: &mut Out<'_>,
-    record: &Record<S>,
-    alloc: Global,
-) -> Result<(), Stop> {
-    let listed = record.report(alloc)?;
-    say_report(out, &listed)
-}
-
-/// Prints the parts of a record.
-pub fn parts<S: UseStore>(
-    out: &mut Out<'_>,
-    record: &Record<S>,
-    alloc: Global,
-) -> Result<(), Stop> {
-    let parts = record.parts(alloc)?;
-    say_batches(out, &parts)
 }
 
 // The calls that change a record.
