@@ -12,6 +12,7 @@ import (
 	"encoding/json"
 	"fmt"
 	"io"
+	"runtime/debug"
 	"sync"
 	"sync/atomic"
 	"time"
@@ -349,6 +350,7 @@ func (e *Engine) look() {
 		case <-g.Ready():
 			e.step(CaughtUp{})
 			e.caughtUp.Store(true)
+			go debug.FreeOSMemory() // of the bucket's values, which may be as many as the record's uses
 		default:
 		}
 	}
