@@ -113,7 +113,7 @@ class Room:
     """The folder of a validator, and what must be in its record."""
 
     def __init__(self, folder, program, kills):
-        self.folder = folder
+        self.folder, self.program = folder, program
         self.tokens, self.asked, self.accepted, self.told = [Token(it) for it in range(2 * kills + 2 * len(NAMES))], 0, set(), 0
         commands = folder / "bin"
         commands.mkdir()
@@ -131,6 +131,13 @@ class Room:
         (folder / "kept").write_bytes(batches(first, 1))
         self.must = set(first)
 
+    def has(self, command, does):
+        """Lets another command stand in the place of one."""
+        path = self.folder / "bin" / command
+        path.unlink(missing_ok=True)
+        path.write_text(f"#!/bin/sh\n{does}\n")
+        path.chmod(0o755)
+
     def starts(self, name):
         return Run(name, self.folder, self.environment)
 
@@ -140,10 +147,15 @@ class Room:
         if name.startswith("check"):
             (self.folder / "tokens").write_bytes(self.tokens[self.asked].text + b"\n")
             self.asked += 1
-        if name == "join" and not (self.folder / "told").exists():
+        if name == "join" and not self.has_message():
             self.told += 1
             (self.folder / "new").write_bytes(batches([self.told_use()], 2))
-            (self.folder / "new").rename(self.folder / "told")
+            (self.folder / "told").hardlink_to(self.folder / "new")
+            (self.folder / "new").unlink()
+
+    def has_message(self):
+        """Whether a message waits to be joined."""
+        return any((self.folder / it).exists() for it in ("told", "told.now"))
 
     def told_use(self):
         return use_text(b"\xff" * 28 + self.told.to_bytes(4, "big"), 2)
@@ -159,7 +171,7 @@ class Room:
         if self.answer().startswith("accepted"):
             self.accepted.add(self.tokens[self.asked - 1].key)
         assert self.accepted <= {it[8:40] for it in uses}, "the record has no use of a token whose acceptance was answered"
-        if not (self.folder / "told").exists() and self.told:
+        if not self.has_message() and self.told:
             assert self.told_use() in uses, "the message is gone, and its use is not in the record"
         self.must = uses
 
@@ -172,7 +184,7 @@ class Room:
         if name.startswith("check"):
             assert self.answer().startswith("accepted spiffe://a/b ")
         if name == "join":
-            assert not (self.folder / "told").exists(), "the recipe 'join' leaves its message"
+            assert not self.has_message(), "the recipe 'join' leaves its message"
         self.looks()
         return took
 
@@ -222,6 +234,32 @@ def test_old_bundles_stay_where_there_are_no_others(room, fault):
 def test_bundles_are_renewed(room):
     room.runs_whole("bundles")
     assert json.loads((room.folder / "bundles.json").read_text())["example.org"]["spiffe_sequence"] == 1
+
+
+@pytest.mark.parametrize("name", NAMES)
+def test_a_recipe_that_gets_no_lock_changes_nothing(room, name):
+    """As on a file system that has none: of two that run at once, the uses of one would be lost."""
+    room.has("flock", "exit 1")
+    room.prepares(name)
+    before = (room.folder / "kept").read_bytes()
+    assert room.starts(name).waits() == 2
+    assert (room.folder / "kept").read_bytes() == before and not room.answer() and (name != "join" or (room.folder / "told").exists())
+
+
+def test_a_message_that_comes_meanwhile_is_looked_at_too(room):
+    """A message of the time 2^64-1 would empty the record. It comes once the one before it was looked at."""
+    late, text = room.folder / "late", b"JSR\2\1" + b"\xff" * 8 + bytes(4)
+    late.write_bytes(text)
+    room.has("svid", f'{room.program} "$@" || exit; [ "$1" != report ] || mv {late} {room.folder}/told')
+    room.prepares("join")
+    assert room.starts("join").waits() == 0
+    assert room.must | {room.told_use()} == uses_in((room.folder / "kept").read_bytes())
+    assert (room.folder / "told").read_bytes() == text, "a message is gone that was not joined"
+    (room.folder / "bin/svid").unlink()
+    (room.folder / "bin/svid").symlink_to(room.program)
+    assert room.starts("join").waits() == 1 and not (room.folder / "told").exists()
+    assert (room.folder / "told.bad").read_bytes() == text
+    room.runs_whole("join")
 
 
 def test_killed_recipes_lose_nothing(room, kills):

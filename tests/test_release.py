@@ -305,6 +305,8 @@ def test_the_debian_package(room, token, arch):
         assert "SYNOPSIS" in room.run("man", "-P", "cat", "-l", root / "usr/share/man" / page)
     unit = (root / "usr/lib/systemd/system/svidd.service").read_text()
     assert re.search(r"^ExecReload=.*HUP", unit, re.M) and "\nRestart=always\n" in unit and "/usr/local" not in unit
+    # (every user can read the options, since the user of svidd is made at its start: passwords have a file of root's)
+    assert "\nDynamicUser=yes\n" in unit and "\nEnvironmentFile=-/etc/svidd/svidd.env\n" in unit
     assert "2.0.0" in room.run("zcat", root / "usr/share/doc/svid/changelog.gz")
 
 

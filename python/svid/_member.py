@@ -249,16 +249,23 @@ class Member(Validator):
     def withdraw_key(self, key: bytes, expires: int, now: float | None = None) -> Use:
         """Withdraws the token with this key of 32 bytes (`Use.key`), which expires at `expires`.
 
-        It returns once the log has the withdrawal. Raises Gone if the token has expired, and
-        Unavailable if the log has not got it in time: make the call again then.
+        It returns once the log has the withdrawal, and the folder of `state`. Raises Gone if the
+        token has expired, and Unavailable if one of them has not got it in time: make the call
+        again then. The other one may have it.
         """
-        use = super().withdraw_key(key, expires, now)
+        return super().withdraw_key(key, expires, now)
+
+    def _keep(self, use: Use) -> None:
+        """Returns once the log and the state folder have a withdrawal.
+
+        It goes to both at once: the group hears of it whatever becomes of the folder.
+        """
         landed = threading.Event()
         with self._gate:
             self._put(_Put(use, landed.set))
+        super()._keep(use)
         if not landed.wait(self._wait):
             raise Unavailable("the log did not take the withdrawal in time")
-        return use
 
     # -- Claims
 

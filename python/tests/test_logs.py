@@ -201,6 +201,21 @@ def test_a_wrong_url_does_not_tell_its_password():
     assert "secret" not in "".join(traceback.format_exception(why.value))
 
 
+@pytest.mark.parametrize("scheme", ["redis", "postgresql"])
+@pytest.mark.parametrize(
+    "password",
+    ["secret%", "%secret", 'sec"%ret', "sec/ret", "sec?ret", "sec#ret", "sec@ret", "sec[ret"],
+)
+def test_no_part_of_a_password_is_told(scheme, password):
+    """Not where a character of it is not escaped in the URL, and not where no server is there."""
+    with held_port() as nobody:
+        url = f"{scheme}://svid:{password}@127.0.0.1:{nobody.getsockname()[1]}/0"
+        with pytest.raises((ValueError, OSError)) as why:
+            open_log(url, KEEP).bounds()
+    said = "".join(traceback.format_exception(why.value))
+    assert "secret" not in said and '"sec' not in said and "'sec" not in said and "ret@" not in said
+
+
 def test_a_socket_of_the_machine(tmp_path):
     with RedisServer("--unixsocket", str(tmp_path / "redis")) as server:
         with opened(server, url=f"unix://{tmp_path / 'redis'}?db=0&settings=unchecked") as log:
@@ -924,6 +939,34 @@ def test_a_standby_takes_over_that_may_lack_values():
         with pytest.raises(svid.OtherLog, match="another server has taken over"):
             tried(log.read, 1, 0)
         assert log.bounds() == (0, 1)
+
+
+@pytest.mark.parametrize("setting", ["lc_messages=C.UTF-8", "client_min_messages=error"])
+def test_a_value_waits_for_a_standby(setting, monkeypatch):
+    """Who cancels that wait lets it be visible, and it counts for nobody: no standby has it. The
+    server warns of that, whatever its language is, and what else it is told to say."""
+    monkeypatch.setenv("LANGUAGE", "de")
+    with PostgresServer("-c", setting) as server, opened(server, timeout=5) as log:
+        log.append(b"1")
+        assert all_of(log) == [(1, b"1")]
+        execute(server, "ALTER SYSTEM SET synchronous_standby_names = '*'")
+        execute(server, "SELECT pg_reload_conf()")
+        until(lambda: execute(server, "SHOW synchronous_standby_names") == [("*",)])
+        with pytest.raises(svid.OtherLog):  # (it can't tell by its timeline from here on)
+            tried(log.read, 1, 0)
+        log.bounds()
+        for call, given in (log.append, [b"2"]), (log.read, [1, 0]):
+            said, work = [], threading.Thread(target=lambda: said.append(said_of(call, *given)))
+            work.start()
+            while work.is_alive():
+                execute(server, CANCELS)
+            assert said[0].startswith("PostgreSQL warns: "), said
+
+
+CANCELS = """
+SELECT CASE wait_event WHEN 'SyncRep' THEN pg_cancel_backend(pid) END FROM pg_stat_activity
+WHERE wait_event = 'SyncRep'
+"""
 
 
 def tried_until_refused(log):

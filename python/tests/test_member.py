@@ -824,6 +824,23 @@ def test_a_withdrawal_is_told_to_the_group(log):
         assert verdict(a, made) == verdict(b, made) == "Withdrawn"
 
 
+def test_a_withdrawal_is_told_to_the_group_without_a_disk(log, tmp_path, monkeypatch):
+    """While the disk of one takes nothing, the others would go on to accept the token."""
+    with member(log, state=tmp_path) as one, member(log) as other:
+        token = fresh()
+        monkeypatch.setattr(os, "pwrite", no_room)
+        with pytest.raises(svid.Unavailable, match="No space left"):
+            one.withdraw(token)
+        until(lambda: other.report().uses)
+        assert verdict(other, token) == "Withdrawn"
+        monkeypatch.undo()
+        one.withdraw(token)
+
+
+def no_room(*_):
+    raise OSError(28, "No space left on device")
+
+
 def test_a_token_is_withdrawn_while_its_claim_is_on_its_way(log):
     with member(log) as checks:
         made = fresh()

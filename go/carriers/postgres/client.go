@@ -16,9 +16,12 @@ import (
 
 const (
 	dialWait = 2 * time.Second // for a connection to be made
-	// Each session keeps what it commits, and sees what is committed. What takes too long ends at the server too.
+	// Each session keeps what it commits, sees what is committed, and hears warnings. What takes too long ends at the server too.
 	begin = "SELECT set_config('synchronous_commit', CASE WHEN current_setting('synchronous_commit') = 'remote_apply' THEN 'remote_apply' ELSE 'on' END, false), " +
-		"set_config('default_transaction_isolation', 'read committed', false), set_config('statement_timeout', '10s', false)"
+		"set_config('default_transaction_isolation', 'read committed', false), set_config('statement_timeout', '10s', false), " +
+		"set_config('client_min_messages', 'warning', false)"
+	// A notice that is no warning has a code of this class, in each language that a server speaks.
+	classOfNotices = "00"
 )
 
 // check says whether a URL can be used. An error has no part of it that may be secret.
@@ -104,7 +107,7 @@ func dial(ctx context.Context, text string) (*conn, error) {
 	}
 	one := &conn{raw: d.last, db: db}
 	pq.SetNoticeHandler(db, func(said *pq.Error) {
-		if said.Severity == "WARNING" {
+		if said.Code.Class() != classOfNotices {
 			one.warned = said.Message
 		}
 	})

@@ -121,17 +121,22 @@ func (s *sidecar) shutdown(servers []served) {
 }
 
 // bind listens on HOST:PORT, or on unix:PATH with this umask, whatever the process has. A
-// socket that a killed process left is replaced.
+// socket that a killed process left is replaced: one that refuses connections. (One whose process is stopped, or has too many that
+// wait, does not.)
 func bind(address string, umask int) (net.Listener, error) {
 	if !strings.HasPrefix(address, "unix:") {
 		return net.Listen("tcp", address)
 	}
 	path := strings.TrimPrefix(address, "unix:")
-	if c, err := net.DialTimeout("unix", path, time.Second); err == nil {
+	c, refused := net.DialTimeout("unix", path, time.Second)
+	if refused == nil {
 		c.Close()
 		return nil, fmt.Errorf("%s: another process answers there", path)
 	}
 	if info, err := os.Lstat(path); err == nil && info.Mode()&os.ModeSocket != 0 {
+		if !errors.Is(refused, syscall.ECONNREFUSED) {
+			return nil, fmt.Errorf("%s: another process may have it: %w", path, refused)
+		}
 		if err := os.Remove(path); err != nil {
 			return nil, err
 		}

@@ -66,7 +66,7 @@ func run(args []string, std stdio) int {
 		if near := nearest(args[0], names); near != "" {
 			return fail(std, fmt.Errorf("no command is named %q: did you mean %s?", args[0], near))
 		}
-		fmt.Fprintf(std.err, "svidd: no command is named %q\n%s", args[0], usage)
+		fmt.Fprintf(std.err, "svidd: no command is named %.20q\n%s", args[0], usage)
 		return exitFailed
 	}
 	return command(args[1:], std)

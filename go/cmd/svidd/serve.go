@@ -51,7 +51,7 @@ func serve(args []string, std stdio) int {
 		return fail(std, err)
 	}
 	if f.NArg() > 0 {
-		return fail(std, fmt.Errorf("serve takes no argument, and got %q%s", f.Arg(0), meant(f, f.Arg(0))))
+		return fail(std, fmt.Errorf("serve takes no argument, and got %.20q%s", f.Arg(0), meant(f, f.Arg(0))))
 	}
 	if problems := o.problems(); len(problems) > 0 {
 		return problems.tell(std)

@@ -11,6 +11,7 @@ import (
 
 	"svid.example/go/v2/bundles"
 	"svid.example/go/v2/guard"
+	"svid.example/go/v2/internal/jsontext"
 	"svid.example/go/v2/svid"
 )
 
@@ -50,7 +51,7 @@ func verify(args []string, std stdio) int {
 	if err != nil {
 		return fail(std, err)
 	}
-	if _, err := fmt.Fprintf(std.out, "%s\n", payload); err != nil {
+	if _, err := fmt.Fprintf(std.out, "%s\n", jsontext.Printable(payload)); err != nil {
 		return fail(std, err)
 	}
 	return exitYes

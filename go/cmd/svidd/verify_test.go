@@ -173,3 +173,16 @@ func TestVerifyWaitsForEachBundle(t *testing.T) {
 		t.Errorf("%d %q %q", status, out, said)
 	}
 }
+
+// A token that stands where none is due is not printed: who calls may keep what is.
+func TestATokenOnTheCommandLineIsNotPrinted(t *testing.T) {
+	one := token(t, "shown", lasting)
+	_, secret, _ := strings.Cut(one, ".")
+	for _, args := range [][]string{{one}, {"serve", one}, {"verify", one}, {"withdraw", one}, {"withdraw", "--admin", "none", one, one}, {"report", one},
+		{"resume", one}, {"ready", one}, {"schema", one}} {
+		status, out, err := svidd(t, "", args...)
+		if status == 0 || strings.Contains(out+err, secret) {
+			t.Errorf("%.20q: %d %q %q", args, status, out, err)
+		}
+	}
+}

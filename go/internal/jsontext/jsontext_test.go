@@ -2,22 +2,34 @@ package jsontext
 
 import (
 	"encoding/json"
+	"strings"
 	"testing"
+	"unicode"
 )
 
-// Each byte, alone and between others, and what is no UTF-8: as package encoding/json has it.
+// Each byte, alone and between others, what is no UTF-8, and what a terminal would take for a command: it means what it means to package
+// encoding/json, and is printed as it stands.
 func TestAppend(t *testing.T) {
-	texts := []string{"", "spiffe://example.org/web", "Zürich", "line\nfeed", "\u2028\u2029", "\xff", "a\xc3", "\"\\", "</script>&"}
+	texts := []string{"", "spiffe://example.org/web", "Zürich", "line\nfeed", "\u2028\u2029", "\xff", "a\xc3", "\"\\", "</script>&",
+		"\u009b2J", "\u009d0;title\u009c", "\u202eabc\u2066", "\U000e0041", "\U0001f600", "\ufffd", "\ufeff"}
 	for b := 0; b < 256; b++ {
-		texts = append(texts, string([]byte{byte(b)}), "a"+string([]byte{byte(b)})+"z")
+		texts = append(texts, string([]byte{byte(b)}), "a"+string([]byte{byte(b)})+"z", string(rune(b)))
 	}
 	for _, text := range texts {
-		want, err := json.Marshal(text)
+		plain, err := json.Marshal(text)
 		if err != nil {
 			t.Fatal(err)
 		}
-		if got := string(Append([]byte("before "), text)); got != "before "+string(want) {
-			t.Errorf("%q: %s, want %s", text, got, want)
+		got := string(Append([]byte("before "), text))
+		if strings.IndexFunc(text, func(r rune) bool { return r >= '\x7f' && !unicode.IsPrint(r) }) < 0 && got != "before "+string(plain) {
+			t.Errorf("%q: %s, want %s", text, got, plain)
+		}
+		if strings.IndexFunc(got, func(r rune) bool { return !unicode.IsPrint(r) }) >= 0 {
+			t.Errorf("%q: %q is not to be printed", text, got)
+		}
+		var is, want string
+		if json.Unmarshal([]byte(strings.TrimPrefix(got, "before ")), &is) != nil || json.Unmarshal(plain, &want) != nil || is != want {
+			t.Errorf("%q: %s means %q", text, got, is)
 		}
 	}
 }

@@ -7,6 +7,7 @@ import (
 	"net/http/httptest"
 	"strings"
 	"testing"
+	"time"
 )
 
 // withdraw withdraws a token of no key that ever was, on the admin socket.
@@ -52,5 +53,27 @@ func TestAWithdrawalOfAFullDisk(t *testing.T) {
 	kept.mu.Unlock()
 	if w := withdraw(e); w.Code != 200 || kept.Size() == 0 {
 		t.Errorf("again: %d %s, %d bytes", w.Code, w.Body, kept.Size())
+	}
+}
+
+// One that the disk does not take, or does not answer to, reaches the group all the same.
+func TestAWithdrawalReachesTheGroupWithoutADisk(t *testing.T) {
+	for _, mode := range []Mode{Once, Strict, Reuse} {
+		for what, kept := range map[string]*disk{"full": {fault: errors.New("no space left on device")}, "hangs": {hangs: make(chan struct{})}} {
+			e := ready(t, engine(t, Options{Mode: mode, Grouped: true, Journal: kept, Wait: 100 * time.Millisecond}))
+			m := (&broker{}).join(e)
+			w := withdraw(e)
+			if w.Code != 503 || !strings.Contains(w.Body.String(), "withdrawn here, but the withdrawal could not be kept: ") {
+				t.Errorf("%s, the disk is %s: %d %s", mode, what, w.Code, w.Body)
+			}
+			m.mu.Lock()
+			if len(m.log) != 1 {
+				t.Errorf("%s, the disk is %s: the group has %d values, and not the withdrawal", mode, what, len(m.log))
+			}
+			m.mu.Unlock()
+			if kept.hangs != nil {
+				close(kept.hangs)
+			}
+		}
 	}
 }

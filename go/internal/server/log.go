@@ -127,7 +127,7 @@ func (l *Log) line(value any) {
 	}
 	l.mu.Lock()
 	defer l.mu.Unlock()
-	_, _ = l.out.Write(append(text, '\n'))
+	_, _ = l.out.Write(append(jsontext.Printable(text), '\n'))
 }
 
 // decide writes the line of a decision, in the order of its fields. Those that are empty are left out, but for the first three,

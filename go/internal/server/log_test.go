@@ -5,6 +5,9 @@ import (
 	"errors"
 	"strings"
 	"testing"
+	"unicode"
+
+	"svid.example/go/v2/svid"
 )
 
 func TestTheLogHasItsLevels(t *testing.T) {
@@ -41,5 +44,23 @@ func TestTheLogHoldsLittleOfARefusedToken(t *testing.T) {
 	}
 	if n := out.Len(); n > 2000 || n == 0 {
 		t.Errorf("%d bytes are logged", n)
+	}
+}
+
+// What a stranger writes into a token, or what a server says, is text to a terminal too that takes U+009B for the beginning of a command.
+func TestNoLineCommandsATerminal(t *testing.T) {
+	var out lines
+	e := ready(t, engine(t, Options{Mode: Reuse, Log: NewLog(&out, All)}))
+	text := "\u009b2J\x7f\u009d0;title\u009c\u202e"
+	bad := example.Token("ES256", map[string]any{"sub": "spiffe://example.org/web", "aud": []string{text}, "exp": moment + 1})
+	if err := check(e, bad); err != svid.NotAudience {
+		t.Fatal(err)
+	}
+	e.Log.Event("event", "why", errors.New(text))
+	out.mu.Lock()
+	defer out.mu.Unlock()
+	said := out.text.String()
+	if strings.IndexFunc(said, func(r rune) bool { return r != '\n' && !unicode.IsPrint(r) }) >= 0 || strings.Count(said, `\u009b2J\u007f`) != 2 {
+		t.Errorf("%q", said)
 	}
 }

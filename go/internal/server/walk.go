@@ -4,7 +4,6 @@ import (
 	"context"
 	"errors"
 	"fmt"
-	"time"
 
 	"svid.example/go/v2/carriers"
 	"svid.example/go/v2/svid"
@@ -316,13 +315,14 @@ type Withdraw struct {
 	Expires uint64
 	Use     svid.Use // what the record gained
 
-	due   time.Duration // when it has waited for too long
 	write Write
 	put   Put
+	waits int   // for how many of these two
+	fault error // why they have not taken it
 }
 
 // The walk of a withdrawal: it is in the record at once, so no token is accepted behind it. Then it goes to the disk, and into
-// the group's log, and only then the answer is that it is done.
+// the group's log, each whatever becomes of the other, and only then the answer is that it is done.
 func (w *Withdraw) happen(m *Machine) {
 	if err := m.canJudge(); err != nil {
 		m.answer(&w.Call, fmt.Errorf("%w: %v", ErrNotReady, err))
@@ -333,22 +333,21 @@ func (w *Withdraw) happen(m *Machine) {
 		m.answer(&w.Call, err)
 		return
 	}
-	w.Use, w.due = use, m.now.Up+m.Wait
+	w.Use, w.waits = use, 1
 	w.write.Uses = []svid.Use{use}
+	if m.joined {
+		w.waits++
+		w.put = Put{Kind: carriers.Uses, Uses: []svid.Use{use}, Timed: true}
+		m.put(&w.put, m.now.Up+m.Wait, w)
+	}
 	m.keep(&w.write, w)
 }
 
 func (w *Withdraw) written(m *Machine, err error) {
 	if err != nil {
-		m.answer(&w.Call, fmt.Errorf("withdrawn here, but %w", &notKept{"withdrawal", err}))
-		return
+		err = &notKept{"withdrawal", err}
 	}
-	if !m.joined {
-		m.withdrawn(w)
-		return
-	}
-	w.put = Put{Kind: carriers.Uses, Uses: w.write.Uses, Timed: true}
-	m.put(&w.put, w.due, w)
+	w.taken(m, err)
 }
 
 // landed: the log has the withdrawal, or not.
@@ -363,8 +362,22 @@ func (w *Withdraw) landed(m *Machine, err error) {
 	} else {
 		err = fmt.Errorf("the group was not told; try again: %w", err)
 	}
-	if err != nil {
-		m.answer(&w.Call, fmt.Errorf("withdrawn here, but %w", err))
+	w.taken(m, err)
+}
+
+// taken: one of the two has the withdrawal, or err says why not.
+func (w *Withdraw) taken(m *Machine, err error) {
+	switch {
+	case w.fault == nil:
+		w.fault = err
+	case err != nil:
+		w.fault = fmt.Errorf("%w, and %v", w.fault, err)
+	}
+	if w.waits--; w.waits > 0 {
+		return
+	}
+	if w.fault != nil {
+		m.answer(&w.Call, fmt.Errorf("withdrawn here, but %w", w.fault))
 		return
 	}
 	m.withdrawn(w)

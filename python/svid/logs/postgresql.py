@@ -4,6 +4,7 @@ from __future__ import annotations
 
 import contextlib
 import pathlib
+import re
 import select
 import threading
 import time
@@ -18,6 +19,8 @@ from ._carrier import AT_ONCE, MOST_VALUE, Carrier, Glance, Row
 
 _FILES = pathlib.Path(__file__).parent
 _CLAIMS = "c"
+_UNESCAPED = re.compile("%(?![0-9A-Fa-f]{2})")
+_PORTS = re.compile("[0-9, ]*")
 _GONE = ("SV001", "42P01", "3F000", "42883")  # another log; no table, no schema, no function
 _MICROS = "(extract(epoch from {}) * 1000000)::bigint"
 _GLANCE = f"""
@@ -36,10 +39,13 @@ _SETTINGS = {
     "default_transaction_read_only": ("off",),
 }
 """Those without which a crash loses values."""
-_WAITS_FOR_THE_DISK = """
-SELECT set_config('synchronous_commit', 'on', false)
-WHERE current_setting('synchronous_commit') NOT IN ('on', 'remote_apply')
+_BEGINS = """
+SELECT set_config('client_min_messages', 'warning', false), set_config('synchronous_commit',
+  CASE current_setting('synchronous_commit') WHEN 'remote_apply' THEN 'remote_apply' ELSE 'on' END,
+  false)
 """
+"""Each session waits for the disk, and hears warnings, and nothing less."""
+_WAITS_FOR_ALL_BEFORE = "SELECT pg_logical_emit_message(true, 'svid', '')"
 
 
 def schema(group: str, keep: int, role: str = "") -> str:
@@ -60,15 +66,21 @@ class PostgresLog(Carrier):
 
     def __init__(self, url: str, keep: int, group: str, timeout: float) -> None:
         super().__init__(keep, group)
+        if _UNESCAPED.search(url):
+            raise _password("it has a % without two digits")
         try:
-            extensions.parse_dsn(url)
+            parts = extensions.parse_dsn(url)
         except psycopg2.ProgrammingError as why:
             # (it may say the whole URL, and with that the password)
             said = _text(why).replace(url, "..")
             raise ValueError(f"the URL of the log is none of PostgreSQL: {said}") from None
-        self._joiner = _Line(url, timeout, _WAITS_FOR_THE_DISK)
-        self._writer = _Line(url, timeout, _WAITS_FOR_THE_DISK)
-        self._reader = _Line(url, timeout, f'LISTEN "svid_{group}"')
+        if any("@" in it[1:] for it in parts.get("host", "").split(",")):
+            raise _password("its host has an @")
+        if not _PORTS.fullmatch(parts.get("port", "")):
+            raise _password("its port is no number")
+        self._joiner = _Line(url, timeout, _BEGINS)
+        self._writer = _Line(url, timeout, _BEGINS)
+        self._reader = _Line(url, timeout, f'{_BEGINS}; LISTEN "svid_{group}"')
 
     def close(self) -> None:
         for it in self._joiner, self._writer, self._reader:
@@ -131,6 +143,9 @@ class PostgresLog(Carrier):
             return Glance("", "", 0, 0, 0, 0, [])
         format_, made, keep, gone, last, now, timeline = rows[0][:7]
         values = [_row(*it[7:]) for it in rows if it[7] is not None]
+        if not timeline and any(it.position > after for it in values):
+            # (standbys may lack a value that is seen, where someone cancelled the wait for them)
+            self._reader.run(_WAITS_FOR_ALL_BEFORE)
         return Glance(str(format_), made, keep, gone, last, now, values, timeline)
 
     def _wait(self, after: int, seconds: float) -> bool:
@@ -201,10 +216,13 @@ class _Line:
 
     def _execute(self, text: str, given: tuple[Any, ...], end: float) -> list[tuple[Any, ...]]:
         with self._connection.cursor() as cursor:
+            self._connection.notices.clear()  # (of the connection itself)
             cursor.execute(text, given or None)
             self._answer(end)
             rows: list[tuple[Any, ...]] = cursor.fetchall() if cursor.description else []
-            return rows
+        if self._connection.notices:  # (a commit that did not wait for standbys is no error)
+            raise ConnectionError(f"PostgreSQL warns: {_line(self._connection.notices[0])}")
+        return rows
 
     def _answer(self, end: float) -> None:
         """Waits for what the server answers."""
@@ -242,8 +260,20 @@ class _Line:
             self._connection = None
 
 
+def _password(why: str) -> ValueError:
+    """What is wrong with a URL of which the client would say a part of the password."""
+    return ValueError(
+        f"the URL of the log is none of PostgreSQL: {why}: write %25, %40, %2F and so on for such"
+        " characters of a password"
+    )
+
+
 def _text(why: psycopg2.Error) -> str:
-    return " ".join(str(why).split())
+    return _line(str(why))
+
+
+def _line(text: str) -> str:
+    return " ".join(text.split())
 
 
 def _row(position: int, at: int, value: memoryview) -> Row:

@@ -199,6 +199,13 @@ _OWN = ("password_file", "settings", "replicas")
 def _split(url: str) -> tuple[str, dict[str, str]]:
     """A URL without the parameters of this class, and these."""
     at = urlsplit(url)
+    try:
+        _ = at.port
+    except ValueError:  # (which says a part of a password)
+        raise ValueError(
+            "the URL of the log has a port that is no number: write %2F and so on for such"
+            " characters of a password"
+        ) from None
     given = parse_qsl(at.query, keep_blank_values=True)
     own = {name: value for name, value in given if name in _OWN}
     rest = urlencode([it for it in given if it[0] not in _OWN])

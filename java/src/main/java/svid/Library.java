@@ -41,6 +41,9 @@ final class Library {
     /** {@code svid_entry}. */
     static final class Entry { static final int WITHDRAWN = 0, EXP = 8, AT = 16, KEY = 24, VALIDATOR_ID = 56, SIZE = 72; }
 
+    /** {@code svid_document}. */
+    static final class Document { static final int NAME_LEN = 0, TEXT_LEN = 8, KEYS = 16, SIZE = 24; }
+
     /** {@code svid_said}. */
     static final class Said { static final int KEY = 0, EXP = 32, TEXTS = 40, SIZE = 48; }
 
@@ -89,6 +92,9 @@ final class Library {
     static native int svid_validator_answer(Pointer v, long now, Pointer summary, long givenLen, Pointer out, long outLen, Pointer told);
 
     static native int svid_validator_renew_by(Pointer v, Pointer bundles, Pointer told);
+
+    static native int svid_bundles_join(
+            Pointer bytes, long bytesLen, Pointer documents, long documentsLen, Pointer out, long outLen, Pointer told);
 
     static native int svid_bundles_open(Pointer b, Pointer bundles, long bundlesLen, Pointer told);
 

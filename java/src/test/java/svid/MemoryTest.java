@@ -11,7 +11,9 @@ import static svid.Vectors.ledgerAt;
 import static svid.Vectors.tokens;
 
 import com.sun.jna.Function;
+import java.nio.charset.StandardCharsets;
 import java.util.List;
+import java.util.Map;
 import org.junit.Test;
 
 /**
@@ -110,6 +112,9 @@ public class MemoryTest {
             messages = validator.messages();
         }
         assertTrue(refused(MemoryTest::nothing, it -> Validator.says(token)) > 0);
+        assertTrue(
+                refused(MemoryTest::nothing, it -> Bundles.join(Map.of("a.org", "{\"keys\":[]}".getBytes(StandardCharsets.UTF_8))).length)
+                > 0);
         assertTrue(refused(MemoryTest::nothing, it -> {
             it.take(messages);
             return it.size();

@@ -17,6 +17,7 @@ import static svid.Vectors.tokens;
 import com.google.gson.JsonElement;
 import com.google.gson.JsonObject;
 import com.google.gson.JsonParser;
+import java.nio.charset.StandardCharsets;
 import java.security.Provider;
 import java.security.Security;
 import java.time.Clock;
@@ -26,6 +27,7 @@ import java.time.ZoneId;
 import java.time.ZoneOffset;
 import java.util.ArrayList;
 import java.util.List;
+import java.util.Map;
 import org.junit.Test;
 
 /** What the vectors don't have: the calls of the API, and what each throws. */
@@ -84,6 +86,25 @@ public class ValidatorTest {
             assertEquals(0, why.getStackTrace().length);
             assertEquals(new Validator.Size(Instant.ofEpochSecond(NOW), 1), validator.size());
         }
+    }
+
+    /** A bundle that ends early would bring keys for another trust domain, where somebody puts it between texts. */
+    @Test
+    public void joinsBundles() throws Refusal {
+        byte[] own = JsonParser.parseString(bundles()).getAsJsonObject().get("example.org").toString().getBytes(StandardCharsets.UTF_8);
+        byte[] none = "{\"keys\":[]}".getBytes(StandardCharsets.UTF_8);
+        byte[] ends = "{\"keys\":[]},\"example.org\":{\"keys\":[]}".getBytes(StandardCharsets.UTF_8);
+        try (Validator validator = Validator.open(ledgerAt(NOW), Bundles.join(Map.of("example.org", own, "foreign.org", none)))) {
+            validator.check(tokens().get(0));
+        }
+        SvidException.BadBundles why =
+                assertThrows(SvidException.BadBundles.class, () -> Bundles.join(Map.of("example.org", own, "foreign.org", ends)));
+        assertEquals("NotObject", why.reason());
+        for (String name : List.of("", "A", "a/b", "spiffe://a/b", "a\":1,\"b")) {
+            assertThrows(name, SvidException.BadBundles.class, () -> Bundles.join(Map.of(name, none)));
+        }
+        assertThrows(SvidException.BadBundles.class, () -> Bundles.join(Map.of("a.org", new byte[0])));
+        assertEquals("{}", new String(Bundles.join(Map.of()), StandardCharsets.UTF_8));
     }
 
     @Test

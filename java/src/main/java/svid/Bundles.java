@@ -1,0 +1,44 @@
+package svid;
+
+import com.sun.jna.Pointer;
+import java.io.ByteArrayOutputStream;
+import java.nio.charset.StandardCharsets;
+import java.util.Map;
+
+/** Trust bundles as the one text that {@link Validator#open} and {@link Validator#renew} take. */
+public final class Bundles {
+    private Bundles() {}
+
+    /**
+     * Joins the bundles of several trust domains, each as SPIRE prints it.
+     *
+     * <p>Put no bundle that comes from elsewhere between texts of your own: it could bring keys for another trust domain.
+     *
+     * @param bundles each, as JSON, by the name of its trust domain
+     * @throws SvidException.BadBundles where one of them is no bundle, or a name none of a trust domain
+     * @throws SvidException.TooMuch where they are too long
+     */
+    public static byte[] join(Map<String, byte[]> bundles) {
+        ByteArrayOutputStream bytes = new ByteArrayOutputStream();
+        try (Room room = new Room()) {
+            Told told = new Told(room);
+            Pointer documents = room.take(Library.Document.SIZE * (long) bundles.size());
+            long at = 0;
+            for (Map.Entry<String, byte[]> it : bundles.entrySet()) {
+                // (to the library, a document with an empty name has none)
+                byte[] name = (it.getKey().isEmpty() ? "spiffe://" : it.getKey()).getBytes(StandardCharsets.UTF_8);
+                documents.setLong(at + Library.Document.NAME_LEN, name.length);
+                documents.setLong(at + Library.Document.TEXT_LEN, it.getValue().length);
+                documents.setLong(at + Library.Document.KEYS, 0);
+                bytes.writeBytes(name);
+                bytes.writeBytes(it.getValue());
+                at += Library.Document.SIZE;
+            }
+            Pointer text = room.put(bytes.toByteArray());
+            Written written = Written.by(room, told, 2L * bytes.size() + 64,
+                    (out, outLen) -> Library.svid_bundles_join(text, bytes.size(), documents, bundles.size(), out, outLen, told.at));
+            told.must(written.status());
+            return written.bytes();
+        }
+    }
+}
