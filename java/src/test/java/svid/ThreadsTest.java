@@ -1,6 +1,7 @@
 package svid;
 
 import static org.junit.Assert.assertEquals;
+import static org.junit.Assert.assertNotEquals;
 import static org.junit.Assert.assertThrows;
 import static org.junit.Assert.assertTrue;
 import static svid.Vectors.NOW;
@@ -10,6 +11,9 @@ import static svid.Vectors.of;
 import static svid.Vectors.tokens;
 
 import com.google.gson.JsonParser;
+import java.lang.management.LockInfo;
+import java.lang.management.ManagementFactory;
+import java.lang.management.ThreadInfo;
 import java.lang.ref.WeakReference;
 import java.lang.reflect.Field;
 import java.security.InvalidKeyException;
@@ -272,12 +276,15 @@ public class ThreadsTest {
         return field.get(validator);
     }
 
-    /** Waits until a thread waits for a lock, or has ended, which it must not. */
-    private static void waits(Thread thread) {
-        while (thread.getState() != Thread.State.BLOCKED && thread.getState() != Thread.State.TERMINATED) {
+    /** Waits until a thread waits for this lock. It must not end before. (On its way it may wait for other locks, as that of a class.) */
+    private static void waits(Thread thread, Object lock) {
+        LockInfo wanted = null;
+        while (wanted == null || wanted.getIdentityHashCode() != System.identityHashCode(lock)) {
+            assertNotEquals("it did not wait", Thread.State.TERMINATED, thread.getState());
             Thread.onSpinWait();
+            ThreadInfo info = ManagementFactory.getThreadMXBean().getThreadInfo(thread.getId());
+            wanted = info == null ? null : info.getLockInfo();
         }
-        assertEquals(Thread.State.BLOCKED, thread.getState());
     }
 
     /** A thread that closes waits for another one that began to, and for a call that is under way. */
@@ -288,7 +295,7 @@ public class ThreadsTest {
         synchronized (lockOf(validator)) {
             for (Thread it : closing) {
                 it.start();
-                waits(it);
+                waits(it, lockOf(validator));
             }
             assertEquals(0, validator.size().uses());
         }
@@ -316,7 +323,7 @@ public class ThreadsTest {
                 Thread thread = new Thread(call);
                 synchronized (lockOf(validator)) {
                     thread.start();
-                    waits(thread);
+                    waits(thread, lockOf(validator));
                 }
                 thread.join();
             }
@@ -345,7 +352,7 @@ public class ThreadsTest {
             verifies.await();
             synchronized (lockOf(validator)) {
                 isHeld.countDown();
-                waits(thread);
+                waits(thread, lockOf(validator));
                 assertEquals(0, validator.size().uses());
             }
             thread.join();
