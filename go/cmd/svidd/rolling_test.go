@@ -68,7 +68,7 @@ func rolling(t *testing.T, wait string, end func(*testing.T, *broker.Server)) {
 				select {
 				case <-stop:
 					return
-				case <-time.After(20 * time.Millisecond):
+				case <-time.After(40 * time.Millisecond):
 				}
 				one := token(t, fmt.Sprint("rolling", i, ".", n), time.Hour/2)
 				from := time.Now()

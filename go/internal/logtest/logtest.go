@@ -472,7 +472,7 @@ func load(t testing.TB, members ...*member) (end func() []string) {
 					select {
 					case <-stop:
 						return
-					default:
+					case <-time.After(5 * time.Millisecond):
 					}
 					message := fmt.Sprint("good ", who, ".", n)
 					if m.tryPut(2*time.Second, message) == nil {
