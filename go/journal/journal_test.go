@@ -463,7 +463,7 @@ func TestATornTailIsNotRead(t *testing.T) {
 			case torn > 0 && (len(found) != 1 || found[0].At != int64(120*good) || found[0].Rest != torn):
 				t.Errorf("%d bytes: torn %v, want %d bytes", len(content), *found[0], torn)
 			}
-			j.quiet = 0
+			j.quiet, j.growth = 0, 4096
 			mustAppend(t, j, batch(uint64(good+i)))
 		}
 		if now := d.journal(2).file.String(); now != before {

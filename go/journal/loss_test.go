@@ -205,12 +205,13 @@ func losses(t *testing.T, most int, disk func() *disk, old ...uint64) {
 	t.Logf("%d losses of power, and all of %d acknowledged batches were found", lost, kept)
 }
 
-// share is how much is tried of what is asked of a release.
+// share is how much is tried of what is asked of a release. go/build lets few be tried under the race detector, which takes ten times as long
+// and sees nothing in one goroutine: without it the same tests try more.
 func share(all int) int {
 	switch {
 	case *long:
 		return all
-	case testing.Short():
+	case testing.Short(), os.Getenv("SVID_TEST_FEW") != "":
 		return all / 100
 	default:
 		return all / 10

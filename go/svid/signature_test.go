@@ -72,7 +72,7 @@ func wantVerify(t *testing.T, key *svid.Key, algorithm, signed string, good []by
 func TestAnRSAKeyHasABound(t *testing.T) {
 	long := func(bits int) (bundles []byte, token string) {
 		// (Two primes of that length take seconds to find.)
-		key, err := rsa.GenerateMultiPrimeKey(rand.Reader, bits/512, bits)
+		key, err := rsa.GenerateMultiPrimeKey(rand.Reader, bits/256, bits)
 		if err != nil {
 			t.Fatal(err)
 		}

@@ -779,7 +779,7 @@ func whileEnded(t *testing.T, end func(*broker.Server)) {
 		select {
 		case <-killed:
 			going = false
-		default:
+		case <-time.After(5 * time.Millisecond):
 		}
 		putAtOnce(t, members, n)
 	}

@@ -31,7 +31,7 @@ func TestServeAllows(t *testing.T) {
 
 func TestAllowWantsAPattern(t *testing.T) {
 	t.Parallel()
-	status, _, err := svidd(t, "", "serve", "--audience", "ledger", "--longest", "60", "--replay", "reuse", bundleOption(bundleFile(t, example)), "--allow", "example.org", "--check-config")
+	status, _, err := here("", "serve", "--audience", "ledger", "--longest", "60", "--replay", "reuse", bundleOption(bundleFile(t, example)), "--allow", "example.org", "--check-config")
 	if status == 0 || !strings.Contains(err, `--allow: svid: "example.org" is no pattern of SPIFFE IDs`) {
 		t.Errorf("%d %s", status, err)
 	}

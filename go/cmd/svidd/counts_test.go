@@ -54,7 +54,7 @@ func TestTheStateFolderHasTheValidatorID(t *testing.T) {
 			t.Errorf("start %d: the validator ID is %v, and the folder has %s", i, line["validator_id"], id)
 		}
 	}
-	if status, out, err := svidd(t, "", "report", "--admin", admin); status != 0 || strings.Count(out, " "+id+" ") != 2 {
+	if status, out, err := here("", "report", "--admin", admin); status != 0 || strings.Count(out, " "+id+" ") != 2 {
 		t.Errorf("%d %q %q", status, out, err)
 	}
 	p.end()

@@ -134,7 +134,7 @@ func TestSystemdUnit(t *testing.T) {
 			t.Errorf("systemd-analyze %v: %v (it is in Debian's systemd)\n%s", args, err, said)
 		}
 	}
-	if status, out, err := svidd(t, "", "serve", "--config", options, "--check-config"); status != 0 {
+	if status, out, err := here("", "serve", "--config", options, "--check-config"); status != 0 {
 		t.Errorf("--check-config: %d %q %q", status, out, err)
 	}
 	// As systemd starts it: the socket of NOTIFY_SOCKET hears of its states.

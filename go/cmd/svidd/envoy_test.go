@@ -350,11 +350,14 @@ func TestCallsThatAreTakenBackCount(t *testing.T) {
 	if _, err := io.Copy(io.Discard, c); err != nil && strings.Contains(err.Error(), "timeout") {
 		t.Error("the connection is not ended")
 	}
-	mu.Lock()
-	if most != 2*mostStreams {
-		t.Errorf("%d calls were under way", most)
+	// (The last of them may begin only now.)
+	underWay := func() int { mu.Lock(); defer mu.Unlock(); return most }
+	for look, end := patience.Looks(), time.Now().Add(patience.Long); underWay() < 2*mostStreams && time.Now().Before(end); {
+		look()
 	}
-	mu.Unlock()
+	if n := underWay(); n != 2*mostStreams {
+		t.Errorf("%d calls were under way", n)
+	}
 	close(going)
 	ctx, cancel := context.WithTimeout(context.Background(), patience.Long)
 	defer cancel()

@@ -200,7 +200,7 @@ func (p *process) launch() {
 // await waits until something is so.
 func (p *process) await(what string, is func() bool) {
 	p.t.Helper()
-	for end := time.Now().Add(patience.Long); !is(); time.Sleep(5 * time.Millisecond) {
+	for look, end := patience.Looks(), time.Now().Add(patience.Long); !is(); look() {
 		if time.Now().After(end) {
 			p.t.Fatalf("waited %v for: %s\n%s", patience.Long, what, p.log)
 		}
@@ -210,7 +210,11 @@ func (p *process) await(what string, is func() bool) {
 // kill ends the process as a crash does, if it runs.
 func (p *process) kill() {
 	if p.run != nil && p.run.ProcessState == nil {
-		killAll(p.run.Process.Pid)
+		if len(p.program) > 0 {
+			killAll(p.run.Process.Pid)
+		} else {
+			_ = p.run.Process.Kill() // svidd starts no process
+		}
 		_ = p.run.Wait()
 	}
 	p.client.CloseIdleConnections()

@@ -9,6 +9,7 @@ import (
 	"path/filepath"
 	"reflect"
 	"strings"
+	"sync"
 	"syscall"
 	"testing"
 	"time"
@@ -48,6 +49,25 @@ func rootArchive(t *testing.T, umask string) []byte {
 		t.Fatal(err)
 	}
 	return archive
+}
+
+// firstArchive is what go/build image makes under an umask of 022, for all tests of this process: it runs once. Who builds an image from
+// the folder holds lockImage meanwhile.
+func firstArchive(t *testing.T) []byte {
+	t.Helper()
+	madeImage.Do(func() {
+		defer lockImage(t)()
+		madeImage.archive = rootArchive(t, "022")
+	})
+	if madeImage.archive == nil {
+		t.Fatal("go/build image failed in another test")
+	}
+	return madeImage.archive
+}
+
+var madeImage struct {
+	sync.Once
+	archive []byte
 }
 
 // A buildah keeps its images and containers in a folder of the test. They are plain folders (vfs), so nothing is mounted
@@ -108,8 +128,9 @@ func TestImage(t *testing.T) {
 		}
 		return
 	}
+	archive := firstArchive(t)
 	unlock := lockImage(t)
-	if archive := rootArchive(t, "022"); !bytes.Equal(archive, rootArchive(t, "077")) {
+	if !bytes.Equal(archive, rootArchive(t, "077")) {
 		t.Error("go/build image makes other bytes when it runs again")
 	}
 	b := buildah{t, t.TempDir()}

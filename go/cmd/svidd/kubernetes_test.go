@@ -305,7 +305,7 @@ func TestKubernetesManifests(t *testing.T) {
 		for _, arg := range sidecar.Args {
 			args = append(args, strings.Replace(arg, "/run/svidd", t.TempDir(), 1))
 		}
-		if status, out, err := svidd(t, "", append(args, "--check-config")...); status != 0 || out != "svidd: the options are good\n" {
+		if status, out, err := here("", append(args, "--check-config")...); status != 0 || out != "svidd: the options are good\n" {
 			t.Errorf("%s: --check-config: %d %q %q", overlay, status, out, err)
 		}
 	}

@@ -430,7 +430,7 @@ func (e *endpoints) clients(t *testing.T) (stop func() (sent int, wrong map[stri
 				select {
 				case <-end:
 					return
-				case <-time.After(20 * time.Millisecond):
+				case <-time.After(40 * time.Millisecond):
 				}
 				one := token(t, fmt.Sprint("client", i, ".", n, ".", time.Now().UnixNano()), 30*time.Minute)
 				first, said := e.get(n).ask(one)
@@ -459,6 +459,7 @@ func again(t *testing.T) bool {
 	if os.Getenv(inPods) != "" {
 		return false
 	}
+	firstArchive(t)
 	words := []string{"unshare", "--net", "--mount", os.Args[0], "-test.v", "-test.timeout=10m", "-test.run=^" + t.Name() + "$"}
 	if os.Getuid() != 0 {
 		words = append([]string{"buildah", "unshare", "--"}, words...)
@@ -473,11 +474,10 @@ func again(t *testing.T) bool {
 	return true
 }
 
-// images builds the image of the sidecar.
+// images builds the image of the sidecar, from what go/build image made before.
 func (k *cluster) images() {
 	k.t.Helper()
 	defer lockImage(k.t)()
-	rootArchive(k.t, "022")
 	k.b = buildah{k.t, k.t.TempDir()}
 	k.b.do("bud", "--isolation=chroot", "--format=docker", "--tag=svidd", imageContext)
 }

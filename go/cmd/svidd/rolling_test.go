@@ -59,17 +59,22 @@ func rolling(t *testing.T, wait string, end func(*testing.T, *broker.Server)) {
 		asking.Add(1)
 		go func(i int) {
 			defer asking.Done()
+			lines := make([]*line, len(all))
+			for n, p := range all {
+				lines[n] = &line{address: p.address}
+				defer lines[n].close()
+			}
 			for n := 0; ; n++ {
 				select {
 				case <-stop:
 					return
-				case <-time.After(20 * time.Millisecond):
+				case <-time.After(40 * time.Millisecond):
 				}
 				one := token(t, fmt.Sprint("rolling", i, ".", n), time.Hour/2)
 				from := time.Now()
-				status, _, body := all[(i+n)%len(all)].check(one)
+				status, body := lines[(i+n)%len(all)].check(one)
 				took := time.Since(from)
-				again, _, _ := all[(i+n+1)%len(all)].check(one)
+				again, _ := lines[(i+n+1)%len(all)].check(one)
 				mu.Lock()
 				if sent++; took > worst {
 					worst = took

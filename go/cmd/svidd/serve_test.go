@@ -196,7 +196,7 @@ func TestAStateFolderThatCantBeTaken(t *testing.T) {
 
 func TestWhatIsWrongWithTheOptionsIsSaidAtOnce(t *testing.T) {
 	t.Parallel()
-	status, _, err := svidd(t, "", "serve", "--check-config", "--replay", "twice", "--log", "loud")
+	status, _, err := here("", "serve", "--check-config", "--replay", "twice", "--log", "loud")
 	if status != 2 {
 		t.Errorf("status %d", status)
 	}
@@ -226,7 +226,7 @@ func TestWhatIsWrongWithTheOptionsIsSaidAtOnce(t *testing.T) {
 		{[]string{"--replay", "strict", "--nats", "nats://h", "--nats-cert", "a"}, 2, "together"},
 		{[]string{"--replay", "strict", "--nats", "nats://h", "--nats-ca", "/nothing"}, 2, "no such file"},
 	} {
-		status, out, err := svidd(t, "", append(append([]string(nil), good...), row.more...)...)
+		status, out, err := here("", append(append([]string(nil), good...), row.more...)...)
 		if status != row.status || !strings.Contains(out+err, row.want) {
 			t.Errorf("%v: %d %q", row.more, status, out+err)
 		}
@@ -245,16 +245,16 @@ func TestOptionsOfAFileAndOfTheEnvironment(t *testing.T) {
 	}
 	write(`{"audience": ["a", "b"], "longest": 60, "bundle": "example.org=` + bundleFile(t, example) + `", "replay": "once", "check-config": true}`)
 	t.Setenv("SVIDD_REPLAY", "reuse")
-	if status, out, err := svidd(t, "", "serve", "--config", config); status != 0 {
+	if status, out, err := here("", "serve", "--config", config); status != 0 {
 		t.Errorf("%d %q %q", status, out, err)
 	}
 	t.Setenv("SVIDD_LONGEST", "no")
-	if status, _, err := svidd(t, "", "serve", "--config", config); status != 2 || !strings.Contains(err, "SVIDD_LONGEST") {
+	if status, _, err := here("", "serve", "--config", config); status != 2 || !strings.Contains(err, "SVIDD_LONGEST") {
 		t.Errorf("%d %q", status, err)
 	}
 	os.Unsetenv("SVIDD_LONGEST")
 	write("# as TOML\naudience = [\"a\", 'b'] # two\nlongest = 3_600\nbundle = \"example.org=" + bundleFile(t, example) + "\"\nsummaries = '1m'\ncheck-config = true\n")
-	if status, out, err := svidd(t, "", "serve", "--config", config); status != 0 {
+	if status, out, err := here("", "serve", "--config", config); status != 0 {
 		t.Errorf("%d %q %q", status, out, err)
 	}
 	for text, want := range map[string]string{
@@ -277,7 +277,7 @@ func TestOptionsOfAFileAndOfTheEnvironment(t *testing.T) {
 		"":                              "--audience is missing",
 	} {
 		write(text)
-		if status, _, err := svidd(t, "", "serve", "--config", config); status != 2 || !strings.Contains(err, want) {
+		if status, _, err := here("", "serve", "--config", config); status != 2 || !strings.Contains(err, want) {
 			t.Errorf("%q: %d %q, and %q is due", text, status, err, want)
 		}
 	}
@@ -303,7 +303,7 @@ func TestVerifyPrintsTheClaims(t *testing.T) {
 		{strings.Repeat("a", 70000), "refused TooLong", 1, nil},
 		{good, "no such file", 2, []string{"--bundle", "example.com=/nothing/there"}},
 	} {
-		status, _, err := svidd(t, row.token, append([]string{"verify", "--audience", "ledger", bundle}, row.more...)...)
+		status, _, err := here(row.token, append([]string{"verify", "--audience", "ledger", bundle}, row.more...)...)
 		if status != row.status || !strings.Contains(err, row.want) {
 			t.Errorf("%s: %d %q", row.want, status, err)
 		}
@@ -315,10 +315,10 @@ func TestVersionAndUsage(t *testing.T) {
 	if status, out, _ := svidd(t, "", "version"); status != 0 || !strings.HasPrefix(out, "svidd "+version.Number+" (libsvid ") {
 		t.Errorf("%d %q", status, out)
 	}
-	if status, _, err := svidd(t, "", "sing"); status != 2 || !strings.Contains(err, "usage:") {
+	if status, _, err := here("", "sing"); status != 2 || !strings.Contains(err, "usage:") {
 		t.Errorf("%d %q", status, err)
 	}
-	if status, out, _ := svidd(t, "", "--help"); status != 0 || !strings.Contains(out, "svidd serve") {
+	if status, out, _ := here("", "--help"); status != 0 || !strings.Contains(out, "svidd serve") {
 		t.Errorf("%d %q", status, out)
 	}
 }
@@ -339,7 +339,7 @@ func TestListenOnAUnixSocket(t *testing.T) {
 		t.Errorf("ready: %d %q %q", status, out, err)
 	}
 	p.end()
-	if status, _, err := svidd(t, "", "ready", "--listen", "unix:"+socket); status != 2 || err == "" {
+	if status, _, err := here("", "ready", "--listen", "unix:"+socket); status != 2 || err == "" {
 		t.Errorf("ready, behind its end: %d %q", status, err)
 	}
 }

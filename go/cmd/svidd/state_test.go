@@ -76,7 +76,7 @@ func TestCheckState(t *testing.T) {
 			t.Errorf("%s: %d\n%s%s", row.what, status, out, err)
 		}
 		for _, args := range [][]string{{"check-state", dir, "--messages"}, {"check-state", "--messages", dir}} {
-			status, out, err := svidd(t, "", args...)
+			status, out, err := here("", args...)
 			if status != row.status || !strings.Contains(err, row.err) {
 				t.Errorf("%s, with --messages: %d %s", row.what, status, err)
 			}
@@ -87,11 +87,11 @@ func TestCheckState(t *testing.T) {
 		_ = uses
 	}
 	for _, args := range [][]string{{}, {"/none"}, {"/etc/passwd"}, {t.TempDir(), "more"}, {t.TempDir(), "--all"}} {
-		if status, out, err := svidd(t, "", append([]string{"check-state"}, args...)...); status != 2 || out != "" || err == "" {
+		if status, out, err := here("", append([]string{"check-state"}, args...)...); status != 2 || out != "" || err == "" {
 			t.Errorf("%q: %d %q %q", args, status, out, err)
 		}
 	}
-	if status, out, _ := svidd(t, "", "check-state", t.TempDir()); status != 0 || out != "place is missing\n" {
+	if status, out, _ := here("", "check-state", t.TempDir()); status != 0 || out != "place is missing\n" {
 		t.Errorf("an empty folder: %d %q", status, out)
 	}
 }
@@ -111,7 +111,7 @@ func TestCheckStateOfNoMessages(t *testing.T) {
 		t.Fatal(err)
 	}
 	j.Close()
-	if status, out, err := svidd(t, "", "check-state", dir); status != 1 || !strings.Contains(out, "what it bears is no message") {
+	if status, out, err := here("", "check-state", dir); status != 1 || !strings.Contains(out, "what it bears is no message") {
 		t.Errorf("%d\n%s%s", status, out, err)
 	}
 }

@@ -68,7 +68,7 @@ func TestVerifyReadsOneToken(t *testing.T) {
 // A key with more bits than --rsa-bits verifies nothing, and the operator hears of it.
 func TestAnRSAKeyHasABound(t *testing.T) {
 	t.Parallel()
-	key, err := rsa.GenerateMultiPrimeKey(rand.Reader, 10, 5120)
+	key, err := rsa.GenerateMultiPrimeKey(rand.Reader, 20, 5120)
 	if err != nil {
 		t.Fatal(err)
 	}

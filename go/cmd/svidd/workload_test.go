@@ -87,15 +87,15 @@ func TestVerifyAsksTheWorkloadAPI(t *testing.T) {
 	agent.Give(t, agentBundles(t, example))
 	for _, more := range [][]string{{}, {bundleOption(bundleFile(t, example))}, {"--bundle=example.com=" + bundleFile(t, example)}} {
 		args := append([]string{"verify", "--audience", "ledger", "--workload-api", agent.Address}, more...)
-		if status, out, err := svidd(t, token(t, "a", time.Hour), args...); status != 0 || !strings.Contains(out, `"jti":"a"`) {
+		if status, out, err := here(token(t, "a", time.Hour), args...); status != 0 || !strings.Contains(out, `"jti":"a"`) {
 			t.Errorf("%q: %d %s %s", more, status, out, err)
 		}
 	}
 	agent.Kill(t)
-	if status, _, err := svidd(t, token(t, "a", time.Hour), "verify", "--audience", "ledger", "--workload-api", agent.Address); status != 2 || !strings.Contains(err, "refused") {
+	if status, _, err := here(token(t, "a", time.Hour), "verify", "--audience", "ledger", "--workload-api", agent.Address); status != 2 || !strings.Contains(err, "refused") {
 		t.Errorf("%d %s", status, err)
 	}
-	if status, _, err := svidd(t, "", "verify", "--audience", "ledger", "--workload-api", "agent.sock"); status != 2 || !strings.Contains(err, "unix:///run/spire/agent.sock") {
+	if status, _, err := here("", "verify", "--audience", "ledger", "--workload-api", "agent.sock"); status != 2 || !strings.Contains(err, "unix:///run/spire/agent.sock") {
 		t.Errorf("%d %s", status, err)
 	}
 }

@@ -61,7 +61,7 @@ func Await(t testing.TB, what string, so func() bool) {
 // AwaitFor is Await for what may take longer.
 func AwaitFor(t testing.TB, most time.Duration, what string, so func() bool) {
 	t.Helper()
-	for end := time.Now().Add(most); !so(); time.Sleep(5 * time.Millisecond) {
+	for look, end := patience.Looks(), time.Now().Add(most); !so(); look() {
 		if time.Now().After(end) {
 			t.Fatalf("waited %v for %s", most, what)
 		}
@@ -129,6 +129,13 @@ func (m *member) values() []carriers.Value {
 	m.mu.Lock()
 	defer m.mu.Unlock()
 	return append([]carriers.Value(nil), m.order...)
+}
+
+// count is how many these are: to look at all of them takes far longer.
+func (m *member) count() int {
+	m.mu.Lock()
+	defer m.mu.Unlock()
+	return len(m.order)
 }
 
 // has says how often a value was read.
@@ -199,6 +206,11 @@ func (m *member) tryPut(wait time.Duration, message string) error {
 func same(t testing.TB, want func(order []carriers.Value) bool, members ...*member) {
 	t.Helper()
 	Await(t, "the same values everywhere", func() bool {
+		for _, m := range members[1:] {
+			if m.count() != members[0].count() {
+				return false
+			}
+		}
 		first := members[0].values()
 		if !want(first) {
 			return false
@@ -460,7 +472,7 @@ func load(t testing.TB, members ...*member) (end func() []string) {
 					select {
 					case <-stop:
 						return
-					default:
+					case <-time.After(5 * time.Millisecond):
 					}
 					message := fmt.Sprint("good ", who, ".", n)
 					if m.tryPut(2*time.Second, message) == nil {

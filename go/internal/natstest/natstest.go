@@ -51,7 +51,7 @@ func start(t testing.TB, servers ...*broker.Server) {
 // Await asks every few milliseconds whether something is so, and ends the test where it is not in time.
 func Await(t testing.TB, what string, so func() bool) {
 	t.Helper()
-	for end := time.Now().Add(patience.Long); !so(); time.Sleep(5 * time.Millisecond) {
+	for look, end := patience.Looks(), time.Now().Add(patience.Long); !so(); look() {
 		if time.Now().After(end) {
 			t.Fatalf("waited %v for %s", patience.Long, what)
 		}

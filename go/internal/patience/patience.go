@@ -24,3 +24,15 @@ func long(said string) time.Duration {
 	}
 	return time.Duration(seconds) * time.Second
 }
+
+// Looks returns the pauses between one look and the next at something that a test awaits. They are short at first, and the looks at what takes
+// long cost little.
+func Looks() (pause func()) {
+	next := 4 * time.Millisecond
+	return func() {
+		time.Sleep(next)
+		if next < 25*time.Millisecond {
+			next += next / 4
+		}
+	}
+}

@@ -1,6 +1,7 @@
 package sim
 
 import (
+	"sort"
 	"time"
 
 	"svid.example/go/v2/carriers"
@@ -41,7 +42,7 @@ func (s *logServer) append(kind carriers.Kind, message []byte, uses []svid.Use) 
 	for _, use := range uses {
 		s.ever[use] = true
 	}
-	s.w.tell("log: value %d has %s", s.last, names(s.w, uses))
+	s.w.tell("log: value %d has %s", s.last, names(uses))
 	for _, m := range s.w.members {
 		if m.life != nil {
 			m.life.pumpSoon(m.delay(kindRead))
@@ -70,12 +71,11 @@ func (s *logServer) first() uint64 {
 
 // next is the first value behind a position, or nil.
 func (s *logServer) next(position uint64) *stored {
-	for i := range s.values {
-		if s.values[i].position > position {
-			return &s.values[i]
-		}
+	i := sort.Search(len(s.values), func(i int) bool { return s.values[i].position > position })
+	if i == len(s.values) {
+		return nil
 	}
-	return nil
+	return &s.values[i]
 }
 
 // remove lets someone remove a value.

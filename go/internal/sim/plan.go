@@ -293,31 +293,42 @@ func (w *world) heal() {
 	}
 }
 
-// repair lets the members of mode once send summaries to each other, and take the answers.
+// repair lets each member of mode once send a summary to the one before it, and then to the one behind it, and take the answers. So what one
+// has comes to another by one answer alone, and none makes up for what that lacks.
 func (w *world) repair() {
 	if w.plan.mode == server.Strict {
 		return
 	}
-	for round := 0; round < 2; round++ {
-		for _, asking := range w.members {
-			for _, asked := range w.members {
-				if asking == asked || asking.life == nil || asked.life == nil {
-					continue
-				}
-				summary, err := asking.life.machine.Summary()
-				if err == nil {
-					summary, err = asked.life.machine.Answer(summary)
-				}
-				if err != nil {
-					w.fail("%v asks %v for what it has: %v", asking, asked, err)
-					return
-				}
-				t := &server.Taking{Values: []carriers.Value{{Kind: carriers.Answer, Message: summary}}}
-				asking.life.step(t)
-				w.tell("%v takes %d bytes of %v: %v", asking, len(summary), asked, t.Errs)
-			}
+	var up []*member
+	for _, m := range w.members {
+		if m.life != nil {
+			up = append(up, m)
 		}
 	}
+	for i := 1; i < len(up); i++ {
+		w.answers(up[i], up[i-1])
+	}
+	for i := len(up) - 1; i > 0; i-- {
+		w.answers(up[i-1], up[i])
+	}
+}
+
+// answers lets a member ask another one for what it lacks, and take the answer.
+func (w *world) answers(asking, asked *member) {
+	if w.report.failure != "" || asking.life == nil || asked.life == nil {
+		return
+	}
+	summary, err := asking.life.machine.Summary()
+	if err == nil {
+		summary, err = asked.life.machine.Answer(summary)
+	}
+	if err != nil {
+		w.fail("%v asks %v for what it has: %v", asking, asked, err)
+		return
+	}
+	t := &server.Taking{Values: []carriers.Value{{Kind: carriers.Answer, Message: summary}}}
+	asking.life.step(t)
+	w.tell("%v takes %d bytes of %v: %v", asking, len(summary), asked, t.Errs)
 }
 
 // A list takes what a record saves.
@@ -386,7 +397,7 @@ func (w *world) wantEqual() {
 		}
 		for use := range live {
 			if !first[use] {
-				w.fail("%v has %s, and %v has not", m, names(w, []svid.Use{use}), whose)
+				w.fail("%v has %s, and %v has not", m, names{use}, whose)
 				return
 			}
 		}
@@ -415,7 +426,7 @@ func (w *world) wantFresh() {
 			return
 		}
 		if a.request.Err != nil {
-			w.fail("%v: %s is not accepted, though no fault is left: %v", m, w.name(one), a.request.Err)
+			w.fail("%v: %s is not accepted, though no fault is left: %v", m, one, a.request.Err)
 			return
 		}
 	}

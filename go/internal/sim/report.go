@@ -52,12 +52,15 @@ type ask struct {
 // is late by some milliseconds.
 const most = wait + 50*time.Millisecond
 
-// name is how a token is called.
-func (w *world) name(one *token) string {
-	return fmt.Sprintf("token %x of issuer %d (until %+d)", one.key[:3], one.issuer, int64(one.expires)-base)
+// String is how a token is called. (Of all that is told, most is told to nobody: so names are made where someone hears them.)
+func (t *token) String() string {
+	return fmt.Sprintf("token %x of issuer %d (until %+d)", t.key[:3], t.issuer, int64(t.expires)-base)
 }
 
-func names(w *world, uses []svid.Use) string {
+// names are uses as they are told.
+type names []svid.Use
+
+func (uses names) String() string {
 	var all []string
 	for _, use := range uses {
 		what := "use"
@@ -81,7 +84,7 @@ func (m *member) ask(one *token, gives time.Duration) *ask {
 		a.withdrawn = true
 	}
 	l.asks[&a.request.Call] = a
-	m.w.tell("%v: is asked about %s", m, m.w.name(one))
+	m.w.tell("%v: is asked about %s", m, one)
 	l.step(a.request)
 	if gives > 0 && m.w.plan.mode == server.Strict {
 		m.w.after(gives, func() {
@@ -93,7 +96,7 @@ func (m *member) ask(one *token, gives time.Duration) *ask {
 	}
 	m.w.after(most, func() {
 		if !l.dead && !a.done {
-			m.w.fail("%v: no answer within %v about %s", m, most, m.w.name(one))
+			m.w.fail("%v: no answer within %v about %s", m, most, one)
 		}
 	})
 	return a
@@ -107,7 +110,7 @@ func (m *member) withdraw(one *token) {
 	}
 	a := &ask{l: l, token: one, at: m.w.now, withdraw: &server.Withdraw{Key: one.key, Expires: one.expires}}
 	l.asks[&a.withdraw.Call] = a
-	m.w.tell("%v: is to withdraw %s", m, m.w.name(one))
+	m.w.tell("%v: is to withdraw %s", m, one)
 	l.step(a.withdraw)
 	if use := a.withdraw.Use; use != (svid.Use{}) { // (from here on no token is accepted that comes later)
 		m.w.report.withdrawals = append(m.w.report.withdrawals, use)
@@ -127,7 +130,7 @@ func (a *ask) answered(err error) {
 	w, m := a.l.w, a.l.m
 	a.done = true
 	if a.withdraw != nil {
-		w.tell("%v: withdrawn %s: %v", m, w.name(a.token), err)
+		w.tell("%v: withdrawn %s: %v", m, a.token, err)
 		if err == nil {
 			m.withdrawn[a.token.key] = w.now
 			if m.disk != nil && !m.kept[a.withdraw.Use] {
@@ -140,7 +143,7 @@ func (a *ask) answered(err error) {
 		}
 		return
 	}
-	w.tell("%v: answers %s: %v", m, w.name(a.token), err)
+	w.tell("%v: answers %s: %v", m, a.token, err)
 	if d := w.now - a.at; d > most {
 		w.fail("%v: an answer took %v: %v", m, d, err)
 	}
@@ -180,13 +183,13 @@ func (a *ask) accepted() {
 		set = l.set
 	}
 	if set != one.issuer {
-		w.fail("%v: %s is accepted by the keys of another issuer", m, w.name(one))
+		w.fail("%v: %s is accepted by the keys of another issuer", m, one)
 	}
 	if a.wall >= one.expires {
-		w.fail("%v: %s is accepted, and has expired", m, w.name(one))
+		w.fail("%v: %s is accepted, and has expired", m, one)
 	}
 	if a.withdrawn {
-		w.fail("%v: %s is accepted behind its withdrawal", m, w.name(one))
+		w.fail("%v: %s is accepted behind its withdrawal", m, one)
 	}
 	before := w.report.accepted[one.key]
 	for _, other := range before {
@@ -195,10 +198,10 @@ func (a *ask) accepted() {
 			if w.resumed {
 				continue
 			}
-			w.fail("%s is accepted by %v at %v and by %v", w.name(one), other.by, other.at, m)
+			w.fail("%s is accepted by %v at %v and by %v", one, other.by, other.at, m)
 		case server.Once:
 			if other.by == m {
-				w.fail("%s is accepted twice by %v, before at %v", w.name(one), m, other.at)
+				w.fail("%s is accepted twice by %v, before at %v", one, m, other.at)
 			}
 		}
 	}
@@ -206,11 +209,11 @@ func (a *ask) accepted() {
 	switch w.plan.mode {
 	case server.Strict:
 		if !w.log.ever[got.Use] {
-			w.fail("%v: %s is accepted, and the log does not have its claim", m, w.name(one))
+			w.fail("%v: %s is accepted, and the log does not have its claim", m, one)
 		}
 	case server.Once:
 		if m.disk != nil && !m.kept[got.Use] {
-			w.fail("%v: %s is accepted, and the disk does not have its use", m, w.name(one))
+			w.fail("%v: %s is accepted, and the disk does not have its use", m, one)
 		}
 	}
 }

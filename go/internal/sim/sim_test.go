@@ -3,6 +3,7 @@ package sim
 import (
 	"flag"
 	"fmt"
+	"os"
 	"runtime"
 	"sort"
 	"strings"
@@ -14,10 +15,19 @@ import (
 )
 
 var (
-	seeds = flag.Int("seeds", 150, "how many seeds to run of each mode")
+	seeds = flag.Int("seeds", usual(), "how many seeds to run of each mode")
 	from  = flag.Int64("from", 0, "the first one")
 	seed  = flag.Int64("seed", -1, "run this seed alone, and tell what happens")
 )
+
+// usual is how many seeds are run where nobody says it. go/build lets few be run under the race detector, which sees nothing in the one goroutine
+// of a group: without it thousands are.
+func usual() int {
+	if os.Getenv("SVID_TEST_FEW") != "" {
+		return 20
+	}
+	return 150
+}
 
 // check runs the seeds of a mode. One that fails is run again, with as little as it takes, and told.
 func check(t *testing.T, mode server.Mode) {
@@ -85,12 +95,12 @@ func TestReuse(t *testing.T)  { check(t, server.Reuse) }
 func TestASeedIsOneRun(t *testing.T) {
 	for _, mode := range []server.Mode{server.Once, server.Strict, server.Reuse} {
 		for n := int64(0); n < 20; n++ {
-			var runs [2]string
+			var runs [2]strings.Builder
 			for i := range runs {
-				planOf(mode, n).run(func(format string, args ...any) { runs[i] += fmt.Sprintf(format, args...) + "\n" })
+				planOf(mode, n).run(func(format string, args ...any) { fmt.Fprintf(&runs[i], format+"\n", args...) })
 			}
-			if runs[0] != runs[1] {
-				t.Fatalf("seed %d of mode %s has two runs:\n%s\n\n%s", n, mode, runs[0], runs[1])
+			if runs[0].String() != runs[1].String() {
+				t.Fatalf("seed %d of mode %s has two runs:\n%s\n\n%s", n, mode, &runs[0], &runs[1])
 			}
 		}
 	}

@@ -8,7 +8,6 @@ import (
 	"encoding/json"
 	"os"
 	"path/filepath"
-	"runtime"
 	"strings"
 	"testing"
 )
@@ -25,8 +24,7 @@ func (e Each) each() Each { return e }
 // as many as the file says.
 func Read[Vector interface{ each() Each }](t testing.TB, name string, file any) []Vector {
 	t.Helper()
-	_, here, _, _ := runtime.Caller(0)
-	text, err := os.ReadFile(filepath.Join(filepath.Dir(here), "../../../vectors", name+".json"))
+	text, err := os.ReadFile(filepath.Join(folder(t), name+".json"))
 	if err != nil {
 		t.Fatal(err)
 	}
@@ -54,6 +52,23 @@ func Read[Vector interface{ each() Each }](t testing.TB, name string, file any) 
 		t.Fatalf("%s: %d vectors are for Go, and not %d", name, len(mine), all.Counts["go"])
 	}
 	return mine
+}
+
+// folder is the folder vectors/. It stands beside the module, and `go test` runs a test in the folder of its package. (A program that
+// was compiled with -trimpath does not know where its sources are.)
+func folder(t testing.TB) string {
+	t.Helper()
+	here, err := os.Getwd()
+	if err != nil {
+		t.Fatal(err)
+	}
+	for module := here; module != filepath.Dir(module); module = filepath.Dir(module) {
+		if _, err := os.Stat(filepath.Join(module, "go.mod")); err == nil {
+			return filepath.Join(filepath.Dir(module), "vectors")
+		}
+	}
+	t.Fatalf("no folder above %s has a go.mod", here)
+	return ""
 }
 
 // Bytes are bytes that stand in a file as hexadecimal digits.
