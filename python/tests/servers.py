@@ -2,6 +2,7 @@
 
 import atexit
 import contextlib
+import fcntl
 import os
 import pwd
 import shutil
@@ -14,6 +15,9 @@ import time
 import psycopg2
 import redis
 from making import PATIENCE
+
+# A folder for what several processes share that run tests. ../test makes it.
+SHARED = os.environ.get("SVID_TEST_SHARED")
 
 
 def until(true, seconds=PATIENCE):
@@ -139,9 +143,18 @@ class PostgresServer(Server):
             os.chown(self.folder, it.pw_uid, it.pw_gid)
             self.user = {"user": it.pw_uid, "group": it.pw_gid, "extra_groups": []}
         if not PostgresServer.new:
-            PostgresServer.new = self.made()
+            PostgresServer.new = self.shared() if SHARED else self.made()
         subprocess.run(["cp", "-a", PostgresServer.new, "data"], cwd=self.folder, check=True)
         self.url = f"postgresql://svid@127.0.0.1:{self.port}/postgres"
+
+    def shared(self):
+        """Such data for all processes of these tests: the first that wants them makes them."""
+        with open(f"{SHARED}/lock", "wb") as lock:
+            fcntl.flock(lock, fcntl.LOCK_EX)
+            if not os.path.exists(f"{SHARED}/data"):
+                subprocess.run(["cp", "-a", self.made(), f"{SHARED}/new"], check=True)
+                os.rename(f"{SHARED}/new", f"{SHARED}/data")
+        return f"{SHARED}/data"
 
     def made(self):
         """The data of a new server, from which each begins: to make them costs more than a copy."""

@@ -138,13 +138,14 @@ def mixed(tokens, times):
 
 
 def at_once(tokens, times):
-    """Each token so many times, all but the last of them at once, and that a short time later."""
+    """Each token so many times at once; of each second one, the last time a short time later."""
     chance, order = random.Random(7), []
-    for begin in range(0, len(tokens), 25):
-        row = tokens[begin : begin + 25]
-        order += [it for it in row for _ in range(times - 1)]
-        chance.shuffle(row)
-        order += row
+    for begin in range(0, len(tokens), 50):
+        late = tokens[begin : begin + 50 : 2]
+        for it in tokens[begin : begin + 50]:
+            order += [it] * (times - (it in late))
+        chance.shuffle(late)
+        order += late
     return order
 
 

@@ -936,3 +936,4 @@ def tried_until_refused(log):
             if "standby" in str(why):
                 raise OSError("recovery") from why
             assert time.monotonic() < end
+            time.sleep(0.01)

@@ -8,7 +8,7 @@ from making import fresh
 from servers import RedisServer, until
 from services import BEGIN, EXAMPLES, KINDS, SERVICES, WORKERS, Clients, Service, at_once, report
 
-TOKENS = 500
+TOKENS = 450
 PAGE = (EXAMPLES.parent / "README.md").read_text()
 [OF_THE_PAGE] = [it for it in PAGE.split("```python\n") if "(hello, member)" in it]
 
