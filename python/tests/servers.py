@@ -20,12 +20,12 @@ from making import PATIENCE
 SHARED = os.environ.get("SVID_TEST_SHARED")
 
 
-def until(true, seconds=PATIENCE):
-    """Waits until something is true."""
+def until(true, seconds=PATIENCE, pause=0.005):
+    """Waits until something is true, and looks again and again, with pauses."""
     end = time.monotonic() + seconds
     while not true():
         assert time.monotonic() < end, "it does not come to be"
-        time.sleep(0.005)
+        time.sleep(pause)
 
 
 def held_port():
@@ -39,6 +39,8 @@ def held_port():
 
 class Server:
     """A server that a test may stop, kill, pause and start again. Its data stay."""
+
+    pause_of_start = 0.005
 
     def __init__(self):
         # (not below the folder of the tests: PostgreSQL runs as another user)
@@ -57,7 +59,7 @@ class Server:
 
     def start(self, *more):
         self.run(*more)
-        until(self.is_there)
+        until(self.is_there, pause=self.pause_of_start)
 
     def stop(self):
         """As an operator restarts it."""
@@ -133,6 +135,7 @@ class RedisServer(Server):
 class PostgresServer(Server):
     stops_by = signal.SIGINT  # (a fast shutdown)
     binaries = "/usr/lib/postgresql/15/bin"
+    pause_of_start = 0.03  # (whoever asks costs it a process)
     new = None  # a folder with the data of one that never ran
 
     def __init__(self, *settings):

@@ -268,12 +268,12 @@ print("end")
 
 
 def test_validators_that_are_dropped_are_freed():
-    """Each has bundles of a megabyte: 150 that stayed would be 150 megabytes."""
+    """Each has bundles of a megabyte: 100 that stayed would be 250 megabytes and more."""
     text = """
 import svid
 key = b'{"kty":"EC","use":"jwt-svid","kid":"%s"}' % (b"k" * 60_000)
 bundles = b'{"a":{"keys":[%s]}}' % b",".join([key] * 16)
-for _ in range(150):
+for _ in range(100):
     svid.Validator(audiences="a", bundles=bundles)
 print(open("/proc/self/status").read().partition("VmHWM:")[2].split()[0])
 """
