@@ -156,7 +156,7 @@ class Clients:
         self.left = iter(tokens)
         self.service, self.guard = service, threading.Lock()
         self.said, self.times = collections.defaultdict(list), collections.defaultdict(list)
-        self.workers, self.count = collections.Counter(), 0
+        self.workers, self.count, self.twice = collections.Counter(), 0, []
         self.threads = [threading.Thread(target=self.work) for _ in range(threads)]
         for it in self.threads:
             it.start()
@@ -174,6 +174,9 @@ class Clients:
                 self.times[token].append((begun, time.monotonic(), worker))
                 self.workers[worker] += 1
                 self.count += 1
+                if self.said[token].count(200) > 1:
+                    self.twice.append(token)
+                    self.left = iter(())  # (the test has failed)
 
     def is_past(self, count):
         return self.count >= count or not any(it.is_alive() for it in self.threads)

@@ -39,6 +39,7 @@ def test_no_token_is_accepted_twice_where_processes_are_killed(server, kind, tmp
                 until(lambda: clients.is_past(count + 20))
                 server.start()
         clients.end()
+        assert not clients.twice
         service.wait()  # all four accept tokens again
         assert 503 in {status for row in clients.said.values() for status in row}
         last = Clients(service, tokens)

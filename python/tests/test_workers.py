@@ -26,6 +26,7 @@ def test_four_workers_accept_each_token_once(server, kind, tmp_path):
         service.wait()
         clients = Clients(service, at_once(tokens, 4))
         clients.end()
+        assert not clients.twice
         assert len(clients.workers) == WORKERS, clients.workers
         assert clients.races() > TOKENS, "few tokens came to several workers at once"
     counts = collections.Counter(tuple(sorted(clients.said[it])) for it in tokens)
