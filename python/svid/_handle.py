@@ -207,7 +207,7 @@ class Handle:
                 return trust, b""
             else:
                 rows = self._rest(status, _ASK, *lent)
-        found = first(_ROW, rows, token, verifies)
+        found = first(_ROW, rows, token, size, verifies)
         return trust, rows[found[1] : found[1] + 32] if found else b""
 
     def _long(self, token: bytes, size: Any, verifies: Verifies) -> tuple[Trust, bytes]:

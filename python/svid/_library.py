@@ -303,7 +303,6 @@ _CALLS = {
     "svid_journal_unwritten": _FOLDER,
     "svid_key_spki": [*_LENT, *_LENT, c_size_t, *_OUT, *_TOLD],
     "svid_token_says": [*_LENT, c_void_p, *_OUT, *_OUT, *_TOLD],
-    "svid_token_signature": [*_LENT, c_void_p, *_OUT, *_TOLD],
     "svid_report": [*_LENT, *_NOW, *_OUT, *_TOLD],
     "svid_validator_answer": [*_VALIDATOR, *_NOW, *_LENT, *_OUT, *_TOLD],
     "svid_validator_beside": [*_VALIDATOR, *_OUT, *_TOLD],
@@ -323,6 +322,7 @@ _CALLS = {
 _CALLS_OF_A_CHECK = [
     "svid_bundles_ask",
     "svid_bundles_question",
+    "svid_token_signature",
     "svid_validator_ask",
     "svid_validator_check",
     "svid_validator_judge",

@@ -71,7 +71,7 @@ class Trust:
                 long = (lib.address(rows), lib.size(len(rows)))
                 status = library.svid_bundles_ask(*lent, *long, told)
             rows = bytes(rows)
-        found = first(_ROW, rows, token, verifies) if rows else None
+        found = first(_ROW, rows, token, size, verifies) if rows else None
         if not found:
             return status, b""
         with self._lock:
@@ -85,18 +85,18 @@ def _close(words: ctypes.Array[ctypes.c_uint64]) -> None:
 
 
 def first(
-    form: struct.Struct, rows: bytes, token: bytes, verifies: Verifies
+    form: struct.Struct, rows: bytes, token: bytes, size: Any, verifies: Verifies
 ) -> tuple[int, int] | None:
     """The number of the first row whose key made the token's signature, and where it begins.
 
     A row has this form, of which the algorithm and the length of the key are the last, and the key.
     """
-    signed, signature = signing(token)
+    signed, signature = _signing(token, size)
     begins = number = 0
     while begins < len(rows):
-        *_, alg, size = form.unpack_from(rows, begins)
-        ends = begins + form.size + size
-        if _is_yes(verifies(alg.decode(), rows[ends - size : ends], signed, signature)):
+        *_, alg, length = form.unpack_from(rows, begins)
+        ends = begins + form.size + length
+        if _is_yes(verifies(alg.decode(), rows[ends - length : ends], signed, signature)):
             return number, begins
         number, begins = number + 1, ends
     return None
@@ -109,14 +109,38 @@ def _is_yes(answer: object) -> bool:
     return answer
 
 
-def signing(token: bytes) -> tuple[bytes, bytes]:
+class _Signature:
+    """Room for what the library says of a token's signature, with where it is."""
+
+    def __init__(self, size: int) -> None:
+        self.over, self.told, self.room = lib.Signed(), lib.Told(), bytearray(size)
+        self.lent = (
+            lib.address(self.over),
+            lib.address(self.room),
+            lib.size(size),
+            lib.address(self.told),
+        )
+
+
+_free: list[_Signature] = []
+"""Rooms that no call uses: to make one takes longer than a call does. Threads take turns here."""
+
+
+def _signing(token: bytes, size: Any) -> tuple[bytes, bytes]:
     """What the signature of a token is made over, and the signature, as the library reads them."""
-    over, told, room = lib.Signed(), lib.Told(), bytearray(_SIGNATURE)
-    status = lib.TOO_SHORT
-    while status == lib.TOO_SHORT:
-        room = bytearray(max(told.len, len(room)))
-        lent = (lib.address(over), lib.address(room), len(room), lib.address(told))
-        status = lib.quick.svid_token_signature(token, len(token), *lent)
+    try:
+        it = usual = _free.pop()
+    except IndexError:
+        it = usual = _Signature(_SIGNATURE)
+    status = lib.quick.svid_token_signature(token, size, *it.lent)
+    if status == lib.TOO_SHORT:
+        it = _Signature(it.told.len)
+        status = lib.quick.svid_token_signature(token, size, *it.lent)
+    # (else there would be what another token left)
     if status == lib.NO_MEMORY:
         raise no_memory()
-    return token[: over.len], bytes(room[: told.len])
+    if status != lib.OK:
+        raise RuntimeError(f"libsvid answered {status} for a token that it has read")
+    said = token[: it.over.len], bytes(it.room[: it.told.len])
+    _free.append(usual)
+    return said

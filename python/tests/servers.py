@@ -2,6 +2,7 @@
 
 import atexit
 import contextlib
+import fcntl
 import os
 import pwd
 import shutil
@@ -15,13 +16,16 @@ import psycopg2
 import redis
 from making import PATIENCE
 
+# A folder for what several processes share that run tests. ../test makes it.
+SHARED = os.environ.get("SVID_TEST_SHARED")
 
-def until(true, seconds=PATIENCE):
-    """Waits until something is true."""
+
+def until(true, seconds=PATIENCE, pause=0.005):
+    """Waits until something is true, and looks again and again, with pauses."""
     end = time.monotonic() + seconds
     while not true():
         assert time.monotonic() < end, "it does not come to be"
-        time.sleep(0.005)
+        time.sleep(pause)
 
 
 def held_port():
@@ -35,6 +39,8 @@ def held_port():
 
 class Server:
     """A server that a test may stop, kill, pause and start again. Its data stay."""
+
+    pause_of_start = 0.005
 
     def __init__(self):
         # (not below the folder of the tests: PostgreSQL runs as another user)
@@ -53,7 +59,7 @@ class Server:
 
     def start(self, *more):
         self.run(*more)
-        until(self.is_there)
+        until(self.is_there, pause=self.pause_of_start)
 
     def stop(self):
         """As an operator restarts it."""
@@ -129,6 +135,7 @@ class RedisServer(Server):
 class PostgresServer(Server):
     stops_by = signal.SIGINT  # (a fast shutdown)
     binaries = "/usr/lib/postgresql/15/bin"
+    pause_of_start = 0.03  # (whoever asks costs it a process)
     new = None  # a folder with the data of one that never ran
 
     def __init__(self, *settings):
@@ -139,9 +146,18 @@ class PostgresServer(Server):
             os.chown(self.folder, it.pw_uid, it.pw_gid)
             self.user = {"user": it.pw_uid, "group": it.pw_gid, "extra_groups": []}
         if not PostgresServer.new:
-            PostgresServer.new = self.made()
+            PostgresServer.new = self.shared() if SHARED else self.made()
         subprocess.run(["cp", "-a", PostgresServer.new, "data"], cwd=self.folder, check=True)
         self.url = f"postgresql://svid@127.0.0.1:{self.port}/postgres"
+
+    def shared(self):
+        """Such data for all processes of these tests: the first that wants them makes them."""
+        with open(f"{SHARED}/lock", "wb") as lock:
+            fcntl.flock(lock, fcntl.LOCK_EX)
+            if not os.path.exists(f"{SHARED}/data"):
+                subprocess.run(["cp", "-a", self.made(), f"{SHARED}/new"], check=True)
+                os.rename(f"{SHARED}/new", f"{SHARED}/data")
+        return f"{SHARED}/data"
 
     def made(self):
         """The data of a new server, from which each begins: to make them costs more than a copy."""

@@ -2,6 +2,7 @@
 
 import collections
 import http.client
+import itertools
 import json
 import os
 import pathlib
@@ -9,6 +10,7 @@ import random
 import subprocess
 import sys
 import threading
+import time
 
 import svid
 from making import PATIENCE, bundle, entry, fresh, private_key
@@ -126,19 +128,35 @@ class Service:
         return worker if status == 200 else None
 
 
-class Clients:
-    """Threads that send each token many times to a service, in any order."""
+def mixed(tokens, times):
+    """Each token so many times, in any order, but in a short time."""
+    chance = random.Random(7)
+    rows = [tokens[it : it + 25] * times for it in range(0, len(tokens), 25)]
+    for it in rows:
+        chance.shuffle(it)
+    return [it for row in rows for it in row]
 
-    def __init__(self, service, tokens, times, threads=12):
-        chance = random.Random(7)
-        # Each token again and again in a short time, so that several workers have it at once.
-        rows = [tokens[it : it + 25] * times for it in range(0, len(tokens), 25)]
-        for it in rows:
-            chance.shuffle(it)
-        self.left = iter([it for row in rows for it in row])
+
+def at_once(tokens, times):
+    """Each token so many times at once; of each second one, the last time a short time later."""
+    chance, order = random.Random(7), []
+    for begin in range(0, len(tokens), 50):
+        late = tokens[begin : begin + 50 : 2]
+        for it in tokens[begin : begin + 50]:
+            order += [it] * (times - (it in late))
+        chance.shuffle(late)
+        order += late
+    return order
+
+
+class Clients:
+    """Threads that send tokens to a service, in this order."""
+
+    def __init__(self, service, tokens, threads=12):
+        self.left = iter(tokens)
         self.service, self.guard = service, threading.Lock()
-        self.said = collections.defaultdict(list)
-        self.workers, self.count = collections.Counter(), 0
+        self.said, self.times = collections.defaultdict(list), collections.defaultdict(list)
+        self.workers, self.count, self.twice = collections.Counter(), 0, []
         self.threads = [threading.Thread(target=self.work) for _ in range(threads)]
         for it in self.threads:
             it.start()
@@ -149,11 +167,16 @@ class Clients:
                 token = next(self.left, None)
             if token is None:
                 return
+            begun = time.monotonic()
             status, worker = self.service.get(token)
             with self.guard:
                 self.said[token].append(status)
+                self.times[token].append((begun, time.monotonic(), worker))
                 self.workers[worker] += 1
                 self.count += 1
+                if self.said[token].count(200) > 1:
+                    self.twice.append(token)
+                    self.left = iter(())  # (the test has failed)
 
     def is_past(self, count):
         return self.count >= count or not any(it.is_alive() for it in self.threads)
@@ -161,6 +184,11 @@ class Clients:
     def end(self):
         for it in self.threads:
             it.join()
+
+    def races(self):
+        """How often two workers had the same token at once."""
+        pairs = (it for row in self.times.values() for it in itertools.combinations(row, 2))
+        return sum(one[2] != two[2] and one[0] < two[1] and two[0] < one[1] for one, two in pairs)
 
 
 def report(server):

@@ -144,9 +144,9 @@ def test_a_file_that_is_missing(tmp_path):
 def at_most_a_minute():
     """A test that waits for longer fails."""
     signal.signal(signal.SIGALRM, lambda *_: pytest.fail("it waits"))
-    signal.alarm(60)
+    signal.setitimer(signal.ITIMER_REAL, min(60, PATIENCE / 3))
     yield
-    signal.alarm(0)
+    signal.setitimer(signal.ITIMER_REAL, 0)
 
 
 @pytest.mark.parametrize("linked", [False, True])

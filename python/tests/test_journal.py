@@ -264,7 +264,7 @@ def test_messages_are_bytes_of_some_length(tmp_path):
 
 @pytest.fixture
 def slow(monkeypatch):
-    """A disk whose syncs of files wait for `go`, or two minutes; `syncs` has how many came."""
+    """A disk whose syncs of files wait for `go`, but not for ever; `syncs` has how many came."""
 
     class Slow:
         syncs = 0
@@ -274,7 +274,7 @@ def slow(monkeypatch):
 
     def fdatasync(file):
         slow.syncs += 1
-        slow.go.wait(120)
+        slow.go.wait(PATIENCE)
         real(file)
 
     slow = Slow()
@@ -318,13 +318,23 @@ def opened(folder, slow):
 def test_an_append_waits_no_longer_than_it_wants(tmp_path, slow):
     with contextlib.closing(opened(tmp_path, slow)) as journal:
         for _ in range(2):
-            begun = time.monotonic()
-            with pytest.raises(svid.Unavailable, match="in time"):
+            with waiting_for_less(slow), pytest.raises(svid.Unavailable, match="in time"):
                 journal.append(use(1).message, wait=0.05)
-            assert time.monotonic() - begun < 30
         slow.go.set()
         append(journal, 2)
     assert found(tmp_path) == {1, 2}
+
+
+@contextlib.contextmanager
+def waiting_for_less(slow, seconds=min(30, PATIENCE / 3)):
+    """What is called takes no longer. If it does, the disk answers, and so it ends."""
+    late = threading.Timer(seconds, slow.go.set)
+    late.start()
+    try:
+        yield
+        assert not slow.go.is_set(), "it waits for the disk"
+    finally:
+        late.cancel()
 
 
 def test_a_disk_that_does_not_answer_holds_so_much(tmp_path, slow):

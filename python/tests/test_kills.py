@@ -8,9 +8,9 @@ import signal
 import pytest
 from making import fresh
 from servers import until
-from services import KINDS, SERVICES, Clients, Service, report
+from services import KINDS, SERVICES, Clients, Service, mixed, report
 
-TOKENS = 500
+TOKENS = 300
 
 
 @pytest.fixture(params=KINDS)
@@ -25,7 +25,7 @@ def test_no_token_is_accepted_twice_where_processes_are_killed(server, kind, tmp
     tokens, chance = [fresh(jti=str(it)) for it in range(TOKENS)], random.Random(7)
     with Service(tmp_path, kind, server.url, wait=2) as service:
         service.wait()
-        clients = Clients(service, tokens, 4)
+        clients = Clients(service, mixed(tokens, 4))
         for it in range(1, 8):
             until(lambda: clients.is_past(it * TOKENS // 2), 300)
             if it % 2:
@@ -39,9 +39,10 @@ def test_no_token_is_accepted_twice_where_processes_are_killed(server, kind, tmp
                 until(lambda: clients.is_past(count + 20))
                 server.start()
         clients.end()
+        assert not clients.twice
         service.wait()  # all four accept tokens again
         assert 503 in {status for row in clients.said.values() for status in row}
-        last = Clients(service, tokens, 1)
+        last = Clients(service, tokens)
         last.end()
     twice = [it for it in tokens if (clients.said[it] + last.said[it]).count(200) > 1]
     assert not twice

@@ -150,10 +150,12 @@ def test_a_reader_is_woken(shared):
     with several(shared, 2) as (one, two):
         for it in range(3):
             said = []
-            reading = threading.Thread(target=lambda: said.extend(two.read(it, 60)), daemon=True)
+            reading = threading.Thread(
+                target=lambda: said.extend(two.read(it, PATIENCE)), daemon=True
+            )
             reading.start()
             one.append(b"%d" % it)
-            reading.join(PATIENCE)
+            reading.join(PATIENCE / 2)
             assert said == [(it + 1, b"%d" % it)]
 
 
@@ -979,3 +981,4 @@ def tried_until_refused(log):
             if "standby" in str(why):
                 raise OSError("recovery") from why
             assert time.monotonic() < end
+            time.sleep(0.01)

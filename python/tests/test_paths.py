@@ -3,13 +3,12 @@
 import asyncio
 import json
 import posixpath
+import random
 import socket
 import urllib.parse
 
 import pytest
 import svid
-from hypothesis import given, settings
-from hypothesis import strategies as st
 from making import SUBJECT, fresh, validator
 from servers import RedisServer, until
 from services import BEGIN, SERVICES, WORKERS, Service
@@ -37,6 +36,7 @@ OFF += ["/static//", "/static//a", "/static/a//", "/static/.", "/static/..", "/s
 OFF += ["/static/a/../../x", "/static/./a", "/static/a/.", "/static/%2e%2e/x", "/static/a%2fb"]
 OFF += ["/static/a\\..\\x", "/static/..;/x", "/static/\u00e9", "/static/a b", "/static/a\n"]
 OFF += ["/static/\u2025/x", "/static/\uff0e\uff0e/x", "http://127.0.0.1/healthz"]
+LETTERS = "/..%25eEfFcCaA~_-\\\\;?# \0\n\u00e9\u2025\u212a"
 ALL = [(it, True) for it in ON] + [(it, False) for it in OFF]
 
 
@@ -96,16 +96,19 @@ def test_what_is_on_the_list(kind):
         assert ask(path="/x") == 401
 
 
-@settings(max_examples=1000, deadline=None)
-@given(st.text("/..%25eEfFcCaA~_-\\\\;?# \0\n\u00e9\u2025\u212a", max_size=12))
-def test_a_path_on_the_list_is_read_in_one_way(text):
-    listed = Paths(["/a", "/a/*"])
-    for path in text, "/" + text, "/a" + text, "/a/" + text:
-        if listed.has([path]):
-            assert path == urllib.parse.unquote(path) == urllib.parse.quote(path)
-            assert path == urllib.parse.urlparse(path).path == path.encode("ascii").decode()
-            assert posixpath.normpath(path) == path.rstrip("/")
-            assert path.split("/")[1] == "a"
+def test_a_path_on_the_list_is_read_in_one_way():
+    """Of 5,000 texts, others each time. (Hypothesis takes ten times as long for each of them.)"""
+    listed, count = Paths(["/a", "/a/*"]), 0
+    for _ in range(5000):
+        text = "".join(random.choices(LETTERS, k=random.randint(0, 12)))
+        for path in text, "/" + text, "/a" + text, "/a/" + text:
+            if listed.has([path]):
+                count += 1
+                assert path == urllib.parse.unquote(path) == urllib.parse.quote(path)
+                assert path == urllib.parse.urlparse(path).path == path.encode("ascii").decode()
+                assert posixpath.normpath(path) == path.rstrip("/")
+                assert path.split("/")[1] == "a"
+    assert count > 100
 
 
 @KINDS

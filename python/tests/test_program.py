@@ -4,6 +4,7 @@
 the program's table has are written by this test, from signatures that PyJWT verified.
 """
 
+import functools
 import json
 import os
 import random
@@ -192,8 +193,14 @@ def questions(text):
             if kid is None or key["kid"] == kid
         ]
         for key in fit[:MOST_CANDIDATES]:
-            if verifier.verify(signed, verifier.from_jwk(key), signature):
+            if verifier.verify(signed, read(alg, json.dumps(key)), signature):
                 yield question(domain, key, alg, signed, signature)
+
+
+@functools.lru_cache(maxsize=None)
+def read(alg, key):
+    """A key as PyJWT reads it."""
+    return SIGNERS[alg].from_jwk(key)
 
 
 seen = {}

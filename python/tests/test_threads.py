@@ -110,6 +110,22 @@ def test_no_thread_gets_the_answer_of_another():
         assert len(checks.report().uses) == THREADS * 100
 
 
+def test_no_thread_gets_the_signature_of_another(monkeypatch):
+    """Though others run between the call of the library and the reading of what it wrote."""
+    real = svid._library.quick.svid_token_signature
+
+    def call(*given):
+        status = real(*given)
+        time.sleep(1e-4)
+        return status
+
+    monkeypatch.setattr(svid._library.quick, "svid_token_signature", call)
+    tokens = [[token(jti=f"{which} {it}") for it in range(20)] for which in range(THREADS)]
+    with validator() as checks:
+        in_threads(lambda number: [checks.check(it, NOW) for it in tokens[number]])
+        assert len(checks.report().uses) == THREADS * 20
+
+
 def test_closing_waits_for_a_call():
     """Else the call would read what was freed."""
     checks = validator()
@@ -268,12 +284,12 @@ print("end")
 
 
 def test_validators_that_are_dropped_are_freed():
-    """Each has bundles of a megabyte: 300 that stayed would be 300 megabytes."""
+    """Each has bundles of a megabyte: 100 that stayed would be 250 megabytes and more."""
     text = """
 import svid
 key = b'{"kty":"EC","use":"jwt-svid","kid":"%s"}' % (b"k" * 60_000)
 bundles = b'{"a":{"keys":[%s]}}' % b",".join([key] * 16)
-for _ in range(300):
+for _ in range(100):
     svid.Validator(audiences="a", bundles=bundles)
 print(open("/proc/self/status").read().partition("VmHWM:")[2].split()[0])
 """

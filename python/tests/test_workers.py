@@ -6,9 +6,9 @@ import subprocess
 import pytest
 from making import fresh
 from servers import RedisServer, until
-from services import BEGIN, EXAMPLES, KINDS, SERVICES, WORKERS, Clients, Service, report
+from services import BEGIN, EXAMPLES, KINDS, SERVICES, WORKERS, Clients, Service, at_once, report
 
-TOKENS = 1000
+TOKENS = 450
 PAGE = (EXAMPLES.parent / "README.md").read_text()
 [OF_THE_PAGE] = [it for it in PAGE.split("```python\n") if "(hello, member)" in it]
 
@@ -24,9 +24,11 @@ def test_four_workers_accept_each_token_once(server, kind, tmp_path):
     tokens = [fresh(jti=str(it)) for it in range(TOKENS)]
     with Service(tmp_path, kind, server.url) as service:
         service.wait()
-        clients = Clients(service, tokens, 4)
+        clients = Clients(service, at_once(tokens, 4))
         clients.end()
+        assert not clients.twice
         assert len(clients.workers) == WORKERS, clients.workers
+        assert clients.races() > TOKENS, "few tokens came to several workers at once"
     counts = collections.Counter(tuple(sorted(clients.said[it])) for it in tokens)
     assert counts == {(200, 401, 401, 401): TOKENS}
     assert report(server).twice == {}
@@ -38,7 +40,7 @@ def test_the_service_of_the_page(server, tmp_path):
     tokens = [fresh(jti=str(it)) for it in range(100)]
     with Service(tmp_path, (text, SERVICES["wsgi"][1]), server.url) as service:
         until(lambda: service.get(fresh(jti="first"))[0])
-        clients = Clients(service, tokens, 4)
+        clients = Clients(service, at_once(tokens, 4))
         clients.end()
     assert {clients.said[it].count(200) for it in tokens} == {1}
 
