@@ -568,7 +568,7 @@ def test_the_crate(room):
     # (of the compiler that is used here, wherever that is)
     tools = Path(output("rustc", "--print", "sysroot").strip()) / "bin"
     cargo = {"CARGO_HOME": str(room.folder / "cargo"), "CARGO_PROFILE_DEV_DEBUG": "0", "PATH": f"{tools}:/usr/sbin:/usr/bin:/sbin:/bin"}
-    # (rust/test compiles the same crates of others there)
+    # (rust/test compiles the same crates of others there, and cargo has a lock)
     if made := os.environ.get("SVID_RUST_TARGET"):
         cargo["CARGO_TARGET_DIR"] = made
     assert room.run("cargo", "run", "--quiet", "--offline", **cargo) == ACCEPTED
