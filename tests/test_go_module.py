@@ -197,8 +197,10 @@ def test_a_service_for_aarch64(service):
     needs("aarch64-linux-gnu-gcc")
     needs("qemu-aarch64-static")
     service.write(TWICE)
-    flags = ["-tags", "gocrypto", "-ldflags", "-linkmode external -extldflags -static"]
-    ran = service.go("build", *flags, "-o", "service", GOARCH="arm64", CGO_ENABLED="1", CC="aarch64-linux-gnu-gcc")
+    flags = ["-trimpath", "-tags", "gocrypto", "-ldflags", "-linkmode external -extldflags -static"]
+    # (with that option Go's own library is compiled for svidd, too, and kept)
+    kept = subprocess.run(["go", "env", "GOCACHE"], capture_output=True, text=True, check=True).stdout.strip()
+    ran = service.go("build", *flags, "-o", "service", GOARCH="arm64", CGO_ENABLED="1", CC="aarch64-linux-gnu-gcc", GOCACHE=kept)
     assert ran.returncode == 0, ran.stderr
     examples = [(TOP / "examples" / it).read_text().strip() for it in ("bundles.json", "token.txt")]
     ran = subprocess.run(["qemu-aarch64-static", service.folder / "service", *examples], capture_output=True, text=True)

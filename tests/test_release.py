@@ -562,7 +562,7 @@ def test_the_crate(room):
     for name, text in {
         "cargo/config.toml": CARGO_HOME,
         "src/main.rs": RUST_SERVICE,
-        "Cargo.toml": f'[package]\nname = "service"\nversion = "1.0.0"\nedition = "2021"\n[dependencies]\n'
+        "Cargo.toml": f'[package]\nname = "of_the_release"\nversion = "1.0.0"\nedition = "2021"\n[dependencies]\n'
         f'svid = {{ path = "svid-{VERSION}", features = ["openssl"] }}\n',
     }.items():
         (room.folder / name).parent.mkdir(exist_ok=True)
@@ -570,6 +570,9 @@ def test_the_crate(room):
     # (of the compiler that is used here, wherever that is)
     tools = Path(output("rustc", "--print", "sysroot").strip()) / "bin"
     cargo = {"CARGO_HOME": str(room.folder / "cargo"), "CARGO_PROFILE_DEV_DEBUG": "0", "PATH": f"{tools}:/usr/sbin:/usr/bin:/sbin:/bin"}
+    # (rust/test compiles the same crates of others there, and cargo has a lock)
+    if made := os.environ.get("SVID_RUST_TARGET"):
+        cargo["CARGO_TARGET_DIR"] = made
     assert room.run("cargo", "run", "--quiet", "--offline", **cargo) == ACCEPTED
 
 

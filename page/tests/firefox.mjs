@@ -10,7 +10,11 @@ import { join } from "node:path";
 import { FieldsAndButtons } from "./browser.mjs";
 
 // What Firefox asks of its maker's servers goes to a proxy that is not there. Port 0 is any that is free, and stands in the file PORT then.
+// It begins with an empty page, and prepares no process for a page that nobody opens.
 const PREFERENCES = {
+  "browser.startup.page": 0,
+  "browser.newtab.preload": false,
+  "dom.ipc.processPrelaunch.enabled": false,
   "marionette.port": 0,
   "network.proxy.type": 1,
   "network.proxy.http": "127.0.0.1",

@@ -5,20 +5,17 @@ import { test } from "node:test";
 import { Firefox } from "./firefox.mjs";
 import { testVerdicts } from "./verdicts.mjs";
 
-testVerdicts(() => Firefox.start());
+let browser;
+
+testVerdicts(async () => (browser = await Firefox.start()));
 
 test("its policy lets it fetch nothing, and an error would be seen", async () => {
-  const browser = await Firefox.start();
-  try {
-    const page = await browser.open(process.env.SVID_PAGE);
-    assert.equal(await page.run(() => fetch("http://127.0.0.1:9/").then(() => "went out", (error) => error.name)), "TypeError");
-    await page.run(() => document.getElementById("samples").remove());
-    await page.click("example");
-    const said = (await page.complaints()).join("\n");
-    assert.match(said, /Content-Security-Policy.*blocked/);
-    assert.match(said, /is null/);
-    assert.deepEqual(await page.requests(), []);
-  } finally {
-    await browser.close();
-  }
+  const page = await browser.open(process.env.SVID_PAGE);
+  assert.equal(await page.run(() => fetch("http://127.0.0.1:9/").then(() => "went out", (error) => error.name)), "TypeError");
+  await page.run(() => document.getElementById("samples").remove());
+  await page.click("example");
+  const said = (await page.complaints()).join("\n");
+  assert.match(said, /Content-Security-Policy.*blocked/);
+  assert.match(said, /is null/);
+  assert.deepEqual(await page.requests(), []);
 });
