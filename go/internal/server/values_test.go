@@ -159,7 +159,8 @@ func TestTheDiskGetsWhatTheRecordGained(t *testing.T) {
 		}
 		send(t, m)
 		give()
-		if err := <-gone; !errors.Is(err, context.Canceled) {
+		// (where the claims are to be late, a busy machine may let them be late before it goes away)
+		if err := <-gone; !errors.Is(err, context.Canceled) && (row.won || !errors.Is(err, context.DeadlineExceeded)) {
 			t.Errorf("%s: the request that went away: %v", what, err)
 		}
 		m.hold(false)
