@@ -146,7 +146,8 @@ test("of bundles that can't be joined the first is named", async () => {
     assert.throws(() => validator.renew(given), { name: "BadBundles", message: /^"foreign\.org": .*JSON/ });
   }
   assert.equal(await said(validator.check(token(one))), "accepted");
-  validator.renew({ "example.org": own, "foreign.org": nested(126) });
+  // (the text of all has more bytes than stand ready for it)
+  validator.renew({ "example.org": own, "foreign.org": nested(126), "long.org": { keys: [], x: "x".repeat(200_000) } });
   assert.equal(await said(validator.check(token(one))), "accepted");
   validator.close();
 });
