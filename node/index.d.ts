@@ -22,7 +22,11 @@ export type Token = string | Uint8Array;
 /** The bundle of one trust domain, a JWK set: its JSON text, or the object. A text stays as it is, since the library reads it. */
 export type Bundle = string | Uint8Array | object;
 
-/** The bundles of all trust domains: an object from their names to bundles, or the JSON text of such an object. */
+/**
+ * The bundles of all trust domains: an object from their names to bundles, or the JSON text of such an object. A name is `example.org`; in an
+ * object it may also be `spiffe://example.org`. Put no bundle that comes from elsewhere between texts of your own: it could bring keys for
+ * another trust domain.
+ */
 export type BundleSet = string | Uint8Array | { readonly [trustDomain: string]: Bundle };
 
 /**
@@ -392,7 +396,10 @@ export class Gone extends SvidError {}
 /** The messages tell of a time more than `ahead` seconds past `now`. None of them was taken. */
 export class TooFar extends SvidError {}
 
-/** The trust bundles can't be read. A validator that has bundles keeps the ones that it has. */
+/**
+ * The trust bundles can't be read. A validator that has bundles keeps the ones that it has. Of an object of bundles the message begins with the
+ * name of the first one at fault: leave that out, so that it does not hold up the others.
+ */
 export class BadBundles extends SvidError {}
 
 /** The bytes are no messages of a validator. None of them was taken. */

@@ -165,6 +165,9 @@ const WORDS = new Map([
   [34, ["A line of the table is neither empty nor a question.", ""]],
   [35, ["An audience of the validator's own is not UTF-8.", ""]],
   [36, ["The lengths of the audiences do not add up to the length of own.", ""]],
+  [37, ["The document is the bundle of one trust domain, without its name.", "Name it."]],
+  [38, ["An earlier document has a bundle of this trust domain.", "Leave one of them out."]],
+  [39, ["The lengths of the documents do not add up to the length of bytes.", ""]],
   [92, ["The ID in the pattern has more than 2,048 bytes.", "Write spiffe://DOMAIN/PATH for one ID, spiffe://DOMAIN/PATH/* for all below it, or spiffe://DOMAIN for all of a trust domain."]],
   [93, ["The pattern does not begin with spiffe://.", "Write spiffe://DOMAIN/PATH for one ID, spiffe://DOMAIN/PATH/* for all below it, or spiffe://DOMAIN for all of a trust domain."]],
   [94, ["The trust domain name of the pattern is empty.", "Write spiffe://DOMAIN/PATH for one ID, spiffe://DOMAIN/PATH/* for all below it, or spiffe://DOMAIN for all of a trust domain."]],
@@ -186,9 +189,11 @@ export function wordsOf(status, where = "") {
 const NO_MEMORY = 2, CLOSED = 5, GONE = 7, TOO_FAR = 8, JUMP = 9;
 const FAULTS = new Map([[NO_MEMORY, OutOfMemory], [CLOSED, Closed], [GONE, Gone], [TOO_FAR, TooFar], [JUMP, Jump]]);
 // Those of bundles that can't be read, and of these the ones that are about one of several trust domains.
-const TOO_MUCH = 3, BUNDLES_NOT_OBJECT = 31, BUNDLES_DOMAIN = 32, BUNDLES_KEYS = 33;
+const TOO_MUCH = 3, BUNDLES_NOT_OBJECT = 31, BUNDLES_DOMAIN = 32, BUNDLES_KEYS = 33, BUNDLES_TWICE = 38;
 const BUNDLE_FAULTS = new Set([TOO_MUCH, BUNDLES_NOT_OBJECT, BUNDLES_DOMAIN, BUNDLES_KEYS]);
 const RANKED = new Set([BUNDLES_DOMAIN, BUNDLES_KEYS]);
+// Those of a bundle that can't be joined to others.
+const DOCUMENT_FAULTS = new Set([BUNDLES_NOT_OBJECT, BUNDLES_DOMAIN, BUNDLES_KEYS, BUNDLES_TWICE]);
 
 /** The error for a status that is not OK. `told` is what the call told beside it. */
 export function ofStatus(status, told) {
@@ -205,4 +210,10 @@ export function ofStatus(status, told) {
 export function ofBundles(status, told) {
   if (!BUNDLE_FAULTS.has(status)) return ofStatus(status, told);
   return new BadBundles(wordsOf(status, RANKED.has(status) ? `It is number ${told.offset} of the names in rising order, counted from 0.` : ""));
+}
+
+/** The same, of a call that joins the bundles of these trust domains. */
+export function ofDocuments(status, told, names) {
+  if (!DOCUMENT_FAULTS.has(status)) return ofStatus(status, told);
+  return new BadBundles(`${JSON.stringify(names[told.input - 1])}: ${wordsOf(status)}`);
 }

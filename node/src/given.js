@@ -78,24 +78,23 @@ export function bytesOf(name, given) {
   return given;
 }
 
-/** Bundles as the one text that the library reads: the text of a bundle stays as it is. Throws BadBundles. */
-export function bundlesText(given) {
+/** Bundles as the library takes them: their one text, or of each trust domain its name and the text of its bundle. Throws BadBundles. */
+export function bundlesOf(given) {
   if (typeof given === "string") return utf8(given);
   if (given instanceof Uint8Array) return given;
   if (typeof given !== "object" || given === null || Array.isArray(given)) {
     throw new TypeError("bundles is an object from trust domains to bundles, or the JSON text of one");
   }
-  return utf8(`{${Object.entries(given).map(([name, it]) => `${JSON.stringify(name)}:${bundleText(name, it)}`).join(",")}}`);
+  return Object.entries(given).map(([name, it]) => [name, bundleText(name, it)]);
 }
 
-// The text of one bundle. It is looked at here only so that it is one JSON value, and has no other bundle after it.
+// The text of one bundle, which the library judges. Bytes are copied, since they may change until it does.
 function bundleText(name, given) {
+  if (typeof given === "string") return utf8(given);
+  if (given instanceof Uint8Array) return new Uint8Array(given);
   try {
-    const strict = new TextDecoder("utf-8", { fatal: true, ignoreBOM: true });
-    const text = typeof given === "string" ? given : given instanceof Uint8Array ? strict.decode(given) : JSON.stringify(given);
-    JSON.parse(text);
-    return text;
+    return utf8(JSON.stringify(given) ?? ""); // (a function has no text)
   } catch (why) {
-    throw new BadBundles(`the bundle of ${name} is no JSON: ${why.message}`, { cause: why });
+    throw new BadBundles(`${JSON.stringify(name)}: The bundle can't be written as JSON: ${why.message}`, { cause: why });
   }
 }

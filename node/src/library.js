@@ -3,7 +3,7 @@
 // Pointers, lengths, times and positions are BigInts, as they have 64 bits; a status is a number. A handle has an instance of the module for
 // itself, so that one that stops, or that has no memory left, takes no other with it.
 
-import { ofBundles, ofStatus, wordsOf, Closed, OutOfMemory, Stopped } from "./errors.js";
+import { ofBundles, ofDocuments, ofStatus, wordsOf, Closed, OutOfMemory, Stopped } from "./errors.js";
 
 const OK = 0, TOO_SHORT = 1, NO_MEMORY = 2, NO_LOG = 19, BEARER_SPELLING = 84, NOT_ALLOWED = 91, FIRST_MESSAGE_FAULT = 11, LAST_MESSAGE_FAULT = 18;
 const FIRST_REFUSAL = 101, TOO_LONG = 101;
@@ -23,7 +23,7 @@ export const USUAL_RSA_BITS = 4096, LEAST_RSA_BITS = 2048, MOST_RSA_BITS = 16384
 export const VALIDATOR = "validator", BUNDLES = "bundles";
 
 // The sizes of the header's structures, in bytes.
-const TOLD = 40, TERMS = 40, SETTING = 32, USE = 64, HANDLE = 16, DIGEST = 32, VALIDATOR_ID = 16, WORD = 8, PART = 88, FATE = 72;
+const TOLD = 40, TERMS = 40, SETTING = 32, USE = 64, HANDLE = 16, DIGEST = 32, VALIDATOR_ID = 16, WORD = 8, PART = 88, FATE = 72, DOCUMENT = 24;
 // How many uses of a value are read at once.
 const FATES = 64;
 
@@ -39,7 +39,7 @@ const NEEDS = [
   "svid_validator_judge", "svid_validator_withdraw", "svid_validator_tick", "svid_validator_take", "svid_validator_parts",
   "svid_validator_size", "svid_validator_summary", "svid_validator_answer", "svid_validator_log", "svid_validator_read",
   "svid_validator_mark", "svid_validator_go_on", "svid_validator_beside", "svid_bundles_open", "svid_bundles_close", "svid_bundles_ask",
-  "svid_bundles_question", "svid_bundles_judge",
+  "svid_bundles_question", "svid_bundles_judge", "svid_bundles_join",
 ];
 
 const encoder = new TextEncoder();
@@ -111,8 +111,9 @@ export class Library {
   // -- Handles
 
   /** Opens a validator. `terms` has `longest`, `ahead`, `step` and `validatorId`; `own` the audiences. Throws BadBundles. */
-  openValidator(terms, own, bundles) {
+  openValidator(terms, own, given) {
     this.#kind = VALIDATOR;
+    const bundles = this.#joined(given);
     this.#within(({ lend, room }) => {
       const at = room(TERMS);
       this.#setWords(at, [terms.longest, terms.ahead, terms.step]);
@@ -123,7 +124,8 @@ export class Library {
   }
 
   /** Replaces the bundles of a validator. Throws BadBundles, and then the old ones stay. */
-  renew(bundles) {
+  renew(given) {
+    const bundles = this.#joined(given);
     this.#within(({ lend }) => {
       const status = this.#call("svid_validator_bundles", this.#handle, ...lend(bundles));
       if (status !== OK) throw ofBundles(status, this.#told());
@@ -131,11 +133,33 @@ export class Library {
   }
 
   /** Opens bundles. Throws BadBundles. */
-  openBundles(bundles) {
+  openBundles(given) {
     this.#kind = BUNDLES;
+    const bundles = this.#joined(given);
     this.#within(({ lend }) => {
       const status = this.#call("svid_bundles_open", this.#handle, ...lend(bundles));
       if (status !== OK) throw ofBundles(status, this.#told());
+    });
+  }
+
+  // The one text of bundles. Those of several trust domains, each a name and a text, are joined to it. Throws BadBundles.
+  #joined(given) {
+    if (given instanceof Uint8Array) return given;
+    // (to the library, a document with an empty name has none: a space is no name of a trust domain either)
+    const pieces = given.flatMap(([name, text]) => [utf8(name || " "), text]);
+    const length = pieces.reduce((sum, it) => sum + it.length, 0);
+    return this.#within(({ room }) => {
+      const bytes = room(length), documents = room(DOCUMENT * given.length);
+      let at = bytes;
+      for (const it of pieces) {
+        this.#set(at, it);
+        at += BigInt(it.length);
+      }
+      const lens = pieces.map((it) => BigInt(it.length));
+      this.#setWords(documents, given.flatMap((_, n) => [lens[2 * n], lens[2 * n + 1], 0n]));
+      const { status, bytes: text } = this.#written("svid_bundles_join", bytes, BigInt(length), documents, BigInt(given.length));
+      if (status !== OK) throw ofDocuments(status, this.#told(), given.map(([name]) => name));
+      return text;
     });
   }
 

@@ -1,7 +1,7 @@
 // A validator that remembers which tokens were used, and bundles that judge tokens without a record.
 
 import { Refusal } from "./errors.js";
-import { audiences, bundlesText, bytesOf, expiryOf, keyOf, limit, nameOf, seconds, tokenOf, validatorId } from "./given.js";
+import { audiences, bundlesOf, bytesOf, expiryOf, keyOf, limit, nameOf, seconds, tokenOf, validatorId } from "./given.js";
 import { ANY, BATCH, LEAST_RSA_BITS, Library, MOST_RSA_BITS, USUAL_RSA_BITS, utf8 } from "./library.js";
 import { Verifier } from "./signatures.js";
 
@@ -50,7 +50,7 @@ export class Validator {
 
   /** What the constructor is given. */
   static async _ready(options) {
-    const own = audiences(options.audiences), bundles = bundlesText(options.bundles);
+    const own = audiences(options.audiences), bundles = bundlesOf(options.bundles);
     const terms = {
       longest: limit("longest", options.longest),
       ahead: limit("ahead", options.ahead ?? 10),
@@ -179,7 +179,7 @@ export class Validator {
 
   /** Replaces the bundles. The record stays. */
   renew(bundles) {
-    this._library.renew(bundlesText(bundles));
+    this._library.renew(bundlesOf(bundles));
     this.#editions += 1;
     this.#verifier.forget();
   }
@@ -193,7 +193,7 @@ export class Bundles {
 
   /** Reads bundles. */
   static async open(options) {
-    const own = audiences(options.audiences), longest = limit("longest", options.longest), bundles = bundlesText(options.bundles);
+    const own = audiences(options.audiences), longest = limit("longest", options.longest), bundles = bundlesOf(options.bundles);
     return opened((library) => {
       const verifier = verifierOf(library, options);
       library.openBundles(bundles);

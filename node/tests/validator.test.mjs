@@ -2,9 +2,10 @@
 
 import assert from "node:assert/strict";
 import { test } from "node:test";
-import { PACKAGE, counted, digest, exhausted, hex, imported, issuer, now, read, said, seen, token } from "./making.mjs";
+import { PACKAGE, counted, digest, exhausted, hex, imported, issuer, listed, now, read, said, seen, token } from "./making.mjs";
 
 const { Bundles, REFUSALS, Refusal, SvidError, Validator } = await imported();
+const { sentences } = await listed();
 
 const one = issuer(), bundles = one.bundles;
 const terms = { audiences: ["ledger"], bundles };
@@ -125,6 +126,32 @@ test("bundles that are refused leave those that were there", async () => {
   validator.close();
 });
 
+test("of bundles that can't be joined the first is named", async () => {
+  const own = bundles["example.org"], none = '{"keys":[]}', validator = await Validator.open(terms);
+  const nested = (depth) => `{"keys":[],"x":${"[".repeat(depth - 1)}${"]".repeat(depth - 1)}}`;
+  const rows = [
+    ["foreign.org", `{"keys":[]},"example.org":{"keys":[]}`, "NOT_OBJECT"], ["foreign.org", nested(127), "NOT_OBJECT"],
+    ["foreign.org", "", "NOT_OBJECT"], ["foreign.org", [], "NOT_OBJECT"], ["foreign.org", null, "NOT_OBJECT"],
+    ["foreign.org", {}, "KEYS"], ["foreign.org", '{"keys":7}', "KEYS"], ["Foreign", none, "DOMAIN"], ["", none, "DOMAIN"], ["", '{"example.com":{"keys":[]}}', "DOMAIN"],
+    ['a":{"keys":[]},"b', none, "DOMAIN"], ["spiffe://example.org", none, "TWICE"],
+  ];
+  for (const [name, bundle, fault] of rows) {
+    const given = { "example.org": own, [name]: bundle, "last.org": "" };
+    const why = { name: "BadBundles", message: `${JSON.stringify(name)}: ${sentences(`BUNDLES_${fault}`)}` };
+    for (const kind of [Validator, Bundles]) await assert.rejects(kind.open({ ...terms, bundles: given }), why, fault);
+    assert.throws(() => validator.renew(given), why);
+  }
+  for (const it of [() => {}, Symbol("a"), undefined, 1n]) {
+    const given = { "example.org": own, "foreign.org": it };
+    assert.throws(() => validator.renew(given), { name: "BadBundles", message: /^"foreign\.org": .*JSON/ });
+  }
+  assert.equal(await said(validator.check(token(one))), "accepted");
+  // (the text of all has more bytes than stand ready for it)
+  validator.renew({ "example.org": own, "foreign.org": nested(126), "long.org": { keys: [], x: "x".repeat(200_000) } });
+  assert.equal(await said(validator.check(token(one))), "accepted");
+  validator.close();
+});
+
 test("the text of a bundle can't bring another trust domain with it", async () => {
   const other = issuer("k1", "P-256", "other.org");
   const text = `{"keys":[]},"other.org":${JSON.stringify(other.bundles["other.org"])}`;
@@ -135,6 +162,12 @@ test("the text of a bundle can't bring another trust domain with it", async () =
   const texts = { "example.org": JSON.stringify(bundles["example.org"]), "other.org": Buffer.from(JSON.stringify(other.bundles["other.org"])) };
   const validator = await Validator.open({ ...terms, bundles: texts });
   for (const it of [one, other]) assert.equal(await said(validator.check(token(it))), "accepted");
+  // (a name may be a SPIFFE ID, and there may be none)
+  validator.renew({ "spiffe://other.org": texts["other.org"] });
+  assert.equal(await said(validator.check(token(other))), "accepted");
+  assert.equal(await said(validator.check(token(one))), "UnknownDomain");
+  validator.renew({});
+  assert.equal(await said(validator.check(token(other))), "UnknownDomain");
   validator.close();
 });
 
@@ -352,6 +385,7 @@ test("no memory is answered, and accepts nothing", async () => {
   assert.equal(await said(validator.check(text)), "OutOfMemory");
   assert.throws(() => validator.take(new Uint8Array(5)), { name: "OutOfMemory", message: "There was no memory. Make the call again." });
   assert.throws(() => validator.renew(bundles), { name: "OutOfMemory" });
+  assert.throws(() => validator.renew(JSON.stringify(bundles)), { name: "OutOfMemory" });
   assert.throws(() => validator.bearer(["Bearer a"]), { name: "OutOfMemory" });
   assert.throws(() => validator.says(text), { name: "OutOfMemory" });
   assert.throws(() => validator.record(), { name: "OutOfMemory" });
@@ -359,6 +393,22 @@ test("no memory is answered, and accepts nothing", async () => {
   assert.equal(validator.size().uses, 0);
   assert.equal(await said(validator.check(text)), "accepted");
   assert.equal(await said(validator.check(text)), "Replayed");
+  validator.close();
+});
+
+test("no memory to join bundles is answered wherever it is wanted", async () => {
+  const { validator, calls } = await watched(), other = issuer("k1", "P-256", "other.org");
+  let refused = 0;
+  for (const it of exhausted(calls)) {
+    const answer = await said(() => validator.renew({ ...bundles, ...other.bundles }));
+    if (answer === "accepted") break;
+    assert.equal(answer, "OutOfMemory");
+    assert.notEqual(await said(validator.judge(token(other))), "accepted");
+    refused += 1;
+    calls.free_room(it);
+  }
+  assert.ok(refused > 5, `${refused} were refused`);
+  for (const it of [one, other]) assert.equal(await said(validator.check(token(it))), "accepted");
   validator.close();
 });
 

@@ -30,6 +30,11 @@ test("bundles that can't be read", async () => {
   for (const [bundles, name, where] of rows) {
     await assert.rejects(open({ bundles }), { name: "BadBundles", message: sentences(`BUNDLES_${name}`, where) });
   }
+  const none = '{"keys":[]}', given = [["a", "[]", "NOT_OBJECT"], ["B", none, "DOMAIN"], ["a", "{}", "KEYS"], ["spiffe://b", none, "TWICE"]];
+  for (const [domain, text, name] of given) {
+    const message = `${JSON.stringify(domain)}: ${sentences(`BUNDLES_${name}`)}`;
+    await assert.rejects(open({ bundles: { b: none, [domain]: text, c: "" } }), { name: "BadBundles", message });
+  }
 });
 
 test("texts that are no SPIFFE IDs, and no patterns", async () => {

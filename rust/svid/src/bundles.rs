@@ -1,7 +1,7 @@
 //! Trust bundles, apart from any record.
 
-use crate::error::{BundlesFault, Error};
-use crate::ffi::{self, Handle, Setting, Told};
+use crate::error::Error;
+use crate::ffi::{self, Document, Handle, Setting, Told};
 use crate::key::Candidates;
 use crate::options::{Audiences, Options};
 use crate::record::{text_of, Accepted, Question, Use};
@@ -37,43 +37,45 @@ impl Bundles {
         }
     }
 
-    /// The JSON text of the bundles of several trust domains, each of them a JWK set, as SPIRE writes one (`spire-server bundle show -format
-    /// spiffe`). [`Bundles::read`] judges their names and keys.
+    /// The JSON text of the bundles of several trust domains, for [`Bundles::read`]. Each has the name of its trust domain, `example.org` or
+    /// `spiffe://example.org`, and is a JWK set, as SPIRE writes one (`spire-server bundle show -format spiffe`).
+    ///
+    /// Put no bundle that comes from elsewhere between texts of your own: it could bring keys for another trust domain.
     ///
     /// # Errors
     ///
-    /// [`Error::Bundles`] with [`NotObject`](crate::BundlesFault::NotObject) if a bundle is no JSON object; [`Error::TooMuch`];
-    /// [`Error::NoMemory`].
+    /// [`Error::Bundles`] with [`Document`](crate::BundlesFault::Document), which has the number of the first bundle that can't be joined:
+    /// leave that out, so that it does not hold up the others. [`Error::NoMemory`].
     ///
     /// ```
-    /// let text = svid::Bundles::join([("example.org", br#"{"keys":[]}"#)]).unwrap();
+    /// use svid::{Bundles, BundlesFault, DocumentFault, Error};
+    ///
+    /// let text = Bundles::join([("example.org", br#"{"keys":[]}"#)]).unwrap();
     /// assert_eq!(text, br#"{"example.org":{"keys":[]}}"#);
-    /// assert!(svid::Bundles::join([("example.org", br#"{},"other.org":{}"#)]).is_err());
+    /// let why = Bundles::join([("example.org", r#"{"keys":[]}"#), ("other.org", r#"{"keys":[]},"example.org":{}"#)]);
+    /// assert_eq!(why, Err(Error::Bundles(BundlesFault::Document { number: 1, fault: DocumentFault::NotObject })));
     /// ```
     pub fn join<N: AsRef<str>, T: AsRef<[u8]>>(bundles: impl IntoIterator<Item = (N, T)>) -> Result<Vec<u8>, Error> {
-        let mut text = Vec::new();
+        crate::same_version()?;
+        let (mut bytes, mut documents) = (Vec::new(), Vec::new());
         for (name, bundle) in bundles {
-            // (a bundle that ended early, or had more than one object, would be other bundles in the whole text)
-            if let Err(why @ (Error::Bundles(BundlesFault::NotObject) | Error::TooMuch | Error::NoMemory)) = Bundles::read(bundle.as_ref())
-            {
-                return Err(why);
-            }
-            let before = if text.is_empty() { b"{\"" } else { b",\"" };
-            add(&mut text, before)?;
-            for byte in name.as_ref().bytes() {
-                match byte {
-                    b'"' | b'\\' => add(&mut text, &[b'\\', byte])?,
-                    // (no trust domain name has one)
-                    0..=0x1f => add(&mut text, b" ")?,
-                    _ => add(&mut text, &[byte])?,
-                }
-            }
-            add(&mut text, b"\":")?;
-            add(&mut text, bundle.as_ref())?;
+            let (name, text) = (name.as_ref().as_bytes(), bundle.as_ref());
+            // (to the library, a document with an empty name has none)
+            let name: &[u8] = if name.is_empty() { b"spiffe://" } else { name };
+            documents.try_reserve(1).map_err(|_| Error::NoMemory)?;
+            documents.push(Document { name_len: name.len(), text_len: text.len(), keys: 0 });
+            add(&mut bytes, name)?;
+            add(&mut bytes, text)?;
         }
-        let end: &[u8] = if text.is_empty() { b"{}" } else { b"}" };
-        add(&mut text, end)?;
-        Ok(text)
+        let (mut joined, mut told) = (Vec::new(), Told::default());
+        ffi::grow(&mut joined, bytes.len().saturating_mul(2).saturating_add(64)).map_err(|_| Error::NoMemory)?;
+        let written = ffi::written(&mut joined, &mut told, |out, out_len, told| {
+            // SAFETY: `out` is the room with its length, and the inputs are other slices with theirs.
+            unsafe { ffi::svid_bundles_join(bytes.as_ptr(), bytes.len(), documents.as_ptr(), documents.len(), out, out_len, told) }
+        });
+        let len = written.map_err(|status| Error::of_documents(status, &told))?;
+        joined.truncate(len);
+        Ok(joined)
     }
 
     /// The first [`MOST_CANDIDATES`](crate::MOST_CANDIDATES) keys that may have signed the token, without their questions: the token is not

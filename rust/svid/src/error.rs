@@ -75,6 +75,19 @@ impl Error {
         }
     }
 
+    /// The error of a status of a call that joins documents of bundles.
+    pub(crate) fn of_documents(status: u32, told: &Told) -> Error {
+        let fault = match status {
+            ffi::BUNDLES_NOT_OBJECT => DocumentFault::NotObject,
+            ffi::BUNDLES_DOMAIN => DocumentFault::Domain,
+            ffi::BUNDLES_KEYS => DocumentFault::Keys,
+            ffi::BUNDLES_TWICE => DocumentFault::Twice,
+            status => return Error::of(status, told),
+        };
+        // (the library counts them from 1)
+        Error::Bundles(BundlesFault::Document { number: told.input.saturating_sub(1), fault })
+    }
+
     pub(crate) fn unexpected(status: u32) -> Error {
         Error::Unexpected(Unexpected::new(status))
     }
@@ -135,12 +148,22 @@ pub enum BundlesFault {
         /// The number of its name.
         number: usize,
     },
+    /// One of the bundles that [`Bundles::join`](crate::Bundles::join) was given can't be joined.
+    Document {
+        /// Which one: the first is number 0.
+        number: usize,
+        /// What is wrong with it.
+        fault: DocumentFault,
+    },
 }
 
 impl fmt::Display for BundlesFault {
     fn fmt(&self, f: &mut fmt::Formatter<'_>) -> fmt::Result {
         let (status, number) = match self {
             BundlesFault::NotObject => return words::write_plain(f, ffi::BUNDLES_NOT_OBJECT),
+            BundlesFault::Document { number, fault } => {
+                return words::write(f, fault.status(), format_args!(" (number {number} of the joined bundles, counted from 0)"));
+            }
             BundlesFault::Domain { number } => (ffi::BUNDLES_DOMAIN, number),
             BundlesFault::Keys { number } => (ffi::BUNDLES_KEYS, number),
         };
@@ -149,6 +172,31 @@ impl fmt::Display for BundlesFault {
 }
 
 impl std::error::Error for BundlesFault {}
+
+/// Why a bundle can't be joined to others.
+#[derive(Debug, Clone, Copy, PartialEq, Eq)]
+#[non_exhaustive]
+pub enum DocumentFault {
+    /// It is no JSON object, or nests so deeply that all bundles together could not be read.
+    NotObject,
+    /// Its name is no trust domain name.
+    Domain,
+    /// It has no list `keys`.
+    Keys,
+    /// An earlier bundle has the same trust domain.
+    Twice,
+}
+
+impl DocumentFault {
+    fn status(self) -> u32 {
+        match self {
+            DocumentFault::NotObject => ffi::BUNDLES_NOT_OBJECT,
+            DocumentFault::Domain => ffi::BUNDLES_DOMAIN,
+            DocumentFault::Keys => ffi::BUNDLES_KEYS,
+            DocumentFault::Twice => ffi::BUNDLES_TWICE,
+        }
+    }
+}
 
 /// Where bytes stop being messages, and why.
 #[derive(Debug, Clone, Copy, PartialEq, Eq)]

@@ -419,6 +419,15 @@ extern "C" {
         told: *mut Told,
     ) -> u32;
 
+    pub fn svid_bundles_join(
+        bytes: *const u8,
+        bytes_len: usize,
+        documents: *const Document,
+        documents_len: usize,
+        out: *mut u8,
+        out_len: usize,
+        told: *mut Told,
+    ) -> u32;
     pub fn svid_bundles_open(b: *mut Handle, bundles: *const u8, bundles_len: usize, told: *mut Told) -> u32;
     pub fn svid_bundles_close(b: *mut Handle);
     pub fn svid_bundles_ask(

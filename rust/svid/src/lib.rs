@@ -60,7 +60,7 @@ mod words;
 
 pub use crate::bearer::{bearer_token, BearerFault, Denied};
 pub use crate::bundles::Bundles;
-pub use crate::error::{BundlesFault, Error, MessageFault, MessagesError, Unexpected};
+pub use crate::error::{BundlesFault, DocumentFault, Error, MessageFault, MessagesError, Unexpected};
 pub use crate::guard::Guard;
 pub use crate::id::{IdError, IdFault, SpiffeId};
 pub use crate::journal::{Journal, JournalError};

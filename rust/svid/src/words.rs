@@ -6,7 +6,7 @@ use crate::ffi;
 
 // Each with what is wrong, and what to do.
 // lists:begin words (written by tools/lists from lists/statuses.toml)
-const ROWS: [(u32, &str, &str); 28] = [
+const ROWS: [(u32, &str, &str); 31] = [
     (ffi::TOO_SHORT, "the text is longer than the room", ""),
     (ffi::NO_MEMORY, "there was no memory", "make the call again"),
     (ffi::TOO_MUCH, "bundles, a table or messages have more than 67,108,864 bytes", "give less at once"),
@@ -24,6 +24,9 @@ const ROWS: [(u32, &str, &str); 28] = [
     (ffi::TABLE_LINE, "a line of the table is neither empty nor a question", ""),
     (ffi::OWN_NOT_UTF8, "an audience of the validator's own is not UTF-8", ""),
     (ffi::OWN_LENGTHS, "the lengths of the audiences do not add up to the length of own", ""),
+    (ffi::BUNDLES_UNNAMED, "the document is the bundle of one trust domain, without its name", "name it"),
+    (ffi::BUNDLES_TWICE, "an earlier document has a bundle of this trust domain", "leave one of them out"),
+    (ffi::BUNDLES_LENGTHS, "the lengths of the documents do not add up to the length of bytes", ""),
     (ffi::FOLDER_UNFIT, "the numbers are not those of a folder, or of the file that is read", ""),
     (ffi::FOLDER_ENDED, "a sync failed", "mend the disk, and start the service again"),
     (ffi::FOLDER_NOT_GROWING, "no journal grows yet", "make the calls that are due"),

@@ -7,8 +7,8 @@ use std::sync::{Arc, Mutex};
 
 use common::*;
 use svid::{
-    bearer_token, Bundles, BundlesFault, Candidate, Denied, Error, Fate, Guard, LogStart, Member, Options, Parts, Pattern, Question,
-    Refusal, Said, SpiffeId, TokenKey, Unverified, Use, Validator, ValidatorId, Verify,
+    bearer_token, Bundles, BundlesFault, Candidate, Denied, DocumentFault, Error, Fate, Guard, LogStart, Member, Options, Parts, Pattern,
+    Question, Refusal, Said, SpiffeId, TokenKey, Unverified, Use, Validator, ValidatorId, Verify,
 };
 
 const NOW: u64 = 1_767_225_600;
@@ -201,16 +201,55 @@ fn a_member_is_made_of_a_validator() {
 
 #[test]
 fn bundles_of_several_trust_domains() {
-    let joined = Bundles::join([("a.example", r#"{"keys":[]}"#), ("b.example", r#" {"keys":[],"spiffe_sequence":1} "#)]).unwrap();
+    let joined = Bundles::join([("a.example", r#"{"keys":[]}"#), ("spiffe://b.example", r#" {"keys":[],"spiffe_sequence":1} "#)]).unwrap();
+    assert_eq!(joined, br#"{"a.example":{"keys":[]},"b.example":{"keys":[],"spiffe_sequence":1}}"#);
     assert!(Bundles::read(&joined).is_ok());
     assert_eq!(Bundles::join::<&str, &str>([]), Ok(b"{}".to_vec()));
-    for bundle in ["", "[]", "{", r#"{},"other.org":{"keys":[]}"#, "{} {}", "null"] {
-        assert_eq!(Bundles::join([("a.example", bundle)]), Err(Error::Bundles(BundlesFault::NotObject)), "{bundle}");
+    // (many, so that each trust domain keeps its own keys)
+    let many: Vec<_> = (0..300).map(|it| (format!("d{it:03}.example"), format!(r#"{{"keys":[],"spiffe_sequence":{it}}}"#))).collect();
+    let each: Vec<_> = many.iter().map(|(name, text)| format!("\"{name}\":{text}")).collect();
+    assert_eq!(Bundles::join(many).unwrap(), format!("{{{}}}", each.join(",")).into_bytes());
+}
+
+/// The first of the bundles that can't be joined is named.
+#[test]
+fn a_bundle_that_holds_up_the_others_is_named() {
+    let own: serde_json::Value = serde_json::from_slice(&bundles()).expect("an object");
+    let (own, none) = (own["example.org"].to_string(), r#"{"keys":[]}"#);
+    let joined = |name: &'static str, bundle: &str| {
+        Bundles::join([("example.org", own.as_str()), ("spiffe://a.example", none), (name, bundle), ("", "")]).unwrap_err()
+    };
+    let third = |fault| Error::Bundles(BundlesFault::Document { number: 2, fault });
+    // (one that ends early would bring keys of another trust domain)
+    for bundle in ["", "[]", r#"{"keys":[]},"example.org":{"keys":[]}"#, r#"{"keys":[]}} {"example.org":{"keys":[]}"#, "{} {}", "{", "null"]
+    {
+        assert_eq!(joined("foreign.org", bundle), third(DocumentFault::NotObject), "{bundle}");
     }
-    for name in ["a\"b", "a\\b", "a\nb", "", "\u{e9}"] {
-        let text = Bundles::join([(name, r#"{"keys":[]}"#)]).unwrap();
-        assert_eq!(Bundles::read(&text).unwrap_err(), Error::Bundles(BundlesFault::Domain { number: 0 }), "{name}");
+    for bundle in ["{}", r#"{"keys":7}"#, r#"{"example.org":{"keys":[]}}"#] {
+        assert_eq!(joined("foreign.org", bundle), third(DocumentFault::Keys), "{bundle}");
     }
+    for name in ["a\"b", "a\\b", "a\nb", "A", "a/b", "", "spiffe://", "\u{e9}", r#"a":{"keys":[]},"b"#] {
+        assert_eq!(joined(name, none), third(DocumentFault::Domain), "{name}");
+    }
+    // (a bundle without a name brings none of its own)
+    assert_eq!(joined("", r#"{"example.com":{"keys":[]}}"#), third(DocumentFault::Domain));
+    for name in ["example.org", "a.example", "spiffe://example.org"] {
+        assert_eq!(joined(name, none), third(DocumentFault::Twice), "{name}");
+    }
+}
+
+/// A bundle that can be read by itself, and nests too deeply to be read among others, is named too.
+#[test]
+fn a_bundle_that_nests_too_deeply_is_named() {
+    let nested = |depth: usize| format!(r#"{{"keys":[],"x":{}{}}}"#, "[".repeat(depth - 1), "]".repeat(depth - 1));
+    let join = |depth| Bundles::join([("example.org", nested(2)), ("foreign.org", nested(depth)), ("last.org", nested(2))]);
+    assert!(Bundles::read(&join(126).unwrap()).is_ok());
+    for depth in [127, 128, 1000] {
+        let why = Error::Bundles(BundlesFault::Document { number: 1, fault: DocumentFault::NotObject });
+        assert_eq!(join(depth), Err(why), "{depth}");
+    }
+    let whence = " (number 1 of the joined bundles, counted from 0): ";
+    assert!(join(127).unwrap_err().to_string().contains(whence));
 }
 
 #[test]

@@ -153,7 +153,7 @@ fn calls_on_bundles_and_tokens() {
     let (given, token, yes, options) = (bundles(), token(), yes(), ledger().validator_id(svid::ValidatorId([7; 16])));
     let read = || Bundles::read(&given).expect("they are good");
     assert!(refused(|| (), |_| Bundles::read(&given).map(|_| ())) > 10);
-    assert!(refused(|| (), |_| Bundles::join([("example.org", br#"{"keys":[]}"#)])) > 2);
+    assert!(refused(|| (), |_| Bundles::join([("example.org", br#"{"keys":[]}"#), ("other.org", br#"{"keys":[]}"#)])) > 10);
     assert!(refused(read, |it| it.candidates(&token).map(|it| it.iter().count())) > 5);
     assert!(refused(read, |it| it.question(&token, 0)) > 5);
     assert!(refused(read, |it| it.judge(&options, NOW, &yes, &token)) > 5);

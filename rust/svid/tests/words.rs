@@ -94,6 +94,14 @@ fn bundles() {
         let due = listed.says(name) + &whence + listed.field(name, "advice");
         assert_eq!(Bundles::read(text).unwrap_err().to_string(), due);
     }
+    let none = r#"{"keys":[]}"#;
+    let rows = [("a", "[]", "NOT_OBJECT"), ("B", none, "DOMAIN"), ("a", "{}", "KEYS"), ("spiffe://b", none, "TWICE")];
+    for (name, text, status) in rows {
+        let status = format!("BUNDLES_{status}");
+        let whence = " (number 1 of the joined bundles, counted from 0): ";
+        let due = listed.says(&status) + whence + listed.field(&status, "advice");
+        assert_eq!(Bundles::join([("b", none), (name, text)]).unwrap_err().to_string(), due);
+    }
 }
 
 #[test]
