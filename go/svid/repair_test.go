@@ -108,6 +108,11 @@ func TestWalkAnswerBringsWhatIsMissing(t *testing.T) {
 	if answer := ask(here, there, all); len(answer) != 0 {
 		t.Errorf("equal records, and an answer of %d bytes", len(answer))
 	}
+	// An answer that is longer than the room that stands ready brings all of it at once.
+	another := open(t, 5)
+	if answer := ask(another, there, all); len(answer) < 128<<10 || !bytes.Equal(save(t, another), save(t, both)) {
+		t.Errorf("an answer of %d bytes brings another record", len(answer))
+	}
 	// Small answers bring all of it by and by.
 	empty := open(t, 4)
 	rounds := 0
