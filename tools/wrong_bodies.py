@@ -213,6 +213,7 @@ def outcome(language, changed, tests, longest):
     """What Language.run answers, or Unfit: that which keeps one wrong body from being tried is a fault of that one alone."""
     try:
         with tempfile.TemporaryDirectory(prefix="svid-wrong-", ignore_cleanup_errors=True) as room:
+            os.chmod(room, 0o711)  # (where root runs this, a server of PostgreSQL is another user, and has its files below)
             return language.run(room, changed, tests, longest)
     except Unfit:
         raise
