@@ -3,6 +3,7 @@ package svid;
 import com.sun.jna.Pointer;
 import java.io.ByteArrayOutputStream;
 import java.nio.charset.StandardCharsets;
+import java.util.List;
 import java.util.Map;
 
 /** Trust bundles as the one text that {@link Validator#open} and {@link Validator#renew} take. */
@@ -15,7 +16,7 @@ public final class Bundles {
      * <p>Put no bundle that comes from elsewhere between texts of your own: it could bring keys for another trust domain.
      *
      * @param bundles each, as JSON, by the name of its trust domain
-     * @throws SvidException.BadBundles where one of them is no bundle, or a name none of a trust domain
+     * @throws SvidException.BadBundles where one of them is no bundle, or a name none of a trust domain; it names the first such one
      * @throws SvidException.TooMuch where they are too long
      */
     public static byte[] join(Map<String, byte[]> bundles) {
@@ -37,6 +38,10 @@ public final class Bundles {
             Pointer text = room.put(bytes.toByteArray());
             Written written = Written.by(room, told, 2L * bytes.size() + 64,
                     (out, outLen) -> Library.svid_bundles_join(text, bytes.size(), documents, bundles.size(), out, outLen, told.at));
+            Status status = Status.of(written.status());
+            if (status == Status.BUNDLES_TWICE || status != null && status.isFrom(Status.BUNDLES_NOT_OBJECT, Status.BUNDLES_KEYS)) {
+                throw new SvidException.BadBundles(status, List.copyOf(bundles.keySet()).get((int) told.input() - 1));
+            }
             told.must(written.status());
             return written.bytes();
         }

@@ -1,5 +1,7 @@
 package svid;
 
+import java.util.Optional;
+
 /**
  * There is no answer about a token, or a call did nothing. Whatever it is, no token was accepted: answer a request with status 503.
  *
@@ -114,6 +116,7 @@ public abstract sealed class SvidException extends RuntimeException {
 
         private final String reason;
         private final long index;
+        private final String trustDomain;
 
         BadBundles(Status status, long index) {
             super(status.says(status == Status.BUNDLES_NOT_OBJECT
@@ -122,9 +125,26 @@ public abstract sealed class SvidException extends RuntimeException {
                     null);
             this.reason = status.label();
             this.index = index;
+            this.trustDomain = null;
         }
 
-        /** NotObject, or of a trust domain: Domain for its name, and Keys for its list of keys. */
+        /** One of several bundles can't be joined: that of this name. */
+        BadBundles(Status status, String trustDomain) {
+            super('"' + trustDomain.replaceAll("[^ -~]", "?") + "\": " + status.says(), null);
+            this.reason = status.label();
+            this.index = 0;
+            this.trustDomain = trustDomain;
+        }
+
+        /** By which name {@link Bundles#join} was given the first bundle that it can't join. Others than that call name none. */
+        public Optional<String> trustDomain() {
+            return Optional.ofNullable(trustDomain);
+        }
+
+        /**
+         * NotObject, or of a trust domain: Domain for its name, Keys for its list of keys, and where bundles are joined, Twice if an
+         * earlier one is of the same trust domain.
+         */
         public String reason() {
             return reason;
         }

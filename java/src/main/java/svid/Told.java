@@ -18,6 +18,11 @@ final class Told {
         return at.getLong(Library.Told.MESSAGE);
     }
 
+    /** The number of an input, counted from 1. */
+    long input() {
+        return at.getLong(Library.Told.INPUT);
+    }
+
     long offset() {
         return at.getLong(Library.Told.OFFSET);
     }

@@ -28,6 +28,7 @@ import java.time.ZoneOffset;
 import java.util.ArrayList;
 import java.util.List;
 import java.util.Map;
+import java.util.Optional;
 import org.junit.Test;
 
 /** What the vectors don't have: the calls of the API, and what each throws. */
@@ -100,6 +101,15 @@ public class ValidatorTest {
         SvidException.BadBundles why =
                 assertThrows(SvidException.BadBundles.class, () -> Bundles.join(Map.of("example.org", own, "foreign.org", ends)));
         assertEquals("NotObject", why.reason());
+        assertEquals(Optional.of("foreign.org"), why.trustDomain());
+        assertTrue(why.getMessage(), why.getMessage().startsWith("\"foreign.org\": The bundles are no JSON object."));
+        byte[] deep = ("{\"keys\":[],\"x\":"
+                + "[".repeat(127) + "]".repeat(127) + "}")
+                              .getBytes(StandardCharsets.UTF_8);
+        why = assertThrows(SvidException.BadBundles.class, () -> Bundles.join(Map.of("example.org", own, "foreign.org", deep)));
+        assertEquals(Optional.of("foreign.org"), why.trustDomain());
+        why = assertThrows(SvidException.BadBundles.class, () -> Bundles.join(Map.of("a.org", none, "spiffe://a.org", none)));
+        assertEquals("Twice", why.reason());
         for (String name : List.of("", "A", "a/b", "spiffe://a/b", "a\":1,\"b")) {
             assertThrows(name, SvidException.BadBundles.class, () -> Bundles.join(Map.of(name, none)));
         }
