@@ -373,7 +373,9 @@ def test_what_stands_in_front_of_a_claim(log, change, said):
         answer = in_thread(verdict, checks, made)
         until(lambda: len(log.values) == 2)
         log.go()
-        assert answer() == (said or use)
+        found = answer()
+        # (the claim may be of the next second)
+        assert found == said if said else found.key == use.key
 
 
 def test_a_claim_in_the_name_of_this_member(log):
@@ -437,9 +439,10 @@ def test_many_uses_in_a_value(log):
         log.hold()
         answer = in_thread(verdict, checks, made)
         until(lambda: len(log.values) == 1)
-        log.values[0] = b"".join(it.message for it in [*rest, use])
+        # (the claim may be of the next second)
+        log.values[0] = b"".join(it.message for it in rest) + log.values[0]
         log.go()
-        assert answer() == use
+        assert answer().key == use.key
         assert len(checks.report().uses) == 201
 
 
