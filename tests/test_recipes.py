@@ -259,6 +259,12 @@ def test_a_message_that_comes_meanwhile_is_looked_at_too(room):
     (room.folder / "bin/svid").symlink_to(room.program)
     assert room.starts("join").waits() == 1 and not (room.folder / "told").exists()
     assert (room.folder / "told.bad").read_bytes() == text
+    # Another one of that kind stays beside it.
+    other = b"JSR\2\1" + b"\xfe" * 8 + bytes(4)
+    (room.folder / "told").write_bytes(other)
+    assert room.starts("join").waits() == 1
+    assert (room.folder / "told.bad").read_bytes() == text and (room.folder / "told.now").read_bytes() == other
+    (room.folder / "told.now").unlink()
     room.runs_whole("join")
 
 

@@ -945,8 +945,8 @@ def test_a_standby_takes_over_that_may_lack_values():
 
 @pytest.mark.parametrize("setting", ["lc_messages=C.UTF-8", "client_min_messages=error"])
 def test_a_value_waits_for_a_standby(setting, monkeypatch):
-    """Who cancels that wait lets it be visible, and it counts for nobody: no standby has it. The
-    server warns of that, whatever its language is, and what else it is told to say."""
+    """If someone cancels that wait, the value is visible, and counts for nobody: no standby has it.
+    The server warns of that. Its language makes no difference, nor what it is told to send."""
     monkeypatch.setenv("LANGUAGE", "de")
     with PostgresServer("-c", setting) as server, opened(server, timeout=5) as log:
         log.append(b"1")

@@ -9,8 +9,8 @@ import (
 	"svid.example/go/v2/internal/patience"
 )
 
-// A value whose wait for standbys someone cancels counts for nobody, whatever language the server speaks, and though it is told to say
-// errors alone: no standby has it. (Who has the role of a member may cancel what other members wait for, if these have the same role.)
+// If someone cancels the wait of a value for standbys, no standby has the value, so it counts for nobody. The language of the server makes
+// no difference, and neither do the messages that it is told to send. (Who has the role of a member may cancel what other members wait for, if these have the same role.)
 func TestACancelledWaitIsHeard(t *testing.T) {
 	for name, settings := range map[string][]string{
 		"in English":            nil,

@@ -293,8 +293,8 @@ func (w *world) heal() {
 	}
 }
 
-// repair lets each member of mode once send a summary to the one before it, and then to the one behind it, and take the answers. So what one
-// has comes to another by one answer alone, and none makes up for what that lacks.
+// repair lets each member of mode once send a summary to the one before it, and then to the one behind it, and take the answers. So a use
+// comes to another member by one answer alone, and what is wrong with that answer is seen.
 func (w *world) repair() {
 	if w.plan.mode == server.Strict {
 		return

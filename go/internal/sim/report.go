@@ -52,12 +52,12 @@ type ask struct {
 // is late by some milliseconds.
 const most = wait + 50*time.Millisecond
 
-// String is how a token is called. (Of all that is told, most is told to nobody: so names are made where someone hears them.)
+// String names a token in a report. (Most runs have no report, so names are made only where one is written.)
 func (t *token) String() string {
 	return fmt.Sprintf("token %x of issuer %d (until %+d)", t.key[:3], t.issuer, int64(t.expires)-base)
 }
 
-// names are uses as they are told.
+// names print as the list of these uses in a report.
 type names []svid.Use
 
 func (uses names) String() string {

@@ -261,7 +261,7 @@ class _Line:
 
 
 def _password(why: str) -> ValueError:
-    """What is wrong with a URL of which the client would say a part of the password."""
+    """The error for a URL in whose error the client would print a part of the password."""
     return ValueError(
         f"the URL of the log is none of PostgreSQL: {why}: write %25, %40, %2F and so on for such"
         " characters of a password"

@@ -17,7 +17,7 @@ public final class Bundles {
      *
      * @param bundles each, as JSON, by the name of its trust domain
      * @throws SvidException.BadBundles where one of them is no bundle, or a name none of a trust domain; it names the first such one
-     * @throws SvidException.TooMuch where they are too long
+     * @throws SvidException.OutOfMemory where there is no memory
      */
     public static byte[] join(Map<String, byte[]> bundles) {
         ByteArrayOutputStream bytes = new ByteArrayOutputStream();

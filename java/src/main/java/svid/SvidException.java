@@ -149,7 +149,7 @@ public abstract sealed class SvidException extends RuntimeException {
             return reason;
         }
 
-        /** Which trust domain, counted from 0 in the rising order of the bytes of the names. */
+        /** Which trust domain, counted from 0 in the rising order of the bytes of the names; 0 where {@link #trustDomain} has the name. */
         public long index() {
             return index;
         }
