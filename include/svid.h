@@ -69,8 +69,8 @@ enum svid_status {
     SVID_NOT_SUMMARY = 4, /* the first input is messages, but not one summary; nothing is told beside it */
 
     /* what a call on a validator or on bundles that you keep answers beside these */
-    SVID_CLOSED = 5,   /* the validator is closed, or the bundles are; nothing happened */
-    SVID_IS_OPEN = 6,  /* svid_validator_open, svid_bundles_open: the handle is open already; it stays as it was */
+    SVID_CLOSED = 5,   /* the validator, the bundles or the token is closed; nothing happened */
+    SVID_IS_OPEN = 6,  /* svid_validator_open, svid_bundles_open, svid_token_open: the handle is open already; it stays as it was */
     SVID_GONE = 7,     /* svid_validator_withdraw: the token has expired, so that there is nothing to withdraw */
     SVID_TOO_FAR = 8,  /* a message's moment is more than `ahead` seconds past `now`; it was not taken */
     SVID_JUMP = 9,     /* `now` is more than `step` seconds past the record's moment; nothing happened */
@@ -242,7 +242,7 @@ typedef struct {
     size_t message;  /* which of its messages, counted from 1 */
     size_t offset;
     size_t more;     /* of svid_validator_ask and svid_bundles_ask: 1 if more keys may have signed the token than it lists; of
-                        svid_validator_mark: 1 if the validator accepts claims */
+                        svid_validator_mark: 1 if the validator accepts claims; of svid_validator_differs: 1 if the bucket differs */
 } svid_told;
 
 /* What a check is told, beside its inputs. */
@@ -367,6 +367,39 @@ uint32_t svid_validator_judge(svid_validator *v, uint64_t now, const svid_questi
                               const uint8_t *token, size_t token_len, uint8_t *out, size_t out_len,
                               svid_use *used, svid_told *told);
 
+/* A token that is read once, by svid_token_open, for the two calls that look for its keys and check it. It shares nothing with a validator, and any
+ * validator may be asked about it. The rules of a validator hold for it too: it begins as SVID_TOKEN_CLOSED, only the calls write it, give it to
+ * one call at a time, and do not copy it while it is open. Close it once you need it no longer.
+ *
+ * To check a token:
+ *   1. svid_token_open reads it.
+ *   2. svid_validator_ask_token lists the first keys that may have signed it, each with a question.
+ *   3. Your crypto library verifies the signature with each of these keys.
+ *   4. svid_validator_check_token gets the questions of the keys for which the signature was good, and accepts or refuses the token. */
+typedef struct { uint64_t word; void *held; } svid_token;
+#define SVID_TOKEN_CLOSED { 0, NULL }
+
+/* Opens a closed handle: reads a token, and keeps what it says. Afterwards the handle does not need `token` any more. SVID_IS_OPEN: the handle
+ * stays as it was. SVID_TOO_LONG to SVID_JTI: svid_validator_check would refuse the token so whatever its keys are; the handle stays closed. */
+uint32_t svid_token_open(svid_token *t, const uint8_t *token, size_t token_len, svid_told *told);
+
+/* Closes a handle, and frees all that it holds. Does nothing to a closed one. */
+void svid_token_close(svid_token *t);
+
+/* As svid_validator_ask, for a token that was read: so it never answers SVID_TOO_LONG to SVID_JTI. SVID_CLOSED if the validator is closed, or the
+ * token. */
+uint32_t svid_validator_ask_token(svid_validator *v, svid_token *t, size_t most, uint8_t *out, size_t out_len, svid_told *told);
+
+/* As svid_validator_check, for a token that was read: so it never answers SVID_TOO_LONG to SVID_JTI. SVID_CLOSED if the validator is closed, or
+ * the token. The token stays open, and another call may be asked about it. */
+uint32_t svid_validator_check_token(svid_validator *v, uint64_t now, const svid_question *yes, size_t yes_len, svid_token *t,
+                                    uint8_t *out, size_t out_len, svid_use *used, svid_told *told);
+
+/* As svid_validator_judge, for a token that was read: so it never answers SVID_TOO_LONG to SVID_JTI. SVID_CLOSED if the validator is closed, or
+ * the token. */
+uint32_t svid_validator_judge_token(svid_validator *v, uint64_t now, const svid_question *yes, size_t yes_len, svid_token *t,
+                                    uint8_t *out, size_t out_len, svid_use *used, svid_told *told);
+
 /* Judges again a token that this validator has accepted, or judged so: `key` and `exp` are those of `used`. While the bundles stay, the
  * status is what svid_validator_judge would answer for that token and the same `yes`: SVID_OK, or SVID_EXPIRED, SVID_WITHDRAWN or
  * SVID_REPLAYED. It reads no token, so it takes a fraction of the time. It first advances the record to `now`, and adds nothing. SVID_JUMP. */
@@ -438,11 +471,18 @@ typedef struct {
 uint32_t svid_validator_digest(svid_validator *v, uint8_t bucket, svid_digests *digests, svid_told *told);
 uint32_t svid_summary_of(const svid_digests *digests, uint8_t *out, size_t out_len, svid_told *told);
 
-/* Writes what one bucket answers to the summary of another validator: messages with its uses that expire after the summary's moment, or no
- * bytes if the summary has their digest. The answers of all 256 buckets together tell what svid_validator_answer tells. The record stays as it
- * is. SVID_NOT_SUMMARY; SVID_TOO_MUCH and SVID_MAGIC to SVID_TRUNCATED. */
-uint32_t svid_validator_answer_bucket(svid_validator *v, uint8_t bucket, const uint8_t *summary, size_t summary_len,
-                                      uint8_t *out, size_t out_len, svid_told *told);
+/* The answer to the summary of another validator, bucket by bucket, so that no call keeps the lock for long.
+ *   1. svid_summary_read puts the moment and the digests of the summary into `asked`. SVID_NOT_SUMMARY; SVID_TOO_MUCH and SVID_MAGIC to
+ *      SVID_TRUNCATED: then `asked` stays as it was.
+ *   2. svid_validator_differs compares the digest of one bucket at that moment with the one in `asked`: `told->more` is 1 if they differ. Call it
+ *      for each of 0 to 255.
+ *   3. If they differ, svid_validator_bucket with `asked.moment` writes the uses of that bucket that expire later: messages, or no bytes if there
+ *      are none.
+ * What step 3 writes in all tells the uses that svid_validator_answer tells. The record stays as it is. Steps 2 and 3 look at the uses of one
+ * bucket alone, at each once. You may make other calls in between: what they add may be in the answer or not. */
+uint32_t svid_summary_read(const uint8_t *summary, size_t summary_len, svid_digests *asked, svid_told *told);
+uint32_t svid_validator_differs(svid_validator *v, uint8_t bucket, const svid_digests *asked, svid_told *told);
+uint32_t svid_validator_bucket(svid_validator *v, uint8_t bucket, uint64_t moment, uint8_t *out, size_t out_len, svid_told *told);
 
 /* ---- A validator that reads a group's log ----
  *
@@ -869,7 +909,7 @@ uint32_t svid_answer(const uint8_t *summary, size_t summary_len, const uint8_t *
                      uint64_t now, uint8_t *out, size_t out_len, svid_told *told);
 
 /* A line for each key that may have signed the token. It has the question that your verifier of signatures answers, as 64 hexadecimal
- * digits, and the key's name as JSON. `bundles` are trust bundles, as JSON. */
+ * digits, and the key's name as JSON, with U+007F to U+009F escaped. `bundles` are trust bundles, as JSON. */
 uint32_t svid_questions(const uint8_t *bundles, size_t bundles_len, const uint8_t *token, size_t token_len,
                         uint8_t *out, size_t out_len, svid_told *told);
 
@@ -1018,7 +1058,7 @@ static inline const char *svid_strsentence(uint32_t status) {
     case SVID_NO_MEMORY: return "There was no memory. Make the call again.";
     case SVID_TOO_MUCH: return "Bundles, a table or messages have more than 67,108,864 bytes. Give less at once.";
     case SVID_NOT_SUMMARY: return "The first input is messages, but not one summary. Give the summary of another validator.";
-    case SVID_CLOSED: return "The validator is closed, or the bundles are. Make a new one.";
+    case SVID_CLOSED: return "The validator, the bundles or the token is closed. Make a new one.";
     case SVID_IS_OPEN: return "The handle is open already.";
     case SVID_GONE: return "The token has expired, so that there is nothing to withdraw.";
     case SVID_TOO_FAR: return "A message's moment is more than ahead seconds past now. Set the clocks of both validators right.";
@@ -1131,16 +1171,24 @@ static inline const char *svid_strsentence(uint32_t status) {
 typedef int (*svid_verify)(void *context, const uint8_t *alg, size_t alg_len, const uint8_t *jwk, size_t jwk_len,
                            const uint8_t *token, size_t token_len);
 
-/* svid_validator_ask and svid_validator_check in one call, with `verify` for each of the first SVID_MOST_CANDIDATES keys that may have signed
- * the token, until one of them did; `context` is handed to it. `rows` is room for what svid_validator_ask writes, and is overwritten: 65,536
- * bytes do for most bundles. SVID_TOO_SHORT, and `told->len` is how long it must be, if it is too short; SVID_TOO_SHORT with SVID_ID_ROOM, if
- * `out` is. Then nothing happened. Else as svid_validator_check. Hold the lock for the whole call. */
+/* svid_validator_ask and svid_validator_check in one call, which reads the token once: with `verify` for each of the first
+ * SVID_MOST_CANDIDATES keys that may have signed the token, until one of them did; `context` is handed to it. `rows` is room for what
+ * svid_validator_ask writes, and is overwritten: 65,536 bytes do for most bundles. SVID_TOO_SHORT, and `told->len` is how long it must be, if
+ * it is too short; SVID_TOO_SHORT with SVID_ID_ROOM, if `out` is. Then nothing happened. Else as svid_validator_check. Hold the lock for the
+ * whole call. */
 static inline uint32_t svid_validator_verify(svid_validator *v, uint64_t now, const uint8_t *token, size_t token_len,
                                              svid_verify verify, void *context, uint8_t *rows, size_t rows_len,
                                              uint8_t *out, size_t out_len, svid_use *used, svid_told *told) {
     size_t at = 0, end, count = 0, i;
-    uint32_t status = svid_validator_ask(v, token, token_len, SVID_MOST_CANDIDATES, rows, rows_len, told);
-    if (status != SVID_OK && status < SVID_TOO_LONG) return status;
+    svid_token read = SVID_TOKEN_CLOSED;
+    uint32_t status = svid_token_open(&read, token, token_len, told);
+    /* A token that can't be read is refused all the same by a check, which also advances the record. */
+    if (status >= SVID_TOO_LONG) return svid_validator_check(v, now, NULL, 0, token, token_len, out, out_len, used, told);
+    if (status == SVID_OK) status = svid_validator_ask_token(v, &read, SVID_MOST_CANDIDATES, rows, rows_len, told);
+    if (status != SVID_OK && status < SVID_TOO_LONG) {
+        svid_token_close(&read);
+        return status;
+    }
     /* Where no key may have signed the token, the check answers the first refusal that holds, which may be another. */
     end = status == SVID_OK ? told->len : 0;
     while (at < end) {
@@ -1157,7 +1205,9 @@ static inline uint32_t svid_validator_verify(svid_validator *v, uint64_t now, co
         count = 1;
         break;
     }
-    return svid_validator_check(v, now, (const svid_question *)rows, count, token, token_len, out, out_len, used, told);
+    status = svid_validator_check_token(v, now, (const svid_question *)rows, count, &read, out, out_len, used, told);
+    svid_token_close(&read);
+    return status;
 }
 
 /* Writes a use that svid_check or svid_validator_check told as a message: a batch of that one use, of SVID_BATCH_OF_LEN bytes. */

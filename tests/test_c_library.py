@@ -77,6 +77,14 @@ RUNS = {
         "sanitized": "answers refused guarded nulls",
         "valgrind": "refused nulls",
     },
+    # a token that is read once
+    "tokens": {
+        "wrapped": "refused",
+        "bare": "answers guarded nulls stack",
+        "musl": "stack",
+        "sanitized": "answers refused guarded nulls",
+        "valgrind": "refused nulls",
+    },
     # the entries of messages
     "entries": {
         "wrapped": "refused",

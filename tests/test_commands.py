@@ -27,6 +27,14 @@ REPORT = f"moment 100\nuses 2\n{USES[0]}{USES[1]}\ntwice 1\n{'1' * 64} 2\n"
 WITHDRAWN = f"moment 100\nuses 2\n{USES[0]}{USES[1]} withdrawn\ntwice 0\n"
 NO_USES = b"JSR\2\1" + (101).to_bytes(8, "big") + bytes(4)
 LONG = "spiffe://a/" + "b" * 2038
+TOKEN = (TOP / "examples/token.txt").read_text().strip()
+# names of keys that a terminal may take for commands, and what is printed of them
+CONTROLS = "~\x7f\x80\x9b2J\x9f¡\x1b\n", "\x7f"
+CONTROLLED = (
+    '48e2be8adc5811ea9bbde7cb4f90eb4c737bd7dd1fde50cfce66ff3e309c7211 "~\\u007f\\u0080\\u009b2J\\u009f¡\\u001b\\n"\n'
+    '0c4f61fbb4d15a4f4eed493c9fc6921c270a5016b84516ab8007f2de192a91ab "\\u007f"\n'
+)
+SHOWN = TOKEN[:20]  # of a token that stands where none is due
 # words of many lengths, as the file `many` has them
 MANY = ["x" * (10 * n + 1) for n in range(251)]
 
@@ -89,6 +97,10 @@ def folder(session, program, request):
         "a_line_more": (made / "table.txt").read_bytes() + b"x\n",
         "many": " ".join(MANY).encode(),
         "bad.json": b'{"A":{"keys":[]}}\n',
+        "controls.json": json.dumps(
+            {"a": {"keys": [{"kty": "EC", "use": "jwt-svid", "kid": it} for it in CONTROLS]}}, ensure_ascii=False
+        ).encode(),
+        "token_of_any_key": b"eyJhbGciOiJFUzI1NiJ9.eyJzdWIiOiJzcGlmZmU6Ly9hL2IiLCJhdWQiOiJzIiwiZXhwIjoxMDAxLCJqdGkiOiJqMSJ9.c2ln",
         "spire.json": json.dumps(json.loads((made / "bundles.json").read_text())["example.org"], indent=4).encode(),
     }
     for name, content in files.items():
@@ -157,6 +169,14 @@ USUAL = [
     # a word adds no line to it, and nothing that moves a terminal's cursor; it keeps its bytes beside these
     (r"svid id a $'b\nsvid: c'", mistakes("unexpected argument 'b; svid: c' found", "id")),
     (r"svid id a $'\x1b[2J\x7f\xc3\xa9\xff'", (2, "", b"svid: unexpected argument '[2J\xc3\xa9\xff' found; see 'svid id --help'\n")),
+    # of a token it has no more than the beginning of its header, wherever that stands: who calls may keep what is printed
+    (f"svid {TOKEN}", mistakes(f"unrecognized subcommand '{SHOWN}'")),
+    (f"svid id a {TOKEN}", mistakes(f"unexpected argument '{SHOWN}' found", "id")),
+    (f"svid id a 'Bearer {TOKEN}'", mistakes(f"unexpected argument 'Bearer {SHOWN}' found", "id")),
+    (f"svid report --now {TOKEN}", mistakes(f"invalid value '{SHOWN}' for '--now <N>': invalid digit found in string", "report")),
+    (f"svid report --now={TOKEN}", mistakes(f"invalid value '{SHOWN}' for '--now <N>': invalid digit found in string", "report")),
+    (f"svid --{TOKEN}", mistakes(f"unexpected argument '--{SHOWN[:-2]}' found")),
+    (rf"svid id a $'{TOKEN[:64]}\n{TOKEN[64:128]}\r\n{TOKEN[128:]}'", mistakes(f"unexpected argument '{SHOWN}; ; ' found", "id")),
     ("svid --version", prints(f"svid {(TOP / 'VERSION').read_text().strip()} ({(TOP / 'dist/KIT').read_text().strip()})\n")),
     # id: the text is the bytes of its word
     ("svid id spiffe://a/b", prints("domain a\npath /b\n")),
@@ -172,6 +192,7 @@ USUAL = [
     ("svid candidates --bundles bundles.json", refuses("refused NotThreeParts\n")),
     ("svid candidates --bundles bundles.json <token_later", prints(QUESTION)),
     ("svid candidates --bundles=bundles.json <token_later", prints(QUESTION)),
+    ("svid candidates --bundles controls.json <token_of_any_key", prints(CONTROLLED)),
     ("svid candidates --bundles bad.json <token_later", faults("bundles: Domain(0)")),
     ("svid candidates --bundles two-uses.batch <token_later", faults("bundles: NotObject")),
     ("svid candidates --bundles none <token_later", stops("cannot open none")),

@@ -88,11 +88,11 @@ def defined(name):
 
 
 def test_each_structure_is_in_the_header():
-    handles = ["svid_validator", "svid_bundles"]
+    handles = ["svid_validator", "svid_bundles", "svid_token"]
     assert sorted(re.findall(r"\} (\w+);", HEADER)) == sorted([*map(snake, STRUCTURES), *handles])
 
 
-@pytest.mark.parametrize("handle", ["Handle", "TrustHandle"])
+@pytest.mark.parametrize("handle", ["Handle", "TrustHandle", "TokenHandle"])
 def test_what_a_handle_is(handle):
     assert f"word: u64,\n    pub handle: {handle}," in SOURCE
     assert re.search(rf"pub struct {handle} \{{\n(?:    //.*\n)*    ptr: \*mut \(\),\n    alloc: Global,", SOURCE)

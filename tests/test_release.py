@@ -37,7 +37,7 @@ NAMES = [
 
 
 def output(*words, **more):
-    ran = subprocess.run([str(it) for it in words], capture_output=True, timeout=1800, **({"stdin": subprocess.DEVNULL} | more))
+    ran = subprocess.run([str(it) for it in words], capture_output=True, **({"stdin": subprocess.DEVNULL, "timeout": 1800} | more))
     assert ran.returncode == 0, f"{words}: {(ran.stdout + ran.stderr).decode(errors='replace')[-3000:]}"
     return ran.stdout.decode()
 
@@ -60,19 +60,9 @@ def releases(session):
     epoch = os.environ.get("SOURCE_DATE_EPOCH") or output("git", "-C", TOP, "log", "-1", "--format=%ct").strip()
     other = {"SOURCE_DATE_EPOCH": epoch, "TZ": "Asia/Tokyo", "LC_ALL": "C", "TMPDIR": str(session / "tmp")}
     one = Path(os.environ.get("SVID_RELEASE") or session / "one")
-    begun = [
-        subprocess.Popen(
-            [top / "packaging/release", to],
-            env=os.environ | more,
-            stdout=subprocess.DEVNULL,
-            stderr=subprocess.PIPE,
-            umask=mask,
-        )
-        for top, to, more, mask in ((TOP, one, {}, 0o022), (copy, session / "two", other, 0o077))
-    ]
-    for it in begun:
-        said = it.communicate(timeout=3600)[1]
-        assert it.returncode == 0, said.decode()[-3000:]
+    # (one after the other: side by side each would compile what the other one does)
+    for top, to, more, mask in ((TOP, one, {}, 0o022), (copy, session / "two", other, 0o077)):
+        output(top / "packaging/release", to, env=os.environ | more, umask=mask, timeout=3600)
     shutil.rmtree(copy)
     return one, session / "two"
 
@@ -446,15 +436,17 @@ ACCEPTED = f"accepted {SPIFFE_ID}\nReplayed\n"
 
 def test_the_wheel(room, token):
     wheel = room.take(f"svid-{VERSION}-py3-none-manylinux_2_5_x86_64.whl")
-    room.run("/usr/bin/python3", "-m", "venv", "venv")
-    room.run("venv/bin/pip", "install", "--quiet", "--no-index", "--no-deps", wheel)
+    # (pip is Debian's: to put one into the environment would take longer than all that it does)
+    room.run("/usr/bin/python3", "-m", "venv", "--without-pip", "venv")
+    pip = ["/usr/bin/python3", "-m", "pip", "--python", "venv/bin/python"]
+    room.run(*pip, "install", "--quiet", "--no-index", "--no-deps", wheel)
     [packages] = room.folder.glob("venv/lib/python3*/site-packages")
     for pattern in "cryptography", "cryptography-*", "_cffi_backend*":
         for it in Path("/usr/lib/python3/dist-packages").glob(pattern):
             (packages / it.name).symlink_to(it)
     assert room.run("venv/bin/python", "-I", "-c", PYTHON_SERVICE, given=token.strip() + "\n" + token) == ACCEPTED
-    assert "No broken requirements" in room.run("venv/bin/pip", "check")
-    assert f"Version: {VERSION}\n" in room.run("venv/bin/pip", "show", "svid")
+    assert "No broken requirements" in room.run(*pip, "check")
+    assert f"Version: {VERSION}\n" in room.run(*pip, "show", "svid")
 
 
 LOADER = """
@@ -543,7 +535,7 @@ fn main() -> Result<(), Box<dyn std::error::Error>> {
     for _ in 0..2 {
         match guard.check(token.trim()) {
             Ok(accepted) => println!("accepted {}", accepted.spiffe_id()),
-            Err(why) => println!("{}", why.to_string().split(':').next().unwrap_or_default()),
+            Err(why) => println!("{why}"),
         }
     }
     Ok(())
@@ -573,7 +565,8 @@ def test_the_crate(room):
     # (rust/test compiles the same crates of others there, and cargo has a lock)
     if made := os.environ.get("SVID_RUST_TARGET"):
         cargo["CARGO_TARGET_DIR"] = made
-    assert room.run("cargo", "run", "--quiet", "--offline", **cargo) == ACCEPTED
+    words = ": The token was accepted before, here or by a validator whose messages were taken."
+    assert room.run("cargo", "run", "--quiet", "--offline", **cargo) == ACCEPTED.replace("\nReplayed", f"\nReplayed{words}")
 
 
 NODE_SERVICE = """

@@ -37,6 +37,8 @@ BEARER = re.compile(rb"[A-Za-z0-9._~+/-]+=*")
 MOST_CANDIDATES = 3
 # So many tokens are made and asked at once: their times hold for half an hour.
 TOGETHER = 1000
+# So many are at least asked of one process: to start it takes longer than to answer these.
+LEAST = 200
 # So many seconds anything may take that is waited for.
 PATIENCE = float(os.environ.get("SVID_TEST_PATIENCE") or 180)
 with open(TOP / "lists/refusals.toml", "rb") as file:
@@ -160,7 +162,7 @@ class Readers:
     def shares(
         self, group: Group, cases: list[Case], now: int, words: list[object], is_named: bool = False, env: dict[str, str] | None = None
     ) -> Answers:
-        """What a program says that reads frames, each processor a share of them."""
+        """What a program says that reads frames: each processor a share of them, but where they are few."""
 
         def ask(some: list[Case]) -> list[str]:
             ran = subprocess.run(
@@ -170,7 +172,7 @@ class Readers:
             assert len(lines) == len(some), f"{words}: {len(lines)} answers to {len(some)} tokens: {lines[:1]}"
             return lines
 
-        size = -(-len(cases) // WORKERS)
+        size = max(-(-len(cases) // WORKERS), LEAST)
         return [it for lines in spread(ask, [cases[at : at + size] for at in range(0, len(cases), size)]) for it in lines]
 
     def c(self, group: Group, cases: list[Case], now: int) -> Answers:

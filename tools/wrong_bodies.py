@@ -143,6 +143,10 @@ class Language:
     def fault(self, path, text):
         """Why a file can't have this text, as far as a look at it tells, or nothing."""
 
+    def faults(self, texts):
+        """What `fault` says of each of some files, by their paths and their texts."""
+        return [self.fault(path, text) for path, text in texts]
+
     def has(self, test):
         """Whether there is a test of this name."""
         raise NotImplementedError
@@ -199,9 +203,6 @@ class Wrong:
             if text.count(old) != 1:
                 raise Unfit(f"its old text stands in {path} {text.count(old)} times, and not once: {old.strip()}")
             texts[path] = text.replace(old, new)
-        for path, text in texts.items():
-            if fault := language.fault(path, text):
-                raise Unfit(f"{path} can't be read then: {fault}")
         return texts
 
 
@@ -278,13 +279,20 @@ def main(language, words):
     if unknown := set(chosen) - set(names):
         print(f"wrong: there is none of that name: {' '.join(sorted(unknown))}")
         return 2
-    wrongs, faults = {}, 0
+    wrongs, unfit = {}, {}
     for name in names:
         try:
             wrongs[name] = Wrong(language, name)
         except Unfit as why:
-            faults += 1
-            print(f"wrong: {language.folder}/{name}: it cannot be applied: {why}")
+            unfit[name] = why
+    rows = [(name, path, text) for name, it in wrongs.items() for path, text in it.changed.items()]
+    for (name, path, _), fault in zip(rows, language.faults([row[1:] for row in rows])):
+        if fault:
+            unfit[name] = f"{path} can't be read then: {fault}"
+            wrongs.pop(name, None)
+    for name, why in unfit.items():
+        print(f"wrong: {language.folder}/{name}: it cannot be applied: {why}")
+    faults = len(unfit)
     of = f"of {language.name}"
     print(
         f"wrong: {len(names)} {of}, {f'{faults} of them cannot be applied' if faults else 'each can be applied'}",

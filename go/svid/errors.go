@@ -48,7 +48,7 @@ var callWords = map[C.uint32_t]string{
 	C.SVID_NO_MEMORY:          "there was no memory: make the call again",
 	C.SVID_TOO_MUCH:           "bundles, a table or messages have more than 67,108,864 bytes: give less at once",
 	C.SVID_NOT_SUMMARY:        "the first input is messages, but not one summary: give the summary of another validator",
-	C.SVID_CLOSED:             "the validator is closed, or the bundles are: make a new one",
+	C.SVID_CLOSED:             "the validator, the bundles or the token is closed: make a new one",
 	C.SVID_IS_OPEN:            "the handle is open already",
 	C.SVID_GONE:               "the token has expired, so that there is nothing to withdraw",
 	C.SVID_TOO_FAR:            "a message's moment is more than ahead seconds past now: set the clocks of both validators right",

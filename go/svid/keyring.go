@@ -3,9 +3,6 @@ package svid
 /*
 #include "svid.h"
 
-static uint32_t ask(svid_validator *v, _GoString_ token, uint8_t *out, size_t out_len, svid_told *told) {
-    return svid_validator_ask(v, (const uint8_t *)_GoStringPtr(token), _GoStringLen(token), SVID_MOST_CANDIDATES, out, out_len, told);
-}
 static uint32_t ask_unhashed(svid_bundles *b, _GoString_ token, uint8_t *out, size_t out_len, svid_told *told) {
     return svid_bundles_ask(b, (const uint8_t *)_GoStringPtr(token), _GoStringLen(token), SVID_MOST_CANDIDATES, out, out_len, told);
 }
@@ -192,7 +189,9 @@ func (k *Keyring) Candidates(token string) ([]Candidate, error) {
 	defer k.mu.RUnlock()
 	a := <-k.askers
 	defer func() { k.askers <- a }()
-	return a.candidates(nil, token, k.keys, false)
+	t := NewToken(token)
+	defer t.Close()
+	return a.candidates(nil, &t, k.keys, false)
 }
 
 // longToken is how many bytes a token has that is hashed only for the key that made its signature: each question costs a hash of the
@@ -201,15 +200,15 @@ const longToken = 4096
 
 // ask appends the candidates to room, those of a long token without their questions, and returns the cache of the bundles that they are of. s gets what
 // their keys are to verify.
-func (k *Keyring) ask(room []Candidate, s *signing, token string) (candidates []Candidate, keys *keyCache, err error) {
+func (k *Keyring) ask(room []Candidate, s *signing, t *Token) (candidates []Candidate, keys *keyCache, err error) {
 	k.mu.RLock()
 	defer k.mu.RUnlock()
 	a := <-k.askers
 	defer func() { k.askers <- a }()
-	if candidates, err = a.candidates(room, token, k.keys, len(token) > longToken); err != nil {
+	if candidates, err = a.candidates(room, t, k.keys, len(t.text) > longToken); err != nil {
 		return nil, nil, err
 	}
-	return candidates, k.keys, a.sign(s, token)
+	return candidates, k.keys, a.sign(s, t.text)
 }
 
 // has says whether the bundles are still those of keys.
@@ -233,8 +232,8 @@ func (k *Keyring) question(token string, number int, keys *keyCache) (asked Ques
 }
 
 // candidates appends the candidates to room, with their questions or without.
-func (a *asker) candidates(room []Candidate, token string, keys *keyCache, unhashed bool) ([]Candidate, error) {
-	rows, err := a.ask(token, unhashed)
+func (a *asker) candidates(room []Candidate, t *Token, keys *keyCache, unhashed bool) ([]Candidate, error) {
+	rows, err := a.ask(t, unhashed)
 	if err != nil {
 		return nil, err
 	}
@@ -282,7 +281,7 @@ func (a *asker) question(token string, number int) (Question, error) {
 }
 
 // ask returns the library's rows about the token, with questions or without. They are good until the next ask.
-func (a *asker) ask(token string, unhashed bool) ([]byte, error) {
+func (a *asker) ask(t *Token, unhashed bool) ([]byte, error) {
 	if unhashed {
 		if err := a.exchange(); err != nil {
 			return nil, err
@@ -292,9 +291,9 @@ func (a *asker) ask(token string, unhashed bool) ([]byte, error) {
 	for {
 		var status C.uint32_t
 		if unhashed {
-			status = C.ask_unhashed(&a.lent, token, start(a.rows), C.size_t(len(a.rows)), &a.told)
+			status = C.ask_unhashed(&a.lent, t.text, start(a.rows), C.size_t(len(a.rows)), &a.told)
 		} else {
-			status = C.ask(&a.handle, token, start(a.rows), C.size_t(len(a.rows)), &a.told)
+			status = a.askRead(t)
 		}
 		if status == C.SVID_TOO_SHORT {
 			a.rows = make([]byte, a.told.len)
@@ -319,8 +318,23 @@ func field(rows []byte) (text, rest []byte) {
 // token as BadSignature, or for what comes before that. The error is that of
 // Candidates, or ErrNoMemory.
 func (k *Keyring) Verify(token string) ([]Question, error) {
+	r := trials.Get().(*trial)
+	defer r.end()
+	r.token.text = token
+	return k.verify(r, &r.token)
+}
+
+// VerifyToken is Verify, and leaves in t what the library has read of the token, for
+// Validator.CheckToken.
+func (k *Keyring) VerifyToken(t *Token) ([]Question, error) {
+	r := trials.Get().(*trial)
+	defer r.end()
+	return k.verify(r, t)
+}
+
+func (k *Keyring) verify(r *trial, t *Token) ([]Question, error) {
 	for {
-		yes, same, err := k.tried(token)
+		yes, same, err := k.tried(r, t)
 		if same || err != nil {
 			return yes, err
 		}
@@ -331,32 +345,32 @@ func (k *Keyring) Verify(token string) ([]Question, error) {
 type trial struct {
 	candidates [MaxCandidates]Candidate
 	signing    signing
+	token      Token // of Verify
 }
 
 var trials = sync.Pool{New: func() any { return new(trial) }}
 
 // end lets the next token have the room. What it has of this one is not kept.
-func (t *trial) end() {
-	t.candidates, t.signing = [MaxCandidates]Candidate{}, signing{signature: t.signing.signature[:0]}
-	trials.Put(t)
+func (r *trial) end() {
+	r.token.Close()
+	r.candidates, r.signing, r.token = [MaxCandidates]Candidate{}, signing{signature: r.signing.signature[:0]}, Token{}
+	trials.Put(r)
 }
 
 // tried verifies the signature with each candidate. It is to be called again if the bundles were replaced meanwhile.
-func (k *Keyring) tried(token string) (yes []Question, same bool, err error) {
-	t := trials.Get().(*trial)
-	defer t.end()
-	candidates, keys, err := k.ask(t.candidates[:0], &t.signing, token)
+func (k *Keyring) tried(r *trial, t *Token) (yes []Question, same bool, err error) {
+	candidates, keys, err := k.ask(r.candidates[:0], &r.signing, t)
 	if err != nil {
 		return nil, true, err
 	}
-	i, err := findMaker(candidates, &t.signing)
+	i, err := findMaker(candidates, &r.signing)
 	if err != nil || i < 0 {
 		return nil, true, err
 	}
-	if len(token) <= longToken {
+	if len(t.text) <= longToken {
 		return []Question{candidates[i].Question}, k.has(keys), nil
 	}
-	asked, same, err := k.question(token, i, keys)
+	asked, same, err := k.question(t.text, i, keys)
 	if !same || err != nil {
 		return nil, same, err
 	}

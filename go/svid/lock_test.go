@@ -119,20 +119,30 @@ func TestEachCallOfAValidatorHoldsItsLock(t *testing.T) {
 	if err != nil {
 		t.Fatal(err)
 	}
+	read := [2]Token{NewToken(token), NewToken(token)}
+	for i := range read {
+		defer read[i].Close()
+		if _, err := k.VerifyToken(&read[i]); err != nil {
+			t.Fatal(err)
+		}
+	}
 	calls := map[string]func(){
 		"Accept":       func() { _, _ = v.Accept(k, now, token) },
 		"Answer":       func() { _, _ = v.Answer(now, summary) },
 		"Check":        func() { _, _ = v.Check(now, token, yes) },
 		"CheckClaimed": func() { _, _ = v.CheckClaimed(now, token, yes, batchOf(judged.Use)) },
+		"CheckToken":   func() { _, _ = v.CheckToken(now, &read[0], yes) },
 		"Close":        v.Close,
 		"Edition":      func() { _ = v.Edition() },
 		"GoOn":         func() { _ = v.GoOn() },
 		"Judge":        func() { _, _ = v.Judge(now, token, yes) },
 		"JudgeAgain":   func() { _ = v.JudgeAgain(now, judged) },
+		"JudgeToken":   func() { _, _ = v.JudgeToken(now, &read[1], yes) },
 		"LogBeside":    func() { _, _ = v.LogBeside() },
 		"LogMark":      func() { _, _, _ = v.LogMark() },
 		"OpenLog":      func() { _ = v.OpenLog(Log{}) },
 		"Read":         func() { _, _ = v.Read(now, 1, nil, 1, nil) },
+		"ReadEach":     func() { _, _ = v.ReadEach(now, 1, [][]byte{nil}, 1, nil, nil) },
 		"Save":         func() { _ = v.Save(&bytes.Buffer{}) },
 		"Renew":        func() { _ = v.Renew(k, one.Bundles()) },
 		"SetAudiences": func() { _ = v.SetAudiences([]string{"other"}) },
@@ -140,6 +150,7 @@ func TestEachCallOfAValidatorHoldsItsLock(t *testing.T) {
 		"Size":         func() { _, _ = v.Size() },
 		"Summary":      func() { _, _ = v.Summary() },
 		"Take":         func() { _ = v.Take(now, batchOf(judged.Use)) },
+		"TakeEach":     func() { _, _ = v.TakeEach(now, [][]byte{batchOf(judged.Use)}) },
 		"Tick":         func() { _ = v.Tick(now) },
 		"WalkAnswer":   func() { _, _ = v.WalkAnswer(summary, 1000) },
 		"WalkSummary":  func() { _, _ = v.WalkSummary(0) },
@@ -148,6 +159,15 @@ func TestEachCallOfAValidatorHoldsItsLock(t *testing.T) {
 	methods(t, v, calls)
 	v.mu.Lock()
 	wantWait(t, "another call holds the validator's lock", v.mu.Unlock, calls)
+}
+
+// A walk takes the lock for each of its calls, also where the one before has not shown it.
+func TestTheLastStepOfAWalkHoldsTheLock(t *testing.T) {
+	v := openValidator(t, []byte(`{}`))
+	v.mu.Lock()
+	wantWait(t, "another call holds the validator's lock", v.mu.Unlock, map[string]func(){
+		"tellBucket": func() { _, _ = v.tellBucket(7, 0, nil) },
+	})
 }
 
 // The lock is held until the library has returned: for a long call that shows.
@@ -192,6 +212,7 @@ func TestEachCallOfAKeyringHoldsItsLock(t *testing.T) {
 		"Judge":              func() { _, _ = k.Judge(Judgment{Audiences: []string{"ledger"}}, 1, good, nil) },
 		"Verify":             func() { _, _ = k.Verify(good) },
 		"Verify of no token": func() { _, _ = k.Verify(strange) },
+		"VerifyToken":        func() { read := NewToken(good); _, _ = k.VerifyToken(&read); read.Close() },
 	}
 	changing := map[string]func(){
 		"SetBundles": func() { _ = k.SetBundles(one.Bundles()) },
@@ -256,7 +277,9 @@ func TestEachHandleServesOneCall(t *testing.T) {
 func TestTheKeysOfBundlesHaveALock(t *testing.T) {
 	one := issuerOfLocks(t)
 	k := openKeyring(t, string(one.Bundles()))
-	candidates, keys, err := k.ask(nil, new(signing), one.Token("ES256", map[string]any{"sub": "spiffe://example.org/web", "aud": "ledger", "exp": 2_000_000_000}))
+	token := NewToken(one.Token("ES256", map[string]any{"sub": "spiffe://example.org/web", "aud": "ledger", "exp": 2_000_000_000}))
+	defer token.Close()
+	candidates, keys, err := k.ask(nil, new(signing), &token)
 	if err != nil {
 		t.Fatal(err)
 	}
@@ -287,9 +310,15 @@ func TestOldBundlesAreFreed(t *testing.T) {
 			t.Errorf("%d: %d handles of %d", i, len(old), cap(old))
 		}
 		for n := len(old); n > 0; n-- {
-			if _, err := (<-old).ask("a.b.c", false); !errors.Is(err, ErrClosed) {
-				t.Errorf("%d: a handle is still open: %v", i, err)
+			for _, text := range []string{"a.b.c", one.Token("ES256", map[string]any{"sub": "spiffe://example.org/web", "aud": "ledger", "exp": 2_000_000_000})} {
+				token, a := NewToken(text), <-old
+				if _, err := a.ask(&token, false); !errors.Is(err, ErrClosed) {
+					t.Errorf("%d: a handle is still open: %v", i, err)
+				}
+				token.Close()
+				old <- a
 			}
+			<-old
 		}
 	}
 }

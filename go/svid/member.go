@@ -163,38 +163,9 @@ func (v *Validator) openLog(log Log) error {
 // alike: Reading.Fault says what is wrong with it, and that is no error. ErrJump: nothing happened; after no gap, now 0 reads
 // the value, and raises nothing. Other errors: ErrNoLog, ErrClosed.
 func (v *Validator) Read(now, position uint64, value []byte, edition uint64, room []LogUse) (Reading, error) {
-	v.mu.Lock()
-	defer v.mu.Unlock()
-	if edition != v.bundles {
-		return Reading{}, ErrRenewed
-	}
-	if len(v.fates) < len(room) {
-		v.fates = make([]C.svid_fate, len(room))
-	}
-	var out *C.svid_fate
-	if len(room) > 0 {
-		out = &v.fates[0]
-	}
-	v.reading = C.svid_reading{}
-	status := C.svid_validator_read(&v.handle, C.uint64_t(now), C.uint64_t(position), start(value), C.size_t(len(value)),
-		out, C.size_t(len(room)), &v.reading, &v.told)
-	r := Reading{Order: Order(v.reading.order), From: int(v.reading.from), Count: int(v.reading.count)}
-	err := failure(status, &v.told)
-	switch {
-	case status == C.SVID_TOO_SHORT:
-		r.Rest = RestNoRoom
-	case err == ErrNoMemory:
-		r.Rest = RestNoMemory
-	case isFault(err):
-		r.Fault = err
-	case err != nil:
-		return Reading{}, err
-	}
-	for i := range v.fates[:r.Count] {
-		fate := fateOf(v.fates[i].fate)
-		room[i] = LogUse{Use: useOf(&v.fates[i].used, fate == FateWithdrawal), Fate: fate}
-	}
-	return r, nil
+	var reading [1]Reading
+	_, err := v.ReadEach(now, position, [][]byte{value}, edition, room, reading[:])
+	return reading[0], err
 }
 
 // isFault says whether an error is about bytes that are no messages.

@@ -137,7 +137,9 @@ func TestAQuestionIsOfItsBundles(t *testing.T) {
 	one := issuerOfLocks(t)
 	k := openKeyring(t, string(one.Bundles()))
 	token := one.Token("ES256", map[string]any{"sub": "spiffe://example.org/web", "aud": "ledger", "exp": 2_000_000_000, "jti": "a"})
-	candidates, keys, err := k.ask(nil, new(signing), token)
+	read := NewToken(token)
+	defer read.Close()
+	candidates, keys, err := k.ask(nil, new(signing), &read)
 	if err != nil || len(candidates) == 0 {
 		t.Fatal(err)
 	}

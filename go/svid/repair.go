@@ -52,32 +52,55 @@ func (v *Validator) digest(bucket int, digests *C.svid_digests) error {
 // come after the first most bytes, for a later summary. Errors: ErrNotSummary,
 // ErrTooMuch, a *MessageError, ErrClosed, ErrNoMemory.
 func (v *Validator) WalkAnswer(summary []byte, most int) ([]byte, error) {
+	var asked C.svid_digests
+	var told C.svid_told
+	status := C.svid_summary_read(start(summary), C.size_t(len(summary)), &asked, &told)
+	if err := failure(status, &told); err != nil {
+		return nil, err
+	}
 	out := make([]byte, 0, answerPiece)
 	first := rand.Intn(buckets)
 	for i := 0; i < buckets && (i == 0 || len(out) < most); i++ {
-		var err error
-		if out, err = v.answerBucket((first+i)%buckets, summary, out); err != nil {
+		bucket := (first + i) % buckets
+		differs, err := v.differs(bucket, &asked)
+		if err == nil && differs {
+			out, err = v.appendBucket(bucket, asked.moment, out)
+		}
+		if err != nil {
 			return nil, err
 		}
 	}
 	return out, nil
 }
 
-// answerBucket appends what one bucket answers.
-func (v *Validator) answerBucket(bucket int, summary, out []byte) ([]byte, error) {
+// differs says whether the digest of a bucket is another than the summary's.
+func (v *Validator) differs(bucket int, asked *C.svid_digests) (bool, error) {
 	v.mu.Lock()
 	defer v.mu.Unlock()
+	status := C.svid_validator_differs(&v.handle, C.uint8_t(bucket), asked, &v.told)
+	return v.told.more == 1, failure(status, &v.told)
+}
+
+// appendBucket appends the uses of a bucket that expire after a moment, as messages.
+func (v *Validator) appendBucket(bucket int, moment C.uint64_t, out []byte) ([]byte, error) {
 	for {
-		room := out[len(out):cap(out)]
-		status := C.svid_validator_answer_bucket(&v.handle, C.uint8_t(bucket), start(summary), C.size_t(len(summary)),
-			start(room), C.size_t(len(room)), &v.told)
+		status, told := v.tellBucket(bucket, moment, out[len(out):cap(out)])
 		if status == C.SVID_TOO_SHORT {
-			out = append(make([]byte, 0, 2*cap(out)+int(v.told.len)), out...)
+			out = append(make([]byte, 0, 2*cap(out)+int(told.len)), out...)
 			continue
 		}
-		if err := failure(status, &v.told); err != nil {
+		if err := failure(status, &told); err != nil {
 			return nil, err
 		}
-		return out[:len(out)+int(v.told.len)], nil
+		return out[:len(out)+int(told.len)], nil
 	}
+}
+
+// tellBucket puts them into the room. Each try takes the lock by itself, so that no
+// other call waits for two.
+func (v *Validator) tellBucket(bucket int, moment C.uint64_t, room []byte) (C.uint32_t, C.svid_told) {
+	v.mu.Lock()
+	defer v.mu.Unlock()
+	status := C.svid_validator_bucket(&v.handle, C.uint8_t(bucket), moment, start(room), C.size_t(len(room)), &v.told)
+	return status, v.told
 }

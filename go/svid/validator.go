@@ -75,9 +75,11 @@ type Validator struct {
 	key  C.svid_key
 	size C.svid_size
 	id   [C.SVID_ID_ROOM]byte
-	// And of a log.
-	fates   []C.svid_fate
-	reading C.svid_reading
+	// And of values and a log.
+	row      row
+	fates    []C.svid_fate
+	readings []C.svid_reading
+	status   C.uint32_t
 
 	terms   C.svid_terms // of its whole life
 	bundles uint64       // how often there were other bundles or audiences, the first included; guarded by mu
@@ -161,14 +163,17 @@ func (v *Validator) Check(now uint64, token string, yes []Question) (Accepted, e
 // Accept verifies the token's signature by the keyring, which has the same bundles,
 // and checks the token: all that a service does for a request. A token that the
 // keyring refuses is checked all the same, so the Refusal is the first that holds,
-// in the order of Refusals. Other errors are those of Keyring.Verify and Check.
+// in the order of Refusals. Other errors are those of Keyring.Verify and Check. The
+// token is read once.
 func (v *Validator) Accept(k *Keyring, now uint64, token string) (Accepted, error) {
-	yes, err := k.Verify(token)
+	t := NewToken(token)
+	defer t.Close()
+	yes, err := k.VerifyToken(&t)
 	var refusal Refusal
 	if err != nil && !errors.As(err, &refusal) {
 		return Accepted{}, err
 	}
-	return v.Check(now, token, yes)
+	return v.CheckToken(now, &t, yes)
 }
 
 // Judge answers what Check would answer, and adds nothing to the record: a later

@@ -144,7 +144,7 @@ const WORDS = new Map([
   [2, ["There was no memory.", "Make the call again."]],
   [3, ["Bundles, a table or messages have more than 67,108,864 bytes.", "Give less at once."]],
   [4, ["The first input is messages, but not one summary.", "Give the summary of another validator."]],
-  [5, ["The validator is closed, or the bundles are.", "Make a new one."]],
+  [5, ["The validator, the bundles or the token is closed.", "Make a new one."]],
   [6, ["The handle is open already.", ""]],
   [7, ["The token has expired, so that there is nothing to withdraw.", ""]],
   [8, ["A message's moment is more than ahead seconds past now.", "Set the clocks of both validators right."]],

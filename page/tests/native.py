@@ -39,7 +39,7 @@ def words(*numbers):
 
 def told_text(status, told):
     """A status, what is told, and the text, as the glue tells them."""
-    return words(status, told.len, told.input, told.message, told.offset) + (out.raw[: told.len] if status == 0 else b"")
+    return words(status, told.len, told.input, told.message, told.offset) + (out[: told.len] if status == 0 else b"")
 
 
 def id_parse(_, text):
@@ -60,7 +60,7 @@ def report(now, messages):
 def verdict(call, handle, now, yes, token):
     used, told = Use(), Told()
     status = call(handle, c.c_uint64(now), yes, c.c_size_t(len(yes) // 32), *lent(token), out, c.c_size_t(2048), c.byref(used), c.byref(told))
-    return words(status) + (words(used.exp, used.at) + bytes(used.key) + out.raw[: told.len] if status == 0 else b"")
+    return words(status) + (words(used.exp, used.at) + bytes(used.key) + out[: told.len] if status == 0 else b"")
 
 
 def session(now, longest, validator_id, own, bundles, messages, token, yes, key_exp):

@@ -9,7 +9,7 @@ SENTENCES: dict[int, str] = {
     2: "There was no memory.",
     3: "Bundles, a table or messages have more than 67,108,864 bytes.",
     4: "The first input is messages, but not one summary.",
-    5: "The validator is closed, or the bundles are.",
+    5: "The validator, the bundles or the token is closed.",
     6: "The handle is open already.",
     7: "The token has expired, so that there is nothing to withdraw.",
     8: "A message's moment is more than ahead seconds past now.",

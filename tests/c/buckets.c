@@ -1,4 +1,4 @@
-/* Calls svid_validator_digest, svid_summary_of and svid_validator_answer_bucket on validators that are kept.
+/* Calls svid_validator_digest, svid_summary_of, svid_summary_read, svid_validator_differs and svid_validator_bucket.
  *
  *   buckets answers   bucket by bucket they tell what svid_validator_summary and svid_validator_answer tell
  *   buckets refused   each call with each of its allocations refused in turn; linked with --wrap for malloc, realloc and free
@@ -55,6 +55,11 @@ static void digests_at(svid_validator *v, uint64_t moment, svid_digests *all, si
     }
 }
 
+/* Whether a call told just so many bytes or uses, and whether a bucket differs. */
+static int is_told(const svid_told *told, size_t len, size_t more) {
+    return told->len == len && told->input == 0 && told->message == 0 && told->offset == 0 && told->more == more;
+}
+
 /* Whether the digests of all buckets at a moment are the summary that the validator has then. */
 static void is_summary(uint64_t moment) {
     static uint8_t whole[SVID_SUMMARY_LEN], pieces[SVID_SUMMARY_LEN + 1], before[2 * ROOM], after[2 * ROOM];
@@ -76,6 +81,10 @@ static void is_summary(uint64_t moment) {
     holds(svid_validator_size(&v, &size, &told) == SVID_OK && size.uses == uses, "counts other uses");
     answered = svid_summary_of(&all, pieces, SVID_SUMMARY_LEN - 1, &told);
     holds(answered == SVID_TOO_SHORT && told.len == SVID_SUMMARY_LEN, "has no room, and it is not told");
+    static svid_digests asked;
+    memset(&asked, 0xA5, sizeof asked);
+    answered = svid_summary_read(pieces, SVID_SUMMARY_LEN, &asked, &told);
+    holds(answered == SVID_OK && is_told(&told, 0, 0) && !memcmp(&asked, &all, sizeof all), "is read as another one");
     svid_validator_close(&v);
 }
 
@@ -95,17 +104,25 @@ static void is_answer(uint64_t moment, int from, int to) {
     static svid_entry of_whole[2 * KEYS], of_pieces[2 * KEYS];
     svid_validator v, other;
     svid_told told;
-    size_t len = 0;
+    static svid_digests asked;
+    size_t len = 0, differing = 0;
     at = "answers of buckets";
     begin(&other, moment, from, to);
     holds(svid_validator_summary(&other, summary, sizeof summary, &told) == SVID_OK, "there is no summary");
     svid_validator_close(&other);
     begin(&v, NOW, 0, 0);
+    answered = svid_summary_read(summary, sizeof summary, &asked, &told);
+    holds(answered == SVID_OK && asked.moment == moment, "there is no such summary");
     for (int bucket = 0; bucket < 256; bucket++) {
-        answered = svid_validator_answer_bucket(&v, (uint8_t)bucket, summary, sizeof summary, pieces + len, sizeof pieces - len, &told);
-        holds(answered == SVID_OK && told.input == 0 && told.message == 0 && told.offset == 0 && told.more == 0, "are told otherwise");
+        answered = svid_validator_differs(&v, (uint8_t)bucket, &asked, &told);
+        holds(answered == SVID_OK && told.more < 2 && is_told(&told, 0, told.more), "whether a bucket differs is told otherwise");
+        if (!told.more) continue;
+        differing++;
+        answered = svid_validator_bucket(&v, (uint8_t)bucket, asked.moment, pieces + len, sizeof pieces - len, &told);
+        holds(answered == SVID_OK && is_told(&told, told.len, 0), "are told otherwise");
         len += told.len;
     }
+    holds(differing == (size_t)(to - from > 199 ? 199 : to - from), "are of other buckets");
     holds(svid_validator_answer(&v, moment, summary, sizeof summary, whole, sizeof whole, &told) == SVID_OK, "there is no whole answer");
     size_t count = entries_of(whole, told.len, of_whole);
     holds(entries_of(pieces, len, of_pieces) == count && !memcmp(of_whole, of_pieces, count * sizeof *of_whole), "are others than the whole answer");
@@ -126,12 +143,27 @@ static void answers(void) {
     svid_told told;
     at = "what is no summary";
     begin(&v, NOW + 5, 0, 0);
-    answered = svid_validator_answer_bucket(&v, 7, messages, messages_len, out, ROOM, &told);
-    holds(answered == SVID_NOT_SUMMARY && told.len == 0, "is answered");
-    answered = svid_validator_answer_bucket(&v, 7, summary, 100, out, ROOM, &told);
-    holds(answered == SVID_TRUNCATED && told.input == 1 && told.message == 1, "is answered");
+    static svid_digests all, before;
+    memset(&all, 0xA5, sizeof all);
+    before = all;
+    answered = svid_summary_read(messages, messages_len, &all, &told);
+    holds(answered == SVID_NOT_SUMMARY && is_told(&told, 0, 0) && !memcmp(&all, &before, sizeof all), "is read");
+    answered = svid_summary_read(summary, 100, &all, &told);
+    holds(answered == SVID_TRUNCATED && told.input == 1 && told.message == 1 && told.offset == 100 && !memcmp(&all, &before, sizeof all), "is read");
+    at = "a bucket at some moments";
+    answered = svid_validator_bucket(&v, 70, NOW + 49, out, ROOM, &told);
+    size_t len = told.len;
+    holds(answered == SVID_OK && len > 0, "has no uses");
+    memset(out, 0xA5, ROOM);
+    answered = svid_validator_bucket(&v, 70, NOW + 49, out, len - 1, &told);
+    holds(answered == SVID_TOO_SHORT && is_told(&told, len, 0) && out[0] == 0xA5, "has no room, and it is not told");
+    answered = svid_validator_bucket(&v, 70, NOW, out, len, &told);
+    holds(answered == SVID_OK && is_told(&told, len, 0) && out[len] == 0xA5, "has what the record has not");
+    answered = svid_validator_bucket(&v, 70, NOW + 50, out, ROOM, &told);
+    holds(answered == SVID_OK && is_told(&told, 0, 0), "has what has expired");
+    answered = svid_validator_bucket(&v, 230, NOW, out, ROOM, &told);
+    holds(answered == SVID_OK && is_told(&told, 0, 0), "has uses of another");
     at = "a summary of an earlier moment";
-    static svid_digests all;
     size_t uses;
     digests_at(&v, NOW, &all, &uses);
     holds(uses == KEYS, "has uses that the record has not");
@@ -141,37 +173,44 @@ static void answers(void) {
     printf("%d summaries and 4 answers, bucket by bucket", (int)COUNT(moments));
 }
 
-enum { DIGEST, SUMMARY_OF, ANSWER, SAME, NONE, WAYS };
-static const char *const NAMES[] = { "svid_validator_digest", "svid_summary_of", "svid_validator_answer_bucket", "the answer of a bucket that agrees", "no summary" };
+/* Those up to BUCKET take a handle, and those in front of it no memory. */
+enum { DIGEST, DIFFERS, SAME, BUCKET, SUMMARY_OF, READ, NONE, WAYS };
+static const char *const NAMES[] = { "svid_validator_digest", "svid_validator_differs", "a bucket that agrees", "svid_validator_bucket", "svid_summary_of", "svid_summary_read", "no summary" };
 typedef struct { uint32_t status; svid_told told; svid_digests digests; uint8_t out[16384]; } answer;
 
 /* A summary of other uses than the validator's in bucket 70, and of the same in bucket 198. */
+static svid_digests of_summary;
 static void make_summary(void) {
     svid_validator other;
     svid_told told;
+    size_t uses;
     begin(&other, NOW, 10, 11);
     holds(svid_validator_summary(&other, summary, sizeof summary, &told) == SVID_OK, "there is no summary");
+    digests_at(&other, NOW, &of_summary, &uses);
     svid_validator_close(&other);
 }
 
-static void clear(answer *a) {
+static void clear(int way, answer *a) {
     memset(a, 0xA5, sizeof *a);
     memset(&a->told, 0, sizeof a->told);
-    a->digests.moment = NOW;
+    if (way < READ) a->digests = of_summary;
 }
 
 static uint32_t call_with(int way, svid_validator *v, const uint8_t *asked_by, size_t len, svid_digests *digests, uint8_t *out, size_t room, svid_told *told) {
     switch (way) {
     case DIGEST: return svid_validator_digest(v, 70, digests, told);
+    case DIFFERS: return svid_validator_differs(v, 70, digests, told);
+    case SAME: return svid_validator_differs(v, 198, digests, told);
+    case BUCKET: return svid_validator_bucket(v, 70, NOW, out, room, told);
     case SUMMARY_OF: return svid_summary_of(digests, out, room, told);
-    case NONE: return svid_validator_answer_bucket(v, 70, asked_by, 0, out, room, told);
-    default: return svid_validator_answer_bucket(v, way == ANSWER ? 70 : 198, asked_by, len, out, room, told);
+    case READ: return svid_summary_read(asked_by, len, digests, told);
+    default: return svid_summary_read(asked_by, 0, digests, told);
     }
 }
 
 static void go(int way, svid_validator *v, size_t room, answer *a) {
     at = NAMES[way];
-    clear(a);
+    clear(way, a);
     answered = a->status = call_with(way, v, summary, sizeof summary, &a->digests, a->out, room, &a->told);
 }
 
@@ -187,13 +226,15 @@ static void refused(void) {
         asked = 0;
         go(way, &v, sizeof due.out, &due);
         long all = asked, stood = standing;
-        holds(due.status == (way == NONE ? SVID_NOT_SUMMARY : SVID_OK) && (all > 0 || way == DIGEST || way == NONE), "it does not do what it is for");
+        holds(due.status == (way == NONE ? SVID_NOT_SUMMARY : SVID_OK) && (way < BUCKET ? all == 0 : all > 0 || way == NONE), "it does not do what it is for");
+        holds(way > SAME || way == DIGEST || due.told.more == (way == DIFFERS), "it is told otherwise");
+        holds(way != READ || !memcmp(&due.digests, &of_summary, sizeof of_summary), "it is read otherwise");
         for (long n = 1; n <= all; n++, tried++) {
             asked = 0, refused_at = n;
             go(way, &v, sizeof got.out, &got);
             refused_at = 0;
             holds(standing == stood, "memory is held");
-            clear(&none);
+            clear(way, &none);
             none.status = SVID_NO_MEMORY;
             holds(!memcmp(&got, got.status == SVID_NO_MEMORY ? &none : &due, sizeof due), "the answer differs");
             holds(record(&v, after) == len && !memcmp(before, after, len), "the record differs");
@@ -201,8 +242,8 @@ static void refused(void) {
         svid_validator_close(&v);
         holds(standing == 0, "memory is held after close");
         go(way, &v, sizeof got.out, &got);
-        clear(&none);
-        if (way != SUMMARY_OF) holds(got.status == SVID_CLOSED && !memcmp(got.out, none.out, sizeof none.out) && !memcmp(&got.digests, &none.digests, sizeof none.digests), "a closed validator does something");
+        clear(way, &none);
+        if (way <= BUCKET) holds(got.status == SVID_CLOSED && !memcmp(got.out, none.out, sizeof none.out) && !memcmp(&got.digests, &none.digests, sizeof none.digests), "a closed validator does something");
     }
     printf("%ld allocations refused", tried);
 }
@@ -216,7 +257,7 @@ static void guarded(void) {
         int way = turn / 2, first = turn % 2;
         go(way, &v, sizeof due.out, &due);
         size_t room = due.told.len && way != DIGEST ? due.told.len : 9;
-        clear(&got);
+        clear(way, &got);
         svid_told *told_at = between(&got.told, sizeof got.told, first);
         svid_digests *digests = between(&got.digests, sizeof got.digests, first);
         uint8_t *out = between(got.out, room, first);
@@ -236,13 +277,13 @@ static void nulls(void) {
     begin(&v, NOW, 0, 0);
     go(NONE, &v, sizeof due.out, &due);
     at = "NULL for no summary";
-    clear(&got);
-    answered = got.status = svid_validator_answer_bucket(&v, 70, NULL, 0, got.out, sizeof got.out, &got.told);
+    clear(NONE, &got);
+    answered = got.status = svid_summary_read(NULL, 0, &got.digests, &got.told);
     holds(!memcmp(&got, &due, sizeof got), "is answered otherwise");
     at = "NULL for a room of none";
-    for (int way = SUMMARY_OF; way < WAYS; way++) {
+    for (int way = BUCKET; way <= SUMMARY_OF; way++) {
         go(way, &v, 0, &due);
-        clear(&got);
+        clear(way, &got);
         answered = got.status = call_with(way, &v, summary, sizeof summary, &got.digests, NULL, 0, &got.told);
         holds(!memcmp(&got, &due, sizeof got), "is answered otherwise");
     }

@@ -30,7 +30,7 @@ static void names(void) {
     holds(!strcmp(svid_strstatus(SVID_OK), "SVID_OK") && !strcmp(svid_strstatus(SVID_WITHDRAWN), "SVID_WITHDRAWN") && !strcmp(svid_strstatus(UINT32_MAX), "SVID_?"), "another name");
     holds(!strcmp(svid_strsentence(SVID_WITHDRAWN), "The token was withdrawn."), "another sentence");
     holds(!strcmp(svid_strsentence(SVID_TRUNCATED), "The bytes end before the message does."), "another sentence");
-    holds(!strcmp(svid_strsentence(SVID_CLOSED), "The validator is closed, or the bundles are. Make a new one."), "another sentence");
+    holds(!strcmp(svid_strsentence(SVID_CLOSED), "The validator, the bundles or the token is closed. Make a new one."), "another sentence");
     printf("%d names", named);
 }
 
@@ -68,7 +68,7 @@ static int says(void *context, const uint8_t *alg, size_t alg_len, const uint8_t
     return jwk[8] - '0' == it->good ? it->word : 0;
 }
 
-static void answers(void) {
+static void answer_all(void) {
     static uint8_t rows[300000], out[SVID_ID_ROOM];
     static const svid_terms terms = { UINT64_MAX, 10, 86400, { 1 } };
     static const int words[] = { 1, 256, 1 << 16, INT_MAX, -1, INT_MIN }; /* the last two are no */
@@ -107,9 +107,24 @@ static void answers(void) {
             make_token("{\"alg\":\"ES256\",\"kid\":\"none\"}", "other", ++jti);
             answered = svid_validator_verify(&v, NOW, token, token_len, says, &it, rows, sizeof rows, out, sizeof out, &used, &told);
             holds(answered == SVID_NOT_AUDIENCE, "two refusals");
+            /* One that can't be read advances the record all the same. */
+            svid_size size;
+            answered = svid_validator_verify(&v, NOW + 1, token, 2, says, &it, rows, sizeof rows, out, sizeof out, &used, &told);
+            holds(answered == SVID_NOT_THREE_PARTS && svid_validator_size(&v, &size, &told) == SVID_OK && size.moment == NOW + 1, "no token");
             svid_validator_close(&v);
+            answered = svid_validator_verify(&v, NOW, token, token_len, says, &it, rows, sizeof rows, out, sizeof out, &used, &told);
+            holds(answered == SVID_CLOSED, "a closed validator");
         }
     }
+}
+
+/* (What malloc keeps for the next call, it has after the first time.) */
+static void answers(void) {
+    answer_all();
+    size_t before = mallinfo2().uordblks;
+    answer_all();
+    at = "svid_validator_verify";
+    holds(mallinfo2().uordblks < before + 8192, "each call holds memory");
 }
 
 static void batches(void) {

@@ -1,5 +1,5 @@
 -- Lemmas about specs/Alone.antt.
-use Rattle.std.proofs.Common.{◌≡◌, ℕ, List, Option, Some, Result, Ok, Err, subst}
+use Rattle.std.proofs.Common.{ℕ, List, Some, Result, Ok, Err, subst}
 use Rattle.svid_token.specs.Rows.{Answers}
 use Rattle.svid_token.specs.declared.refusal.Refusal.{Refusal}
 use Rattle.svid_keys.specs.Bundles.{Bundle}

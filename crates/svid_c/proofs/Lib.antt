@@ -1,6 +1,7 @@
 pub mod AllowedLemmas
 pub mod AloneLemmas
 pub mod AsBox
+pub mod AsTokenBox
 pub mod AsTrustBox
 pub mod CheckedLemmas
 pub mod DocumentsLemmas
@@ -14,4 +15,5 @@ pub mod NamesLemmas
 pub mod OfferLemmas
 pub mod SaysLemmas
 pub mod SpkiLemmas
+pub mod SubjectLemmas
 pub mod TrustLemmas

@@ -1,5 +1,5 @@
 -- Lemmas about specs/Says.antt.
-use Rattle.std.proofs.Common.{◌≡◌, ℕ, List, length, map, refl, sym, ◌∙◌}
+use Rattle.std.proofs.Common.{◌≡◌, ℕ, List, length, map, refl}
 use Rattle.std.proofs.lemmas.List.{length-map}
 use Rattle.svid_check.specs.Said.{Said}
 use Rattle.svid_check.specs.Verdict.{key_of}

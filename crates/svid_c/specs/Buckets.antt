@@ -1,8 +1,8 @@
--- What the calls on one bucket of a record do, and what makes a summary of the digests of all.
-use Rattle.std.specs.Prelude.{◌≡◌, ℕ, List, [], ◌∷◌, length}
+-- What the calls on one bucket of a record do, and what makes a summary of the digests of all, or reads one.
+use Rattle.std.specs.Prelude.{◌≡◌, ℕ, Bool, List, [], ◌∷◌, length, slice_index_or}
 use Rattle.std.specs.List.{slice_set}
 use Rattle.svid_replay.specs.Summary.{SummaryData}
-use Rattle.svid_shards.specs.Buckets.{answer_at, digest_at}
+use Rattle.svid_shards.specs.Buckets.{differs_at, digest_at, uses_at}
 use Rattle.svid_shards.specs.declared.bucket_digest.BucketDigest.{BucketDigest}
 use Rattle.svid_share.specs.declared.tool_fault.ToolFault.{ToolFault}
 use Rattle.svid_wire.specs.SummaryText.{summary_text}
@@ -11,7 +11,7 @@ use Rattle.svid_c.specs.Entries.{AreWritten}
 use Rattle.svid_c.specs.Inputs.{AreMessages}
 use Rattle.svid_c.specs.Joined.{IsSummaryRefused}
 use Rattle.svid_c.specs.Live.{Kept}
-use Rattle.svid_c.specs.Status.{fault_number, told_fault, told_length}
+use Rattle.svid_c.specs.Status.{fault_number, told_fault, told_length, told_rows}
 use Rattle.svid_c.specs.Written.{IsPut}
 use Rattle.svid_c.specs.declared.validator_digest.SvidDigests.{SvidDigests}
 use Rattle.svid_c.specs.declared.told.SvidTold.{SvidTold}
@@ -40,11 +40,24 @@ pub data WritesSummary (digests : SvidDigests) (status : ℕ) (told : SvidTold) 
   summary_written : (text : List ℕ) → text ≡ summary_text (summary_from digests) → IsPut text status old_out new_out → told ≡ told_length (length text) → WritesSummary digests status told old_out new_out
   summary_unwritten : status ≡ 2 → told ≡ told_length 0 → new_out ≡ old_out → WritesSummary digests status told old_out new_out
 
--- What answering a summary by one bucket does: messages that tell the uses with which the bucket answers it are put, or have no room; or the
--- first input is no summary; or memory was refused. Nothing happens to the validator.
-pub data AnswersBucket (bucket : ℕ) (summary : List ℕ) (status : ℕ) (told : SvidTold) (old_out new_out : List ℕ) (old new : Kept) : Type 0 where
-  bucket_answered : (asked : SummaryData) (text : List ℕ) → AreMessages summary (Summary asked ∷ []) → AreWritten (answer_at asked old.state.uses bucket) text
-      → IsPut text status old_out new_out → told ≡ told_length (length text) → new ≡ old → AnswersBucket bucket summary status told old_out new_out old new
-  bucket_unasked : (given : ToolFault) → IsSummaryRefused summary given → status ≡ fault_number given → told ≡ told_fault given → new_out ≡ old_out → new ≡ old
-      → AnswersBucket bucket summary status told old_out new_out old new
-  bucket_unanswered : status ≡ 2 → told ≡ told_length 0 → new_out ≡ old_out → new ≡ old → AnswersBucket bucket summary status told old_out new_out old new
+-- What reading a summary does: it is the one that the digests are then; or the bytes are no one summary, and the digests are as they were.
+pub data ReadsSummary (summary : List ℕ) (status : ℕ) (told : SvidTold) (old new : SvidDigests) : Type 0 where
+  summary_read : AreMessages summary (Summary (summary_from new) ∷ []) → status ≡ 0 → told ≡ told_length 0 → ReadsSummary summary status told old new
+  summary_unread : (given : ToolFault) → IsSummaryRefused summary given → status ≡ fault_number given → told ≡ told_fault given → new ≡ old → ReadsSummary summary status told old new
+
+-- whether the digest of a bucket of a validator's record, at the moment of digests, is another than the one in its place among them
+abbrev pub differs_from : Kept → ℕ → SvidDigests → Bool
+differs_from held bucket d = differs_at bucket d.moment (slice_index_or d.digests bucket []) held.state.uses
+
+-- what telling whether a bucket differs from the digests of a summary does: it is told in `more`
+pub record TellsDiffers (bucket : ℕ) (asked : SvidDigests) (status : ℕ) (told : SvidTold) (old new : Kept) : Type 0 where
+  pub done : status ≡ 0
+  pub differs : told ≡ told_rows 0 (differs_from old bucket asked)
+  pub kept : new ≡ old
+
+-- What telling a bucket does: messages that tell its uses which expire after a moment are put, or have no room; or memory was refused. Nothing
+-- happens to the validator.
+pub data TellsBucket (bucket moment status : ℕ) (told : SvidTold) (old_out new_out : List ℕ) (old new : Kept) : Type 0 where
+  bucket_told : (text : List ℕ) → AreWritten (uses_at bucket moment old.state.uses) text → IsPut text status old_out new_out → told ≡ told_length (length text)
+      → new ≡ old → TellsBucket bucket moment status told old_out new_out old new
+  bucket_untold : status ≡ 2 → told ≡ told_length 0 → new_out ≡ old_out → new ≡ old → TellsBucket bucket moment status told old_out new_out old new

@@ -1,5 +1,5 @@
 -- What the calls on a state folder answer, and what they do to its numbers.
-use Rattle.std.specs.Prelude.{◌≡◌, ◌==◌, ℕ, ◌+◌, Bool, not, if◌then◌else◌, List, ◌++◌, length, take, drop, Option, Some, None}
+use Rattle.std.specs.Prelude.{◌≡◌, ◌==◌, ℕ, ◌+◌, not, if◌then◌else◌, List, ◌++◌, length, take, drop, Option, Some, None}
 use Rattle.svid_journal.specs.declared.call.Call.{Call}
 use Rattle.svid_journal.specs.declared.call.Call.TheVariants as call
 use Rattle.svid_journal.specs.declared.fault.Fault.{Fault}

@@ -24,6 +24,9 @@ pub mod Signs
 pub mod Size
 pub mod Spki
 pub mod Status
+pub mod Subject
+pub mod Token
+pub mod TokenHandle
 pub mod TokenPayload
 pub mod Trust
 pub mod TrustHandle

@@ -1,5 +1,5 @@
 -- What the calls on a validator that reads a group's log do.
-use Rattle.std.specs.Prelude.{◌≡◌, ℕ, ◌<◌, ◌≤◌, ◌-◌, min, Bool, not, nat_lt, ◌&&◌, List, [], ◌∷◌, ◌++◌, length, take, drop, Option, Some, None}
+use Rattle.std.specs.Prelude.{◌≡◌, ℕ, ◌<◌, ◌≤◌, min, Bool, not, nat_lt, ◌&&◌, List, [], ◌∷◌, ◌++◌, length, take, drop, Option, Some, None}
 use Rattle.std.specs.List.{flat_map}
 use Rattle.svid_replay.specs.declared.token_use.Use.{Use}
 use Rattle.svid_replay.specs.Records.{State}
@@ -13,7 +13,7 @@ use Rattle.svid_log.specs.declared.order.Order.TheVariants as order
 use Rattle.svid_log.specs.declared.reading.Reading.{Reading}
 use Rattle.svid_log.specs.declared.reading.Rest.{Rest}
 use Rattle.svid_log.specs.declared.reading.Rest.TheVariants as rest
-use Rattle.svid_log.specs.Members.{HasRead, MemberState, order_of, read_again}
+use Rattle.svid_log.specs.Members.{HasRead, MemberState, order_of}
 use Rattle.svid_log.specs.Saves.{restored, saved_of}
 use Rattle.svid_log.specs.Steps.{horizon}
 use Rattle.svid_log.specs.Values.{HasUses}

@@ -19,11 +19,15 @@ use Rattle.svid_c.specs.declared.told.SvidTold.{SvidTold}
 abbrev pub row_of : Said → KeyData → List ℕ
 row_of t key = question_of key t.alg t.input t.signature ++ field (name_of t.alg) ++ field key.text
 
--- The rows of the first candidates, so many at the most, are put, or have no room, and it is told whether there are more; or the token is
--- refused by itself, or for its keys; or memory was refused for the rows. Nothing happens to the validator.
+-- Of a token that says this, the rows of the first candidates, so many at the most, are put, or have no room, and it is told whether there
+-- are more; or the token is refused for its keys; or memory was refused for the rows. Nothing happens to the validator.
+pub data OffersRead (t : Said) (most : ℕ) (status : ℕ) (told : SvidTold) (old_out new_out : List ℕ) (old new : Kept) : Type 0 where
+  offered : (keys : List KeyData) (text : List ℕ) → keys_due old.bundles t ≡ Ok keys → text ≡ flat_map (row_of t) (take most keys)
+      → IsPut text status old_out new_out → told ≡ told_rows (length text) (nat_lt most (length keys)) → new ≡ old → OffersRead t most status told old_out new_out old new
+  unknown : (why : Refusal) → keys_due old.bundles t ≡ Err why → status ≡ refusal_number why → told ≡ told_length 0 → new_out ≡ old_out → new ≡ old → OffersRead t most status told old_out new_out old new
+  no_memory : (keys : List KeyData) → keys_due old.bundles t ≡ Ok keys → status ≡ refusal_number OutOfMemory → told ≡ told_length 0 → new_out ≡ old_out → new ≡ old → OffersRead t most status told old_out new_out old new
+
+-- so it is with a token that nothing refuses by itself; else it is told why not, and nothing happens
 pub data Offers (token : List ℕ) (most : ℕ) (status : ℕ) (told : SvidTold) (old_out new_out : List ℕ) (old new : Kept) : Type 0 where
-  offered : (t : Said) (keys : List KeyData) (text : List ℕ) → reading_of token ≡ Ok (Some t) → keys_due old.bundles t ≡ Ok keys → text ≡ flat_map (row_of t) (take most keys)
-      → IsPut text status old_out new_out → told ≡ told_rows (length text) (nat_lt most (length keys)) → new ≡ old → Offers token most status told old_out new_out old new
+  read : (t : Said) → reading_of token ≡ Ok (Some t) → OffersRead t most status told old_out new_out old new → Offers token most status told old_out new_out old new
   unread : (why : Refusal) → Refuses why (reading_of token) → RefusesAs token why → status ≡ refusal_number why → told ≡ told_length 0 → new_out ≡ old_out → new ≡ old → Offers token most status told old_out new_out old new
-  unknown : (t : Said) (why : Refusal) → reading_of token ≡ Ok (Some t) → keys_due old.bundles t ≡ Err why → status ≡ refusal_number why → told ≡ told_length 0 → new_out ≡ old_out → new ≡ old → Offers token most status told old_out new_out old new
-  no_memory : (t : Said) (keys : List KeyData) → reading_of token ≡ Ok (Some t) → keys_due old.bundles t ≡ Ok keys → status ≡ refusal_number OutOfMemory → told ≡ told_length 0 → new_out ≡ old_out → new ≡ old → Offers token most status told old_out new_out old new

@@ -1,5 +1,5 @@
 -- What the call on a key does.
-use Rattle.std.specs.Prelude.{◌≡◌, ℕ, List, length, Option, Some, None, Ok}
+use Rattle.std.specs.Prelude.{◌≡◌, ℕ, List, length, Some, None, Ok}
 use Rattle.svid_token.specs.Alg.{alg_named}
 use Rattle.svid_token.specs.declared.alg.Alg.{Alg}
 use Rattle.svid_spki.specs.Jwk.{spki_due}

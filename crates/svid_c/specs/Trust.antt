@@ -41,9 +41,9 @@ pub data OpensBundles (text : List ℕ) (status : ℕ) (told : SvidTold) (old ne
   unopened : (why : ToolFault) → old ≡ None → new ≡ None → AreNoBundles text why → status ≡ fault_number why → told ≡ told_fault why → OpensBundles text status told old new
 
 -- what a call does with what is held: it does what it is for; or nothing is held, this is told, and all is as it was
-pub data ReadsHeld (IsAsBefore : Type 0) (Does : List Bundle → Type 0) (status : ℕ) (told : SvidTold) (held : Option (List Bundle)) : Type 0 where
+pub data ReadsHeld {A : Type 0} (IsAsBefore : Type 0) (Does : A → Type 0) (status : ℕ) (told : SvidTold) (held : Option A) : Type 0 where
   none_read : held ≡ None → status ≡ 5 → told ≡ told_length 0 → IsAsBefore → ReadsHeld IsAsBefore Does status told held
-  reads : (bundles : List Bundle) → held ≡ Some bundles → Does bundles → ReadsHeld IsAsBefore Does status told held
+  reads : (x : A) → held ≡ Some x → Does x → ReadsHeld IsAsBefore Does status told held
 
 -- a call that reads what a handle holds, which stays as it was
 pub record Reads (IsAsBefore : Type 0) (Does : List Bundle → Type 0) (status : ℕ) (told : SvidTold) (old new : Option Trust) : Type 0 where

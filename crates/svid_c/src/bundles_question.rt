@@ -57,7 +57,7 @@ fn ask_one(
     let Some(key) = candidate(candidates, number) else {
         return refuse_token(Refusal::NoKey, told);
     };
-    let bytes = question(key, reading.header.alg, reading.input, &reading.signature);
+    let bytes = question(key, reading.header.alg, &reading.input, &reading.signature);
     *asked = SvidQuestion { bytes };
     only(0, told)
 }

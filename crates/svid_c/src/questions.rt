@@ -9,7 +9,7 @@ use svid_lines::token_lines;
 
 /// Puts a line for each key that may have signed a token first into `out`, as the program's command
 /// `candidates` prints it: the question that an outside verifier is to answer, as 64 hexadecimal digits, and
-/// the key's name as JSON.
+/// the key's name as JSON, in which U+007F to U+009F are escaped.
 ///
 /// 0, and `told.len` is the length of the lines; 1 where they are longer than `out`: then `told.len` is their
 /// length, and `out` is as it was. Else `out` is as it was too: 3 (of the input 1) and 31 to 33 where the bundles are refused, 101 to

@@ -51,7 +51,7 @@ fn push_all(texts: &mut Texts, names: &[String]) -> Result<(), AllocError>
 }
 
 // The name of a token's key, empty where it has none.
-fn kid_of<'a>(reading: &'a Reading<'_>) -> &'a [u8]
+fn kid_of<'a>(reading: &'a Reading) -> &'a [u8]
     ensures { result.now ≡ unwrap_or (said_in reading.now).kid [] }
 {
     match &reading.header.kid {
@@ -61,7 +61,7 @@ fn kid_of<'a>(reading: &'a Reading<'_>) -> &'a [u8]
 }
 
 // The texts of a token.
-fn texts_of(alloc: Global, reading: &Reading<'_>) -> Result<Texts, AllocError>
+fn texts_of(alloc: Global, reading: &Reading) -> Result<Texts, AllocError>
     ensures bytes { IfOk result (λ texts. texts.bytes.items ≡ concat (texts_of (said_in reading.now))) }
     ensures lens { IfOk result (λ texts. texts.lens.items ≡ map length (texts_of (said_in reading.now))) }
 {

@@ -20,7 +20,8 @@ pub struct SvidTold {
     /// names in rising order of their bytes, from 0; of a table, the number of the line, counted from 1.
     pub offset: usize,
     /// Of [`svid_validator_ask`](crate::validator_ask::svid_validator_ask) and [`svid_bundles_ask`](crate::bundles_ask::svid_bundles_ask), 1 where
-    /// more keys may have signed the token than it lists, and else 0.
+    /// more keys may have signed the token than it lists, and else 0. Of [`svid_validator_differs`](crate::validator_differs::svid_validator_differs), 1
+    /// where the bucket differs, and else 0.
     pub more: usize,
 }
 

@@ -1,16 +1,18 @@
-ghost use Rattle.std.specs.Prelude.{◌≡◌, ◌<◌, ◌≤◌, ◌^◌, ◌++◌, IfOk, OnOk, length, nat_lt, take};
+ghost use Rattle.std.specs.Prelude.{◌≡◌, ◌<◌, ◌^◌, ◌++◌, IfOk, OnOk, length, nat_lt, take};
 ghost use Rattle.std.specs.List.{flat_map};
 ghost use Rattle.svid_keys.specs.Candidates.{candidates_left};
 ghost use Rattle.svid_keys.specs.Question.{field};
 ghost use Rattle.svid_check.specs.Said.{said_in};
 ghost use Rattle.svid_c.specs.Checked.{refusal_number};
 ghost use Rattle.svid_c.specs.Live.{Calls};
-ghost use Rattle.svid_c.specs.Offers.{Offers, row_of};
+ghost use Rattle.svid_c.specs.Offers.{Offers, OffersRead, row_of};
+ghost use Rattle.svid_c.specs.Token.{ReadsToken};
 ghost use Rattle.svid_c.specs.Status.{told_length, told_rows};
 ghost use Rattle.svid_c.specs.Written.{IsPut};
 
 use crate::live::Live;
 use crate::refusal::refusal_number;
+use crate::token::SvidToken;
 use crate::told::{SvidTold, told_length, told_rows};
 use crate::validator::{SvidValidator, only};
 use crate::writing::put;
@@ -30,12 +32,10 @@ pub(crate) fn push_field(row: &mut Vec<u8>, bytes: &[u8]) -> Result<(), AllocErr
 }
 
 // Adds the row of a candidate.
-fn push_row(rows: &mut Vec<u8>, key: &JwtKey, reading: &Reading<'_>) -> Result<(), AllocError>
-    requires input_len { length reading.now.input.now ≤ 65536 }
-    requires signature_len { length reading.now.signature.items ≤ 65536 }
+fn push_row(rows: &mut Vec<u8>, key: &JwtKey, reading: &Reading) -> Result<(), AllocError>
     ensures { OnOk result (rows.new.items ≡ rows.old.items ++ row_of (said_in reading.now) key.now) }
 {
-    let asked = question(key, reading.header.alg, reading.input, &reading.signature);
+    let asked = question(key, reading.header.alg, &reading.input, &reading.signature);
     rows.extend_from_slice(&asked)?;
     push_field(rows, reading.header.alg.name().as_bytes())?;
     push_field(rows, key.text().as_bytes())?;
@@ -47,10 +47,8 @@ fn rows_of(
     alloc: Global,
     candidates: Candidates<'_>,
     most: usize,
-    reading: &Reading<'_>,
+    reading: &Reading,
 ) -> Result<(Vec<u8>, bool), AllocError>
-    requires input_len { length reading.now.input.now ≤ 65536 }
-    requires signature_len { length reading.now.signature.items ≤ 65536 }
     ensures rows { IfOk result (λ given. given.0.items ≡ flat_map (row_of (said_in reading.now)) (take most (candidates_left candidates.entry))) }
     ensures more { IfOk result (λ given. given.1 ≡ nat_lt most (length (candidates_left candidates.entry))) }
 {
@@ -85,7 +83,28 @@ pub(crate) fn refuse_token(refusal: Refusal, told: &mut SvidTold) -> u32
     refusal_number(refusal)
 }
 
-// Puts a row for each of the first candidates.
+// Puts a row for each of the first candidates of a token that was read.
+fn offer_read(
+    alloc: Global,
+    live: &Live,
+    reading: &Reading,
+    most: usize,
+    out: &mut [u8],
+    told: &mut SvidTold,
+) -> u32
+    ensures { OffersRead (said_in reading.now) most result told.new out.old out.new live.now.validator live.now.validator }
+{
+    let candidates = match reading.candidates(live.validator.bundles()) {
+        Ok(candidates) => candidates,
+        Err(refusal) => return refuse_token(refusal, told),
+    };
+    match rows_of(alloc, candidates, most, reading) {
+        Ok((rows, more)) => put_rows(&rows, more, out, told),
+        Err(_) => refuse_token(Refusal::OutOfMemory, told),
+    }
+}
+
+// Puts a row for each of the first candidates of a token.
 fn offer(
     alloc: Global,
     live: &Live,
@@ -96,17 +115,9 @@ fn offer(
 ) -> u32
     ensures { Offers token.now most result told.new out.old out.new live.now.validator live.now.validator }
 {
-    let reading = match Reading::of(alloc, token) {
-        Ok(reading) => reading,
-        Err(refusal) => return refuse_token(refusal, told),
-    };
-    let candidates = match reading.candidates(live.validator.bundles()) {
-        Ok(candidates) => candidates,
-        Err(refusal) => return refuse_token(refusal, told),
-    };
-    match rows_of(alloc, candidates, most, &reading) {
-        Ok((rows, more)) => put_rows(&rows, more, out, told),
-        Err(_) => refuse_token(Refusal::OutOfMemory, told),
+    match Reading::of(alloc, token) {
+        Ok(reading) => offer_read(alloc, live, &reading, most, out, told),
+        Err(refusal) => refuse_token(refusal, told),
     }
 }
 
@@ -133,5 +144,47 @@ pub extern "C" fn svid_validator_ask(
     };
     let status = offer(alloc, &live, token, most, out, told);
     v.put(live);
+    status
+}
+
+// The same of the validator of a handle.
+fn ask_read(
+    alloc: Global,
+    v: &mut SvidValidator,
+    reading: &Reading,
+    most: usize,
+    out: &mut [u8],
+    told: &mut SvidTold,
+) -> u32
+    ensures { Calls (out.new ≡ out.old) (OffersRead (said_in reading.now) most result told.new out.old out.new) result told.new v.old.handle.live v.new.handle.live }
+{
+    let Some(live) = v.take(alloc) else {
+        return only(5, told);
+    };
+    let status = offer_read(alloc, &live, reading, most, out, told);
+    v.put(live);
+    status
+}
+
+/// As [`svid_validator_ask`], of the token of an open handle, which stays as it is. So 101 to 116 are no answers here, and 5 also says that
+/// the handle of the token is closed.
+#[unsafe(no_mangle)]
+pub extern "C" fn svid_validator_ask_token(
+    alloc: Global,
+    v: &mut SvidValidator,
+    t: &mut SvidToken,
+    most: usize,
+    out: &mut [u8],
+    told: &mut SvidTold,
+) -> u32
+    ensures { ReadsToken ((out.new ≡ out.old) × (v.new.handle.live ≡ v.old.handle.live))
+        (λ said. Calls (out.new ≡ out.old) (OffersRead said most result told.new out.old out.new) result told.new v.old.handle.live v.new.handle.live)
+        result told.new t.old.handle.read t.new.handle.read }
+{
+    let Some(read) = t.take(alloc) else {
+        return only(5, told);
+    };
+    let status = ask_read(alloc, v, &read.reading, most, out, told);
+    t.put(read);
     status
 }

@@ -1,18 +1,22 @@
 ghost use Rattle.std.specs.Prelude.{◌≡◌, IfOk, IfErr, None, Some};
 ghost use Rattle.svid_token.specs.Rows.{Answers};
 ghost use Rattle.svid_replay.specs.Buckets.{raised_to};
-ghost use Rattle.svid_check.specs.Said.{RefusesForm};
+ghost use Rattle.svid_check.specs.Said.{RefusesForm, said_in};
 ghost use Rattle.svid_c.specs.Live.{Checks, ChecksAlone, HandleCallsAt, IsLeft, adds, adds_nothing, gained_by, verdict_at};
+ghost use Rattle.svid_c.specs.Subject.{KeepsForm, given_token, read_token, subject_of};
+ghost use Rattle.svid_c.specs.Token.{ReadsToken};
 ghost use Rattle.svid_c.specs.declared.validator_check.Gain.TheVariants.{ItsUse};
 
 use crate::answered::Answered;
+use crate::asked::Asked;
 use crate::check::{SvidUse, accept_whole};
 use crate::live::Live;
 use crate::refusal::refusal_number;
+use crate::token::SvidToken;
 use crate::told::{SvidTold, told_length};
 use crate::validator::{SvidValidator, only};
 use std::alloc::Global;
-use svid_check::Accepted;
+use svid_check::{Accepted, Reading};
 use svid_token::Refusal;
 
 /// What the record gains of a token that a call accepts.
@@ -26,9 +30,14 @@ pub enum Gain {
 
 // The acceptance of a token that adds its use, or why it is refused.
 #[tactic(auto, using(crate::proofs::LogLemmas::unclaimed))]
-fn checked(live: &mut Live, now: u64, yes: &[[u8; 32]], token: &[u8]) -> Result<Accepted, Refusal>
+fn checked_token(
+    live: &mut Live,
+    now: u64,
+    yes: &[[u8; 32]],
+    token: &[u8],
+) -> Result<Accepted, Refusal>
     requires { live.old.member ≡ None }
-    ensures answer { Answers Some result (verdict_at live.old yes.now now token.now) }
+    ensures answer { Answers Some result (verdict_at live.old yes.now now (given_token token.now)) }
     ensures early { RefusesForm token.now result }
     ensures gained { IfOk result (λ accepted. IsLeft now (adds (raised_to live.old.validator.state now) accepted.used) live.old live.new) }
     ensures raised { IfErr result (λ _. IsLeft now (raised_to live.old.validator.state now) live.old live.new) }
@@ -36,9 +45,49 @@ fn checked(live: &mut Live, now: u64, yes: &[[u8; 32]], token: &[u8]) -> Result<
     live.validator.check_by(now, token, &Answered { yes })
 }
 
+// The same of a token that was read.
+#[tactic(auto, using(crate::proofs::LogLemmas::unclaimed))]
+fn checked_read(
+    live: &mut Live,
+    now: u64,
+    yes: &[[u8; 32]],
+    reading: &Reading,
+) -> Result<Accepted, Refusal>
+    requires { live.old.member ≡ None }
+    ensures answer { Answers Some result (verdict_at live.old yes.now now (read_token (said_in reading.now))) }
+    ensures gained { IfOk result (λ accepted. IsLeft now (adds (raised_to live.old.validator.state now) accepted.used) live.old live.new) }
+    ensures raised { IfErr result (λ _. IsLeft now (raised_to live.old.validator.state now) live.old live.new) }
+{
+    live.validator.check_read(now, reading, &Answered { yes })
+}
+
+// The same of either.
+fn checked(
+    live: &mut Live,
+    now: u64,
+    yes: &[[u8; 32]],
+    asked: Asked<'_>,
+) -> Result<Accepted, Refusal>
+    requires { live.old.member ≡ None }
+    ensures answer { Answers Some result (verdict_at live.old yes.now now (subject_of asked.entry)) }
+    ensures early { KeepsForm (subject_of asked.entry) result }
+    ensures gained { IfOk result (λ accepted. IsLeft now (adds (raised_to live.old.validator.state now) accepted.used) live.old live.new) }
+    ensures raised { IfErr result (λ _. IsLeft now (raised_to live.old.validator.state now) live.old live.new) }
+{
+    match asked {
+        Asked::Token(token) => checked_token(live, now, yes, token),
+        Asked::Read(reading) => checked_read(live, now, yes, reading),
+    }
+}
+
 // The acceptance of a token that adds nothing, or why it is refused.
-fn judged(live: &mut Live, now: u64, yes: &[[u8; 32]], token: &[u8]) -> Result<Accepted, Refusal>
-    ensures answer { Answers Some result (verdict_at live.old yes.now now token.now) }
+fn judged_token(
+    live: &mut Live,
+    now: u64,
+    yes: &[[u8; 32]],
+    token: &[u8],
+) -> Result<Accepted, Refusal>
+    ensures answer { Answers Some result (verdict_at live.old yes.now now (given_token token.now)) }
     ensures early { RefusesForm token.now result }
     ensures left { IsLeft now (raised_to live.old.validator.state now) live.old live.new }
 {
@@ -49,23 +98,59 @@ fn judged(live: &mut Live, now: u64, yes: &[[u8; 32]], token: &[u8]) -> Result<A
     }
 }
 
+// The same of a token that was read.
+fn judged_read(
+    live: &mut Live,
+    now: u64,
+    yes: &[[u8; 32]],
+    reading: &Reading,
+) -> Result<Accepted, Refusal>
+    ensures answer { Answers Some result (verdict_at live.old yes.now now (read_token (said_in reading.now))) }
+    ensures left { IsLeft now (raised_to live.old.validator.state now) live.old live.new }
+{
+    let answered = Answered { yes };
+    match &mut live.member {
+        Some(member) => live
+            .validator
+            .judge_claim_read(member, now, reading, &answered),
+        None => live.validator.judge_read(now, reading, &answered),
+    }
+}
+
+// The same of either.
+fn judged(
+    live: &mut Live,
+    now: u64,
+    yes: &[[u8; 32]],
+    asked: Asked<'_>,
+) -> Result<Accepted, Refusal>
+    ensures answer { Answers Some result (verdict_at live.old yes.now now (subject_of asked.entry)) }
+    ensures early { KeepsForm (subject_of asked.entry) result }
+    ensures left { IsLeft now (raised_to live.old.validator.state now) live.old live.new }
+{
+    match asked {
+        Asked::Token(token) => judged_token(live, now, yes, token),
+        Asked::Read(reading) => judged_read(live, now, yes, reading),
+    }
+}
+
 // The acceptance of a token, or why it is refused.
 fn answer(
     live: &mut Live,
     now: u64,
     yes: &[[u8; 32]],
-    token: &[u8],
+    asked: Asked<'_>,
     gain: Gain,
 ) -> Result<Accepted, Refusal>
     requires { gain ≡ ItsUse → live.old.member ≡ None }
-    ensures answer { Answers Some result (verdict_at live.old yes.now now token.now) }
-    ensures early { RefusesForm token.now result }
+    ensures answer { Answers Some result (verdict_at live.old yes.now now (subject_of asked.entry)) }
+    ensures early { KeepsForm (subject_of asked.entry) result }
     ensures gained { IfOk result (λ accepted. IsLeft now (gained_by gain (raised_to live.old.validator.state now) accepted.used) live.old live.new) }
     ensures raised { IfErr result (λ _. IsLeft now (raised_to live.old.validator.state now) live.old live.new) }
 {
     match gain {
-        Gain::ItsUse => checked(live, now, yes, token),
-        Gain::Nothing => judged(live, now, yes, token),
+        Gain::ItsUse => checked(live, now, yes, asked),
+        Gain::Nothing => judged(live, now, yes, asked),
     }
 }
 
@@ -74,20 +159,20 @@ fn check(
     live: &mut Live,
     now: u64,
     yes: &[[u8; 32]],
-    token: &[u8],
+    asked: Asked<'_>,
     gain: Gain,
     out: &mut [u8],
     used: &mut SvidUse,
     told: &mut SvidTold,
 ) -> u32
     requires { gain ≡ ItsUse → live.old.member ≡ None }
-    ensures { Checks (gained_by gain) now yes.now token.now result told.new out.old out.new used.old used.new live.old live.new }
+    ensures { Checks (gained_by gain) now yes.now (subject_of asked.entry) result told.new out.old out.new used.old used.new live.old live.new }
 {
     if out.len() < 2048 {
         *told = told_length(2048);
         return 1;
     }
-    match answer(live, now, yes, token, gain) {
+    match answer(live, now, yes, asked, gain) {
         Ok(accepted) => accept_whole(accepted, out, used, told),
         Err(refusal) => {
             *told = told_length(0);
@@ -101,17 +186,63 @@ fn check_alone(
     live: &mut Live,
     now: u64,
     yes: &[[u8; 32]],
-    token: &[u8],
+    asked: Asked<'_>,
     out: &mut [u8],
     used: &mut SvidUse,
     told: &mut SvidTold,
 ) -> u32
-    ensures { ChecksAlone now yes.now token.now result told.new out.old out.new used.old used.new live.old live.new }
+    ensures { ChecksAlone now yes.now (subject_of asked.entry) result told.new out.old out.new used.old used.new live.old live.new }
 {
     if live.member.is_some() {
         return only(10, told);
     }
-    check(live, now, yes, token, Gain::ItsUse, out, used, told)
+    check(live, now, yes, asked, Gain::ItsUse, out, used, told)
+}
+
+// Checks a token by the validator of a handle.
+fn check_held(
+    alloc: Global,
+    v: &mut SvidValidator,
+    now: u64,
+    yes: &[[u8; 32]],
+    asked: Asked<'_>,
+    out: &mut [u8],
+    used: &mut SvidUse,
+    told: &mut SvidTold,
+) -> u32
+    ensures { HandleCallsAt now ((out.new ≡ out.old) × (used.new ≡ used.old)) (ChecksAlone now yes.now (subject_of asked.entry) result told.new out.old out.new used.old used.new)
+        result told.new v.old.handle.live v.new.handle.live }
+{
+    let mut live = match v.take_at(alloc, now) {
+        Ok(live) => live,
+        Err(status) => return only(status, told),
+    };
+    let status = check_alone(&mut live, now, yes, asked, out, used, told);
+    v.put(live);
+    status
+}
+
+// Judges a token by the validator of a handle.
+fn judge_held(
+    alloc: Global,
+    v: &mut SvidValidator,
+    now: u64,
+    yes: &[[u8; 32]],
+    asked: Asked<'_>,
+    out: &mut [u8],
+    used: &mut SvidUse,
+    told: &mut SvidTold,
+) -> u32
+    ensures { HandleCallsAt now ((out.new ≡ out.old) × (used.new ≡ used.old)) (Checks adds_nothing now yes.now (subject_of asked.entry) result told.new out.old out.new used.old used.new)
+        result told.new v.old.handle.live v.new.handle.live }
+{
+    let mut live = match v.take_at(alloc, now) {
+        Ok(live) => live,
+        Err(status) => return only(status, told),
+    };
+    let status = check(&mut live, now, yes, asked, Gain::Nothing, out, used, told);
+    v.put(live);
+    status
 }
 
 /// Checks a token at the moment `now`, in seconds, and writes the SPIFFE ID of its subject into `out`, which must have room for 2,048
@@ -135,16 +266,10 @@ pub extern "C" fn svid_validator_check(
     used: &mut SvidUse,
     told: &mut SvidTold,
 ) -> u32
-    ensures { HandleCallsAt now ((out.new ≡ out.old) × (used.new ≡ used.old)) (ChecksAlone now yes.now token.now result told.new out.old out.new used.old used.new)
+    ensures { HandleCallsAt now ((out.new ≡ out.old) × (used.new ≡ used.old)) (ChecksAlone now yes.now (given_token token.now) result told.new out.old out.new used.old used.new)
         result told.new v.old.handle.live v.new.handle.live }
 {
-    let mut live = match v.take_at(alloc, now) {
-        Ok(live) => live,
-        Err(status) => return only(status, told),
-    };
-    let status = check_alone(&mut live, now, yes, token, out, used, told);
-    v.put(live);
-    status
+    check_held(alloc, v, now, yes, Asked::Token(token), out, used, told)
 }
 
 /// Answers what [`svid_validator_check`] would answer, and adds no use to the record: `used` is the use that a check would add. All else
@@ -160,14 +285,62 @@ pub extern "C" fn svid_validator_judge(
     used: &mut SvidUse,
     told: &mut SvidTold,
 ) -> u32
-    ensures { HandleCallsAt now ((out.new ≡ out.old) × (used.new ≡ used.old)) (Checks adds_nothing now yes.now token.now result told.new out.old out.new used.old used.new)
+    ensures { HandleCallsAt now ((out.new ≡ out.old) × (used.new ≡ used.old)) (Checks adds_nothing now yes.now (given_token token.now) result told.new out.old out.new used.old used.new)
         result told.new v.old.handle.live v.new.handle.live }
 {
-    let mut live = match v.take_at(alloc, now) {
-        Ok(live) => live,
-        Err(status) => return only(status, told),
+    judge_held(alloc, v, now, yes, Asked::Token(token), out, used, told)
+}
+
+/// As [`svid_validator_check`], of the token of an open handle, which stays as it is. So 101 to 116 are no answers here, and 5 also says
+/// that the handle of the token is closed.
+#[unsafe(no_mangle)]
+pub extern "C" fn svid_validator_check_token(
+    alloc: Global,
+    v: &mut SvidValidator,
+    now: u64,
+    yes: &[[u8; 32]],
+    t: &mut SvidToken,
+    out: &mut [u8],
+    used: &mut SvidUse,
+    told: &mut SvidTold,
+) -> u32
+    ensures { ReadsToken ((out.new ≡ out.old) × ((used.new ≡ used.old) × (v.new.handle.live ≡ v.old.handle.live)))
+        (λ said. HandleCallsAt now ((out.new ≡ out.old) × (used.new ≡ used.old)) (ChecksAlone now yes.now (read_token said) result told.new out.old out.new used.old used.new)
+        result told.new v.old.handle.live v.new.handle.live)
+        result told.new t.old.handle.read t.new.handle.read }
+{
+    let Some(read) = t.take(alloc) else {
+        return only(5, told);
     };
-    let status = check(&mut live, now, yes, token, Gain::Nothing, out, used, told);
-    v.put(live);
+    let asked = Asked::Read(&read.reading);
+    let status = check_held(alloc, v, now, yes, asked, out, used, told);
+    t.put(read);
+    status
+}
+
+/// As [`svid_validator_judge`], of the token of an open handle, which stays as it is. So 101 to 116 are no answers here, and 5 also says
+/// that the handle of the token is closed.
+#[unsafe(no_mangle)]
+pub extern "C" fn svid_validator_judge_token(
+    alloc: Global,
+    v: &mut SvidValidator,
+    now: u64,
+    yes: &[[u8; 32]],
+    t: &mut SvidToken,
+    out: &mut [u8],
+    used: &mut SvidUse,
+    told: &mut SvidTold,
+) -> u32
+    ensures { ReadsToken ((out.new ≡ out.old) × ((used.new ≡ used.old) × (v.new.handle.live ≡ v.old.handle.live)))
+        (λ said. HandleCallsAt now ((out.new ≡ out.old) × (used.new ≡ used.old)) (Checks adds_nothing now yes.now (read_token said) result told.new out.old out.new used.old used.new)
+        result told.new v.old.handle.live v.new.handle.live)
+        result told.new t.old.handle.read t.new.handle.read }
+{
+    let Some(read) = t.take(alloc) else {
+        return only(5, told);
+    };
+    let asked = Asked::Read(&read.reading);
+    let status = judge_held(alloc, v, now, yes, asked, out, used, told);
+    t.put(read);
     status
 }

@@ -14,7 +14,7 @@ use Rattle.svid_token.specs.Rows.{Refuses, first_row}
 use Rattle.svid_token.specs.Signature.{signature_of, signature_rows}
 use Rattle.svid_token.specs.declared.alg.Alg.{Alg}
 use Rattle.svid_token.specs.declared.refusal.Refusal.{Refusal}
-use Rattle.svid_check.specs.Said.{UnrefusedIsSaid, parts_rows, parts_say, reading_of, rows_if_three, said_by, said_of, token_rows}
+use Rattle.svid_check.specs.Said.{ReadTokensHaveTheirForm, Said, UnrefusedIsSaid, parts_rows, parts_say, reading_of, rows_if_three, said_by, said_of, token_rows}
 use Rattle.svid_check.proofs.RowsLemmas.{judged-Err, judged-None, judged-Ok, judged-Some, none_of_both, passed, passes, read_there, refused_through, stops, there}
 
 -- of a token with three parts, these are judged
@@ -118,6 +118,10 @@ parts_there p none =
     all_there _ (part_bytes p.signature) _ _ _ _ _ _ (signing_input p.header p.payload)
     (read_there alg_at (part_object p.header) header (passed _ _ _ no_crit.1).0) (there _ (neither_holds _ _ (passed _ _ _ three.0).0).1)
     (read_there subject_at object payload sub.0) (read_there audiences_at object payload aud.0) (read_there (time_at (codes "exp")) object payload exp.0)
+
+-- a token that was read has its form
+pub read_tokens_have_their_form : ReadTokensHaveTheirForm
+read_tokens_have_their_form token t is = (none_of_both (compact_rows token) (rows_if_three (parts_of token)) (judged-Ok (first_row (token_rows token)) (said_of token) (Some t) is).0).0
 
 -- a token that nothing refuses says all
 pub unrefused_is_said : UnrefusedIsSaid

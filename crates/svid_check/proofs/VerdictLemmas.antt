@@ -1,8 +1,8 @@
 -- The verdict, one table after the other.
-use Rattle.std.proofs.Common.{◌≡◌, ◌≢◌, ◌<◌, ℕ, Bool, true, false, List, [], ◌∷◌, take, drop, Option, Some, None, refl, ap, ◌∙◌, arith, if◌then◌else◌}
-use Rattle.std.specs.Prelude.{IsSome, Ok, option_map, not, nat_lt}
+use Rattle.std.proofs.Common.{◌≡◌, ◌≢◌, ◌<◌, ℕ, Bool, true, false, List, [], ◌∷◌, take, drop, Option, Some, None, refl, ap, sym, subst, ◌∙◌, arith, if◌then◌else◌}
+use Rattle.std.specs.Prelude.{IsSome, Result, Ok, option_map, not, nat_lt}
 use Rattle.std.proofs.lemmas.Bool.{false≢true, ltb-true}
-use Rattle.svid_token.specs.Rows.{Row, Refuses, first_row}
+use Rattle.svid_token.specs.Rows.{Answers, Row, Refuses, first_row, judged}
 use Rattle.svid_token.specs.declared.refusal.Refusal.{Refusal}
 use Rattle.svid_token.specs.declared.refusal.Refusal.TheVariants.{Replayed, Withdrawn}
 use Rattle.std.specs.List.{list_any}
@@ -11,7 +11,8 @@ use Rattle.svid_replay.specs.Twice.{has_key, withdraws}
 use Rattle.svid_replay.specs.Uses.{Uses, has_use_of, has_withdrawal_of}
 use Rattle.svid_check.specs.Said.{Said, reading_of, said_of, token_rows}
 use Rattle.svid_check.specs.Setting.{Setting}
-use Rattle.svid_check.specs.Verdict.{acceptance, key_of, rows_if_said, setting_rows, verdict, verdict_rows}
+use Rattle.svid_check.specs.declared.accepted.Accepted.{Accepted}
+use Rattle.svid_check.specs.Verdict.{ReadTokensHaveTheirVerdict, acceptance, key_of, rows_if_said, setting_rows, verdict, verdict_on, verdict_rows}
 use Rattle.svid_check.proofs.RowsLemmas.{judged-Err, judged-None, judged-Ok, judged-Some, none_of_both, passed, passes, refused, refused_through, stops}
 use Rattle.svid_check.proofs.SaidLemmas.{unrefused_is_said}
 
@@ -31,15 +32,16 @@ module _ (s : Setting) (moment : ℕ) (uses : Uses) (token : List ℕ) where
       let j = judged-Ok (first_row (token_rows token)) (said_of token) (Some t) is in
       (passes (token_rows token) (later (said_of token)) j.0 ∙ ap (λ o. first_row (later o)) j.1, j.1)
 
-  -- a refusal of the setting is the verdict
-  pub refused_setting : (t : Said) (refusal : Refusal) → reading_of token ≡ Ok (Some t) → first_row (setting_rows s moment uses t) ≡ Some refusal → Refuses refusal (verdict s moment uses token)
-  unfolding verdict
-  refused_setting t refusal good is = refused refusal (verdict s moment uses token) (judged-Some _ (option_map (acceptance s moment) (said_of token)) refusal ((found t good).0 ∙ is))
+  -- so its verdict is the one on what it says
+  pub on_said : (t : Said) → reading_of token ≡ Ok (Some t) → verdict s moment uses token ≡ verdict_on s moment uses t
+  unfolding verdict verdict_on
+  on_said t good =
+      ap (λ o. judged o (option_map (acceptance s moment) (said_of token))) (found t good).0
+      ∙ ap (λ o. judged (first_row (setting_rows s moment uses t)) (option_map (acceptance s moment) o)) (found t good).1
 
-  -- what nothing refuses is accepted
-  pub accepted : (t : Said) → reading_of token ≡ Ok (Some t) → first_row (setting_rows s moment uses t) ≡ None → verdict s moment uses token ≡ Ok (Some (acceptance s moment t))
-  unfolding verdict
-  accepted t good none = judged-None _ (option_map (acceptance s moment) (said_of token)) _ ((found t good).0 ∙ none) (ap (λ o. option_map (acceptance s moment) o) (found t good).1)
+  -- what answers what a good token says, answers the token
+  pub answers_on : (t : Said) (answer : Result Accepted Refusal) → reading_of token ≡ Ok (Some t) → Answers Some answer (verdict_on s moment uses t) → Answers Some answer (verdict s moment uses token)
+  answers_on t answer good answered = subst (λ due. Answers Some answer due) (sym (on_said t good)) answered
 
   -- and never is nothing accepted
   pub not_of_nothing : verdict s moment uses token ≢ Ok None
@@ -51,6 +53,16 @@ module _ (s : Setting) (moment : ℕ) (uses : Uses) (token : List ℕ) where
       by_said : (said : Option Said) → IsSome said → option_map (acceptance s moment) said ≢ None
       by_said None is none = false≢true is
       by_said (Some t) is none = absurd (cc)
+
+-- what the setting refuses is refused
+pub refused_on : (s : Setting) (moment : ℕ) (uses : Uses) (t : Said) (refusal : Refusal) → first_row (setting_rows s moment uses t) ≡ Some refusal → Refuses refusal (verdict_on s moment uses t)
+unfolding verdict_on
+refused_on s moment uses t refusal is = refused refusal (verdict_on s moment uses t) (judged-Some _ (Some (acceptance s moment t)) refusal is)
+
+-- and what nothing refuses is accepted
+pub accepted_on : (s : Setting) (moment : ℕ) (uses : Uses) (t : Said) → first_row (setting_rows s moment uses t) ≡ None → verdict_on s moment uses t ≡ Ok (Some (acceptance s moment t))
+unfolding verdict_on
+accepted_on s moment uses t none = judged-None _ (Some (acceptance s moment t)) _ none refl
 
 -- a use that nothing refuses expires after the moment
 pub lives : (s : Setting) (moment : ℕ) (uses : Uses) (t : Said) → first_row (setting_rows s moment uses t) ≡ None → moment < t.exp
@@ -75,3 +87,7 @@ any_weaker p q weaker (x ∷ xs) none = grind (arith, any_weaker p q weaker xs, 
 -- a withdrawal is a use: where no use has the key, no withdrawal has it
 pub withdrawn_is_held : (uses : Uses) (key : List ℕ) → has_use_of uses key ≡ false → has_withdrawal_of uses key ≡ false
 withdrawn_is_held uses key none = any_weaker (withdraws key) (has_key key) (λ u is. grind arith) (rising uses) none
+
+-- a token that was read has the verdict on what it says
+pub read_tokens_have_their_verdict : ReadTokensHaveTheirVerdict
+read_tokens_have_their_verdict s moment uses token t good = on_said s moment uses token t good

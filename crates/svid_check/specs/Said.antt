@@ -1,5 +1,5 @@
 -- What a token says, and the refusals of a token by itself (RFC 7515, RFC 7519; JWT-SVID).
-use Rattle.std.specs.Prelude.{◌≡◌, ℕ, List, [], ◌++◌, Option, Some, None, IsSome, option_and_then, option_map, string_bytes, map, Result, Err}
+use Rattle.std.specs.Prelude.{◌≡◌, ℕ, List, [], ◌++◌, Option, Some, None, IsSome, option_and_then, option_map, string_bytes, map, Result, Ok, Err}
 use Rattle.svid_id.specs.Id.{IdParts}
 use Rattle.svid_token.specs.Claims.{ClaimsSaid, claims_rows, claims_said}
 use Rattle.svid_token.specs.Compact.{Parts, compact_rows, parts_of, signing_input}
@@ -65,6 +65,10 @@ token_rows token = compact_rows token ++ rows_if_three (parts_of token)
 abbrev pub reading_of : List ℕ → Result (Option Said) Refusal
 reading_of token = judged (first_row (token_rows token)) (said_of token)
 
+-- a token that was read is neither too long nor without its three parts, so each answer to it keeps to that
+abbrev pub ReadTokensHaveTheirForm : Type 0
+ReadTokensHaveTheirForm = (token : List ℕ) (t : Said) → reading_of token ≡ Ok (Some t) → first_row (compact_rows token) ≡ None
+
 -- a token that nothing refuses by itself says all that must be there
 abbrev pub UnrefusedIsSaid : Type 0
 UnrefusedIsSaid = (token : List ℕ) → first_row (token_rows token) ≡ None → IsSome (said_of token)
@@ -80,7 +84,7 @@ said_in r = record {
   nbf = r.claims.nbf;
   jti = option_map string_bytes r.claims.jti;
   signature = r.signature.items;
-  input = r.input.now;
+  input = r.input.items;
 }
 
 -- and it is there

@@ -12,7 +12,7 @@ use Rattle.svid_keys.specs.Key.{KeyData}
 use Rattle.svid_replay.specs.declared.token_use.Use.{Use}
 use Rattle.svid_replay.specs.Uses.{Uses, has_use_of, has_withdrawal_of}
 use Rattle.svid_check.specs.declared.accepted.Accepted.{Accepted}
-use Rattle.svid_check.specs.Said.{Said, said_of, token_rows}
+use Rattle.svid_check.specs.Said.{Said, reading_of, said_of, token_rows}
 use Rattle.svid_check.specs.Setting.{Setting}
 
 -- the key by which the uses of a token are told
@@ -86,6 +86,14 @@ acceptance s moment t = record { id = t.sub; used = use_of s moment t }
 -- the verdict: the first refusal that holds, and else the acceptance of what is said, which then is there
 unfoldable pub verdict : Setting → ℕ → Uses → List ℕ → Result (Option Accepted) Refusal
 verdict s moment uses token = judged (first_row (verdict_rows s moment uses token)) (option_map (acceptance s moment) (said_of token))
+
+-- the verdict on what a token says that was read: the first refusal that holds, and else the acceptance
+unfoldable pub verdict_on : Setting → ℕ → Uses → Said → Result (Option Accepted) Refusal
+verdict_on s moment uses t = judged (first_row (setting_rows s moment uses t)) (Some (acceptance s moment t))
+
+-- a token that nothing refuses by itself has the verdict on what it says
+abbrev pub ReadTokensHaveTheirVerdict : Type 0
+ReadTokensHaveTheirVerdict = (s : Setting) (moment : ℕ) (uses : Uses) (token : List ℕ) (t : Said) → reading_of token ≡ Ok (Some t) → verdict s moment uses token ≡ verdict_on s moment uses t
 
 -- no verdict accepts a token that does not say all
 abbrev pub AcceptsNoSilence : Type 0

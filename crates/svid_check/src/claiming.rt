@@ -1,14 +1,16 @@
-ghost use Rattle.std.specs.Prelude.{◌≡◌, ◌<◌, ◌≤◌, Some, IfOk};
+ghost use Rattle.std.specs.Prelude.{◌≡◌, ◌<◌, ◌≤◌, ℕ, List, Option, Result, Some, IfOk};
 ghost use Rattle.svid_token.specs.Rows.{Answers, first_row};
+ghost use Rattle.svid_token.specs.declared.refusal.Refusal.{Refusal};
 ghost use Rattle.svid_replay.specs.Buckets.{raised_to};
 ghost use Rattle.svid_replay.specs.Uses.{no_uses};
 ghost use Rattle.svid_log.specs.Members.{HasRead, read_again};
 ghost use Rattle.svid_log.specs.Saves.{restored};
 ghost use Rattle.svid_log.specs.Steps.{horizon};
 ghost use Rattle.svid_check.specs.Claiming.{IsLooked, is_claimed, or_claimed, unless_claimed};
-ghost use Rattle.svid_check.specs.Said.{RefusesForm};
+ghost use Rattle.svid_check.specs.Said.{RefusesForm, said_in};
 ghost use Rattle.svid_check.specs.Setting.{setting_by, with_state};
-ghost use Rattle.svid_check.specs.Verdict.{again_rows, verdict};
+ghost use Rattle.svid_check.specs.Verdict.{again_rows, verdict, verdict_on};
+ghost use Rattle.svid_check.specs.declared.accepted.Accepted.{Accepted};
 
 use crate::accepted::Accepted;
 use crate::validator::Validator;
@@ -77,14 +79,27 @@ impl<V: Verifier, S: UseStore> Validator<V, S> {
         ensures state { self.new ≡ with_state self.old (raised_to self.old.state now) }
         ensures looked { IsLooked (raised_to self.old.state now).moment member.old member.new }
     {
-        let accepted = match self.judge_by(now, token, verifier) {
-            Ok(accepted) => accepted,
-            Err(refusal) => return Err(refusal),
-        };
-        if member.has(self.replay.moment(), &accepted.used.key) {
-            return Err(Refusal::Replayed);
-        }
-        Ok(accepted)
+        let judged = self.judge_by(now, token, verifier);
+        unless_claimed(member, self.replay.moment(), judged)
+    }
+
+    /// As [`judge_claim`](Validator::judge_claim), of a token that was read before.
+    ///
+    /// It answers no refusal of a token by itself, since [`Reading::of`](crate::Reading::of) has answered those.
+    pub fn judge_claim_read<W: Verifier, C: UseStore>(
+        &mut self,
+        member: &mut Member<C>,
+        now: u64,
+        reading: &crate::Reading,
+        verifier: &W,
+    ) -> Result<Accepted, Refusal>
+        ensures answer { let x = raised_to self.old.state now in
+            Answers Some result (unless_claimed (is_claimed member.old x.moment) (verdict_on (setting_by (W.says verifier.now) self.old) x.moment x.uses (said_in reading.now))) }
+        ensures state { self.new ≡ with_state self.old (raised_to self.old.state now) }
+        ensures looked { IsLooked (raised_to self.old.state now).moment member.old member.new }
+    {
+        let judged = self.judge_read(now, reading, verifier);
+        unless_claimed(member, self.replay.moment(), judged)
     }
 
     /// As [`judge_again`](Validator::judge_again), but a token that nothing else refuses is refused as `Replayed` while a claim
@@ -109,4 +124,24 @@ impl<V: Verifier, S: UseStore> Validator<V, S> {
         }
         None
     }
+}
+
+// A judgment at a moment, where a token that is claimed is refused as one that was used.
+fn unless_claimed<C: UseStore>(
+    member: &mut Member<C>,
+    moment: u64,
+    judged: Result<Accepted, Refusal>,
+) -> Result<Accepted, Refusal>
+    ensures answer { (due : Result (Option Accepted) Refusal) → Answers Some judged due → Answers Some result (unless_claimed (is_claimed member.old moment) due) }
+    ensures form { (token : List ℕ) → RefusesForm token judged → RefusesForm token result }
+    ensures looked { IsLooked moment member.old member.new }
+{
+    let accepted = match judged {
+        Ok(accepted) => accepted,
+        Err(refusal) => return Err(refusal),
+    };
+    if member.has(moment, &accepted.used.key) {
+        return Err(Refusal::Replayed);
+    }
+    Ok(accepted)
 }

@@ -1,14 +1,16 @@
-ghost use Rattle.std.specs.Prelude.{◌≡◌, ◌≤◌, ◌+◌, length, map, nat_lt, string_bytes};
+ghost use Rattle.std.specs.Prelude.{◌≡◌, ◌<◌, ◌≤◌, ◌+◌, IfOk, Some, map, nat_lt, string_bytes};
 ghost use Rattle.std.specs.List.{list_any};
-ghost use Rattle.svid_token.specs.Rows.{first_row, holds_of};
-ghost use Rattle.svid_check.specs.Said.{said_in};
+ghost use Rattle.svid_token.specs.Rows.{Answers, first_row, holds_of};
+ghost use Rattle.svid_check.specs.Said.{RefusesForm, said_in};
 ghost use Rattle.svid_check.specs.Setting.{given_setting};
-ghost use Rattle.svid_check.specs.Verdict.{is_own, is_signed, key_of, record_rows, setting_rows};
+ghost use Rattle.svid_check.specs.Verdict.{is_own, is_signed, key_of, record_rows, setting_rows, verdict, verdict_on};
 
+use crate::accepted::Accepted;
 use crate::given::Given;
 use crate::reading::Reading;
+use std::alloc::Global;
 use svid_keys::Verifier;
-use svid_replay::{Record, UseStore};
+use svid_replay::{Record, Use, UseStore};
 use svid_token::Refusal;
 
 // Whether a name is one of the validator's own.
@@ -57,13 +59,11 @@ fn lasts_too_long(moment: u64, longest: Option<u64>, exp: u64) -> bool
 }
 
 // Whether a candidate made the signature, as the verifier says.
-fn is_signed<V: Verifier>(given: &Given, verifier: &V, reading: &Reading<'_>) -> bool
-    requires input_len { length reading.now.input.now ≤ 65536 }
-    requires signature_len { length reading.now.signature.items ≤ 65536 }
+fn is_signed<V: Verifier>(given: &Given, verifier: &V, reading: &Reading) -> bool
     ensures { result ≡ is_signed (given_setting (V.says verifier.now) given.now) (said_in reading.now) }
 {
     for key in reading.keys(&given.bundles) {
-        if verifier.verify(key, reading.header.alg, reading.input, &reading.signature) {
+        if verifier.verify(key, reading.header.alg, &reading.input, &reading.signature) {
             return true;
         }
     }
@@ -85,15 +85,13 @@ pub(crate) fn record_refusal<S: UseStore>(replay: &Record<S>, key: &[u8; 32]) ->
 }
 
 // Why the setting, the moment and the uses refuse what a token says.
-pub(crate) fn refusal<V: Verifier, S: UseStore>(
+fn refusal<V: Verifier, S: UseStore>(
     given: &Given,
     verifier: &V,
     replay: &Record<S>,
-    reading: &Reading<'_>,
+    reading: &Reading,
     key: &[u8; 32],
 ) -> Option<Refusal>
-    requires input_len { length reading.now.input.now ≤ 65536 }
-    requires signature_len { length reading.now.signature.items ≤ 65536 }
     requires key { key.now ≡ key_of (said_in reading.now) }
     ensures { result
         ≡ first_row (setting_rows (given_setting (V.says verifier.now) given.now) replay.now.moment replay.now.uses (said_in reading.now)) }
@@ -117,4 +115,51 @@ pub(crate) fn refusal<V: Verifier, S: UseStore>(
         return Some(Refusal::BadSignature);
     }
     record_refusal(replay, key)
+}
+
+// The acceptance of what a token says, or why it is refused. The record stays as it is.
+pub(crate) fn judge<V: Verifier, S: UseStore>(
+    given: &Given,
+    verifier: &V,
+    replay: &Record<S>,
+    reading: &Reading,
+) -> Result<Accepted, Refusal>
+    ensures answer { Answers Some result (verdict_on (given_setting (V.says verifier.now) given.now) replay.now.moment replay.now.uses (said_in reading.now)) }
+    ensures made { IfOk result (λ accepted. accepted.used.at ≤ replay.now.moment) }
+    ensures live { IfOk result (λ accepted. replay.now.moment < accepted.used.exp) }
+{
+    let key = reading.key();
+    if let Some(refusal) = refusal(given, verifier, replay, reading, &key) {
+        return Err(refusal);
+    }
+    let Ok(id) = reading.claims.sub.clone() else {
+        return Err(Refusal::OutOfMemory);
+    };
+    let used = Use {
+        exp: reading.claims.exp,
+        key,
+        validator_id: given.validator_id,
+        at: replay.moment(),
+        withdrawn: false,
+    };
+    Ok(Accepted { id, used })
+}
+
+// The acceptance of a token, or why it is refused. The record stays as it is.
+pub(crate) fn judge_token<V: Verifier, S: UseStore>(
+    alloc: Global,
+    given: &Given,
+    verifier: &V,
+    replay: &Record<S>,
+    token: &[u8],
+) -> Result<Accepted, Refusal>
+    ensures answer { Answers Some result (verdict (given_setting (V.says verifier.now) given.now) replay.now.moment replay.now.uses token.now) }
+    ensures early { RefusesForm token.now result }
+    ensures made { IfOk result (λ accepted. accepted.used.at ≤ replay.now.moment) }
+    ensures live { IfOk result (λ accepted. replay.now.moment < accepted.used.exp) }
+{
+    match Reading::of(alloc, token) {
+        Ok(reading) => judge(given, verifier, replay, &reading),
+        Err(refusal) => Err(refusal),
+    }
 }

@@ -11,12 +11,12 @@ ghost use Rattle.svid_check.specs.Headline.{AcceptanceGoesAlong, AcceptanceTells
 ghost use Rattle.svid_check.specs.History.{EveryKindHappens};
 ghost use Rattle.svid_check.specs.Lawful.{IsAlive, IsFresh, IsInRange, IsMadeNow, IsOfItsInput, IsUsed};
 ghost use Rattle.svid_check.specs.RunEvents.{RecordTakesAreEvents, RunsAreEvents};
-ghost use Rattle.svid_check.specs.Said.{UnrefusedIsSaid};
+ghost use Rattle.svid_check.specs.Said.{ReadTokensHaveTheirForm, UnrefusedIsSaid};
 ghost use Rattle.svid_check.specs.SaveEvents.{CallsLeaveLater, EventsLeaveLater, PiecesAreSaved, RestartsFromPieces};
 ghost use Rattle.svid_check.specs.Saves.{LaterGoesOn, SavesAddNothing, SavesLoseNothing};
 ghost use Rattle.svid_check.specs.Table.{TableIsOneList};
 ghost use Rattle.svid_check.specs.Told.{BeginsAsGiven};
-ghost use Rattle.svid_check.specs.Verdict.{AcceptedAreJudgedAgain, AcceptsNoSilence};
+ghost use Rattle.svid_check.specs.Verdict.{AcceptedAreJudgedAgain, AcceptsNoSilence, ReadTokensHaveTheirVerdict};
 ghost use Rattle.svid_check.specs.Verifiers.{TablesStand};
 
 /// A token that nothing refuses by itself says all that must be there, so that no verdict is 'accepted'
@@ -24,6 +24,12 @@ ghost use Rattle.svid_check.specs.Verifiers.{TablesStand};
 pub fn accepted_tokens_say_all()
     ensures said { UnrefusedIsSaid }
     ensures accepted { AcceptsNoSilence }
+{}
+
+/// A check of a token that was read before is a check of that token: the verdict is the same, and no refusal of its form is left out.
+pub fn read_tokens_are_checked_alike()
+    ensures verdict { ReadTokensHaveTheirVerdict }
+    ensures form { ReadTokensHaveTheirForm }
 {}
 
 /// The table of refusals of a token that says all that must be there is one list of 25 rows.

@@ -33,6 +33,7 @@
 mod accepted;
 mod answer;
 mod answering;
+mod checking_read;
 mod claiming;
 mod event;
 mod given;

@@ -1,25 +1,26 @@
-ghost use Rattle.std.specs.Prelude.{◌≡◌, ◌==◌, length};
+ghost use Rattle.std.specs.Prelude.{◌≡◌, ◌≤◌, ◌==◌, length};
 ghost use Rattle.svid_keys.specs.Candidates.{candidates_left};
 
 use std::alloc::Global;
 use svid_keys::{Bundles, Candidates};
 use svid_token::{Claims, Compact, Header, Payload, Refusal, read_signature, token_key};
 
-/// What a token says, with all that must be there.
+/// What a token says, with all that must be there. It keeps nothing of the token itself, so it may outlive it.
 #[derive(Debug, Drop)]
-pub struct Reading<'a> {
+pub struct Reading {
     /// The header, as far as a JWT-SVID is checked by it.
     pub header: Header,
     /// The claims.
     pub claims: Claims,
     /// The bytes of the signature.
     pub signature: Vec<u8>,
-    /// What the signature is made over: a part of the token.
-    pub input: &'a [u8],
+    /// What the signature is made over: a copy of that part of the token.
+    pub input: Vec<u8>,
+    pub ghost signature_len: { length signature.items ≤ 65536 },
+    pub ghost input_len: { length input.items ≤ 65536 },
 }
 
-impl<'a> Reading<'a> {
-    ghost use Rattle.std.specs.Prelude.{◌≤◌, IfOk};
+impl Reading {
     ghost use Rattle.svid_token.specs.Rows.{Answers, first_row, seen};
     ghost use Rattle.svid_check.specs.Said.{RefusesForm, reading_of, reading_view, said_in};
     ghost use Rattle.svid_check.specs.Verdict.{key_of, keys_due, keys_for, keys_rows};
@@ -28,22 +29,21 @@ impl<'a> Reading<'a> {
     ///
     /// It answers the first that holds of the refusals from `TooLong` to `Jti`, or `OutOfMemory` where
     /// an allocation was refused. `TooLong` and `NotThreeParts` come before any memory is taken.
-    pub fn of(alloc: Global, token: &'a [u8]) -> Result<Reading<'a>, Refusal>
+    pub fn of(alloc: Global, token: &[u8]) -> Result<Reading, Refusal>
         ensures value { Answers reading_view result (reading_of token.now) }
         ensures early { RefusesForm token.now result }
-        ensures len { IfOk result
-            (λ r. (length r.input.now ≤ 65536) × (length r.signature.items ≤ 65536)) }
     {
         let compact = Compact::split(token)?;
         let header = Header::read(alloc, compact.header)?;
         let payload = Payload::read(alloc, compact.payload)?;
         let signature = read_signature(alloc, compact.signature)?;
         let claims = payload.claims(alloc)?;
+        let input = compact.input.to_vec(alloc)?;
         Ok(Reading {
             header,
             claims,
             signature,
-            input: compact.input,
+            input,
         })
     }
 
@@ -51,7 +51,7 @@ impl<'a> Reading<'a> {
     pub fn key(&self) -> [u8; 32]
         ensures { result ≡ key_of (said_in self.now) }
     {
-        token_key(&self.claims.sub, self.claims.jti.as_deref(), self.input)
+        token_key(&self.claims.sub, self.claims.jti.as_deref(), &self.input)
     }
 
     /// The keys that may have signed the token, in the order of the bundle's list; or why there are

@@ -1,21 +1,22 @@
-ghost use Rattle.std.specs.Prelude.{◌≡◌, ◌<◌, ◌≤◌, Some, IfOk, map, string_bytes};
+ghost use Rattle.std.specs.Prelude.{◌≡◌, ◌<◌, ◌≤◌, ℕ, IfOk, List, Option, Result, Some, map, string_bytes};
 ghost use Rattle.svid_token.specs.Rows.{Answers};
+ghost use Rattle.svid_token.specs.declared.refusal.Refusal.{Refusal};
 ghost use Rattle.svid_replay.specs.Buckets.{raised_to};
 ghost use Rattle.svid_replay.specs.Records.{IsRecord};
 ghost use Rattle.svid_check.specs.Changes.{settled};
 ghost use Rattle.svid_check.specs.Said.{RefusesForm};
 ghost use Rattle.svid_check.specs.Setting.{given_setting, setting_by, setting_of, with_state};
 ghost use Rattle.svid_check.specs.Verdict.{verdict};
+ghost use Rattle.svid_check.specs.declared.accepted.Accepted.{Accepted};
 
 use crate::accepted::Accepted;
 use crate::given::Given;
-use crate::judging::refusal;
-use crate::reading::Reading;
+use crate::judging::judge_token;
 use std::alloc::Global;
 use std::marker::Model;
 use svid_keys::{Bundles, Verifier};
-use svid_replay::{Record, Use, UseStore};
-use svid_token::{Claims, Refusal};
+use svid_replay::{Record, UseStore};
+use svid_token::Refusal;
 
 /// What checks tokens: its own audiences, its validator ID, how far ahead a message may lie, trust bundles, a
 /// verifier of signatures, how long a token may last, and the record of the tokens that it knows to have
@@ -154,7 +155,7 @@ impl<V: Verifier, S: UseStore> Validator<V, S> {
         ensures state { self.new ≡ with_state self.old (raised_to self.old.state now) }
     {
         self.tick(now);
-        judge(self.alloc, &self.given, verifier, &self.replay, token)
+        judge_token(self.alloc, &self.given, verifier, &self.replay, token)
     }
 }
 
@@ -173,7 +174,22 @@ fn check_by<V: Verifier, S: UseStore>(
     ensures state { replay.new ≡ settled (raised_to replay.old now) result }
 {
     replay.raise(now);
-    let accepted = match judge(alloc, given, verifier, replay, token) {
+    let judged = judge_token(alloc, given, verifier, replay, token);
+    settle(replay, judged)
+}
+
+// A judgment at the record's moment, where the record gains the use of an acceptance.
+pub(crate) fn settle<S: UseStore>(
+    replay: &mut Record<S>,
+    judged: Result<Accepted, Refusal>,
+) -> Result<Accepted, Refusal>
+    requires made { IfOk judged (λ accepted. accepted.used.at ≤ replay.old.moment) }
+    requires live { IfOk judged (λ accepted. replay.old.moment < accepted.used.exp) }
+    ensures answer { (due : Result (Option Accepted) Refusal) → Answers Some judged due → Answers Some result due }
+    ensures early { (token : List ℕ) → RefusesForm token judged → RefusesForm token result }
+    ensures state { replay.new ≡ settled replay.old result }
+{
+    let accepted = match judged {
         Ok(accepted) => accepted,
         Err(refusal) => return Err(refusal),
     };
@@ -181,48 +197,4 @@ fn check_by<V: Verifier, S: UseStore>(
         Ok(()) => Ok(accepted),
         Err(_) => Err(Refusal::OutOfMemory),
     }
-}
-
-// The acceptance of a token, or why it is refused. The record stays as it is.
-fn judge<V: Verifier, S: UseStore>(
-    alloc: Global,
-    given: &Given,
-    verifier: &V,
-    replay: &Record<S>,
-    token: &[u8],
-) -> Result<Accepted, Refusal>
-    ensures answer { Answers Some result (verdict (given_setting (V.says verifier.now) given.now) replay.now.moment replay.now.uses token.now) }
-    ensures early { RefusesForm token.now result }
-    ensures made { IfOk result (λ accepted. accepted.used.at ≤ replay.now.moment) }
-    ensures live { IfOk result (λ accepted. replay.now.moment < accepted.used.exp) }
-{
-    let reading = match Reading::of(alloc, token) {
-        Ok(reading) => reading,
-        Err(refusal) => return Err(refusal),
-    };
-    let key = reading.key();
-    if let Some(refusal) = refusal(given, verifier, replay, &reading, &key) {
-        return Err(refusal);
-    }
-    let used = Use {
-        exp: reading.claims.exp,
-        key,
-        validator_id: given.validator_id,
-        at: replay.moment(),
-        withdrawn: false,
-    };
-    let Reading {
-        header: _,
-        claims,
-        signature: _,
-        input: _,
-    } = reading;
-    let Claims {
-        sub,
-        aud: _,
-        exp: _,
-        nbf: _,
-        jti: _,
-    } = claims;
-    Ok(Accepted { id: sub, used })
 }

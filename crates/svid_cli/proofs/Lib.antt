@@ -1,1 +1,2 @@
 mod FailureLemmas
+mod MistakeLemmas

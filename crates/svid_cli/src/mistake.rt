@@ -1,10 +1,12 @@
 //! A mistake on the command line, told in one line.
-ghost use Rattle.std.specs.Prelude.{◌≡◌, ◌++◌, IfOk};
-ghost use Rattle.std.specs.List.{flat_map};
-ghost use Rattle.svid_cli.specs.Mistake.{shown};
+ghost use Rattle.std.specs.Prelude.{◌≡◌, ◌++◌, IfOk, true};
+ghost use Rattle.svid_cli.specs.Mistake.{hides_tokens, is_of_token, left_after, most_of_token, shown, shown_from};
 
 use crate::words::bytes_of_text;
 use std::alloc::{AllocError, Global};
+
+// How many bytes of a token are shown.
+const MOST_OF_TOKEN: u32 = 20;
 
 // What a line of the parser's text says, without the word that stands in front of it.
 fn said(line: &str) -> &str {
@@ -27,7 +29,7 @@ fn between(told: &str) -> &'static str {
     } else if told.ends_with(':') {
         " "
     } else {
-        "; "
+        "\n"
     }
 }
 
@@ -47,30 +49,60 @@ fn joined(alloc: Global, text: &str) -> Result<String, AllocError> {
     Ok(told)
 }
 
-// Puts what a terminal shows of a byte.
-fn push_shown(line: &mut Vec<u8>, byte: u8) -> Result<(), AllocError>
-    ensures { IfOk result (λ _. line.new.items ≡ line.old.items ++ shown byte) }
+// Whether a token may have this byte.
+fn is_of_token(byte: u8) -> bool
+    ensures { result ≡ is_of_token byte }
 {
-    if byte >= 32 && byte != 127 {
+    matches!(byte, b'0'..=b'9' | b'A'..=b'Z' | b'a'..=b'z' | b'-' | b'_' | b'.')
+}
+
+// Puts what the line has for a byte, where so many bytes of a token may still be shown.
+fn push_shown(line: &mut Vec<u8>, left: u32, byte: u8) -> Result<(), AllocError>
+    ensures { IfOk result (λ _. line.new.items ≡ line.old.items ++ shown left byte) }
+{
+    if is_of_token(byte) {
+        if left > 0 {
+            line.push(byte)?;
+        }
+    } else if byte == b'\n' {
+        line.extend_from_slice(b"; ")?;
+    } else if byte >= 32 && byte != 127 {
         line.push(byte)?;
     }
     Ok(())
 }
 
-// What a terminal shows of these bytes.
+// How many bytes of a token may be shown behind this one.
+fn left_after(left: u32, byte: u8) -> u32
+    ensures { result ≡ left_after left byte }
+{
+    if is_of_token(byte) {
+        left.saturating_sub(1)
+    } else if byte < 32 || byte == 127 {
+        left
+    } else {
+        MOST_OF_TOKEN
+    }
+}
+
+// What the line has for these bytes.
 fn shown_of(alloc: Global, bytes: &[u8]) -> Result<Vec<u8>, AllocError>
-    ensures { IfOk result (λ line. line.items ≡ flat_map shown bytes.now) }
+    ensures { IfOk result (λ line. line.items ≡ shown_from most_of_token bytes.now) }
 {
     let mut line = Vec::new(alloc);
+    let mut left = MOST_OF_TOKEN;
     for byte in bytes {
-        push_shown(&mut line, *byte)?;
+        push_shown(&mut line, left, *byte)?;
+        left = left_after(left, *byte);
     }
     Ok(line)
 }
 
 /// What the parser says of a mistake in several lines, as one: what is wrong, the nearest name where there is one, and
-/// which help to ask for. No word of the command line adds a line to it.
-pub fn one_line(alloc: Global, text: &str, help: &str) -> Result<Vec<u8>, AllocError> {
+/// which help to ask for. No word of the command line adds a line to it, and of a token it has no more than 20 bytes.
+pub fn one_line(alloc: Global, text: &str, help: &str) -> Result<Vec<u8>, AllocError>
+    ensures { IfOk result (λ line. hides_tokens most_of_token line.items ≡ true) }
+{
     let told = joined(alloc, text)?;
     let line = format!(in alloc; "svid: {told}; see '{help}'")?;
     let bytes = bytes_of_text(alloc, line.as_str())?;

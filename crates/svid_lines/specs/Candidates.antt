@@ -17,6 +17,7 @@ use Rattle.svid_lines.specs.Bundles.{AreBundlesRead, AreBundlesRefused}
 use Rattle.svid_lines.specs.Memory.{WantsMemoryFor}
 use Rattle.svid_share.specs.Inputs.{IsUnread, most_bytes}
 use Rattle.svid_lines.specs.Refused.{refusal_line}
+use Rattle.svid_lines.specs.Shown.{shown_text}
 use Rattle.svid_share.specs.declared.tool_fault.ToolFault.{ToolFault}
 use Rattle.svid_share.specs.declared.tool_fault.ToolFault.TheVariants as tool
 
@@ -32,9 +33,9 @@ first_token text = first_full (lines_of text)
 abbrev pub candidates_rows : List Bundle → List ℕ → List Row
 candidates_rows bundles token = token_rows token ++ rows_if_said (keys_rows bundles) (said_of token)
 
--- the line of a candidate: the question that it is asked, and its name as JSON
+-- the line of a candidate: the question that it is asked, and its name as JSON that a terminal takes for text alone
 abbrev pub candidate_line : Said → KeyData → List ℕ
-candidate_line t key = encode_lower (question_of key t.alg t.input t.signature) ++ 32 ∷ compact_text (string key.kid) ++ 10 ∷ []
+candidate_line t key = encode_lower (question_of key t.alg t.input t.signature) ++ 32 ∷ shown_text (compact_text (string key.kid)) ++ 10 ∷ []
 
 -- the lines of the candidates for a token, in the order of the bundle's list
 abbrev pub lines_for : List Bundle → Said → List ℕ

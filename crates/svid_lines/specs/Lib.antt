@@ -5,3 +5,4 @@ pub mod Checks
 pub mod Id
 pub mod Memory
 pub mod Refused
+pub mod Shown

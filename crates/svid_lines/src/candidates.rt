@@ -1,4 +1,4 @@
-ghost use Rattle.std.specs.Prelude.{◌≡◌, ◌≢◌, ◌≤◌, ◌++◌, IfOk, IfErr, OnOk, Some, length, string_bytes};
+ghost use Rattle.std.specs.Prelude.{◌≡◌, ◌≢◌, ◌++◌, IfOk, IfErr, OnOk, Some, string_bytes};
 ghost use Rattle.std.specs.List.{flat_map};
 ghost use Rattle.svid_token.specs.Rows.{Answers};
 ghost use Rattle.svid_keys.specs.Candidates.{candidates_left};
@@ -8,6 +8,7 @@ ghost use Rattle.svid_lines.specs.Candidates.{AreCandidatesPrinted, AreRefused, 
 
 use crate::bundles::read_bundles;
 use crate::refused::refusal_line;
+use crate::shown::shown_text;
 use serde_json::Value;
 use std::alloc::{AllocError, Global};
 use std::fmt::Write;
@@ -21,25 +22,22 @@ fn push_line(
     alloc: Global,
     text: &mut String,
     key: &JwtKey,
-    reading: &Reading<'_>,
+    reading: &Reading,
 ) -> Result<(), AllocError>
-    requires input_len { length reading.now.input.now ≤ 65536 }
-    requires signature_len { length reading.now.signature.items ≤ 65536 }
     ensures { OnOk result (string_bytes text.new ≡ string_bytes text.old ++ candidate_line (said_in reading.now) key.now) }
 {
-    let asked = question(key, reading.header.alg, reading.input, &reading.signature);
+    let asked = question(key, reading.header.alg, &reading.input, &reading.signature);
     let asked = hex::encode(alloc, asked.as_slice())?;
     let kid = Value::String(String::from_str(alloc, key.kid())?).to_string(alloc)?;
+    let kid = shown_text(alloc, kid.as_str())?;
     writeln!(text, "{asked} {kid}")
 }
 
 fn candidate_lines(
     alloc: Global,
     candidates: Candidates<'_>,
-    reading: &Reading<'_>,
+    reading: &Reading,
 ) -> Result<String, AllocError>
-    requires input_len { length reading.now.input.now ≤ 65536 }
-    requires signature_len { length reading.now.signature.items ≤ 65536 }
     ensures { IfOk result (λ text. string_bytes text ≡ flat_map (candidate_line (said_in reading.now)) (candidates_left candidates.entry)) }
 {
     let mut text = String::new(alloc);
@@ -104,7 +102,7 @@ fn text_of_inputs<B: Source, T: Source>(
 }
 
 /// Writes a line for each candidate key of the first token: the question whether the token's signature
-/// is good for it, in hexadecimal digits, and the key's name as JSON. Where there is none, writes
+/// is good for it, in hexadecimal digits, and the key's name as JSON, in which U+007F to U+009F are escaped. Where there is none, writes
 /// the one line that tells why. Says whether there are candidates.
 ///
 /// The first input is trust bundles, the second one tokens in lines; empty lines are passed over, and

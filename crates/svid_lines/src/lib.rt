@@ -24,6 +24,7 @@ mod checks;
 mod id;
 mod keep;
 mod refused;
+mod shown;
 
 pub use candidates::{run_candidates, token_lines};
 pub use check::{CheckSetting, run_check};

@@ -37,6 +37,8 @@ fn lending_call(
     match word(words, 0) {
         "check_by" => lending::check(out, env, named, words),
         "judge_by" => lending::judge(out, env, named, words),
+        "check_read" => lending::check_read(out, env, named, words),
+        "judge_read" => lending::judge_read(out, env, named, words),
         "judge_again" => lending::judge_again(out, named, words),
         "validator.candidates" => lending::candidates(out, env, named, words),
         "renew" => lending::renew(trust, named, words),

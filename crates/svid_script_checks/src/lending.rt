@@ -3,7 +3,7 @@ use crate::checking::{say_checked, say_taken};
 use crate::validators::verifier_if_any;
 use crate::verifier::AnyVerifier;
 use std::alloc::AllocError;
-use svid_check::{Accepted, TakeFault, Validator};
+use svid_check::{Accepted, Reading, TakeFault, Validator};
 use svid_keys::Bundles;
 use svid_replay::{Batch, Record, Use, UseStore};
 use svid_script_base::byte_words::bytes;
@@ -83,6 +83,58 @@ pub fn judge(
         out,
         over_any!(AnyValidator, validator, v => judge_in(v, &asked)),
     )
+}
+
+fn check_read_in<S: UseStore>(
+    validator: &mut Validator<AnyVerifier, S>,
+    asked: &Asked,
+    reading: &Reading,
+) -> Result<Accepted, Refusal> {
+    validator.check_read(asked.now, reading, &asked.verifier)
+}
+
+/// `check_read NAME NOW TOKEN VERIFIER`
+pub fn check_read(
+    out: &mut Out<'_>,
+    env: &Env,
+    validators: &mut Validators,
+    words: &[&str],
+) -> Result<(), Stop> {
+    let asked = asked_in(env, words)?;
+    let validator = validators.get_mut(word(words, 1))?;
+    match Reading::of(env.alloc, &asked.token) {
+        Ok(reading) => say_checked(
+            out,
+            over_any!(AnyValidator, validator, v => check_read_in(v, &asked, &reading)),
+        ),
+        Err(refusal) => token_refused(out, refusal),
+    }
+}
+
+fn judge_read_in<S: UseStore>(
+    validator: &mut Validator<AnyVerifier, S>,
+    asked: &Asked,
+    reading: &Reading,
+) -> Result<Accepted, Refusal> {
+    validator.judge_read(asked.now, reading, &asked.verifier)
+}
+
+/// `judge_read NAME NOW TOKEN VERIFIER`
+pub fn judge_read(
+    out: &mut Out<'_>,
+    env: &Env,
+    validators: &mut Validators,
+    words: &[&str],
+) -> Result<(), Stop> {
+    let asked = asked_in(env, words)?;
+    let validator = validators.get_mut(word(words, 1))?;
+    match Reading::of(env.alloc, &asked.token) {
+        Ok(reading) => say_checked(
+            out,
+            over_any!(AnyValidator, validator, v => judge_read_in(v, &asked, &reading)),
+        ),
+        Err(refusal) => token_refused(out, refusal),
+    }
 }
 
 fn judge_again_in<S: UseStore>(

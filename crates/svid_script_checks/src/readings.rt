@@ -10,11 +10,11 @@ use svid_script_tokens::keys::say_key;
 use svid_script_tokens::tokens::{say_claims, say_header};
 use svid_script_tokens::{Trust, token_refused};
 
-fn say_reading(out: &mut Out<'_>, reading: &Reading<'_>) -> Result<(), Stop> {
+fn say_reading(out: &mut Out<'_>, reading: &Reading) -> Result<(), Stop> {
     say_header(out, &reading.header)?;
     say_claims(out, &reading.claims)?;
     say_bytes(out, &reading.signature)?;
-    say_bytes(out, reading.input)?;
+    say_bytes(out, &reading.input)?;
     say_digits(out, &reading.key())
 }
 
@@ -27,7 +27,7 @@ pub fn reading(out: &mut Out<'_>, env: &Env, words: &[&str]) -> Result<(), Stop>
     }
 }
 
-fn say_candidates(out: &mut Out<'_>, reading: &Reading<'_>, bundles: &Bundles) -> Result<(), Stop> {
+fn say_candidates(out: &mut Out<'_>, reading: &Reading, bundles: &Bundles) -> Result<(), Stop> {
     match reading.candidates(bundles) {
         Ok(candidates) => {
             for key in candidates {

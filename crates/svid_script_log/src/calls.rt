@@ -54,6 +54,7 @@ pub fn call(
         "validator.member" => members::of_validator(env, logs, validators, words),
         "read_log" => reading::validator(out, env.alloc, logs, validators, words),
         "judge_claim" => judging::judge(out, env, logs, validators, words),
+        "judge_claim_read" => judging::judge_read(out, env, logs, validators, words),
         "judge_claim_again" => judging::judge_again(out, logs, validators, words),
         _ => claims_call(out, env, logs, words),
     }

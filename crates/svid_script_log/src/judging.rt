@@ -1,5 +1,5 @@
 use crate::logs::Logs;
-use svid_check::{Accepted, Validator};
+use svid_check::{Accepted, Reading, Validator};
 use svid_log::Member;
 use svid_replay::{RunUses, UseStore};
 use svid_script_base::env::Env;
@@ -35,6 +35,35 @@ pub fn judge(
         out,
         over_any!(AnyValidator, validator, v => judge_in(v, member, &asked)),
     )
+}
+
+fn judge_read_in<S: UseStore>(
+    validator: &mut Validator<AnyVerifier, S>,
+    member: &mut Member<RunUses>,
+    asked: &Asked,
+    reading: &Reading,
+) -> Result<Accepted, Refusal> {
+    validator.judge_claim_read(member, asked.now, reading, &asked.verifier)
+}
+
+/// `judge_claim_read VALIDATOR MEMBER NOW TOKEN VERIFIER`
+pub fn judge_read(
+    out: &mut Out<'_>,
+    env: &Env,
+    logs: &mut Logs,
+    validators: &mut Validators,
+    words: &[&str],
+) -> Result<(), Stop> {
+    let asked = asked_in(env, from(words, 1))?;
+    let member = &mut logs.members.get_mut(word(words, 2))?.member;
+    let validator = validators.get_mut(word(words, 1))?;
+    match Reading::of(env.alloc, &asked.token) {
+        Ok(reading) => say_checked(
+            out,
+            over_any!(AnyValidator, validator, v => judge_read_in(v, member, &asked, &reading)),
+        ),
+        Err(refusal) => token_refused(out, refusal),
+    }
 }
 
 fn judge_again_in<S: UseStore>(

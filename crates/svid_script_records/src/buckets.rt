@@ -2,7 +2,7 @@ use svid_replay::RunUses;
 use svid_script_base::env::Env;
 use svid_script_base::kinds::AnyStore;
 use svid_script_base::out::Out;
-use svid_script_base::say::{say_digits, say_number, say_uses};
+use svid_script_base::say::{say_bool, say_digits, say_number, say_uses};
 use svid_script_base::stop::Stop;
 use svid_script_base::words::{number, word};
 use svid_shards::ShardedUses;
@@ -33,13 +33,22 @@ pub fn digest(out: &mut Out<'_>, env: &mut Env, words: &[&str]) -> Result<(), St
     say_digits(out, &told.digest)
 }
 
-/// `bucket.answer NAME BYTE SUMMARY`
-pub fn answer(out: &mut Out<'_>, env: &mut Env, words: &[&str]) -> Result<(), Stop> {
-    let alloc = env.alloc;
+/// `bucket.differs NAME BYTE SUMMARY`
+pub fn differs(out: &mut Out<'_>, env: &mut Env, words: &[&str]) -> Result<(), Stop> {
     let byte = byte(word(words, 2))?;
     let summary = env.summaries.get(word(words, 3))?;
     let store = sharded(env.stores.get_mut(word(words, 1))?)?;
-    let uses = store.bucket_answer(alloc, byte, summary)?;
+    let differs = store.bucket_differs(byte, summary.moment(), summary.digest(byte));
+    say_bool(out, differs)
+}
+
+/// `bucket.uses NAME BYTE N`
+pub fn uses(out: &mut Out<'_>, env: &mut Env, words: &[&str]) -> Result<(), Stop> {
+    let alloc = env.alloc;
+    let byte = byte(word(words, 2))?;
+    let moment = number(word(words, 3))?;
+    let store = sharded(env.stores.get_mut(word(words, 1))?)?;
+    let uses = store.bucket_uses(alloc, byte, moment)?;
     say_number(out, uses.len() as u64)?;
     say_uses(out, &uses)
 }

@@ -21,7 +21,8 @@ fn use_call(out: &mut Out<'_>, env: &mut Env, words: &[&str]) -> Result<(), Stop
         "store" => stores::store(env, words),
         "store.insert_all" => stores::insert_all(out, env, words),
         "bucket.digest" => buckets::digest(out, env, words),
-        "bucket.answer" => buckets::answer(out, env, words),
+        "bucket.differs" => buckets::differs(out, env, words),
+        "bucket.uses" => buckets::uses(out, env, words),
         name if name.starts_with("store.") => stores::call(out, env, words),
         _ => record_call(out, env, words),
     }

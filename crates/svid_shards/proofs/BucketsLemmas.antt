@@ -20,7 +20,7 @@ use Rattle.svid_replay.proofs.PartsLemmas.{cut_gives_parts}
 use Rattle.svid_replay.proofs.RecordsLemmas.{raised}
 use Rattle.svid_replay.proofs.TestsLemmas.{and-false}
 use Rattle.svid_replay.proofs.UsesLemmas.{holds-live, no_uses_hold_none, rising-keep, same_uses, uses_in-rising}
-use Rattle.svid_shards.specs.Buckets.{answer_at, digest_at, uses_told, AnswersTellAnswer, DigestsAreSummary}
+use Rattle.svid_shards.specs.Buckets.{answer_at, differs_at, digest_at, uses_at, uses_told, AnswersTellAnswer, DigestsAreSummary}
 use Rattle.svid_shards.specs.declared.bucket_digest.BucketDigest.{BucketDigest}
 use Rattle.svid_shards.specs.Shards.{AreApart, all_in, shard}
 use Rattle.svid_shards.proofs.ShardsLemmas.{holds_all, rising_none}
@@ -44,16 +44,15 @@ digest_is d here s b moment at digest uses =
     let same = ap (λ t. live t moment) at ∙ live_of_bucket b moment s in
     (λ i. record { digest = (digest ∙ ap (λ t. sha256 (flat_map text_of (rising t))) same) i; uses = (uses ∙ ap count same) i })
 
--- what is answered, by whether the digest is the summary's
-pub nothing_due : (s : SummaryData) (uses : Uses) (b : ℕ) (own : BucketDigest) → own ≡ digest_at b s.moment uses → is_eq (bytes_cmp own.digest (get_or s.digests b [])) ≡ true → [] ≡ answer_at s uses b
-unfolding answer_at digest_at
-nothing_due s uses b own is same = sym (ap (λ t. cond t [] (rising (bucket b (live uses s.moment)))) (ap (λ (d : BucketDigest). is_eq (bytes_cmp d.digest (get_or s.digests b []))) (sym is) ∙ same))
+-- whether the digest of a bucket is another than this one
+pub differs_is : (own : BucketDigest) (digest : List ℕ) (b moment : ℕ) (uses : Uses) → own ≡ digest_at b moment uses → not (is_eq (bytes_cmp own.digest digest)) ≡ differs_at b moment digest uses
+unfolding differs_at digest_at
+differs_is own digest b moment uses is = ap (λ (d : BucketDigest). not (is_eq (bytes_cmp d.digest digest))) is
 
-pub all_due : (s : SummaryData) (uses : Uses) (b : ℕ) (own : BucketDigest) (here : Uses) → own ≡ digest_at b s.moment uses → is_eq (bytes_cmp own.digest (get_or s.digests b [])) ≡ false → here ≡ bucket b uses → filter (λ u. nat_lt s.moment u.exp) (rising here) ≡ answer_at s uses b
-unfolding answer_at digest_at
-all_due s uses b own here is other at =
-    sym (rising-keep (λ u. nat_lt s.moment u.exp) here) ∙ ap (λ t. rising (live t s.moment)) at ∙ ap rising (live_of_bucket b s.moment uses)
-    ∙ sym (ap (λ t. cond t [] (rising (bucket b (live uses s.moment)))) (ap (λ (d : BucketDigest). is_eq (bytes_cmp d.digest (get_or s.digests b []))) (sym is) ∙ other))
+-- what is live in the store of a bucket
+pub uses_are : (here uses : Uses) (b moment : ℕ) → here ≡ bucket b uses → filter (λ u. nat_lt moment u.exp) (rising here) ≡ uses_at b moment uses
+unfolding uses_at
+uses_are here uses b moment at = sym (rising-keep (λ u. nat_lt moment u.exp) here) ∙ ap (λ t. rising (live t moment)) at ∙ ap rising (live_of_bucket b moment uses)
 
 -- the digests of all buckets are the summary
 pub digests_are_summary : DigestsAreSummary
@@ -127,11 +126,11 @@ disagrees s l b low other = same_uses (bucket b (stale s l)) (bucket b l) (λ u.
     and_true false = refl
 
 answer_of_bucket : (s : SummaryData) (uses : Uses) (b : ℕ) → b < 256 → answer_at s uses b ≡ rising (bucket b (stale s (live uses s.moment)))
-unfolding answer_at
+unfolding answer_at differs_at uses_at
 answer_of_bucket s uses b low =
     let l = live uses s.moment in
     let same = is_eq (bytes_cmp (bucket_digest b l) (get_or s.digests b [])) in
-    elim same as (λ t. same ≡ t → cond t [] (rising (bucket b l)) ≡ rising (bucket b (stale s l))) [
+    elim same as (λ t. same ≡ t → cond (not t) (rising (bucket b l)) [] ≡ rising (bucket b (stale s l))) [
       | true ↦ λ e. sym (ap rising (agrees s l b low e) ∙ rising_none)
       | false ↦ λ e. sym (ap rising (disagrees s l b low e))
     ] refl

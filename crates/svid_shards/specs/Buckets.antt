@@ -1,5 +1,5 @@
 -- What one bucket of a set tells at a moment, and what of it answers a summary.
-use Rattle.std.specs.Prelude.{◌≡◌, ℕ, ◌≤◌, List, [], map, slice_index_or, if◌then◌else◌}
+use Rattle.std.specs.Prelude.{◌≡◌, ℕ, ◌≤◌, Bool, List, [], map, not, slice_index_or, if◌then◌else◌}
 use Rattle.std.specs.List.{flat_map, range_with_len}
 use Rattle.std.specs.Ordering.{is_eq}
 use Rattle.svid_replay.specs.declared.token_use.Use.{Use}
@@ -16,9 +16,17 @@ use Rattle.svid_shards.specs.declared.bucket_digest.BucketDigest.{BucketDigest}
 unfoldable pub digest_at : ℕ → ℕ → Uses → BucketDigest
 digest_at b moment uses = record { digest = bucket_digest b (live uses moment); uses = count (bucket b (live uses moment)) }
 
--- the uses with which a bucket answers a summary: all that expire after its moment, or none where their digest is the one that it has
+-- whether the digest of the uses of a bucket that expire after a moment is another than this one
+unfoldable pub differs_at : ℕ → ℕ → List ℕ → Uses → Bool
+differs_at b moment digest uses = not (is_eq (bytes_cmp (bucket_digest b (live uses moment)) digest))
+
+-- the uses of a bucket that expire after a moment, rising
+unfoldable pub uses_at : ℕ → ℕ → Uses → List Use
+uses_at b moment uses = rising (bucket b (live uses moment))
+
+-- the uses with which a bucket answers a summary: those that expire after its moment, where their digest is another than the one that it has; else none
 unfoldable pub answer_at : SummaryData → Uses → ℕ → List Use
-answer_at s uses b = if is_eq (bytes_cmp (bucket_digest b (live uses s.moment)) (slice_index_or s.digests b [])) then [] else rising (bucket b (live uses s.moment))
+answer_at s uses b = if differs_at b s.moment (slice_index_or s.digests b []) uses then uses_at b s.moment uses else []
 
 -- the uses that batches tell, as a set
 abbrev pub uses_told : List BatchData → Uses

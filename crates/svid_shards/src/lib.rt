@@ -11,8 +11,8 @@
 //! ```
 #![tactic(auto)]
 
-mod bucket_answer;
 mod bucket_digest;
+mod bucket_uses;
 pub mod laws;
 mod sharded_uses;
 mod shards;

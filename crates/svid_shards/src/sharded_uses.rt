@@ -3,17 +3,17 @@ ghost use Rattle.svid_replay.specs.Batches.{last_of};
 ghost use Rattle.svid_replay.specs.Buckets.{bucket};
 ghost use Rattle.svid_replay.specs.Uses.{no_uses};
 ghost use Rattle.svid_replay.specs.Walks.{IsAhead, next_few};
-ghost use Rattle.svid_shards.specs.Buckets.{answer_at, digest_at};
+ghost use Rattle.svid_shards.specs.Buckets.{differs_at, digest_at, uses_at};
 
-use crate::bucket_answer::{agrees, live_of};
 use crate::bucket_digest::{BucketDigest, digest_of};
+use crate::bucket_uses::live_of;
 use crate::shards::{
     ROUND, SHARDS, TENDED, compact_some, drop_all_expired, insert_into, next_after, next_ahead,
     shard_holds, shard_of, tidy_some,
 };
 use std::alloc::{AllocError, Global};
 use std::marker::Model;
-use svid_replay::{Ahead, Raised, Room, RunUses, Summary, Use, UseStore};
+use svid_replay::{Ahead, Raised, Room, RunUses, Use, UseStore};
 
 /// A set of uses in 256 stores, by the first byte of a key. A call that asks for a key or puts in a use has to do
 /// with one of them, so its longest call is that of a store with a 256th of the uses.
@@ -94,23 +94,22 @@ impl<S: UseStore> ShardedUses<S> {
         digest_of(self.bucket(byte), moment)
     }
 
-    /// The uses with which a bucket answers a summary, rising: all of its uses that expire after the summary's moment, or
-    /// none where their digest is the one that the summary has. The set stays as it is.
+    /// Whether the digest of a bucket at a moment, in seconds, is another than this one: than that of another set, as a summary has it.
     ///
-    /// Looks into one of the stores, at each use at most twice. Where memory is refused nothing is answered.
-    pub fn bucket_answer(
-        &self,
-        alloc: Global,
-        byte: u8,
-        summary: &Summary,
-    ) -> Result<Vec<Use>, AllocError>
-        ensures { IfOk result (λ uses. uses.items ≡ answer_at summary.now self.now byte) }
+    /// Takes no memory, and looks into one of the stores, at each use once.
+    pub fn bucket_differs(&self, byte: u8, moment: u64, digest: &[u8; 32]) -> bool
+        ensures { result ≡ differs_at byte moment digest.now self.now }
     {
-        let moment = summary.moment();
         let own = self.bucket_digest(byte, moment);
-        if agrees(summary, byte, &own.digest) {
-            return Ok(Vec::new(alloc));
-        }
+        !own.digest.cmp(digest).is_eq()
+    }
+
+    /// The uses of a bucket that expire after a moment, in seconds, rising. The set stays as it is.
+    ///
+    /// Looks into one of the stores, at each use once. Where memory is refused nothing is answered.
+    pub fn bucket_uses(&self, alloc: Global, byte: u8, moment: u64) -> Result<Vec<Use>, AllocError>
+        ensures { IfOk result (λ uses. uses.items ≡ uses_at byte moment self.now) }
+    {
         live_of(alloc, self.bucket(byte), moment)
     }
 }

@@ -1078,14 +1078,15 @@ func TestValuesBeforeALossAreTaken(t *testing.T) {
 	} {
 		s := &sink{}
 		g := &Group{stream: "KV_test", sink: s, ready: make(chan struct{}), life: context.Background()}
-		f := &feed{group: g, consumer: "c", messages: make(chan *nats.Msg, 9)}
-		f.messages <- delivered(1, 1, 1)
-		f.messages <- delivered(2, 2, 2)
-		f.messages <- lost
+		f := newFeed(g)
+		f.name("c")
+		f.arrive(delivered(1, 1, 1))
+		f.arrive(delivered(2, 2, 2))
+		f.arrive(lost)
 		r := reader{group: g}
-		m, about, err := f.next(time.Second)
+		these, err := f.next(time.Second)
 		if err == nil {
-			err = r.values(f, m, about)
+			err = r.values(f, these)
 		}
 		if err != errSkipped || len(s.order) != 2 || r.seen != 2 || len(s.begun) != 0 {
 			t.Errorf("%s: %v, %d values, seen %d, began %v", name, err, len(s.order), r.seen, s.begun)
@@ -1111,14 +1112,15 @@ func TestPositionsThatWereReadBefore(t *testing.T) {
 	} {
 		s := &sink{}
 		g := &Group{stream: "KV_test", sink: s, ready: make(chan struct{}), life: context.Background()}
-		f := &feed{group: g, consumer: "c", messages: make(chan *nats.Msg, 9)}
+		f := newFeed(g)
+		f.name("c")
 		for n := 1; n < 4; n++ {
-			f.messages <- delivered(n, uint64(3+n), uint64(n))
+			f.arrive(delivered(n, uint64(3+n), uint64(n)))
 		}
 		r := reader{group: g, bucket: bucket{first: 1, last: 9, created: time.Now()}, seen: 5, stamp: row.stamp}
-		m, about, err := f.next(time.Second)
+		these, err := f.next(time.Second)
 		if err == nil {
-			err = r.values(f, m, about)
+			err = r.values(f, these)
 		}
 		if anew := len(s.begun) == 1 && s.begun[0].Missed; err != row.want || len(s.order) != row.order || r.seen != row.seen || anew != row.anew {
 			t.Errorf("%s: %v, %d values, seen %d, began %v", name, err, len(s.order), r.seen, s.begun)

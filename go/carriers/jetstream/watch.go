@@ -125,11 +125,11 @@ func (r *reader) read() error {
 		return err
 	}
 	for {
-		m, about, err := f.next(r.patience())
+		these, err := f.next(r.patience())
 		if errors.Is(err, errNoValue) {
 			err = r.idle(f)
 		} else if err == nil {
-			err = r.values(f, m, about)
+			err = r.values(f, these)
 		}
 		if err != nil {
 			return err
@@ -187,34 +187,32 @@ func (r *reader) patience() time.Duration {
 	return idleUntilReady
 }
 
-// values gives a value to the sink, and with it those that have come after it meanwhile.
-func (r *reader) values(f *feed, m *nats.Msg, about *nats.MsgMetadata) error {
-	all := r.room[:0]
+// values gives values to the sink, and answers the broker behind them.
+func (r *reader) values(f *feed, these *gathered) error {
+	all, subjects, now := r.room[:0], string(these.subjects), time.Now()
 	var wrong error
-	for size := 0; wrong == nil; {
-		position := about.Sequence.Stream
+	data, subject := uint32(0), uint32(0) // where those of the next value begin
+	for _, v := range these.values {
+		message, key := these.data[data:v.data:v.data], subjects[subject:v.subject]
+		data, subject = v.data, v.subject
+		f.given++
 		r.pulled = false
-		if r.wasRead(position, about.Timestamp) {
+		stamp := time.Unix(0, v.stamp)
+		if r.wasRead(v.position, stamp) {
 			r.lack = 0
-			m, about, wrong = f.next(0)
 			continue
 		}
-		if position <= r.seen {
+		if v.position <= r.seen {
 			wrong = errAnother
 			break
 		}
-		if position-1 > r.seen {
+		if v.position-1 > r.seen {
 			r.group.take(all)
 			all = all[:0]
-			r.missing(position - 1)
+			r.missing(v.position - 1)
 		}
-		r.seen, r.stamp, r.since, r.gone, r.last, r.vain, r.lack = position, about.Timestamp, about.Timestamp, time.Time{}, time.Now(), 0, 0
-		all = append(all, r.group.valueAt(m.Subject, m.Data, position))
-		// The sink is told of all that is there, so that none waits for the broker.
-		if size += len(m.Data); len(all) == mostAtOnce || size > mostBytesAtOnce {
-			break
-		}
-		m, about, wrong = f.next(0)
+		r.seen, r.stamp, r.since, r.gone, r.last, r.vain, r.lack = v.position, stamp, stamp, time.Time{}, now, 0, 0
+		all = append(all, r.group.valueAt(key, message, v.position))
 	}
 	r.group.take(all)
 	r.room = all
@@ -225,10 +223,13 @@ func (r *reader) values(f *feed, m *nats.Msg, about *nats.MsgMetadata) error {
 		r.begin(r.bucket, true)
 	}
 	r.catchUp()
-	if errors.Is(wrong, errNoValue) {
-		return nil
+	switch {
+	case wrong != nil:
+		return wrong
+	case these.control != nil:
+		return f.control(these.control)
 	}
-	return wrong
+	return these.err
 }
 
 // wasRead says whether a value is one that was read before. A server that is behind the others sends those, before it comes

@@ -23,7 +23,7 @@ import (
 const usual = "2.0.0"
 
 // left are the folders of the module that only its own tests and measurements have a use for.
-var left = regexp.MustCompile(`^(vendor|wrong|deploy|cmd/(cluster|module|svidbench|vendored)|internal/(agenttest|broker|issuer|logtest|natstest|refusing|scarce|sim|vectors))(/|$)`)
+var left = regexp.MustCompile(`^(vendor|wrong|deploy|cmd/(cluster|module|svidbench|vendored)|internal/(agenttest|broker|goroutines|issuer|logtest|natstest|refusing|scarce|sim|vectors))(/|$)`)
 
 // taken are the files that are code, or part of it.
 var taken = regexp.MustCompile(`^go\.mod$|^README\.md$|\.(sql|lua)$|\.go$`)

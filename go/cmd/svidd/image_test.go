@@ -38,36 +38,25 @@ func lockImage(t *testing.T) (unlock func()) {
 	return func() { lock.Close() }
 }
 
-// rootArchive runs go/build image under an umask, and returns the files of the image as an archive.
-func rootArchive(t *testing.T, umask string) []byte {
+// makeImage runs go/build image once for all tests of this process, under an umask that lets nobody else read: go/build says by itself who may.
+// Who builds an image from the folder holds lockImage meanwhile. (tests/run release makes it twice, and wants the same bytes.)
+func makeImage(t *testing.T) {
 	t.Helper()
-	if said, err := exec.Command("bash", "-c", "umask "+umask+" && SVID_NO_INSTALL=1 exec ../../build image").CombinedOutput(); err != nil {
-		t.Fatalf("go/build image: %v\n%s", err, said)
-	}
-	archive, err := os.ReadFile(filepath.Join(imageContext, "rootfs.tar"))
-	if err != nil {
-		t.Fatal(err)
-	}
-	return archive
-}
-
-// firstArchive is what go/build image makes under an umask of 022, for all tests of this process: it runs once. Who builds an image from
-// the folder holds lockImage meanwhile.
-func firstArchive(t *testing.T) []byte {
-	t.Helper()
-	madeImage.Do(func() {
+	imageOnce.Do(func() {
 		defer lockImage(t)()
-		madeImage.archive = rootArchive(t, "022")
+		if said, err := exec.Command("bash", "-c", "umask 077 && SVID_NO_INSTALL=1 exec ../../build image").CombinedOutput(); err != nil {
+			t.Fatalf("go/build image: %v\n%s", err, said)
+		}
+		imageOnce.made = true
 	})
-	if madeImage.archive == nil {
+	if !imageOnce.made {
 		t.Fatal("go/build image failed in another test")
 	}
-	return madeImage.archive
 }
 
-var madeImage struct {
+var imageOnce struct {
 	sync.Once
-	archive []byte
+	made bool
 }
 
 // A buildah keeps its images and containers in a folder of the test. They are plain folders (vfs), so nothing is mounted
@@ -128,11 +117,8 @@ func TestImage(t *testing.T) {
 		}
 		return
 	}
-	archive := firstArchive(t)
+	makeImage(t)
 	unlock := lockImage(t)
-	if !bytes.Equal(archive, rootArchive(t, "077")) {
-		t.Error("go/build image makes other bytes when it runs again")
-	}
 	b := buildah{t, t.TempDir()}
 	b.do("bud", "--isolation=chroot", "--format=docker", "--tag=svidd", imageContext)
 	unlock()

@@ -459,7 +459,7 @@ func again(t *testing.T) bool {
 	if os.Getenv(inPods) != "" {
 		return false
 	}
-	firstArchive(t)
+	makeImage(t)
 	words := []string{"unshare", "--net", "--mount", os.Args[0], "-test.v", "-test.timeout=10m", "-test.run=^" + t.Name() + "$"}
 	if os.Getuid() != 0 {
 		words = append([]string{"buildah", "unshare", "--"}, words...)

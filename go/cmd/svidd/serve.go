@@ -6,6 +6,7 @@ import (
 	"fmt"
 	"os"
 	"os/signal"
+	"runtime/debug"
 	"strings"
 	"sync"
 	"syscall"
@@ -32,6 +33,11 @@ const (
 	// spareHeap is how many bytes of garbage gather, beside as many as are in use, before they are collected. Only a few
 	// megabytes are in use, since the record is in the library's memory: without it they are collected twenty times a second.
 	spareHeap = 32 << 20
+	// startGarbage is how much garbage may gather before the sidecar is ready, in hundredths of what is in use and of the spare heap (as GOGC,
+	// which counts in its place).
+	startGarbage = 15
+	// readyPause is between two looks whether it is.
+	readyPause = 100 * time.Millisecond
 )
 
 // clock is this machine's where it is nil. Tests set it.
@@ -114,8 +120,9 @@ func (s *sidecar) run(signals chan os.Signal) error {
 		return err
 	}
 	var keeping sync.WaitGroup
-	keeping.Add(1)
+	keeping.Add(2)
 	go func() { defer keeping.Done(); s.guard.Run(ctx) }()
+	go func() { defer keeping.Done(); s.collectEarly(ctx) }()
 	notify("READY=1")
 	fields := []any{"mode", s.replay, "validator_id", s.guard.ValidatorID().String()}
 	for _, it := range servers {
@@ -142,6 +149,22 @@ func (s *sidecar) run(signals chan os.Signal) error {
 		s.log.Error("snapshot", errHangs)
 	}
 	return failure
+}
+
+// collectEarly lets little garbage gather until the sidecar is ready. Until then it reads the group's bucket, which makes garbage at a great rate:
+// to collect it early takes little time, and much less memory.
+func (s *sidecar) collectEarly(ctx context.Context) {
+	if os.Getenv("GOGC") != "" {
+		return
+	}
+	defer debug.SetGCPercent(debug.SetGCPercent(startGarbage))
+	for s.guard.Ready() != nil {
+		select {
+		case <-ctx.Done():
+			return
+		case <-time.After(readyPause):
+		}
+	}
 }
 
 // begin takes a step of the start. It goes on unless that fails, or a signal says to end meanwhile and the step does not end

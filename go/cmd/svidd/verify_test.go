@@ -13,9 +13,11 @@ import (
 	"net/http/httptest"
 	"os"
 	"path/filepath"
+	"reflect"
 	"strings"
 	"testing"
 	"time"
+	"unicode"
 
 	"svid.example/go/v2/internal/issuer"
 	"svid.example/go/v2/svid"
@@ -117,6 +119,24 @@ func TestAnRSAKeyHasABound(t *testing.T) {
 	check := []string{"serve", "--check-config", "--audience", "a", "--longest", "60", "--replay", "reuse", bundleOption(file)}
 	if status, _, err := here("", check...); status != 0 || !strings.Contains(err, "warning") || !strings.Contains(err, "no key of it can be used") {
 		t.Errorf("--check-config: %d %q", status, err)
+	}
+}
+
+// What is printed of claims is one line of JSON that means what the token says, and nothing in it is a command for a terminal: white space
+// between two tokens of JSON may be line ends, which move the cursor.
+func TestClaimsArePrintedInOneLine(t *testing.T) {
+	t.Parallel()
+	bundle := bundleOption(bundleFile(t, example))
+	claims := fmt.Sprintf("\r\n\t{\r\"sub\"\t: %q,\n\"aud\":[\r\"ledger\"\n],\"exp\":%d\t,\"note\":\"\u009b2J\x7f\\r\\n\\t\u2028\\u009b\"}\r\n",
+		example.Subject("/web"), time.Now().Add(lasting).Unix())
+	status, out, said := here(example.Sign("ES256", `{"alg":"ES256","kid":"ec-256"}`, claims), "verify", "--audience", "ledger", bundle)
+	line := strings.TrimSuffix(out, "\n")
+	if status != 0 || line == out || strings.IndexFunc(line, func(r rune) bool { return !unicode.IsPrint(r) }) >= 0 {
+		t.Fatalf("%d %q %q", status, out, said)
+	}
+	var is, want any
+	if json.Unmarshal([]byte(line), &is) != nil || json.Unmarshal([]byte(claims), &want) != nil || !reflect.DeepEqual(is, want) {
+		t.Errorf("%q means %v, and %v is due", line, is, want)
 	}
 }
 

@@ -19,14 +19,15 @@ func Append(line []byte, text string) []byte {
 	return append(append(append(line, '"'), text...), '"')
 }
 
-// Printable escapes what is not to be printed in the strings of JSON: a terminal may take U+007F to U+009F for commands, and other such
-// characters change how it shows those beside them. All of JSON outside of strings is printed, and so is each line feed.
+// Printable gives JSON text for people: in one line, in which all is printed. In strings it escapes what is not: a terminal may take U+007F to
+// U+009F for commands, and other such characters change how it shows those beside them. Control characters below a blank stand between
+// tokens alone, as white space (RFC 8259, sections 2 and 7), and each becomes a blank.
 func Printable(text []byte) []byte {
-	var made []byte // nil while nothing was escaped
+	var made []byte // nil while nothing was changed
 	rest := text
 	for len(rest) > 0 {
 		r, n := utf8.DecodeRune(rest)
-		if r < '\x7f' || unicode.IsPrint(r) {
+		if unicode.IsPrint(r) {
 			if made != nil {
 				made = append(made, rest[:n]...)
 			}
@@ -34,7 +35,9 @@ func Printable(text []byte) []byte {
 			if made == nil {
 				made = append(make([]byte, 0, 2*len(text)), text[:len(text)-len(rest)]...)
 			}
-			if high, low := utf16.EncodeRune(r); low != unicode.ReplacementChar {
+			if r < ' ' {
+				made = append(made, ' ')
+			} else if high, low := utf16.EncodeRune(r); low != unicode.ReplacementChar {
 				made = escape(escape(made, high), low)
 			} else {
 				made = escape(made, r)

@@ -34,6 +34,19 @@ func TestAppend(t *testing.T) {
 	}
 }
 
+// White space between tokens becomes blanks, and strings keep what they mean.
+func TestPrintable(t *testing.T) {
+	for text, want := range map[string]string{
+		"{\"a\":1}":                        "{\"a\":1}",
+		"\r\n{\t\"a\" :\r[1,\n2]}\n":       "  { \"a\" : [1, 2]} ",
+		"\r\"\\r\\n\\t \u009b\x7fZürich\"": " \"\\r\\n\\t \\u009b\\u007fZürich\"",
+	} {
+		if got := string(Printable([]byte(text))); got != want {
+			t.Errorf("%q: %q, want %q", text, got, want)
+		}
+	}
+}
+
 func TestAPlainTextTakesNoMemory(t *testing.T) {
 	room := make([]byte, 0, 64)
 	if n := testing.AllocsPerRun(100, func() { room = Append(room[:0], "spiffe://example.org/web") }); n != 0 {

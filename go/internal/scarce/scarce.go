@@ -1,14 +1,17 @@
 //go:build cgo
 
-// Package scarce lets allocations of the C library svid fail, for tests. Only tests import it, since it gives the whole process
-// its own malloc.
+// Package scarce lets allocations of the C library svid fail, and counts what it holds, for tests. Only tests import it, since it gives the
+// whole process its own malloc.
 package scarce
 
 /*
+#include <stdatomic.h>
 #include <stddef.h>
 
 extern void *__libc_malloc(size_t size);
+extern void *__libc_calloc(size_t count, size_t size);
 extern void *__libc_realloc(void *old, size_t size);
+extern void __libc_free(void *old);
 
 // How many allocations of this thread go well before one is refused, or, with all, each one. -1 refuses none.
 static _Thread_local long left = -1;
@@ -22,8 +25,26 @@ static int refuse(void) {
     return 1;
 }
 
-void *malloc(size_t size) { return refuse() ? NULL : __libc_malloc(size); }
-void *realloc(void *old, size_t size) { return refuse() ? NULL : __libc_realloc(old, size); }
+// How many blocks the process holds, but for those that it held before it could count.
+static atomic_long held;
+
+static void *holds(void *new) {
+    if (new) atomic_fetch_add(&held, 1);
+    return new;
+}
+
+void *malloc(size_t size) { return refuse() ? NULL : holds(__libc_malloc(size)); }
+void *calloc(size_t count, size_t size) { return holds(__libc_calloc(count, size)); }
+void *realloc(void *old, size_t size) {
+    if (refuse()) return NULL;
+    return old ? __libc_realloc(old, size) : holds(__libc_malloc(size));
+}
+void free(void *old) {
+    if (old) atomic_fetch_sub(&held, 1);
+    __libc_free(old);
+}
+
+static long held_now(void) { return atomic_load(&held); }
 
 static void from(long n, int every) { left = n, all = every, refused = 0; }
 static long end(void) { left = -1; return refused; }
@@ -50,3 +71,7 @@ func During(n int, all bool, f func()) (refused int) {
 	<-done
 	return refused
 }
+
+// Held is how many blocks of memory C holds in this process, but for some that it took as it began: two of these numbers tell how many more
+// there are.
+func Held() int { return int(C.held_now()) }

@@ -214,7 +214,7 @@ func (e *Engine) do(own *Request, effect Effect) {
 			close(effect.done)
 		}
 	case Verify:
-		effect.Yes, effect.Fault = e.keyring.Verify(effect.Token)
+		effect.Yes, effect.Fault = e.keyring.VerifyToken(&effect.read)
 		e.stepFor(own, Verified(effect))
 	case Append:
 		if own != nil && effect.Write == &own.write {
@@ -582,35 +582,34 @@ func (e *Engine) Begin(log carriers.Start) {
 //
 // In mode strict the validator reads them as its log, and the claims of this engine end that stand in them.
 func (e *Engine) Take(values []carriers.Value) []error {
-	t := &Taking{Values: values}
 	if e.Mode != Strict {
-		e.takeAll(t)
-		return t.Errs
+		return e.takeAll(values)
 	}
-	for i, v := range values {
-		r := &Reading{Value: v}
-		for e.step(r); !r.Done; e.step(r) {
-			e.pause(r.Again) // (At its end the machine reads no more.)
-		}
-		t.note(i, r.Aside)
+	r := &Reading{Values: values}
+	for e.step(r); !r.Done; e.step(r) {
+		e.pause(r.Again) // (At its end the machine reads no more.)
 	}
-	return t.Errs
+	return r.Asides
 }
 
 // takeAll takes values by pieces, so that nobody waits for long meanwhile.
-func (e *Engine) takeAll(t *Taking) {
-	for from := 0; from < len(t.Values); {
+func (e *Engine) takeAll(values []carriers.Value) (errs []error) {
+	for from := 0; from < len(values); {
 		to := from
-		for bytes := 0; to < len(t.Values) && bytes < takePiece; to++ {
-			bytes += len(t.Values[to].Message)
+		for bytes := 0; to < len(values) && bytes < takePiece; to++ {
+			bytes += len(values[to].Message)
 		}
-		piece := &Taking{Values: t.Values[from:to]}
+		piece := &Taking{Values: values[from:to]}
 		e.step(piece)
-		for i, err := range piece.Errs {
-			t.note(from+i, err)
+		if piece.Errs != nil {
+			if errs == nil {
+				errs = make([]error, len(values))
+			}
+			copy(errs[from:], piece.Errs)
 		}
 		from = to
 	}
+	return errs
 }
 
 // pause waits, and says whether the engine goes on.

@@ -61,7 +61,7 @@ func TestAGapWhileTheClockIsTooFarAhead(t *testing.T) {
 	b := benchOf(t, Options{Mode: Strict, Grouped: true, Log: NewLog(&log, Errors)})
 	use := svid.Use{Key: svid.TokenKey{1}, Expires: moment + 300, At: moment, ValidatorID: svid.ValidatorID{9}}
 	value := func(position uint64) *Reading {
-		return &Reading{Value: carriers.Value{Kind: carriers.Claims, Position: position, Message: batchOf(use)}}
+		return &Reading{Values: []carriers.Value{{Kind: carriers.Claims, Position: position, Message: batchOf(use)}}}
 	}
 	deaf := func(want uint64) {
 		t.Helper()
@@ -83,7 +83,7 @@ func TestAGapWhileTheClockIsTooFarAhead(t *testing.T) {
 	}
 	deaf(0)
 	b.now.Wall = moment + 50
-	if b.step(r); !r.Done || r.Aside != nil {
+	if b.step(r); !r.Done || r.Asides != nil {
 		t.Error(r)
 	}
 	deaf(moment + 50 + 3600 + 60)
@@ -121,7 +121,7 @@ func TestAGapWhileTheClockIsTooFarAhead(t *testing.T) {
 	if b.step(End{}); r.Done || b.count(Ended{}) != 0 {
 		t.Error("it is read, or the end does not wait for it", r)
 	}
-	if b.step(r); !r.Done || r.Aside != errEnded || b.count(Ended{}) != 1 {
+	if b.step(r); !r.Done || r.Asides[0] != errEnded || b.count(Ended{}) != 1 {
 		t.Error(r, b.count(Ended{}))
 	}
 	begin = &Begin{Log: carriers.Start{Ready: 9, Missed: true}}

@@ -110,7 +110,7 @@ func newMachine(o *Options, metrics *Metrics, validator *svid.Validator, now Tim
 	m := &Machine{Options: o, metrics: metrics, validator: validator, now: now, began: now.Wall, second: never}
 	m.claims = newClaims(now.Up)
 	m.keeper.due, m.tale.due = never, never
-	m.log = reader{room: make([]svid.LogUse, readRoom), stuckAt: now.Up - seldomTime}
+	m.log = reader{room: make([]svid.LogUse, readRoom), readings: make([]svid.Reading, readRoom), stuckAt: now.Up - seldomTime}
 	m.mixedAt = now.Up - seldomTime
 	m.rules = o.firstRules()
 	return m

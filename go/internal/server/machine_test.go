@@ -103,7 +103,7 @@ func (b *bench) reads(uses ...svid.Use) {
 	if err != nil {
 		b.t.Fatal(err)
 	}
-	for r := (&Reading{Value: carriers.Value{Kind: carriers.Claims, Position: mark.Passed + 1, Message: batchesOf(uses)}}); !r.Done; {
+	for r := (&Reading{Values: []carriers.Value{{Kind: carriers.Claims, Position: mark.Passed + 1, Message: batchesOf(uses)}}}); !r.Done; {
 		b.step(r)
 	}
 }

@@ -73,45 +73,49 @@ type Taking struct {
 	Errs   []error
 }
 
-// All values are taken at once, which takes half the time.
-//
-// Only values of whole messages are put together: else one that a member cut off on purpose would swallow the
+// The record takes many values in one call, and each by itself: else one that a member cut off on purpose would swallow the
 // beginning of the next one, which is another member's.
 func (t *Taking) happen(m *Machine) {
-	var together []byte
-	whole := true
-	for _, v := range t.Values {
-		_, err := svid.Whole(v.Message)
-		whole = whole && err == nil
-		together = append(together, v.Message...)
-		if m.isOfOtherMode(v.Kind) {
-			m.noteMode(v.Message)
+	messages := messagesOf(nil, t.Values)
+	for at := 0; at < len(messages); {
+		taken, err := m.validator.TakeEach(m.now.Wall, messages[at:])
+		for end := at + taken; at < end; at++ {
+			t.taken(m, at, nil)
 		}
-	}
-	if len(t.Values) > 1 && whole && (len(together) == 0 || m.validator.Take(m.now.Wall, together) == nil) {
-		return
-	}
-	for i, v := range t.Values {
-		err := m.validator.Take(m.now.Wall, v.Message)
-		if m.Log.Writes(All) {
-			m.Log.Detail("message", "bytes", len(v.Message), "error", err)
+		if err != nil {
+			t.taken(m, at, err)
+			at++
 		}
-		if errors.Is(err, svid.ErrJump) {
-			m.late.add([][]byte{v.Message})
-		}
-		t.note(i, err)
 	}
 }
 
-// note records why a value is put aside, if it is.
-func (t *Taking) note(i int, err error) {
+// taken takes note of a value that was taken, or why it was not.
+func (t *Taking) taken(m *Machine, i int, err error) {
+	v := &t.Values[i]
+	if m.isOfOtherMode(v.Kind) {
+		m.noteMode(v.Message)
+	}
+	if m.Log.Writes(All) {
+		m.Log.Detail("message", "bytes", len(v.Message), "error", err)
+	}
 	if err == nil {
 		return
+	}
+	if errors.Is(err, svid.ErrJump) {
+		m.late.add([][]byte{append([]byte(nil), v.Message...)}) // (Its own bytes stand among those of many others.)
 	}
 	if t.Errs == nil {
 		t.Errs = make([]error, len(t.Values))
 	}
 	t.Errs[i] = err
+}
+
+// messagesOf appends the messages of values to room.
+func messagesOf(room [][]byte, values []carriers.Value) [][]byte {
+	for i := range values {
+		room = append(room, values[i].Message)
+	}
+	return room
 }
 
 // errMixed: a sidecar of the group runs in another mode.

@@ -11,8 +11,8 @@ import (
 // errBack: the group's bucket ends in front of what this sidecar has read of it.
 var errBack = errors.New("the group's bucket ends before values that this sidecar has read: it was made anew, or put back from an older copy")
 
-// readRoom is how many uses of a value are read at a time. The claims among them end then: other processors answer them, while
-// this one reads the next ones.
+// readRoom is how many uses are read at a time, of a value or of several. The claims among them end then: other processors answer
+// them, while this one reads the next ones.
 const readRoom = 64
 
 // readPause is before a value is read again that could not be read.
@@ -25,7 +25,9 @@ type reader struct {
 	log      carriers.Start // as Begin had it last
 	recalled *svid.Mark     // where an earlier life was in the log, until the log has begun
 	room     []svid.LogUse  // for what it reads
-	reading  bool           // a value is read in part
+	readings []svid.Reading // for what it did with each value
+	messages [][]byte       // of the values that it reads
+	reading  bool           // values are read in part
 	stuckAt  time.Duration  // when it was last logged that it can't read
 }
 
@@ -165,60 +167,72 @@ func saturated(a, b uint64) uint64 {
 	return a + b
 }
 
-// A Reading lets the validator read the next uses of a value of the bucket, and ends the claims of this sidecar that stand among
+// A Reading lets the validator read the next uses of values of the bucket, and ends the claims of this sidecar that stand among
 // them. The same event is to come again, after the time Again, until it is Done. Values come in their order.
 type Reading struct {
-	Value carriers.Value
-	Done  bool
-	Again time.Duration
-	Aside error // that the value is put aside: it is no messages, or a use in it is from too far ahead
+	Values []carriers.Value
+	Done   bool
+	Again  time.Duration
+	Asides []error // as carriers.Sink returns them: a value is put aside that is no messages, or has a use from too far ahead
 
+	at int // how many of the values are read to their end
+	// Of the one that is read:
+	aside    error
 	accepted []svid.Use
 	other    *svid.Use // that tells of another mode
 }
 
 func (r *Reading) happen(m *Machine) {
-	m.log.reading = true // Claims end before the keeper has their uses. So the end waits for this value too.
-	reading, err := m.readOn(r.Value)
-	switch {
-	case err == svid.ErrJump:
-		r.wait(m, err)
-		return
-	case err != nil:
-		r.done(m, err)
-		return
+	m.log.reading = true // Claims end before the keeper has their uses. So the end waits for these values too.
+	if r.Again = 0; r.at < len(r.Values) {
+		r.readOn(m)
 	}
-	r.take(m, reading)
-	switch reading.Rest {
-	case svid.RestNothing:
-		if r.other != nil {
-			m.sayMixed(r.other)
-		}
-		m.keepSoon(r.accepted...)
-		r.done(m, r.Aside)
-	case svid.RestNoMemory:
-		r.wait(m, svid.ErrNoMemory)
-	default:
-		r.Again = 0
+	if r.at == len(r.Values) {
+		r.Done, m.log.reading = true, false
 	}
 }
 
-// take takes note of uses that were read.
-func (r *Reading) take(m *Machine, reading svid.Reading) {
+// readOn reads the next uses.
+func (r *Reading) readOn(m *Machine) {
+	read, err := m.readOn(r.Values[r.at:])
+	room := m.log.room
+	for _, reading := range m.log.readings[:read] {
+		r.take(m, reading, room[:reading.Count])
+		room = room[reading.Count:]
+		switch reading.Rest {
+		case svid.RestNothing:
+			if r.other != nil {
+				m.sayMixed(r.other)
+			}
+			m.keepSoon(r.accepted...)
+			r.next(m, r.aside)
+		case svid.RestNoMemory:
+			r.wait(m, svid.ErrNoMemory)
+		}
+	}
+	switch {
+	case err == svid.ErrJump:
+		r.wait(m, err)
+	case err != nil:
+		r.next(m, err)
+	}
+}
+
+// take takes note of uses that were read of a value.
+func (r *Reading) take(m *Machine, reading svid.Reading, read []svid.LogUse) {
 	if reading.Fault != nil {
-		r.Aside = reading.Fault
+		r.aside = reading.Fault
 	}
 	if reading.Order == svid.OrderGap {
 		m.missed(ErrMissed)
 	}
-	isOther := m.isOfOtherMode(r.Value.Kind)
-	read := m.log.room[:reading.Count]
+	isOther := m.isOfOtherMode(r.Values[r.at].Kind)
 	for i := range read {
 		switch read[i].Fate {
 		case svid.FateAccepted:
 			r.accepted = append(r.accepted, read[i].Use)
 		case svid.FateTooFarAhead:
-			r.Aside = svid.ErrTooFar
+			r.aside = svid.ErrTooFar
 			continue
 		}
 		if isOther && r.other == nil && m.saysMode(&read[i].Use) {
@@ -231,39 +245,59 @@ func (r *Reading) take(m *Machine, reading svid.Reading) {
 	}
 }
 
-// wait lets the value be read again later, unless the machine ends.
+// wait lets the values be read again later, unless the machine ends.
 func (r *Reading) wait(m *Machine, why error) {
 	if m.ending {
-		r.done(m, errEnded)
+		for r.at < len(r.Values) {
+			r.next(m, errEnded)
+		}
 		return
 	}
 	m.stuck(why)
 	r.Again = readPause
 }
 
-func (r *Reading) done(m *Machine, aside error) {
-	r.Done, r.Aside = true, aside
-	m.log.reading = false
+// next goes on to the next value, since one is read to its end, or put aside.
+func (r *Reading) next(m *Machine, aside error) {
 	if m.Log.Writes(All) {
-		m.Log.Detail("message", "bytes", len(r.Value.Message), "error", aside)
+		m.Log.Detail("message", "bytes", len(r.Values[r.at].Message), "error", aside)
 	}
+	if aside != nil {
+		if r.Asides == nil {
+			r.Asides = make([]error, len(r.Values))
+		}
+		r.Asides[r.at] = aside
+	}
+	r.at++
+	r.aside, r.accepted, r.other = nil, nil, nil
 }
 
-// readOn reads the next uses of a value, as many as have room.
-func (m *Machine) readOn(v carriers.Value) (svid.Reading, error) {
+// readOn reads the next uses of values, as many as have room, and returns how many readings that are.
+func (m *Machine) readOn(values []carriers.Value) (read int, err error) {
+	first := values[0].Position
+	room := m.log.messages[:0]
+	for i := 0; i < len(values) && i < readRoom && values[i].Position == first+uint64(i); i++ {
+		room = append(room, values[i].Message)
+	}
+	m.log.messages = room
+	defer func() {
+		for i := range room {
+			room[i] = nil // The room keeps no message alive.
+		}
+	}()
 	for now := m.now.Wall; ; {
 		edition := m.validator.Edition()
 		m.judgeRenewed(now, edition)
-		reading, err := m.validator.Read(now, v.Position, v.Message, edition, m.log.room)
+		read, err := m.validator.ReadEach(now, first, room, edition, m.log.room, m.log.readings)
 		switch {
-		case err == nil:
+		case err == nil || read > 0:
 			m.log.right = now
-			return reading, nil
+			return read, err
 		case err == svid.ErrRenewed:
-		case err == svid.ErrJump && now != m.log.right && !m.isBehindGap(v):
+		case err == svid.ErrJump && now != m.log.right && !m.isBehindGap(values[0]):
 			now = m.log.right // The record has reached it, so it raises nothing.
 		default:
-			return svid.Reading{}, err
+			return 0, err
 		}
 	}
 }

@@ -312,3 +312,80 @@ func TestLaterClaimsAreNoUses(t *testing.T) {
 		t.Errorf("%v, want %v", got, want)
 	}
 }
+
+// Values that are read at once are read as one after the other: each claim ends by the fate of its own use, each value that is put aside is named
+// by its position, and where a value is missing, nothing behind it is accepted.
+func TestValuesThatAreReadAtOnce(t *testing.T) {
+	use := func(key byte, at uint64) svid.Use {
+		return svid.Use{Key: svid.TokenKey{key}, Expires: moment + 300, At: at, ValidatorID: svid.ValidatorID{9}}
+	}
+	many := make([]svid.Use, 2*readRoom+3)
+	for i := range many {
+		many[i] = svid.Use{Key: svid.TokenKey{200, byte(i)}, Expires: moment + 300, At: moment, ValidatorID: svid.ValidatorID{9}}
+	}
+	for what, row := range map[string]struct {
+		values    func(own []svid.Use) [][]byte // nil for one that is missing
+		asides    string
+		won, lost uint64 // of three claims; the others failed
+	}{
+		"good ones": {func(own []svid.Use) [][]byte {
+			return [][]byte{batchOf(use(1, moment)), batchOf(own[0]), batchesOf(own[1:])}
+		}, "[]", 3, 0},
+		"bad ones": {func(own []svid.Use) [][]byte {
+			return [][]byte{batchOf(own[0]), []byte("bad"), batchOf(use(1, moment+200)), {}, batchesOf(own[1:])[:70], batchesOf(own[1:])}
+		}, "[1 2 4]", 3, 0},
+		"others in front": {func(own []svid.Use) [][]byte {
+			first, second := own[0], own[1]
+			first.ValidatorID, second.ValidatorID = svid.ValidatorID{9}, svid.ValidatorID{9}
+			return [][]byte{batchOf(first), batchesOf(many), batchOf(second), batchesOf(own), batchOf(use(2, moment))}
+		}, "[]", 1, 2},
+		"one is missing": {func(own []svid.Use) [][]byte {
+			return [][]byte{batchOf(own[0]), batchOf(use(1, moment)), nil, batchesOf(own[1:])}
+		}, "[]", 1, 0},
+	} {
+		for _, atOnce := range []bool{true, false} {
+			b := newBench(t)
+			for _, id := range []string{"a", "b", "c"} {
+				b.asks(id)
+			}
+			b.pass(time.Second)
+			for len(b.puts) < 2 {
+				b.lands(b.puts[len(b.puts)-1], nil)
+				b.pass(time.Second)
+			}
+			own := append(append([]svid.Use(nil), b.puts[0].Uses...), b.puts[1].Uses...)
+			if len(own) != 3 {
+				t.Fatalf("%d claims", len(own))
+			}
+			var values []carriers.Value
+			for i, message := range row.values(own) {
+				if message != nil {
+					values = append(values, carriers.Value{Kind: carriers.Claims, Position: uint64(i + 1), Message: message})
+				}
+			}
+			var asides []int
+			size := 1
+			if atOnce {
+				size = len(values)
+			}
+			for from := 0; from < len(values); from += size {
+				r := &Reading{Values: values[from : from+size]}
+				for b.step(r); !r.Done; b.step(r) {
+				}
+				for i, err := range r.Asides {
+					if err != nil {
+						asides = append(asides, from+i)
+					}
+				}
+			}
+			if got := fmt.Sprint(asides); got != row.asides {
+				t.Errorf("%s, at once %v: %s are put aside, want %s", what, atOnce, got, row.asides)
+			}
+			b.want(row.won, row.lost, 3-row.won-row.lost)
+			mark, _, err := b.machine.validator.LogMark()
+			if err != nil || mark.Passed != values[len(values)-1].Position || (mark.Deaf > 0) != (what == "one is missing") {
+				t.Errorf("%s, at once %v: it is at %+v (%v)", what, atOnce, mark, err)
+			}
+		}
+	}
+}

@@ -21,7 +21,10 @@ type verified struct {
 // A tokenName is the digest of a whole token.
 type tokenName [sha256.Size]byte
 
-func nameOf(token string) tokenName { return sha256.Sum256([]byte(token)) }
+func nameOf(token string) tokenName {
+	var room [1 << 10]byte // A token of a usual length asks for no memory.
+	return sha256.Sum256(append(room[:0], token...))
+}
 
 // get finds the answered question of a token. epoch is for put.
 func (v *verified) get(name tokenName) (question svid.Question, epoch uint64, ok bool) {

@@ -29,6 +29,7 @@ var errEarly = errors.New("the claim is from further in the future than clocks m
 type Request struct {
 	Call
 	Token    string
+	read     svid.Token    // the same, which the effect Verify and the step Verified read once
 	Accepted svid.Accepted // where it is
 	rules    *Rules        // that it came by; nil for those that count
 
@@ -54,7 +55,7 @@ type Request struct {
 
 // NewRequest returns a request that asks about a token.
 func NewRequest(mode Mode, token string) *Request {
-	r := &Request{Token: token}
+	r := &Request{Token: token, read: svid.NewToken(token)}
 	if mode == Reuse {
 		r.name = nameOf(token)
 	}
@@ -93,9 +94,11 @@ func (r *Request) happen(m *Machine) {
 }
 
 // Its signature was verified. A token that the keyring refuses goes on without an answered question, for the validator to say
-// which refusal comes first. It can't be accepted.
+// which refusal comes first. It can't be accepted. What was read of the token is let go here, where no other step has it: a later
+// judgment reads it again.
 func (v Verified) happen(m *Machine) {
 	r := v.Request
+	defer r.read.Close()
 	if m.isOutdated(r) { // Its caller was admitted by the rules of before.
 		m.answerCheck(r, errOtherRules)
 		return
@@ -146,7 +149,7 @@ func (m *Machine) answerCheck(r *Request, err error) {
 //
 // A client that goes away changes nothing.
 func (m *Machine) once(r *Request) {
-	accepted, err := m.validator.Check(m.now.Wall, r.Token, r.Yes)
+	accepted, err := m.validator.CheckToken(m.now.Wall, &r.read, r.Yes)
 	if err != nil {
 		m.answerCheck(r, err)
 		return
@@ -196,7 +199,7 @@ func (m *Machine) reuseKept(r *Request) bool {
 
 // reuse judges a token whose signature was verified.
 func (m *Machine) reuse(r *Request) {
-	accepted, err := m.validator.Judge(m.now.Wall, r.Token, r.Yes)
+	accepted, err := m.validator.JudgeToken(m.now.Wall, &r.read, r.Yes)
 	if err == nil && len(r.Yes) == 1 {
 		m.verified.put(r.epoch, r.name, r.Yes[0])
 	}
@@ -224,7 +227,7 @@ func (m *Machine) reuse(r *Request) {
 // If the value does not come back in time (the broker is away), or if values in front of it are missing, the answer is 503.
 // The token is burnt then if the value is in the bucket, now or later: who reads it takes its uses.
 func (m *Machine) claim(r *Request) {
-	judged, err := m.validator.Judge(m.now.Wall, r.Token, r.Yes)
+	judged, err := m.validator.JudgeToken(m.now.Wall, &r.read, r.Yes)
 	if err != nil {
 		m.answerCheck(r, err)
 		return

@@ -499,7 +499,7 @@ func (l *life) pump() {
 	l.position, l.read = next.position, *next
 	value := carriers.Value{Kind: next.kind, Position: next.position, Message: next.message}
 	if l.w.plan.mode == server.Strict {
-		l.reading = &server.Reading{Value: value}
+		l.reading = &server.Reading{Values: []carriers.Value{value}}
 		l.readOn()
 		return
 	}
@@ -519,8 +519,8 @@ func (l *life) readOn() {
 		return
 	}
 	l.reading = nil
-	l.missed = l.missed || r.Aside == svid.ErrTooFar // (Its claims count, and are not in the record.)
-	l.took(r.Aside == nil)
+	l.missed = l.missed || r.Asides != nil && r.Asides[0] == svid.ErrTooFar // (Its claims count, and are not in the record.)
+	l.took(r.Asides == nil)
 }
 
 // took: a value was taken.

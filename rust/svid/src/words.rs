@@ -11,7 +11,7 @@ const ROWS: [(u32, &str, &str); 31] = [
     (ffi::NO_MEMORY, "there was no memory", "make the call again"),
     (ffi::TOO_MUCH, "bundles, a table or messages have more than 67,108,864 bytes", "give less at once"),
     (ffi::NOT_SUMMARY, "the first input is messages, but not one summary", "give the summary of another validator"),
-    (ffi::CLOSED, "the validator is closed, or the bundles are", "make a new one"),
+    (ffi::CLOSED, "the validator, the bundles or the token is closed", "make a new one"),
     (ffi::IS_OPEN, "the handle is open already", ""),
     (ffi::GONE, "the token has expired, so that there is nothing to withdraw", ""),
     (ffi::TOO_FAR, "a message's moment is more than ahead seconds past now", "set the clocks of both validators right"),

@@ -24,4 +24,4 @@ pub returns : goal.returns
 returns c =
     asked (said_in c.in-Ok.reading) (candidates_left c.in-Ok-candidates.candidates) c.in-Some.key.now c.in-Ok.ensures.value (sym c.in-Ok-candidates.ensures) (sym c.in-Some.ensures)
     c.only.ensures.status c.only.ensures.told
-    (ap question_told (c.question-bytes.ensures ∙ ap (question_of c.in-Some.key.now c.in-Ok.reading.header.alg c.in-Ok.reading.input.now) c.deref.ensures.value))
+    (ap question_told (c.question-bytes.ensures ∙ (λ i. question_of c.in-Some.key.now c.in-Ok.reading.header.alg (c.deref.ensures.value i) (c.deref-2.ensures.value i))))

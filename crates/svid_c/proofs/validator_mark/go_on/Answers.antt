@@ -1,4 +1,4 @@
-use Rattle.std.proofs.Common.{Some, refl, sym, ap, ◌∙◌}
+use Rattle.std.proofs.Common.{Some, ap}
 use Rattle.svid_c.specs.Log.{goes_on, with_member}
 use Rattle.svid_c.proofs.validator_mark.go_on.Goals as goal
 

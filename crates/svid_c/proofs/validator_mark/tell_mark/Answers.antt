@@ -1,4 +1,4 @@
-use Rattle.std.proofs.Common.{Some, refl, sym, ap, ◌∙◌}
+use Rattle.std.proofs.Common.{refl, ap, ◌∙◌}
 use Rattle.svid_replay.specs.Records.{State}
 use Rattle.svid_c.specs.Log.{is_accepting, marks}
 use Rattle.svid_c.specs.Status.{told_rows}

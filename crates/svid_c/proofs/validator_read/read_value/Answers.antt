@@ -6,7 +6,6 @@ use Rattle.svid_log.specs.Members.{HasRead, order_of}
 use Rattle.svid_log.specs.Steps.{horizon}
 use Rattle.svid_c.specs.Live.{Kept}
 use Rattle.svid_c.specs.Log.{is_read, no_clock, was_read}
-use Rattle.svid_c.specs.declared.live.Live.{Live}
 use Rattle.svid_c.proofs.LogLemmas.{put_part, same_live}
 use Rattle.svid_c.proofs.validator_read.read_value.Goals as goal
 

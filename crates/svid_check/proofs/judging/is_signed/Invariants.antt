@@ -11,4 +11,4 @@ abbrev pub invariant-loop-key : goal.invariant-loop-key
 invariant-loop-key g l =
     (goal.iterator-loop-key g).can_next l.key-iterator ×
     (goal.iterator-loop-key g).is_finite l.key-iterator ×
-    (list_any (λ key. g.V.Verifier.says l.verifier key l.reading.header.alg l.reading.input.now l.reading.signature.items) (candidates_left l.key-iterator) ≡ is_signed (given_setting (g.V.Verifier.says l.verifier) l.given) (said_in l.reading))
+    (list_any (λ key. g.V.Verifier.says l.verifier key l.reading.header.alg l.reading.input.items l.reading.signature.items) (candidates_left l.key-iterator) ≡ is_signed (given_setting (g.V.Verifier.says l.verifier) l.given) (said_in l.reading))

@@ -9,7 +9,7 @@ enum Status {
     NO_MEMORY(2, "NoMemory", "There was no memory.", "Make the call again."),
     TOO_MUCH(3, "TooMuch", "Bundles, a table or messages have more than 67,108,864 bytes.", "Give less at once."),
     NOT_SUMMARY(4, "NotSummary", "the first input is messages, but not one summary: give the summary of another validator", ""),
-    CLOSED(5, "Closed", "The validator is closed, or the bundles are.", "Make a new one."),
+    CLOSED(5, "Closed", "The validator, the bundles or the token is closed.", "Make a new one."),
     IS_OPEN(6, "IsOpen", "The handle is open already.", ""),
     GONE(7, "Gone", "The token has expired, so that there is nothing to withdraw.", ""),
     TOO_FAR(8, "TooFar", "A message's moment is more than ahead seconds past now.", "Set the clocks of both validators right."),

@@ -1,3 +1,4 @@
+use Rattle.std.proofs.Common.{◌≡◌, ◌∙◌, rules}
 use Rattle.std.proofs.lemmas.Result.{err_from_is_err_and}
 use Rattle.svid_check.proofs.SaidLemmas.{all_said, refused_claims, refused_header, refused_payload, refused_signature}
 use Rattle.svid_check.proofs.reading.Reading.of.Goals as goal
@@ -23,4 +24,6 @@ returns-in_err-claims-clause-value c =
     rw (p.1, p.2) (refused_claims _ _ _ _ _ _ c.in_ok-compact.ensures.value c.in_ok-header.ensures c.in_ok-payload.ensures c.in_ok-signature.ensures.value c.in_err-claims.ensures)
 
 pub returns-clause-value : goal.returns-clause-value
-returns-clause-value c = all_said _ _ _ _ _ _ _ c.in_ok-compact.ensures.value c.in_ok-header.ensures c.in_ok-payload.ensures c.in_ok-signature.ensures.value c.in_ok-claims.ensures c.in_ok-compact.ensures.input
+returns-clause-value c =
+    let copied : c.in_ok-input.input.items ≡ c.in_ok-compact.compact.input.now = search rules in
+    all_said _ _ _ _ _ _ _ c.in_ok-compact.ensures.value c.in_ok-header.ensures c.in_ok-payload.ensures c.in_ok-signature.ensures.value c.in_ok-claims.ensures (copied ∙ c.in_ok-compact.ensures.input)

@@ -1,0 +1,10 @@
+use svid_check::Reading;
+
+/// What a check is about.
+#[derive(Clone, Copy)]
+pub(crate) enum Asked<'a> {
+    /// A token.
+    Token(&'a [u8]),
+    /// What a token says that was read before.
+    Read(&'a Reading),
+}

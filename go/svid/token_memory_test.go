@@ -1,0 +1,44 @@
+//go:build cgo
+
+package svid_test
+
+import (
+	"testing"
+
+	"svid.example/go/v2/internal/scarce"
+	"svid.example/go/v2/svid"
+)
+
+// Tokens that were read leave no memory behind, whatever became of them.
+func TestTokensLeaveNothing(t *testing.T) {
+	k, v := keyring(t, example.Bundles()), open(t, 1)
+	stranger := claims("stranger")
+	stranger["sub"] = "spiffe://example.net/web"
+	for _, text := range []string{example.Token("ES256", claims("a")), example.Token("ES256", stranger), "a.b"} {
+		for name, call := range map[string]func(){
+			"Accept":     func() { _, _ = v.Accept(k, moment, text) },
+			"Candidates": func() { _, _ = k.Candidates(text) },
+			"Verify":     func() { _, _ = k.Verify(text) },
+			"VerifyToken": func() {
+				one := svid.NewToken(text)
+				yes, _ := k.VerifyToken(&one)
+				_, _ = k.VerifyToken(&one)
+				_, _ = v.JudgeToken(moment, &one, yes)
+				_, _ = v.CheckToken(moment, &one, yes)
+				one.Close()
+			},
+		} {
+			const times, most = 100, 50 // One that kept what it read would hold a block and more for each call.
+			for i := 0; i < times; i++ {
+				call()
+			}
+			before := scarce.Held()
+			for i := 0; i < times; i++ {
+				call()
+			}
+			if more := scarce.Held() - before; more > most {
+				t.Errorf("%s of %.10q: %d calls hold %d blocks", name, text, times, more)
+			}
+		}
+	}
+}
