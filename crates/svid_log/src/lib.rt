@@ -10,8 +10,6 @@ mod member;
 mod order;
 mod reading;
 mod rows;
-#[cfg(test)]
-mod tests;
 mod value;
 
 pub use claims::Claims;

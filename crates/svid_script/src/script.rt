@@ -10,10 +10,9 @@ use svid_script_base::say::{say_bytes, say_lines};
 use svid_script_base::stop::Stop;
 use svid_script_base::streams;
 use svid_script_base::words::{number, word, words_of};
-use svid_script_checks::Validators;
 use svid_script_journal::Folders;
 use svid_script_log::Logs;
-use svid_script_tokens::Trust;
+use svid_script_trust::{Trust, Validators};
 
 // All values that a script has named.
 #[derive(Drop)]

@@ -1,5 +1,3 @@
-use crate::any_validator::{AnyValidator, Validators};
-use crate::verifier::AnyVerifier;
 use std::alloc::{AllocError, Global};
 use svid_check::{Accepted, Answer, Event, TakeFault, Validator, WithdrawFault};
 use svid_replay::{Batch, Summary, Use, UseStore};
@@ -10,19 +8,9 @@ use svid_script_base::over_any;
 use svid_script_base::say::{done, say_batches, say_fault, say_ok, say_text, say_use};
 use svid_script_base::stop::Stop;
 use svid_script_base::words::{from, key, number, word};
-use svid_script_tokens::token_refused;
+use svid_script_trust::say::say_checked;
+use svid_script_trust::{AnyValidator, AnyVerifier, Validators};
 use svid_token::Refusal;
-
-/// Prints an acceptance or a refusal.
-pub fn say_checked(out: &mut Out<'_>, answer: Result<Accepted, Refusal>) -> Result<(), Stop> {
-    match answer {
-        Ok(accepted) => {
-            say_text(out, accepted.id.as_str())?;
-            say_use(out, &accepted.used)
-        }
-        Err(refusal) => token_refused(out, refusal),
-    }
-}
 
 /// Prints that a record or a batch was taken, or why not.
 pub fn say_taken(out: &mut Out<'_>, answer: Result<(), TakeFault>) -> Result<(), Stop> {

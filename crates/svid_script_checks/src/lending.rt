@@ -1,12 +1,8 @@
-use crate::any_validator::{AnyValidator, Validators};
-use crate::checking::{say_checked, say_taken};
-use crate::validators::verifier_if_any;
-use crate::verifier::AnyVerifier;
+use crate::checking::say_taken;
 use std::alloc::AllocError;
 use svid_check::{Accepted, Reading, TakeFault, Validator};
 use svid_keys::Bundles;
 use svid_replay::{Batch, Record, Use, UseStore};
-use svid_script_base::byte_words::bytes;
 use svid_script_base::env::Env;
 use svid_script_base::kinds::AnyRecord;
 use svid_script_base::out::Out;
@@ -15,31 +11,11 @@ use svid_script_base::say::{refused, say_batch, say_ok};
 use svid_script_base::stop::Stop;
 use svid_script_base::use_words::use_if_any;
 use svid_script_base::words::{key, number, word};
-use svid_script_tokens::keys::say_candidates;
-use svid_script_tokens::{Trust, token_refused};
+use svid_script_trust::asked::{Asked, asked_in};
+use svid_script_trust::keys::say_candidates;
+use svid_script_trust::say::{say_checked, token_refused};
+use svid_script_trust::{AnyValidator, AnyVerifier, Trust, Validators};
 use svid_token::Refusal;
-
-/// What is asked of a validator by another verifier than its own.
-#[derive(Drop)]
-pub struct Asked {
-    pub now: u64,
-    pub token: Vec<u8>,
-    pub verifier: AnyVerifier,
-}
-
-/// The words behind the first two are `NOW TOKEN VERIFIER`.
-pub fn asked_in(env: &Env, words: &[&str]) -> Result<Asked, Stop> {
-    let now = number(word(words, 2))?;
-    let token = bytes(env, word(words, 3))?;
-    match verifier_if_any(env, word(words, 4))? {
-        Some(verifier) => Ok(Asked {
-            now,
-            token,
-            verifier,
-        }),
-        None => Err(Stop::Script("no verifier")),
-    }
-}
 
 fn check_in<S: UseStore>(
     validator: &mut Validator<AnyVerifier, S>,

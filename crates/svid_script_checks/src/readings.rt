@@ -6,9 +6,8 @@ use svid_script_base::out::Out;
 use svid_script_base::say::{say_bytes, say_digits};
 use svid_script_base::stop::Stop;
 use svid_script_base::words::word;
-use svid_script_tokens::keys::say_key;
-use svid_script_tokens::tokens::{say_claims, say_header};
-use svid_script_tokens::{Trust, token_refused};
+use svid_script_trust::Trust;
+use svid_script_trust::say::{say_claims, say_header, say_key, token_refused};
 
 fn say_reading(out: &mut Out<'_>, reading: &Reading) -> Result<(), Stop> {
     say_header(out, &reading.header)?;

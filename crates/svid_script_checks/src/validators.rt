@@ -1,5 +1,3 @@
-use crate::any_validator::{AnyValidator, Validators};
-use crate::verifier::AnyVerifier;
 use std::alloc::Global;
 use svid_check::Validator;
 use svid_keys::Bundles;
@@ -11,8 +9,9 @@ use svid_script_base::over_any;
 use svid_script_base::reports::{parts, report};
 use svid_script_base::say::{say_number, say_uses};
 use svid_script_base::stop::Stop;
-use svid_script_base::words::{from, id16, number, number_if_any, text, texts, word};
-use svid_script_tokens::Trust;
+use svid_script_base::words::{from, id16, number, number_if_any, texts, word};
+use svid_script_trust::asked::verifier_if_any;
+use svid_script_trust::{AnyValidator, AnyVerifier, Trust, Validators};
 
 // What a validator is given, but for its record.
 #[derive(Drop)]
@@ -54,18 +53,6 @@ fn make(setting: Setting, record: AnyRecord) -> AnyValidator {
         AnyRecord::Indexed(record) => AnyValidator::Indexed(with_record(setting, record)),
         AnyRecord::Runs(record) => AnyValidator::Runs(with_record(setting, record)),
         AnyRecord::Sharded(record) => AnyValidator::Sharded(with_record(setting, record)),
-    }
-}
-
-/// The verifier that a word is, if it is none by a table.
-pub fn verifier_if_any(env: &Env, word: &str) -> Result<Option<AnyVerifier>, Stop> {
-    if let Some(name) = word.strip_prefix("kid:") {
-        return Ok(Some(AnyVerifier::Kid(text(env, name)?)));
-    }
-    match word {
-        "yes" => Ok(Some(AnyVerifier::Yes)),
-        "sig" => Ok(Some(AnyVerifier::Sig)),
-        _ => Ok(None),
     }
 }
 

@@ -3,7 +3,7 @@ use svid_script_base::env::Env;
 use svid_script_base::out::Out;
 use svid_script_base::stop::Stop;
 use svid_script_base::words::word;
-use svid_script_tokens::Trust;
+use svid_script_trust::Trust;
 
 /// Makes the call of a line on one of the program's engines over lines, if it is one.
 pub fn call(out: &mut Out<'_>, env: &mut Env, trust: &Trust, words: &[&str]) -> Result<(), Stop> {

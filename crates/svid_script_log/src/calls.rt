@@ -4,7 +4,7 @@ use svid_script_base::env::Env;
 use svid_script_base::out::Out;
 use svid_script_base::stop::Stop;
 use svid_script_base::words::word;
-use svid_script_checks::Validators;
+use svid_script_trust::Validators;
 
 fn claims_call(
     out: &mut Out<'_>,

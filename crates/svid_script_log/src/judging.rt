@@ -8,8 +8,9 @@ use svid_script_base::over_any;
 use svid_script_base::say::say_ok;
 use svid_script_base::stop::Stop;
 use svid_script_base::words::{from, key, number, word};
-use svid_script_checks::{AnyValidator, AnyVerifier, Asked, Validators, asked_in, say_checked};
-use svid_script_tokens::token_refused;
+use svid_script_trust::asked::{Asked, asked_in};
+use svid_script_trust::say::{say_checked, token_refused};
+use svid_script_trust::{AnyValidator, AnyVerifier, Validators};
 use svid_token::Refusal;
 
 fn judge_in<S: UseStore>(

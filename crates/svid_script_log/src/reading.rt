@@ -11,7 +11,7 @@ use svid_script_base::out::Out;
 use svid_script_base::over_any;
 use svid_script_base::stop::Stop;
 use svid_script_base::words::{from, number, word};
-use svid_script_checks::{AnyValidator, AnyVerifier, Validators};
+use svid_script_trust::{AnyValidator, AnyVerifier, Validators};
 
 // A value that is read, with room for fates.
 #[derive(Drop)]

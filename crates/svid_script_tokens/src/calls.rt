@@ -1,9 +1,9 @@
-use crate::trust::Trust;
 use crate::{bearer, ids, keys, patterns, tokens};
 use svid_script_base::env::Env;
 use svid_script_base::out::Out;
 use svid_script_base::stop::Stop;
 use svid_script_base::words::word;
+use svid_script_trust::Trust;
 
 // The calls on keys and bundles.
 fn key_call(out: &mut Out<'_>, env: &Env, trust: &mut Trust, words: &[&str]) -> Result<(), Stop> {

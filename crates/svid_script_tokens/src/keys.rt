@@ -1,23 +1,18 @@
 use crate::refusing::{bundles_refused, key_refused, table_refused};
-use crate::trust::Trust;
-use std::io::Write;
 use svid_keys::{Bundles, JwtKey, Lines, TableVerifier, Verifier, question};
 use svid_script_base::byte_words::bytes;
 use svid_script_base::env::Env;
 use svid_script_base::out::Out;
-use svid_script_base::say::{say_bool, say_bytes, say_digits, say_text};
+use svid_script_base::say::{say_bool, say_bytes, say_digits};
 use svid_script_base::stop::Stop;
 use svid_script_base::words::{number, text, text_if_any, word};
+use svid_script_trust::Trust;
+use svid_script_trust::keys::{alg, say_candidates};
 use svid_spki::key_spki;
 use svid_token::Alg;
 
 // The most bytes of a token, and so of what is signed and of a signature.
 const MOST: usize = 65536;
-
-// The algorithm that a word names.
-fn alg(word: &str) -> Result<Alg, Stop> {
-    Alg::of(word).ok_or(Stop::Script("no algorithm"))
-}
 
 /// `key_spki ALG BITS BYTES`
 pub fn spki(out: &mut Out<'_>, env: &Env, words: &[&str]) -> Result<(), Stop> {
@@ -65,31 +60,6 @@ pub fn table(out: &mut Out<'_>, env: &Env, trust: &mut Trust, words: &[&str]) ->
         Ok(read) => trust.tables.put(word(words, 1), read),
         Err(fault) => table_refused(out, fault),
     }
-}
-
-/// Prints a key.
-pub fn say_key(out: &mut Out<'_>, key: &JwtKey) -> Result<(), Stop> {
-    let domain = key.domain();
-    let kty = key.kty();
-    let kid = key.kid();
-    writeln!(out, "= {domain} {kty:?} {kid:?}")?;
-    say_text(out, key.text())
-}
-
-/// Prints the candidates of bundles for `.. DOMAIN ALG KID`, behind the line's name.
-pub fn say_candidates(
-    out: &mut Out<'_>,
-    env: &Env,
-    bundles: &Bundles,
-    words: &[&str],
-) -> Result<(), Stop> {
-    let domain = text(env, word(words, 2))?;
-    let alg = alg(word(words, 3))?;
-    let kid = text_if_any(env, word(words, 4))?;
-    for key in bundles.candidates(domain.as_str(), alg, kid.as_deref()) {
-        say_key(out, key)?;
-    }
-    Ok(())
 }
 
 /// `candidates NAME DOMAIN ALG KID`

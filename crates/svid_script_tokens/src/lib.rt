@@ -4,12 +4,9 @@
 mod bearer;
 mod calls;
 mod ids;
-pub mod keys;
+mod keys;
 mod patterns;
 mod refusing;
-pub mod tokens;
-mod trust;
+mod tokens;
 
 pub use calls::call;
-pub use refusing::token_refused;
-pub use trust::Trust;

@@ -6,7 +6,7 @@ use svid_script_base::out::Out;
 use svid_script_base::say::say_fault;
 use svid_script_base::stop::Stop;
 use svid_spki::KeyFault;
-use svid_token::{PartFault, Refusal};
+use svid_token::PartFault;
 
 pub(crate) fn id_refused(out: &mut Out<'_>, fault: IdFault) -> Result<(), Stop> {
     say_fault(out, fault, matches!(fault, IdFault::OutOfMemory))
@@ -14,11 +14,6 @@ pub(crate) fn id_refused(out: &mut Out<'_>, fault: IdFault) -> Result<(), Stop> 
 
 pub(crate) fn part_refused(out: &mut Out<'_>, fault: PartFault) -> Result<(), Stop> {
     say_fault(out, fault, matches!(fault, PartFault::OutOfMemory))
-}
-
-/// Prints why a token is refused, or stops where memory was.
-pub fn token_refused(out: &mut Out<'_>, refusal: Refusal) -> Result<(), Stop> {
-    say_fault(out, refusal, matches!(refusal, Refusal::OutOfMemory))
 }
 
 pub(crate) fn bundles_refused(out: &mut Out<'_>, fault: BundleFault) -> Result<(), Stop> {

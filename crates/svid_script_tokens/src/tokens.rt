@@ -1,4 +1,4 @@
-use crate::refusing::{id_refused, part_refused, token_refused};
+use crate::refusing::{id_refused, part_refused};
 use std::io::Write;
 use svid_id::SpiffeId;
 use svid_script_base::byte_words::bytes;
@@ -7,8 +7,9 @@ use svid_script_base::out::Out;
 use svid_script_base::say::{say_bytes, say_digits, say_none, say_text};
 use svid_script_base::stop::Stop;
 use svid_script_base::words::{text, text_if_any, word};
+use svid_script_trust::say::{say_claims, say_header, token_refused};
 use svid_token::{
-    Alg, Claims, Compact, Header, Payload, decode_part, read_json, read_signature, token_key,
+    Alg, Compact, Header, Payload, decode_part, read_json, read_signature, token_key,
 };
 
 /// `alg TEXT`
@@ -38,13 +39,6 @@ pub fn split(out: &mut Out<'_>, env: &Env, words: &[&str]) -> Result<(), Stop> {
     }
 }
 
-/// Prints a header.
-pub fn say_header(out: &mut Out<'_>, header: &Header) -> Result<(), Stop> {
-    let kid = header.kid.as_deref();
-    let alg = header.alg.name();
-    Ok(writeln!(out, "= {alg} {kid:?}")?)
-}
-
 /// `header BYTES`
 pub fn header(out: &mut Out<'_>, env: &Env, words: &[&str]) -> Result<(), Stop> {
     let part = bytes(env, word(words, 1))?;
@@ -52,18 +46,6 @@ pub fn header(out: &mut Out<'_>, env: &Env, words: &[&str]) -> Result<(), Stop> 
         Ok(header) => say_header(out, &header),
         Err(refusal) => token_refused(out, refusal),
     }
-}
-
-/// Prints claims.
-pub fn say_claims(out: &mut Out<'_>, claims: &Claims) -> Result<(), Stop> {
-    say_text(out, claims.sub.as_str())?;
-    for audience in &claims.aud {
-        say_text(out, audience.as_str())?;
-    }
-    let exp = claims.exp;
-    let nbf = claims.nbf;
-    let jti = claims.jti.as_deref();
-    Ok(writeln!(out, "= {exp} {nbf:?} {jti:?}")?)
 }
 
 /// `claims BYTES`
