@@ -2,8 +2,7 @@
 
 Each public call of each library stands in a row, and each row names calls that are public. Each call of a row is named in a table of cases/README.md,
 by a line of svid_script that makes it; and one such line stands in a case that tools/cases runs with each allocation refused, or, of a call that
-takes no memory, in any case. A row may say that its calls have a test of their own, which must be there. Laws, which do nothing, and calls of std's
-traits need no row."""
+takes no memory, in any case. Laws, which do nothing, and calls of std's traits need no row."""
 
 import importlib.machinery
 import importlib.util
@@ -14,7 +13,7 @@ import pytest
 from conftest import TOP
 
 NAMES = r"(`[\w:]+`(?:, `[\w:]+`)*)"
-ROW = re.compile(rf"\| `(\w+)` \| {NAMES} \| (yes|no) \| (\S.*?) \|(?: tested by `(\w+)` \|)?$")
+ROW = re.compile(rf"\| `(\w+)` \| {NAMES} \| (yes|no) \| (\S.*?) \|$")
 TRAITS = {"UseStore", "Verifier", "Sink", "Source"}
 
 
@@ -37,7 +36,7 @@ def calls(crate):
         names.update(re.findall(r"\w+", group))
     for path in sorted((TOP / f"crates/{crate}/src").glob("*.rt")):
         owner, of_trait = None, False
-        for line in path.read_text().splitlines() if path.name not in ("laws.rt", "tests.rt") else []:
+        for line in path.read_text().splitlines() if path.name != "laws.rt" else []:
             begin = re.match(r"impl(?:<.*?>+)? (?:(\w+)(?:<[^{]*?>)? for )?(\w+)", line)
             if begin:
                 owner, of_trait = begin[2] if begin[2] in names else "", begin[1] in TRAITS
@@ -49,13 +48,6 @@ def calls(crate):
             elif inner and owner and (inner[1] or of_trait):
                 found.add(f"{owner}::{inner[2]}")
     return found
-
-
-def has_test(crate, name):
-    source = TOP / f"crates/{crate}/src"
-    return any(
-        re.search(rf"#\[test\]\s+fn {name}\b", path.read_text()) for path in [*source.glob("tests.rt"), *source.glob("tests/**/*.rt")]
-    )
 
 
 @pytest.fixture(scope="module")
@@ -87,10 +79,7 @@ def lines():
 def test_the_calls_of_a_row_are_tested(row, words, lines):
     read = ROW.match(row)
     assert read, "this row can't be read"
-    crate, names, takes, _, test = read.groups()
-    if test:
-        assert has_test(crate, test), f"there is no test {test}"
-        return
+    _, names, takes, _ = read.groups()
     every, swept = words
     for call in re.findall(r"[\w:]+", names):
         made_by = lines.get(call.split("::")[-1], set())

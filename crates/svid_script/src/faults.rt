@@ -1,4 +1,3 @@
-use std::io::Write;
 use svid_check::{TakeFault, WithdrawFault};
 use svid_id::IdFault;
 use svid_keys::{BundleFault, TableFault};
@@ -11,15 +10,15 @@ use svid_wire::ReadFault;
 
 /// `no_memory`: the message of each fault that says that a call was out of memory.
 pub fn no_memory(out: &mut Out<'_>) -> Result<(), Stop> {
-    say_message(out, &IdFault::OutOfMemory)?;
-    say_message(out, &PartFault::OutOfMemory)?;
-    say_message(out, &Refusal::OutOfMemory)?;
-    say_message(out, &BundleFault::OutOfMemory)?;
-    say_message(out, &TableFault::OutOfMemory)?;
-    say_message(out, &ReadFault::OutOfMemory)?;
-    say_message(out, &TakeFault::OutOfMemory)?;
-    say_message(out, &WithdrawFault::OutOfMemory)?;
-    say_message(out, &ToolFault::OutOfMemory)?;
+    say_message(out, &IdFault::OutOfMemory);
+    say_message(out, &PartFault::OutOfMemory);
+    say_message(out, &Refusal::OutOfMemory);
+    say_message(out, &BundleFault::OutOfMemory);
+    say_message(out, &TableFault::OutOfMemory);
+    say_message(out, &ReadFault::OutOfMemory);
+    say_message(out, &TakeFault::OutOfMemory);
+    say_message(out, &WithdrawFault::OutOfMemory);
+    say_message(out, &ToolFault::OutOfMemory);
     let status = ToolFault::OutOfMemory.status();
-    Ok(writeln!(out, "= status {status}")?)
+    Ok(out.line(format_args!("= status {status}")))
 }

@@ -7,14 +7,15 @@ mod script;
 
 use crate::script::Script;
 use std::io;
-use std::io::{BufRead, BufReader, Write};
+use std::io::{BufRead, BufReader};
 use svid_script_base::out::Out;
 
 fn main(rt: HostRuntime) -> io::Result<()> {
     let mut out = Out::new(&rt)?;
     let mut script = Script::new(rt.alloc());
     for line in BufReader::new(rt.alloc(), rt.reader())?.lines(rt.alloc()) {
-        script.line(&mut out, line?.as_str())?;
+        script.line(&mut out, line?.as_str());
+        out.ended()?;
     }
     out.flush()
 }

@@ -1,7 +1,5 @@
 use crate::faults::no_memory;
 use std::alloc::Global;
-use std::io;
-use std::io::Write;
 use svid_script_base::byte_words::bytes;
 use svid_script_base::env::{Env, Failing};
 use svid_script_base::out::Out;
@@ -58,7 +56,7 @@ fn show(out: &mut Out<'_>, env: &Env, words: &[&str]) -> Result<(), Stop> {
 // `hex BYTES`
 fn show_bytes(out: &mut Out<'_>, env: &Env, words: &[&str]) -> Result<(), Stop> {
     let all = bytes(env, word(words, 1))?;
-    say_bytes(out, &all)
+    Ok(say_bytes(out, &all))
 }
 
 // `fail get STREAM N`, `fail put STREAM N`, `fail off`
@@ -195,19 +193,18 @@ fn call_failing(out: &mut Out<'_>, values: &mut Values, line: &str) -> Result<()
     if !values.env.failed {
         return answer;
     }
-    tell(out, answer)?;
-    writeln!(out, "~ failed")?;
+    tell(out, answer);
+    out.line("~ failed");
     call_again(out, values, line)
 }
 
 // Prints why a line was not carried out.
-fn tell(out: &mut Out<'_>, answer: Result<(), Stop>) -> io::Result<()> {
+fn tell(out: &mut Out<'_>, answer: Result<(), Stop>) {
     match answer {
-        Ok(()) => Ok(()),
-        Err(Stop::OutOfMemory) => writeln!(out, "! out of memory"),
-        Err(Stop::Script(what)) => writeln!(out, "? {what}"),
-        Err(Stop::NoCall) => writeln!(out, "? no such call"),
-        Err(Stop::Output(error)) => Err(error),
+        Ok(()) => {}
+        Err(Stop::OutOfMemory) => out.line("! out of memory"),
+        Err(Stop::Script(what)) => out.line(format_args!("? {what}")),
+        Err(Stop::NoCall) => out.line("? no such call"),
     }
 }
 
@@ -232,7 +229,7 @@ impl Script {
         let refused = was_refused(self.values.env.alloc);
         refuse(self.values.env.alloc, 0);
         if refused {
-            writeln!(out, "~ refused")?;
+            out.line("~ refused");
         }
         answer
     }
@@ -255,11 +252,11 @@ impl Script {
     }
 
     /// Carries out a line. What is no call is told and passed over.
-    pub fn line(&mut self, out: &mut Out<'_>, line: &str) -> io::Result<()> {
+    pub fn line(&mut self, out: &mut Out<'_>, line: &str) {
         if line.starts_with('#') {
-            return Ok(());
+            return;
         }
-        writeln!(out, "> {line}")?;
+        out.line(format_args!("> {line}"));
         let answer = self.any(out, line);
         tell(out, answer)
     }

@@ -1,10 +1,13 @@
+use std::fmt::Display;
 use std::io;
 use std::io::{BufWriter, Printer, Write};
 
-/// Standard output, and whether the message of a fault is printed behind it.
+/// Standard output, and whether the message of a fault is printed behind it. What the system answers to the first write that fails is
+/// kept, and nothing is printed behind that.
 #[derive(Drop)]
 pub struct Out<'a> {
     writer: BufWriter<Printer<'a, HostRuntime>>,
+    kept: io::Result<()>,
     pub texts: bool,
 }
 
@@ -13,17 +16,33 @@ impl<'a> Out<'a> {
     pub fn new(rt: &'a HostRuntime) -> io::Result<Out<'a>> {
         Ok(Out {
             writer: BufWriter::new(rt.alloc(), io::writer(rt))?,
+            kept: Ok(()),
             texts: false,
         })
     }
-}
 
-impl Write for Out<'_> {
-    fn write(&mut self, bytes: &[u8]) -> io::Result<usize> {
-        self.writer.write(bytes)
+    /// Prints a text.
+    pub fn say<T: Display + Drop>(&mut self, text: T) {
+        if self.kept.is_ok() {
+            self.kept = write!(self.writer, "{text}");
+        }
     }
 
-    fn flush(&mut self) -> io::Result<()> {
+    /// Prints a text and the end of a line.
+    pub fn line<T: Display + Drop>(&mut self, text: T) {
+        if self.kept.is_ok() {
+            self.kept = writeln!(self.writer, "{text}");
+        }
+    }
+
+    /// Whether all went well so far, or else what the system answered.
+    pub fn ended(&mut self) -> io::Result<()> {
+        std::mem::replace(&mut self.kept, Ok(()))
+    }
+
+    /// Hands all that was printed to the system.
+    pub fn flush(&mut self) -> io::Result<()> {
+        self.ended()?;
         self.writer.flush()
     }
 }

@@ -3,17 +3,16 @@ use crate::say::{hash_use, say_batches, say_digest, say_uses, short_digits};
 use crate::stop::Stop;
 use sha2::{Digest, Sha256};
 use std::alloc::Global;
-use std::io::Write;
 use svid_replay::{Record, Twice, Use, UseStore};
 
 // How many keys of a report are printed one by one.
 const MOST_KEYS: usize = 16;
 
-fn say_key_once(out: &mut Out<'_>, twice: &Twice) -> Result<(), Stop> {
+fn say_key_once(out: &mut Out<'_>, twice: &Twice) {
     let count = twice.uses.len();
-    write!(out, "= twice ")?;
-    short_digits(out, &twice.key)?;
-    writeln!(out, " {count}")?;
+    out.say("= twice ");
+    short_digits(out, &twice.key);
+    out.line(format_args!(" {count}"));
     say_uses(out, twice.uses.as_slice())
 }
 
@@ -24,7 +23,7 @@ fn hash_uses(hasher: &mut Sha256, uses: &[Use]) {
 }
 
 // Prints the keys that were used twice.
-fn say_report(out: &mut Out<'_>, listed: &[Twice]) -> Result<(), Stop> {
+fn say_report(out: &mut Out<'_>, listed: &[Twice]) {
     if listed.len() > MOST_KEYS {
         let mut hasher = Sha256::new();
         for twice in listed {
@@ -33,9 +32,8 @@ fn say_report(out: &mut Out<'_>, listed: &[Twice]) -> Result<(), Stop> {
         return say_digest(out, "twice", listed.len() as u64, hasher);
     }
     for twice in listed {
-        say_key_once(out, twice)?;
+        say_key_once(out, twice);
     }
-    Ok(())
 }
 
 /// Prints the report of a record.
@@ -45,7 +43,7 @@ pub fn report<S: UseStore>(
     alloc: Global,
 ) -> Result<(), Stop> {
     let listed = record.report(alloc)?;
-    say_report(out, &listed)
+    Ok(say_report(out, &listed))
 }
 
 /// Prints the parts of a record.
@@ -55,5 +53,5 @@ pub fn parts<S: UseStore>(
     alloc: Global,
 ) -> Result<(), Stop> {
     let parts = record.parts(alloc)?;
-    say_batches(out, &parts)
+    Ok(say_batches(out, &parts))
 }

@@ -4,7 +4,6 @@ use crate::stop::Stop;
 use crate::words::text_of;
 use sha2::{Digest, Sha256};
 use std::fmt::{Debug, Display};
-use std::io::Write;
 use svid_replay::{Batch, Summary, Use};
 
 // How many uses are printed one a line, and how many bytes as digits.
@@ -13,8 +12,8 @@ const MOST_LINES: usize = 16;
 const MOST_DIGITS: usize = 256;
 
 /// Prints the message of a fault.
-pub fn say_message<E: Display>(out: &mut Out<'_>, fault: &E) -> Result<(), Stop> {
-    Ok(writeln!(out, "= {fault}")?)
+pub fn say_message<E: Display>(out: &mut Out<'_>, fault: &E) {
+    out.line(format_args!("= {fault}"))
 }
 
 /// Prints the fault that a call answered, or stops where that says that it was out of memory.
@@ -26,9 +25,9 @@ pub fn say_fault<E: Debug + Display + Drop>(
     if is_out_of_memory {
         return Err(Stop::OutOfMemory);
     }
-    writeln!(out, "! {fault:?}")?;
+    out.line(format_args!("! {fault:?}"));
     if out.texts {
-        say_message(out, &fault)?;
+        say_message(out, &fault);
     }
     Ok(())
 }
@@ -40,95 +39,92 @@ pub fn refused<E: Fault>(out: &mut Out<'_>, fault: E) -> Result<(), Stop> {
 }
 
 /// Prints that a call went well that answers nothing else.
-pub fn say_ok(out: &mut Out<'_>) -> Result<(), Stop> {
-    Ok(writeln!(out, "= ok")?)
+pub fn say_ok(out: &mut Out<'_>) {
+    out.line("= ok")
 }
 
 /// Prints that a call went well that answers nothing else, or its fault.
 pub fn done<E: Fault>(out: &mut Out<'_>, answer: Result<(), E>) -> Result<(), Stop> {
     match answer {
-        Ok(()) => say_ok(out),
+        Ok(()) => Ok(say_ok(out)),
         Err(fault) => refused(out, fault),
     }
 }
 
-pub fn say_number(out: &mut Out<'_>, number: u64) -> Result<(), Stop> {
-    Ok(writeln!(out, "= {number}")?)
+pub fn say_number(out: &mut Out<'_>, number: u64) {
+    out.line(format_args!("= {number}"))
 }
 
-pub fn say_bool(out: &mut Out<'_>, is_so: bool) -> Result<(), Stop> {
-    Ok(writeln!(out, "= {is_so}")?)
+pub fn say_bool(out: &mut Out<'_>, is_so: bool) {
+    out.line(format_args!("= {is_so}"))
 }
 
-pub fn say_text(out: &mut Out<'_>, text: &str) -> Result<(), Stop> {
-    Ok(writeln!(out, "= {text}")?)
+pub fn say_text(out: &mut Out<'_>, text: &str) {
+    out.line(format_args!("= {text}"))
 }
 
-pub fn say_none(out: &mut Out<'_>) -> Result<(), Stop> {
-    Ok(writeln!(out, "= -")?)
+pub fn say_none(out: &mut Out<'_>) {
+    out.line("= -")
 }
 
 /// Prints each line of a text.
 pub fn say_lines(out: &mut Out<'_>, bytes: &[u8]) -> Result<(), Stop> {
     for line in text_of(bytes)?.lines() {
-        say_text(out, line)?;
+        say_text(out, line);
     }
     Ok(())
 }
 
-fn digits(out: &mut Out<'_>, bytes: &[u8]) -> Result<(), Stop> {
+fn digits(out: &mut Out<'_>, bytes: &[u8]) {
     for byte in bytes {
-        write!(out, "{byte:02x}")?;
+        out.say(format_args!("{byte:02x}"));
     }
-    Ok(())
 }
 
 /// Prints two digits where all bytes are equal, and else all digits.
-pub fn short_digits(out: &mut Out<'_>, bytes: &[u8]) -> Result<(), Stop> {
+pub fn short_digits(out: &mut Out<'_>, bytes: &[u8]) {
     match bytes.first() {
-        Some(first) if bytes.iter().all(|byte| *byte == *first) => write!(out, "{first:02x}")?,
-        _ => digits(out, bytes)?,
+        Some(first) if bytes.iter().all(|byte| *byte == *first) => out.say(format_args!(
+            "{first:02x}"
+        )),
+        _ => digits(out, bytes),
     }
-    Ok(())
 }
 
 /// Prints all digits of bytes.
-pub fn say_digits(out: &mut Out<'_>, bytes: &[u8]) -> Result<(), Stop> {
-    write!(out, "= ")?;
-    digits(out, bytes)?;
-    writeln!(out)?;
-    Ok(())
+pub fn say_digits(out: &mut Out<'_>, bytes: &[u8]) {
+    out.say("= ");
+    digits(out, bytes);
+    out.line("");
 }
 
 /// Prints bytes: their digits, or how many they are and their SHA-256.
-pub fn say_bytes(out: &mut Out<'_>, bytes: &[u8]) -> Result<(), Stop> {
+pub fn say_bytes(out: &mut Out<'_>, bytes: &[u8]) {
     if bytes.len() <= MOST_DIGITS {
         return say_digits(out, bytes);
     }
     let count = bytes.len();
     let mut hasher = Sha256::new();
     hasher.update(bytes);
-    write!(out, "= {count} ")?;
-    digits(out, &hasher.finalize())?;
-    writeln!(out)?;
-    Ok(())
+    out.say(format_args!("= {count} "));
+    digits(out, &hasher.finalize());
+    out.line("");
 }
 
 /// Prints a use as a script writes it.
-pub fn say_use(out: &mut Out<'_>, used: &Use) -> Result<(), Stop> {
+pub fn say_use(out: &mut Out<'_>, used: &Use) {
     let exp = used.exp;
     let at = used.at;
     let mark = if used.withdrawn { "/withdrawn" } else { "" };
-    write!(out, "= {exp}/")?;
-    short_digits(out, &used.key)?;
-    write!(out, "/")?;
-    short_digits(out, &used.validator_id)?;
-    writeln!(out, "/{at}{mark}")?;
-    Ok(())
+    out.say(format_args!("= {exp}/"));
+    short_digits(out, &used.key);
+    out.say("/");
+    short_digits(out, &used.validator_id);
+    out.line(format_args!("/{at}{mark}"));
 }
 
 /// Prints a use, or that there is none.
-pub fn say_use_if_any(out: &mut Out<'_>, used: Option<Use>) -> Result<(), Stop> {
+pub fn say_use_if_any(out: &mut Out<'_>, used: Option<Use>) {
     match used {
         Some(used) => say_use(out, &used),
         None => say_none(out),
@@ -145,15 +141,14 @@ pub fn hash_use(hasher: &mut Sha256, used: &Use) {
 }
 
 /// Prints how many there are of something, and a digest.
-pub fn say_digest(out: &mut Out<'_>, what: &str, count: u64, hasher: Sha256) -> Result<(), Stop> {
-    write!(out, "= {what} {count} ")?;
-    digits(out, &hasher.finalize())?;
-    writeln!(out)?;
-    Ok(())
+pub fn say_digest(out: &mut Out<'_>, what: &str, count: u64, hasher: Sha256) {
+    out.say(format_args!("= {what} {count} "));
+    digits(out, &hasher.finalize());
+    out.line("");
 }
 
 /// Prints uses, each on a line, or how many they are and their SHA-256.
-pub fn say_uses(out: &mut Out<'_>, uses: &[Use]) -> Result<(), Stop> {
+pub fn say_uses(out: &mut Out<'_>, uses: &[Use]) {
     if uses.len() > MOST_LINES {
         let mut hasher = Sha256::new();
         for used in uses {
@@ -162,30 +157,28 @@ pub fn say_uses(out: &mut Out<'_>, uses: &[Use]) -> Result<(), Stop> {
         return say_digest(out, "uses", uses.len() as u64, hasher);
     }
     for used in uses {
-        say_use(out, used)?;
+        say_use(out, used);
     }
-    Ok(())
 }
 
 /// Prints a batch.
-pub fn say_batch(out: &mut Out<'_>, batch: &Batch) -> Result<(), Stop> {
+pub fn say_batch(out: &mut Out<'_>, batch: &Batch) {
     let moment = batch.moment();
     let uses = batch.uses();
     let count = uses.len();
-    writeln!(out, "= batch {moment} {count}")?;
+    out.line(format_args!("= batch {moment} {count}"));
     say_uses(out, uses)
 }
 
 /// Prints batches.
-pub fn say_batches(out: &mut Out<'_>, batches: &[Batch]) -> Result<(), Stop> {
+pub fn say_batches(out: &mut Out<'_>, batches: &[Batch]) {
     for batch in batches {
-        say_batch(out, batch)?;
+        say_batch(out, batch);
     }
-    Ok(())
 }
 
 /// Prints a summary.
-pub fn say_summary(out: &mut Out<'_>, summary: &Summary) -> Result<(), Stop> {
+pub fn say_summary(out: &mut Out<'_>, summary: &Summary) {
     let mut hasher = Sha256::new();
     for digest in summary.digests() {
         hasher.update(digest);

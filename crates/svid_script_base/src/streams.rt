@@ -6,7 +6,6 @@ use crate::piece_source::PieceSource;
 use crate::say::say_bytes;
 use crate::stop::Stop;
 use crate::words::{number_if_any, step, word};
-use std::io::Write;
 use svid_wire::Source;
 
 // Which call of the stream with this index in the line fails.
@@ -96,12 +95,12 @@ pub fn rest(out: &mut Out<'_>, env: &Env, words: &[&str]) -> Result<(), Stop> {
     let left = source.left();
     let gets = source.gets();
     let faults = source.faults();
-    Ok(writeln!(out, "= {left} {gets} {faults}")?)
+    Ok(out.line(format_args!("= {left} {gets} {faults}")))
 }
 
 /// `took SINK`
 pub fn took(out: &mut Out<'_>, env: &Env, words: &[&str]) -> Result<(), Stop> {
-    say_bytes(out, env.sinks.get(word(words, 1))?.bytes())
+    Ok(say_bytes(out, env.sinks.get(word(words, 1))?.bytes()))
 }
 
 /// `puts SINK`
@@ -109,8 +108,8 @@ pub fn puts(out: &mut Out<'_>, env: &Env, words: &[&str]) -> Result<(), Stop> {
     for pieces in env.sinks.get(word(words, 1))?.handed() {
         let len = pieces.len;
         match pieces.times {
-            1 => writeln!(out, "= {len}")?,
-            times => writeln!(out, "= {len}*{times}")?,
+            1 => out.line(format_args!("= {len}")),
+            times => out.line(format_args!("= {len}*{times}")),
         }
     }
     Ok(())

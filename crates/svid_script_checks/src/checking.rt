@@ -15,7 +15,7 @@ use svid_token::Refusal;
 /// Prints that a record or a batch was taken, or why not.
 pub fn say_taken(out: &mut Out<'_>, answer: Result<(), TakeFault>) -> Result<(), Stop> {
     match answer {
-        Ok(()) => say_ok(out),
+        Ok(()) => Ok(say_ok(out)),
         Err(fault) => take_refused(out, fault),
     }
 }
@@ -32,7 +32,7 @@ fn withdraw_refused(out: &mut Out<'_>, fault: WithdrawFault) -> Result<(), Stop>
 
 fn say_withdrawn(out: &mut Out<'_>, answer: Result<Use, WithdrawFault>) -> Result<(), Stop> {
     match answer {
-        Ok(used) => say_use(out, &used),
+        Ok(used) => Ok(say_use(out, &used)),
         Err(fault) => withdraw_refused(out, fault),
     }
 }
@@ -142,7 +142,7 @@ pub fn answer(
     let summary = env.summaries.get(word(words, 3))?;
     let validator = validators.get_mut(word(words, 1))?;
     match over_any!(AnyValidator, validator, v => answer_by(v, alloc, now, summary)) {
-        Ok(parts) => say_batches(out, &parts),
+        Ok(parts) => Ok(say_batches(out, &parts)),
         Err(fault) => take_refused(out, fault),
     }
 }
@@ -194,7 +194,7 @@ fn events_in<'a>(env: &'a Env, words: &[&str]) -> Result<Vec<Event<'a>>, Stop> {
 fn say_answer(out: &mut Out<'_>, answer: Answer) -> Result<(), Stop> {
     match answer {
         Answer::Checked(checked) => say_checked(out, checked),
-        Answer::Ticked => say_text(out, "ticked"),
+        Answer::Ticked => Ok(say_text(out, "ticked")),
         Answer::Taken(taken) => say_taken(out, taken),
         Answer::Withdrawn(withdrawn) => say_withdrawn(out, withdrawn),
     }
@@ -216,7 +216,7 @@ fn say_answers(out: &mut Out<'_>, answers: Vec<Answer>) -> Result<(), Stop> {
         match say_answer(out, answer) {
             Err(Stop::OutOfMemory) => {
                 refused = true;
-                say_text(out, "out of memory")?;
+                say_text(out, "out of memory");
             }
             said => said?,
         }

@@ -133,7 +133,7 @@ pub fn judge_again(
     let exp = number(word(words, 4))?;
     let validator = validators.get_mut(word(words, 1))?;
     match over_any!(AnyValidator, validator, v => judge_again_in(v, now, &key, exp)) {
-        None => say_ok(out),
+        None => Ok(say_ok(out)),
         Some(refusal) => token_refused(out, refusal),
     }
 }
@@ -216,7 +216,7 @@ pub fn parts_after(out: &mut Out<'_>, validators: &Validators, words: &[&str]) -
     let most = number(word(words, 3))? as usize;
     let validator = validators.get(word(words, 1))?;
     match over_any!(AnyValidator, validator, v => part_in(v, after, most)) {
-        Ok(batch) => say_batch(out, &batch),
+        Ok(batch) => Ok(say_batch(out, &batch)),
         Err(error) => refused(out, error),
     }
 }

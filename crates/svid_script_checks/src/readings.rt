@@ -9,11 +9,11 @@ use svid_script_base::words::word;
 use svid_script_trust::Trust;
 use svid_script_trust::say::{say_claims, say_header, say_key, token_refused};
 
-fn say_reading(out: &mut Out<'_>, reading: &Reading) -> Result<(), Stop> {
-    say_header(out, &reading.header)?;
-    say_claims(out, &reading.claims)?;
-    say_bytes(out, &reading.signature)?;
-    say_bytes(out, &reading.input)?;
+fn say_reading(out: &mut Out<'_>, reading: &Reading) {
+    say_header(out, &reading.header);
+    say_claims(out, &reading.claims);
+    say_bytes(out, &reading.signature);
+    say_bytes(out, &reading.input);
     say_digits(out, &reading.key())
 }
 
@@ -21,7 +21,7 @@ fn say_reading(out: &mut Out<'_>, reading: &Reading) -> Result<(), Stop> {
 pub fn reading(out: &mut Out<'_>, env: &Env, words: &[&str]) -> Result<(), Stop> {
     let token = bytes(env, word(words, 1))?;
     match Reading::of(env.alloc, &token) {
-        Ok(reading) => say_reading(out, &reading),
+        Ok(reading) => Ok(say_reading(out, &reading)),
         Err(refusal) => token_refused(out, refusal),
     }
 }
@@ -30,7 +30,7 @@ fn say_candidates(out: &mut Out<'_>, reading: &Reading, bundles: &Bundles) -> Re
     match reading.candidates(bundles) {
         Ok(candidates) => {
             for key in candidates {
-                say_key(out, key)?;
+                say_key(out, key);
             }
             Ok(())
         }

@@ -107,8 +107,8 @@ pub fn validator(
 // The moment and the uses of a record.
 fn state<S: UseStore>(out: &mut Out<'_>, record: &Record<S>, alloc: Global) -> Result<(), Stop> {
     let uses = record.uses(alloc)?;
-    say_number(out, record.moment())?;
-    say_uses(out, &uses)
+    say_number(out, record.moment());
+    Ok(say_uses(out, &uses))
 }
 
 fn of_replay<S: UseStore>(

@@ -20,7 +20,7 @@ use svid_share::ToolFault;
 // Prints yes or no, or the fault.
 fn decided(out: &mut Out<'_>, answer: Result<bool, ToolFault>) -> Result<(), Stop> {
     match answer {
-        Ok(is_so) => say_bool(out, is_so),
+        Ok(is_so) => Ok(say_bool(out, is_so)),
         Err(fault) => tool_refused(out, fault),
     }
 }

@@ -1,6 +1,5 @@
 use crate::values::Folders;
 use std::fmt::Debug;
-use std::io::Write;
 use svid_journal::{Fault, Folder, Words};
 use svid_script_base::byte_words::bytes;
 use svid_script_base::env::Env;
@@ -12,7 +11,7 @@ use svid_script_base::words::{id16, number, word};
 // Prints that a call went well, or its fault.
 fn done(out: &mut Out<'_>, answer: Result<(), Fault>) -> Result<(), Stop> {
     match answer {
-        Ok(()) => say_ok(out),
+        Ok(()) => Ok(say_ok(out)),
         Err(fault) => say_fault(out, fault, false),
     }
 }
@@ -45,7 +44,7 @@ pub(crate) fn of_words(
     };
     match numbers.folder() {
         Some(folder) => folders.folders.put(word(words, 1), folder),
-        None => say_none(out),
+        None => Ok(say_none(out)),
     }
 }
 
@@ -61,10 +60,7 @@ pub(crate) fn show(out: &mut Out<'_>, folders: &Folders, words: &[&str]) -> Resu
         flying,
         pieces,
     } = Words::of(folders.folders.get(word(words, 1))?);
-    Ok(writeln!(
-        out,
-        "= {step} {oldest} {newest} {ended} {count} {end} {flying} {pieces}"
-    )?)
+    Ok(out.line(format_args!("= {step} {oldest} {newest} {ended} {count} {end} {flying} {pieces}")))
 }
 
 /// `folder.begin NAME`
@@ -72,14 +68,14 @@ pub(crate) fn begin(out: &mut Out<'_>, folders: &mut Folders, words: &[&str]) ->
     done(out, folders.folders.get_mut(word(words, 1))?.begin())
 }
 
-fn say_value<T: Debug>(out: &mut Out<'_>, value: &T) -> Result<(), Stop> {
-    Ok(writeln!(out, "= {value:?}")?)
+fn say_value<T: Debug>(out: &mut Out<'_>, value: &T) {
+    out.line(format_args!("= {value:?}"))
 }
 
 /// `folder.due NAME`
 pub(crate) fn due(out: &mut Out<'_>, folders: &Folders, words: &[&str]) -> Result<(), Stop> {
     match folders.folders.get(word(words, 1))?.due() {
-        Ok(call) => say_value(out, &call),
+        Ok(call) => Ok(say_value(out, &call)),
         Err(fault) => say_fault(out, fault, false),
     }
 }
@@ -127,7 +123,7 @@ fn framed(
     match answer {
         Ok(len) => {
             room.truncate(len);
-            say_bytes(out, &room)?;
+            say_bytes(out, &room);
             env.bytes.put(name, room)
         }
         Err(fault) => say_fault(out, fault, false),

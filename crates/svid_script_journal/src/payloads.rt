@@ -1,4 +1,3 @@
-use std::io::Write;
 use svid_journal::LogPosition;
 use svid_script_base::byte_words::bytes;
 use svid_script_base::env::Env;
@@ -17,7 +16,7 @@ pub(crate) fn text(out: &mut Out<'_>, env: &mut Env, words: &[&str]) -> Result<(
     };
     let mut text = Vec::new(env.alloc);
     text.extend_from_slice(&position.text())?;
-    say_bytes(out, &text)?;
+    say_bytes(out, &text);
     env.bytes.put(word(words, 1), text)
 }
 
@@ -25,11 +24,11 @@ pub(crate) fn text(out: &mut Out<'_>, env: &mut Env, words: &[&str]) -> Result<(
 pub(crate) fn split(out: &mut Out<'_>, env: &Env, words: &[&str]) -> Result<(), Stop> {
     let payload = bytes(env, word(words, 1))?;
     let Some((position, messages)) = LogPosition::split(&payload) else {
-        return say_none(out);
+        return Ok(say_none(out));
     };
     let passed = position.passed;
     let begun = position.begun;
     let deaf = position.deaf;
-    writeln!(out, "= {passed} {begun} {deaf}")?;
-    say_bytes(out, messages)
+    out.line(format_args!("= {passed} {begun} {deaf}"));
+    Ok(say_bytes(out, messages))
 }

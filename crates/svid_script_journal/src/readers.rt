@@ -1,6 +1,5 @@
 use crate::titles::title_of;
 use crate::values::Folders;
-use std::io::Write;
 use svid_journal::{Next, Reader};
 use svid_script_base::byte_words::bytes;
 use svid_script_base::env::Env;
@@ -32,20 +31,19 @@ pub(crate) fn show(out: &mut Out<'_>, folders: &Folders, words: &[&str]) -> Resu
     let count = reader.count;
     let at = reader.at;
     let marked = reader.marked;
-    Ok(writeln!(out, "= {count} {at} {marked}")?)
+    Ok(out.line(format_args!("= {count} {at} {marked}")))
 }
 
 // Prints what stands at a offset of a file.
-fn say_next(out: &mut Out<'_>, next: Next<'_>, at: u64) -> Result<(), Stop> {
+fn say_next(out: &mut Out<'_>, next: Next<'_>, at: u64) {
     match next {
-        Next::Payload(payload) => say_bytes(out, payload)?,
-        Next::End => writeln!(out, "= end at {at}")?,
-        Next::Tear => writeln!(out, "= tear at {at}")?,
-        Next::Damage => writeln!(out, "= damage at {at}")?,
-        Next::Other(format) => writeln!(out, "= format {format} at {at}")?,
-        Next::Unfit => writeln!(out, "= unfit")?,
+        Next::Payload(payload) => say_bytes(out, payload),
+        Next::End => out.line(format_args!("= end at {at}")),
+        Next::Tear => out.line(format_args!("= tear at {at}")),
+        Next::Damage => out.line(format_args!("= damage at {at}")),
+        Next::Other(format) => out.line(format_args!("= format {format} at {at}")),
+        Next::Unfit => out.line("= unfit"),
     }
-    Ok(())
 }
 
 /// `reader.next NAME FILE ID BYTES`
@@ -60,7 +58,7 @@ pub(crate) fn next(
     let reader = folders.readers.get_mut(word(words, 1))?;
     let next = reader.next(&title, &file);
     let at = reader.at;
-    say_next(out, next, at)
+    Ok(say_next(out, next, at))
 }
 
 /// `read FILE ID BYTES`
@@ -72,7 +70,7 @@ pub(crate) fn read(out: &mut Out<'_>, env: &Env, words: &[&str]) -> Result<(), S
     for _ in 0..=file.len() / 32 {
         let next = reader.next(&title, &file);
         let is_more = matches!(next, Next::Payload(_));
-        say_next(out, next, reader.at)?;
+        say_next(out, next, reader.at);
         if !is_more {
             break;
         }

@@ -1,4 +1,3 @@
-use std::io::Write;
 use svid_journal::{File, MOST_PAYLOAD, Title, frame_len};
 use svid_script_base::out::Out;
 use svid_script_base::say::say_number;
@@ -26,7 +25,7 @@ pub(crate) fn title(out: &mut Out<'_>, words: &[&str]) -> Result<(), Stop> {
     let title = title_of(word(words, 1), word(words, 2))?;
     let kind = text_of(title.kind())?;
     let number = title.number();
-    Ok(writeln!(out, "= {kind} {number}")?)
+    Ok(out.line(format_args!("= {kind} {number}")))
 }
 
 /// `frame_len N`
@@ -35,5 +34,5 @@ pub(crate) fn len(out: &mut Out<'_>, words: &[&str]) -> Result<(), Stop> {
     if count > MOST_PAYLOAD as u64 {
         return Err(Stop::Script("no payload is so long"));
     }
-    say_number(out, frame_len(count as usize) as u64)
+    Ok(say_number(out, frame_len(count as usize) as u64))
 }

@@ -31,14 +31,14 @@ pub fn restore(env: &Env, logs: &mut Logs, words: &[&str]) -> Result<(), Stop> {
 /// `beside.save NAME`
 pub fn save(out: &mut Out<'_>, env: &Env, logs: &Logs, words: &[&str]) -> Result<(), Stop> {
     let saved = logs.claims.get(word(words, 1))?.save(env.alloc)?;
-    say_batches(out, &saved)
+    Ok(say_batches(out, &saved))
 }
 
 /// `beside.has NAME N KEY`
 pub fn has(out: &mut Out<'_>, logs: &mut Logs, words: &[&str]) -> Result<(), Stop> {
     let moment = number(word(words, 2))?;
     let key = key(word(words, 3))?;
-    say_bool(out, logs.claims.get_mut(word(words, 1))?.has(moment, &key))
+    Ok(say_bool(out, logs.claims.get_mut(word(words, 1))?.has(moment, &key)))
 }
 
 // A use that is read, and when.
@@ -71,5 +71,5 @@ pub fn read(out: &mut Out<'_>, env: &mut Env, logs: &mut Logs, words: &[&str]) -
     let claims = logs.claims.get_mut(word(words, 1))?;
     let record = env.records.get_mut(word(words, 2))?;
     let fate = over_any!(AnyRecord, record, r => read_by(claims, r, asked))?;
-    say_fates(out, &[fate])
+    Ok(say_fates(out, &[fate]))
 }

@@ -90,7 +90,7 @@ pub fn judge_again(
     let member = &mut logs.members.get_mut(word(words, 2))?.member;
     let validator = validators.get_mut(word(words, 1))?;
     match over_any!(AnyValidator, validator, v => judge_again_in(v, member, now, &key, exp)) {
-        None => say_ok(out),
+        None => Ok(say_ok(out)),
         Some(refusal) => token_refused(out, refusal),
     }
 }

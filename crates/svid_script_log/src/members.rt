@@ -1,7 +1,6 @@
 use crate::logs::{Logs, Reader};
 use crate::values::uses_at;
 use std::alloc::{AllocError, Global};
-use std::io::Write;
 use svid_check::Validator;
 use svid_log::{Mark, Member};
 use svid_replay::{RunUses, Use, UseStore};
@@ -95,7 +94,7 @@ pub fn of_validator(
 /// `member.save NAME`
 pub fn save(out: &mut Out<'_>, env: &Env, logs: &Logs, words: &[&str]) -> Result<(), Stop> {
     let saved = logs.members.get(word(words, 1))?.member.save(env.alloc)?;
-    say_batches(out, &saved)
+    Ok(say_batches(out, &saved))
 }
 
 /// `member.mark NAME`
@@ -106,7 +105,7 @@ pub fn mark(out: &mut Out<'_>, logs: &Logs, words: &[&str]) -> Result<(), Stop> 
     let begun = mark.begun;
     let deaf = mark.deaf;
     let is_ready = member.is_ready();
-    Ok(writeln!(out, "= {passed} {begun} {deaf} {is_ready}")?)
+    Ok(out.line(format_args!("= {passed} {begun} {deaf} {is_ready}")))
 }
 
 /// `member.go_on NAME`
@@ -120,5 +119,5 @@ pub fn has(out: &mut Out<'_>, logs: &mut Logs, words: &[&str]) -> Result<(), Sto
     let moment = number(word(words, 2))?;
     let key = key(word(words, 3))?;
     let member = &mut logs.members.get_mut(word(words, 1))?.member;
-    say_bool(out, member.has(moment, &key))
+    Ok(say_bool(out, member.has(moment, &key)))
 }

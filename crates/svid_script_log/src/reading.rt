@@ -64,8 +64,8 @@ fn say_read(
         reader.order = Some(order);
         return Err(Stop::OutOfMemory);
     }
-    say_reading(out, order, from, reader.before.len(), reading.rest)?;
-    say_fates(out, &reader.before)?;
+    say_reading(out, order, from, reader.before.len(), reading.rest);
+    say_fates(out, &reader.before);
     reader.before.clear();
     Ok(())
 }

@@ -1,35 +1,27 @@
-use std::io::Write;
 use svid_log::{Fate, Order, Rest};
 use svid_script_base::out::Out;
 use svid_script_base::stop::Stop;
 
 /// Prints how a value was read.
-pub fn say_reading(
-    out: &mut Out<'_>,
-    order: Order,
-    from: usize,
-    count: usize,
-    rest: Rest,
-) -> Result<(), Stop> {
-    Ok(writeln!(out, "= {order:?} {from} {count} {rest:?}")?)
+pub fn say_reading(out: &mut Out<'_>, order: Order, from: usize, count: usize, rest: Rest) {
+    out.line(format_args!("= {order:?} {from} {count} {rest:?}"))
 }
 
-fn say_fate(out: &mut Out<'_>, fate: Fate, times: u64) -> Result<(), Stop> {
+fn say_fate(out: &mut Out<'_>, fate: Fate, times: u64) {
     match times {
         0 => {}
-        1 => writeln!(out, "= {fate:?}")?,
-        _ => writeln!(out, "= {fate:?}*{times}")?,
+        1 => out.line(format_args!("= {fate:?}")),
+        _ => out.line(format_args!("= {fate:?}*{times}")),
     }
-    Ok(())
 }
 
 /// Prints fates, those that are equal in a row on one line.
-pub fn say_fates(out: &mut Out<'_>, fates: &[Fate]) -> Result<(), Stop> {
+pub fn say_fates(out: &mut Out<'_>, fates: &[Fate]) {
     let mut last = Fate::Expired;
     let mut times = 0u64;
     for fate in fates {
         if *fate != last {
-            say_fate(out, last, times)?;
+            say_fate(out, last, times);
             last = *fate;
             times = 0;
         }
@@ -38,10 +30,10 @@ pub fn say_fates(out: &mut Out<'_>, fates: &[Fate]) -> Result<(), Stop> {
     say_fate(out, last, times)
 }
 
-fn say_decided(out: &mut Out<'_>, fate: Fate) -> Result<(), Stop> {
+fn say_decided(out: &mut Out<'_>, fate: Fate) {
     let accepted = fate.decided(true);
     let not = fate.decided(false);
-    Ok(writeln!(out, "= {fate:?} {accepted:?} {not:?}")?)
+    out.line(format_args!("= {fate:?} {accepted:?} {not:?}"))
 }
 
 /// `fates`
@@ -56,7 +48,7 @@ pub fn fates(out: &mut Out<'_>) -> Result<(), Stop> {
         Fate::Replayed,
     ];
     for fate in all {
-        say_decided(out, fate)?;
+        say_decided(out, fate);
     }
     Ok(())
 }

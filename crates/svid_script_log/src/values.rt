@@ -11,7 +11,7 @@ use svid_script_base::use_words::uses;
 use svid_script_base::words::{from, word};
 
 fn say_value(out: &mut Out<'_>, value: &Value) -> Result<(), Stop> {
-    say_uses(out, &value.uses)?;
+    say_uses(out, &value.uses);
     match value.fault {
         None => Ok(()),
         Some(fault) => refused(out, fault),

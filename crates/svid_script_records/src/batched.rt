@@ -16,7 +16,7 @@ fn refused(out: &mut Out<'_>, fault: UsesFault) -> Result<(), Stop> {
 pub fn batched(out: &mut Out<'_>, env: &Env, words: &[&str]) -> Result<(), Stop> {
     let given = uses(env.alloc, from(words, 1))?;
     match batches_of(env.alloc, &given) {
-        Ok(batches) => say_batches(out, &batches),
+        Ok(batches) => Ok(say_batches(out, &batches)),
         Err(fault) => refused(out, fault),
     }
 }

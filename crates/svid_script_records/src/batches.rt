@@ -28,5 +28,5 @@ pub fn good(env: &mut Env, words: &[&str]) -> Result<(), Stop> {
 
 /// `batch.show BATCH`
 pub fn show(out: &mut Out<'_>, env: &Env, words: &[&str]) -> Result<(), Stop> {
-    say_batch(out, env.batches.get(word(words, 1))?)
+    Ok(say_batch(out, env.batches.get(word(words, 1))?))
 }

@@ -29,8 +29,8 @@ pub fn digest(out: &mut Out<'_>, env: &mut Env, words: &[&str]) -> Result<(), St
     let moment = number(word(words, 3))?;
     let store = sharded(env.stores.get_mut(word(words, 1))?)?;
     let told = store.bucket_digest(byte, moment);
-    say_number(out, told.uses as u64)?;
-    say_digits(out, &told.digest)
+    say_number(out, told.uses as u64);
+    Ok(say_digits(out, &told.digest))
 }
 
 /// `bucket.differs NAME BYTE SUMMARY`
@@ -39,7 +39,7 @@ pub fn differs(out: &mut Out<'_>, env: &mut Env, words: &[&str]) -> Result<(), S
     let summary = env.summaries.get(word(words, 3))?;
     let store = sharded(env.stores.get_mut(word(words, 1))?)?;
     let differs = store.bucket_differs(byte, summary.moment(), summary.digest(byte));
-    say_bool(out, differs)
+    Ok(say_bool(out, differs))
 }
 
 /// `bucket.uses NAME BYTE N`
@@ -49,6 +49,6 @@ pub fn uses(out: &mut Out<'_>, env: &mut Env, words: &[&str]) -> Result<(), Stop
     let moment = number(word(words, 3))?;
     let store = sharded(env.stores.get_mut(word(words, 1))?)?;
     let uses = store.bucket_uses(alloc, byte, moment)?;
-    say_number(out, uses.len() as u64)?;
-    say_uses(out, &uses)
+    say_number(out, uses.len() as u64);
+    Ok(say_uses(out, &uses))
 }

@@ -85,7 +85,7 @@ pub fn pieces(out: &mut Out<'_>, env: &mut Env, words: &[&str]) -> Result<(), St
 /// `held NAME`
 pub fn held(out: &mut Out<'_>, env: &Env, words: &[&str]) -> Result<(), Stop> {
     let held = env.feeds.get(word(words, 1))?.feed.held();
-    say_number(out, held as u64)
+    Ok(say_number(out, held as u64))
 }
 
 /// `finish NAME`

@@ -6,7 +6,7 @@ use svid_script_base::stop::Stop;
 use svid_script_base::words::{number, word};
 use svid_wire::{Message, WireFault, batch_head, read_all};
 
-fn say_message(out: &mut Out<'_>, message: &Message) -> Result<(), Stop> {
+fn say_message(out: &mut Out<'_>, message: &Message) {
     match message {
         Message::Batch(batch) => say_batch(out, batch),
         Message::Summary(summary) => say_summary(out, summary),
@@ -20,7 +20,7 @@ pub fn say_pushed(
     answer: Result<(), WireFault>,
 ) -> Result<(), Stop> {
     for message in messages {
-        say_message(out, message)?;
+        say_message(out, message);
     }
     match answer {
         Ok(()) => Ok(()),
@@ -71,7 +71,7 @@ pub fn read_one(out: &mut Out<'_>, env: &mut Env, words: &[&str]) -> Result<(), 
 pub fn head(out: &mut Out<'_>, words: &[&str]) -> Result<(), Stop> {
     let moment = number(word(words, 1))?;
     match u32::try_from(number(word(words, 2))?) {
-        Ok(count) => say_bytes(out, &batch_head(moment, count)),
+        Ok(count) => Ok(say_bytes(out, &batch_head(moment, count))),
         Err(_) => Err(Stop::Script("no count")),
     }
 }

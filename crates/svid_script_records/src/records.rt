@@ -18,7 +18,7 @@ pub fn record(env: &mut Env, words: &[&str]) -> Result<(), Stop> {
 }
 
 fn has<S: UseStore>(out: &mut Out<'_>, record: &Record<S>, words: &[&str]) -> Result<(), Stop> {
-    say_bool(out, record.has(&key(word(words, 2))?))
+    Ok(say_bool(out, record.has(&key(word(words, 2))?)))
 }
 
 fn withdrawn<S: UseStore>(
@@ -26,7 +26,7 @@ fn withdrawn<S: UseStore>(
     record: &Record<S>,
     words: &[&str],
 ) -> Result<(), Stop> {
-    say_bool(out, record.is_withdrawn(&key(word(words, 2))?))
+    Ok(say_bool(out, record.is_withdrawn(&key(word(words, 2))?)))
 }
 
 fn next_after<S: UseStore>(
@@ -34,7 +34,7 @@ fn next_after<S: UseStore>(
     record: &Record<S>,
     words: &[&str],
 ) -> Result<(), Stop> {
-    say_use_if_any(out, record.next_after(use_if_any(word(words, 2))?))
+    Ok(say_use_if_any(out, record.next_after(use_if_any(word(words, 2))?)))
 }
 
 // The uses that are left to a walk.
@@ -43,7 +43,7 @@ fn walked<S: UseStore>(out: &mut Out<'_>, alloc: Global, walk: Walk<'_, S>) -> R
     for used in walk {
         uses.push(used)?;
     }
-    say_uses(out, &uses)
+    Ok(say_uses(out, &uses))
 }
 
 fn walk_after<S: UseStore>(
@@ -63,7 +63,7 @@ fn walk_steps<S: UseStore>(
 ) -> Result<(), Stop> {
     let mut walk = record.walk();
     for _ in 0..number(word(words, 2))? {
-        say_use_if_any(out, walk.next())?;
+        say_use_if_any(out, walk.next());
     }
     Ok(())
 }
@@ -73,7 +73,7 @@ fn raise<S: UseStore>(
     record: &mut Record<S>,
     words: &[&str],
 ) -> Result<(), Stop> {
-    say_number(out, record.raise(number(word(words, 2))?).dropped as u64)
+    Ok(say_number(out, record.raise(number(word(words, 2))?).dropped as u64))
 }
 
 // (a use may be added that was made by the record's moment, and expires later)
@@ -87,7 +87,7 @@ fn add<S: UseStore>(out: &mut Out<'_>, record: &mut Record<S>, words: &[&str]) -
 
 fn uses<S: UseStore>(out: &mut Out<'_>, record: &Record<S>, alloc: Global) -> Result<(), Stop> {
     let listed = record.uses(alloc)?;
-    say_uses(out, &listed)
+    Ok(say_uses(out, &listed))
 }
 
 // The calls that change a record.
@@ -110,10 +110,10 @@ fn change<S: UseStore>(
 // The calls that read a record and take no memory.
 fn ask<S: UseStore>(out: &mut Out<'_>, record: &mut Record<S>, words: &[&str]) -> Result<(), Stop> {
     match word(words, 0) {
-        "moment" => say_number(out, record.moment()),
-        "len" => say_number(out, record.len() as u64),
-        "record.stored" => say_number(out, record.store().len() as u64),
-        "empty" => say_bool(out, record.is_empty()),
+        "moment" => Ok(say_number(out, record.moment())),
+        "len" => Ok(say_number(out, record.len() as u64)),
+        "record.stored" => Ok(say_number(out, record.store().len() as u64)),
+        "empty" => Ok(say_bool(out, record.is_empty())),
         "record.has" => has(out, record, words),
         "record.withdrawn" => withdrawn(out, record, words),
         "record.next_after" => next_after(out, record, words),

@@ -27,31 +27,31 @@ fn insert<S: UseStore>(out: &mut Out<'_>, store: &mut S, words: &[&str]) -> Resu
 
 fn drop_expired<S: UseStore>(out: &mut Out<'_>, store: &mut S, words: &[&str]) -> Result<(), Stop> {
     let raised = store.drop_expired(number(word(words, 2))?);
-    say_number(out, raised.dropped as u64)
+    Ok(say_number(out, raised.dropped as u64))
 }
 
 fn has<S: UseStore>(out: &mut Out<'_>, store: &S, words: &[&str]) -> Result<(), Stop> {
-    say_bool(out, store.has(&key(word(words, 2))?))
+    Ok(say_bool(out, store.has(&key(word(words, 2))?)))
 }
 
 fn withdrawn<S: UseStore>(out: &mut Out<'_>, store: &S, words: &[&str]) -> Result<(), Stop> {
-    say_bool(out, store.is_withdrawn(&key(word(words, 2))?))
+    Ok(say_bool(out, store.is_withdrawn(&key(word(words, 2))?)))
 }
 
 fn next_after<S: UseStore>(out: &mut Out<'_>, store: &S, words: &[&str]) -> Result<(), Stop> {
-    say_use_if_any(out, store.next_after(use_if_any(word(words, 2))?))
+    Ok(say_use_if_any(out, store.next_after(use_if_any(word(words, 2))?)))
 }
 
 fn next_uses<S: UseStore>(out: &mut Out<'_>, store: &S, words: &[&str]) -> Result<(), Stop> {
     let mut room = Room::new();
     store.next_uses(use_if_any(word(words, 2))?, &mut room);
-    say_uses(out, room.as_slice())
+    Ok(say_uses(out, room.as_slice()))
 }
 
 fn next_near<S: UseStore>(out: &mut Out<'_>, store: &S, words: &[&str]) -> Result<(), Stop> {
     let mut near = Near::new();
     for after in from(words, 2) {
-        say_use_if_any(out, store.next_near(use_if_any(after)?, &mut near))?;
+        say_use_if_any(out, store.next_near(use_if_any(after)?, &mut near));
     }
     Ok(())
 }
@@ -60,14 +60,14 @@ fn next_ahead<S: UseStore>(out: &mut Out<'_>, store: &S, words: &[&str]) -> Resu
     let mut room = Room::new();
     let mut ahead = Ahead::of(use_if_any(word(words, 2))?);
     store.next_ahead(&mut ahead, &mut room);
-    say_uses(out, room.as_slice())?;
-    say_bool(out, ahead.known)?;
+    say_uses(out, room.as_slice());
+    say_bool(out, ahead.known);
     if word(words, 3) != "" {
         ahead.pass(&[one_use(word(words, 3))?]);
     }
     store.next_ahead(&mut ahead, &mut room);
-    say_use_if_any(out, ahead.after)?;
-    say_uses(out, room.as_slice())
+    say_use_if_any(out, ahead.after);
+    Ok(say_uses(out, room.as_slice()))
 }
 
 fn call_on<S: UseStore>(out: &mut Out<'_>, store: &mut S, words: &[&str]) -> Result<(), Stop> {
@@ -84,8 +84,8 @@ fn call_on<S: UseStore>(out: &mut Out<'_>, store: &mut S, words: &[&str]) -> Res
         "store.drop_expired" => drop_expired(out, store, words),
         "store.has" => has(out, store, words),
         "store.withdrawn" => withdrawn(out, store, words),
-        "store.len" => say_number(out, store.len() as u64),
-        "store.empty" => say_bool(out, store.is_empty()),
+        "store.len" => Ok(say_number(out, store.len() as u64)),
+        "store.empty" => Ok(say_bool(out, store.is_empty())),
         "store.next_after" => next_after(out, store, words),
         "store.next_uses" => next_uses(out, store, words),
         "store.next_near" => next_near(out, store, words),
@@ -100,7 +100,7 @@ pub fn call(out: &mut Out<'_>, env: &mut Env, words: &[&str]) -> Result<(), Stop
 }
 
 fn insert_batch<S: UseStore>(out: &mut Out<'_>, store: &mut S, batch: &Batch) -> Result<(), Stop> {
-    say_bool(out, store.insert_all(batch.uses()))
+    Ok(say_bool(out, store.insert_all(batch.uses())))
 }
 
 /// `store.insert_all NAME BATCH`

@@ -1,5 +1,4 @@
 use std::alloc::Global;
-use std::io::Write;
 use svid_replay::{Record, Stale, Summary, UseStore};
 use svid_script_base::byte_words::bytes;
 use svid_script_base::env::Env;
@@ -44,22 +43,21 @@ pub fn make(env: &mut Env, words: &[&str]) -> Result<(), Stop> {
 
 /// `summary.show SUMMARY`
 pub fn show(out: &mut Out<'_>, env: &Env, words: &[&str]) -> Result<(), Stop> {
-    say_summary(out, env.summaries.get(word(words, 1))?)
+    Ok(say_summary(out, env.summaries.get(word(words, 1))?))
 }
 
 /// `summary.digest SUMMARY N`
 pub fn digest(out: &mut Out<'_>, env: &Env, words: &[&str]) -> Result<(), Stop> {
     match u8::try_from(number(word(words, 2))?) {
-        Ok(bucket) => say_digits(out, env.summaries.get(word(words, 1))?.digest(bucket)),
+        Ok(bucket) => Ok(say_digits(out, env.summaries.get(word(words, 1))?.digest(bucket))),
         Err(_) => Err(Stop::Script("no bucket")),
     }
 }
 
-fn say_left<S: UseStore>(out: &mut Out<'_>, stale: &Stale<'_, S>) -> Result<(), Stop> {
+fn say_left<S: UseStore>(out: &mut Out<'_>, stale: &Stale<'_, S>) {
     let len = stale.len();
     let is_empty = stale.is_empty();
-    writeln!(out, "= {len} {is_empty}")?;
-    Ok(())
+    out.line(format_args!("= {len} {is_empty}"));
 }
 
 fn stale_in<S: UseStore>(
@@ -70,15 +68,15 @@ fn stale_in<S: UseStore>(
 ) -> Result<(), Stop> {
     let mut uses = Vec::new(alloc);
     let mut stale = record.stale(summary);
-    say_left(out, &stale)?;
+    say_left(out, &stale);
     for _ in 0..u64::MAX {
         match stale.next() {
             Some(used) => uses.push(used)?,
             None => break,
         }
     }
-    say_left(out, &stale)?;
-    say_uses(out, &uses)
+    say_left(out, &stale);
+    Ok(say_uses(out, &uses))
 }
 
 /// `stale NAME SUMMARY`
@@ -96,7 +94,7 @@ fn answer_in<S: UseStore>(
     summary: &Summary,
 ) -> Result<(), Stop> {
     let parts = record.answer(alloc, summary)?;
-    say_batches(out, &parts)
+    Ok(say_batches(out, &parts))
 }
 
 /// `answer NAME SUMMARY`

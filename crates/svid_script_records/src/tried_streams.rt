@@ -54,14 +54,14 @@ impl Write for Writer {
     }
 }
 
-fn say_faults(out: &mut Out<'_>, faults: u64) -> Result<(), Stop> {
-    Ok(writeln!(out, "= faults {faults}")?)
+fn say_faults(out: &mut Out<'_>, faults: u64) {
+    out.line(format_args!("= faults {faults}"))
 }
 
 // Prints what a call of `get` gave.
 fn say_given(out: &mut Out<'_>, room: &[u8], answer: Result<usize, Stopped>) -> Result<(), Stop> {
     match answer {
-        Ok(given) => say_bytes(out, room.split_at(given.min(room.len())).0),
+        Ok(given) => Ok(say_bytes(out, room.split_at(given.min(room.len())).0)),
         Err(stopped) => refused(out, stopped),
     }
 }
@@ -77,12 +77,12 @@ fn get_all<S: Source>(out: &mut Out<'_>, source: &mut S, rooms: Vec<Vec<u8>>) ->
     for room in rooms {
         get_one(out, source, room)?;
     }
-    say_faults(out, source.faults())
+    Ok(say_faults(out, source.faults()))
 }
 
 fn put_one<K: Sink>(out: &mut Out<'_>, sink: &mut K, piece: &[u8]) -> Result<(), Stop> {
     match sink.put(piece) {
-        Ok(taken) => say_number(out, taken as u64),
+        Ok(taken) => Ok(say_number(out, taken as u64)),
         Err(stopped) => refused(out, stopped),
     }
 }
@@ -92,7 +92,7 @@ fn put_each<K: Sink>(out: &mut Out<'_>, sink: &mut K, pieces: Vec<Vec<u8>>) -> R
     for piece in pieces {
         put_one(out, sink, &piece)?;
     }
-    say_faults(out, sink.faults())
+    Ok(say_faults(out, sink.faults()))
 }
 
 // The bytes that each of these words is.
@@ -117,7 +117,7 @@ pub fn mem_get(out: &mut Out<'_>, env: &Env, words: &[&str]) -> Result<(), Stop>
 fn put_to_mem(out: &mut Out<'_>, sink: MemSink, pieces: Vec<Vec<u8>>) -> Result<(), Stop> {
     let mut sink = sink;
     put_each(out, &mut sink, pieces)?;
-    say_bytes(out, sink.bytes())
+    Ok(say_bytes(out, sink.bytes()))
 }
 
 /// `mem.put STEP FAIL PIECES..`

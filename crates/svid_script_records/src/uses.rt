@@ -1,4 +1,3 @@
-use std::io::Write;
 use svid_replay::{Room, Use, UseList, flaw_of};
 use svid_script_base::env::Env;
 use svid_script_base::out::Out;
@@ -13,20 +12,20 @@ pub fn flaw(out: &mut Out<'_>, words: &[&str]) -> Result<(), Stop> {
     let before = use_if_any(word(words, 2))?;
     let used = one_use(word(words, 3))?;
     match flaw_of(moment, before, used) {
-        Some(flaw) => Ok(writeln!(out, "= {flaw:?}")?),
-        None => say_none(out),
+        Some(flaw) => Ok(out.line(format_args!("= {flaw:?}"))),
+        None => Ok(say_none(out)),
     }
 }
 
 /// `use.live USE N`
 pub fn is_live(out: &mut Out<'_>, words: &[&str]) -> Result<(), Stop> {
     let used = one_use(word(words, 1))?;
-    say_bool(out, used.is_live(number(word(words, 2))?))
+    Ok(say_bool(out, used.is_live(number(word(words, 2))?)))
 }
 
 /// `use.text USE`
 pub fn text(out: &mut Out<'_>, words: &[&str]) -> Result<(), Stop> {
-    say_bytes(out, &one_use(word(words, 1))?.text())
+    Ok(say_bytes(out, &one_use(word(words, 1))?.text()))
 }
 
 // The words in front of the first `+`, and those behind it.
@@ -56,11 +55,11 @@ pub fn room(out: &mut Out<'_>, env: &Env, words: &[&str]) -> Result<(), Stop> {
     let mut room = Room::new();
     push_all(&mut room, &pushed);
     room.extend(&added);
-    say_bool(out, room.is_full())?;
-    say_uses(out, room.as_slice())?;
+    say_bool(out, room.is_full());
+    say_uses(out, room.as_slice());
     room.clear();
-    say_bool(out, room.is_full())?;
-    say_uses(out, room.as_slice())
+    say_bool(out, room.is_full());
+    Ok(say_uses(out, room.as_slice()))
 }
 
 /// `use_list USES`
@@ -68,7 +67,7 @@ pub fn list(out: &mut Out<'_>, env: &Env, words: &[&str]) -> Result<(), Stop> {
     let list = UseList::from_vec(uses(env.alloc, from(words, 1))?);
     let len = list.len();
     let is_empty = list.is_empty();
-    writeln!(out, "= {len} {is_empty}")?;
-    say_uses(out, list.as_slice())?;
-    say_uses(out, &list.into_vec())
+    out.line(format_args!("= {len} {is_empty}"));
+    say_uses(out, list.as_slice());
+    Ok(say_uses(out, &list.into_vec()))
 }

@@ -20,7 +20,7 @@ pub fn up_to(out: &mut Out<'_>, env: &mut Env, words: &[&str]) -> Result<(), Sto
     let answer = read_up_to(env.alloc, &mut source, limit);
     put_source(env, word(words, 1), source)?;
     match answer {
-        Ok(read) => say_bytes(out, &read),
+        Ok(read) => Ok(say_bytes(out, &read)),
         Err(fault) => refused(out, fault),
     }
 }
@@ -32,7 +32,7 @@ pub fn input(out: &mut Out<'_>, env: &mut Env, words: &[&str]) -> Result<(), Sto
     let answer = read_input(env.alloc, &mut source, nth);
     put_source(env, word(words, 1), source)?;
     match answer {
-        Ok(read) => say_bytes(out, &read),
+        Ok(read) => Ok(say_bytes(out, &read)),
         Err(fault) => tool_refused(out, fault),
     }
 }

@@ -1,4 +1,3 @@
-use std::io::Write;
 use svid_script_base::out::Out;
 use svid_script_base::say::{say_fault, say_ok};
 use svid_script_base::stop::Stop;
@@ -9,7 +8,7 @@ pub fn tool_refused(out: &mut Out<'_>, fault: ToolFault) -> Result<(), Stop> {
     let status = fault.status();
     say_fault(out, fault, matches!(fault, ToolFault::OutOfMemory))?;
     if out.texts {
-        writeln!(out, "= status {status}")?;
+        out.line(format_args!("= status {status}"));
     }
     Ok(())
 }
@@ -17,7 +16,7 @@ pub fn tool_refused(out: &mut Out<'_>, fault: ToolFault) -> Result<(), Stop> {
 /// Prints that an engine went well that answers nothing else, or its fault.
 pub fn tool_done(out: &mut Out<'_>, answer: Result<(), ToolFault>) -> Result<(), Stop> {
     match answer {
-        Ok(()) => say_ok(out),
+        Ok(()) => Ok(say_ok(out)),
         Err(fault) => tool_refused(out, fault),
     }
 }

@@ -1,4 +1,3 @@
-use std::io::Write;
 use svid_bearer::Bearer;
 use svid_script_base::byte_words::bytes;
 use svid_script_base::env::Env;
@@ -15,7 +14,7 @@ pub fn bearer(out: &mut Out<'_>, env: &Env, words: &[&str]) -> Result<(), Stop> 
         Ok(bearer) => {
             let at = bearer.at;
             let token = text_of(bearer.token)?;
-            Ok(writeln!(out, "= {at} {token}")?)
+            Ok(out.line(format_args!("= {at} {token}")))
         }
         Err(why) => say_fault(out, why, false),
     }

@@ -1,6 +1,5 @@
 use crate::refusing::id_refused;
 use std::fmt::Display;
-use std::io::Write;
 use svid_id::{SpiffeId, TrustDomain, is_domain_name};
 use svid_script_base::byte_words::bytes;
 use svid_script_base::env::Env;
@@ -14,9 +13,9 @@ pub fn id(out: &mut Out<'_>, env: &Env, words: &[&str]) -> Result<(), Stop> {
     let text = bytes(env, word(words, 1))?;
     match SpiffeId::parse(env.alloc, &text) {
         Ok(id) => {
-            say_text(out, id.as_str())?;
-            say_text(out, id.domain())?;
-            say_text(out, id.path())
+            say_text(out, id.as_str());
+            say_text(out, id.domain());
+            Ok(say_text(out, id.path()))
         }
         Err(fault) => id_refused(out, fault),
     }
@@ -26,7 +25,7 @@ pub fn id(out: &mut Out<'_>, env: &Env, words: &[&str]) -> Result<(), Stop> {
 pub fn domain(out: &mut Out<'_>, env: &Env, words: &[&str]) -> Result<(), Stop> {
     let text = bytes(env, word(words, 1))?;
     match TrustDomain::parse(env.alloc, &text) {
-        Ok(domain) => say_text(out, domain.as_str()),
+        Ok(domain) => Ok(say_text(out, domain.as_str())),
         Err(fault) => id_refused(out, fault),
     }
 }
@@ -34,19 +33,19 @@ pub fn domain(out: &mut Out<'_>, env: &Env, words: &[&str]) -> Result<(), Stop> 
 /// `is_domain BYTES`
 pub fn is_domain(out: &mut Out<'_>, env: &Env, words: &[&str]) -> Result<(), Stop> {
     let text = bytes(env, word(words, 1))?;
-    say_bool(out, is_domain_name(&text))
+    Ok(say_bool(out, is_domain_name(&text)))
 }
 
 // Whether two things are equal, their order, and the first of them as it shows itself.
-fn say_compared<T: Ord + Display>(out: &mut Out<'_>, one: &T, other: &T) -> Result<(), Stop> {
+fn say_compared<T: Ord + Display>(out: &mut Out<'_>, one: &T, other: &T) {
     let is_equal = one == other;
     let order = one.cmp(other);
-    Ok(writeln!(out, "= {is_equal} {order:?} {one}")?)
+    out.line(format_args!("= {is_equal} {order:?} {one}"))
 }
 
 fn say_ids(out: &mut Out<'_>, env: &Env, one: &SpiffeId, other: &[u8]) -> Result<(), Stop> {
     match SpiffeId::parse(env.alloc, other) {
-        Ok(other) => say_compared(out, one, &other),
+        Ok(other) => Ok(say_compared(out, one, &other)),
         Err(fault) => id_refused(out, fault),
     }
 }
@@ -63,7 +62,7 @@ pub fn compare_ids(out: &mut Out<'_>, env: &Env, words: &[&str]) -> Result<(), S
 
 fn say_domains(out: &mut Out<'_>, env: &Env, one: &TrustDomain, other: &[u8]) -> Result<(), Stop> {
     match TrustDomain::parse(env.alloc, other) {
-        Ok(other) => say_compared(out, one, &other),
+        Ok(other) => Ok(say_compared(out, one, &other)),
         Err(fault) => id_refused(out, fault),
     }
 }
@@ -84,7 +83,7 @@ pub fn clone_id(out: &mut Out<'_>, env: &Env, words: &[&str]) -> Result<(), Stop
     match SpiffeId::parse(env.alloc, &text) {
         Ok(id) => {
             let copy = id.clone()?;
-            say_text(out, copy.as_str())
+            Ok(say_text(out, copy.as_str()))
         }
         Err(fault) => id_refused(out, fault),
     }
@@ -96,7 +95,7 @@ pub fn clone_domain(out: &mut Out<'_>, env: &Env, words: &[&str]) -> Result<(), 
     match TrustDomain::parse(env.alloc, &text) {
         Ok(domain) => {
             let copy = domain.clone()?;
-            say_text(out, copy.as_str())
+            Ok(say_text(out, copy.as_str()))
         }
         Err(fault) => id_refused(out, fault),
     }

@@ -20,7 +20,7 @@ pub fn spki(out: &mut Out<'_>, env: &Env, words: &[&str]) -> Result<(), Stop> {
     let most_bits = number(word(words, 2))? as usize;
     let key = bytes(env, word(words, 3))?;
     match key_spki(env.alloc, &key, alg, most_bits) {
-        Ok(der) => say_bytes(out, &der),
+        Ok(der) => Ok(say_bytes(out, &der)),
         Err(fault) => key_refused(out, fault),
     }
 }
@@ -43,13 +43,13 @@ pub fn bundles(
 /// `bundles.has NAME TEXT`
 pub fn has_domain(out: &mut Out<'_>, env: &Env, trust: &Trust, words: &[&str]) -> Result<(), Stop> {
     let domain = text(env, word(words, 2))?;
-    say_bool(
+    Ok(say_bool(
         out,
         trust
             .bundles
             .get(word(words, 1))?
             .has_domain(domain.as_str()),
-    )
+    ))
 }
 
 /// `table NAME BYTES`
@@ -86,7 +86,7 @@ fn say_question(
     if input.len() > MOST || signature.len() > MOST {
         return Err(Stop::Script("too long"));
     }
-    say_digits(out, &question(key, alg, input, signature))
+    Ok(say_digits(out, &question(key, alg, input, signature)))
 }
 
 // Prints whether a table says that a signature is good for a key.
@@ -101,7 +101,7 @@ fn say_verified(
     if input.len() > MOST || signature.len() > MOST {
         return Err(Stop::Script("too long"));
     }
-    say_bool(out, table.verify(key, alg, input, signature))
+    Ok(say_bool(out, table.verify(key, alg, input, signature)))
 }
 
 /// `question NAME DOMAIN ALG KID INPUT SIGNATURE`
@@ -135,7 +135,7 @@ pub fn verify(out: &mut Out<'_>, env: &Env, trust: &Trust, words: &[&str]) -> Re
 pub fn lines(out: &mut Out<'_>, env: &Env, words: &[&str]) -> Result<(), Stop> {
     let text = bytes(env, word(words, 1))?;
     for line in Lines::of(&text) {
-        say_bytes(out, line)?;
+        say_bytes(out, line);
     }
     Ok(())
 }

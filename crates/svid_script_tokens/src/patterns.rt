@@ -10,7 +10,7 @@ use svid_script_base::words::word;
 
 fn say_allowed(out: &mut Out<'_>, env: &Env, pattern: &Pattern, id: &[u8]) -> Result<(), Stop> {
     match SpiffeId::parse(env.alloc, id) {
-        Ok(id) => say_bool(out, pattern.allows(&id)),
+        Ok(id) => Ok(say_bool(out, pattern.allows(&id))),
         Err(fault) => id_refused(out, fault),
     }
 }
@@ -31,7 +31,7 @@ pub fn pattern(out: &mut Out<'_>, env: &Env, words: &[&str]) -> Result<(), Stop>
     match Pattern::parse(env.alloc, &text) {
         Ok(pattern) => {
             let copy = pattern.clone()?;
-            say_text(out, copy.as_str())
+            Ok(say_text(out, copy.as_str()))
         }
         Err(fault) => id_refused(out, fault),
     }

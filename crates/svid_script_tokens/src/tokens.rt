@@ -1,5 +1,4 @@
 use crate::refusing::{id_refused, part_refused};
-use std::io::Write;
 use svid_id::SpiffeId;
 use svid_script_base::byte_words::bytes;
 use svid_script_base::env::Env;
@@ -19,9 +18,9 @@ pub fn alg(out: &mut Out<'_>, env: &Env, words: &[&str]) -> Result<(), Stop> {
         Some(alg) => {
             let name = alg.name();
             let kty = alg.kty();
-            Ok(writeln!(out, "= {name} {kty:?}")?)
+            Ok(out.line(format_args!("= {name} {kty:?}")))
         }
-        None => say_none(out),
+        None => Ok(say_none(out)),
     }
 }
 
@@ -30,10 +29,10 @@ pub fn split(out: &mut Out<'_>, env: &Env, words: &[&str]) -> Result<(), Stop> {
     let token = bytes(env, word(words, 1))?;
     match Compact::split(&token) {
         Ok(parts) => {
-            say_bytes(out, parts.header)?;
-            say_bytes(out, parts.payload)?;
-            say_bytes(out, parts.signature)?;
-            say_bytes(out, parts.input)
+            say_bytes(out, parts.header);
+            say_bytes(out, parts.payload);
+            say_bytes(out, parts.signature);
+            Ok(say_bytes(out, parts.input))
         }
         Err(refusal) => token_refused(out, refusal),
     }
@@ -43,7 +42,7 @@ pub fn split(out: &mut Out<'_>, env: &Env, words: &[&str]) -> Result<(), Stop> {
 pub fn header(out: &mut Out<'_>, env: &Env, words: &[&str]) -> Result<(), Stop> {
     let part = bytes(env, word(words, 1))?;
     match Header::read(env.alloc, &part) {
-        Ok(header) => say_header(out, &header),
+        Ok(header) => Ok(say_header(out, &header)),
         Err(refusal) => token_refused(out, refusal),
     }
 }
@@ -56,7 +55,7 @@ pub fn claims(out: &mut Out<'_>, env: &Env, words: &[&str]) -> Result<(), Stop> 
         Err(refusal) => return token_refused(out, refusal),
     };
     match read {
-        Ok(claims) => say_claims(out, &claims),
+        Ok(claims) => Ok(say_claims(out, &claims)),
         Err(refusal) => token_refused(out, refusal),
     }
 }
@@ -65,7 +64,7 @@ pub fn claims(out: &mut Out<'_>, env: &Env, words: &[&str]) -> Result<(), Stop> 
 pub fn part(out: &mut Out<'_>, env: &Env, words: &[&str]) -> Result<(), Stop> {
     let part = bytes(env, word(words, 1))?;
     match decode_part(env.alloc, &part) {
-        Ok(decoded) => say_bytes(out, &decoded),
+        Ok(decoded) => Ok(say_bytes(out, &decoded)),
         Err(fault) => part_refused(out, fault),
     }
 }
@@ -74,7 +73,7 @@ pub fn part(out: &mut Out<'_>, env: &Env, words: &[&str]) -> Result<(), Stop> {
 pub fn signature(out: &mut Out<'_>, env: &Env, words: &[&str]) -> Result<(), Stop> {
     let part = bytes(env, word(words, 1))?;
     match read_signature(env.alloc, &part) {
-        Ok(decoded) => say_bytes(out, &decoded),
+        Ok(decoded) => Ok(say_bytes(out, &decoded)),
         Err(refusal) => token_refused(out, refusal),
     }
 }
@@ -83,8 +82,8 @@ pub fn signature(out: &mut Out<'_>, env: &Env, words: &[&str]) -> Result<(), Sto
 pub fn json(out: &mut Out<'_>, env: &Env, words: &[&str]) -> Result<(), Stop> {
     let text = bytes(env, word(words, 1))?;
     match read_json(env.alloc, &text)? {
-        Some(value) => say_text(out, value.to_string(env.alloc)?.as_str()),
-        None => say_none(out),
+        Some(value) => Ok(say_text(out, value.to_string(env.alloc)?.as_str())),
+        None => Ok(say_none(out)),
     }
 }
 
@@ -94,7 +93,7 @@ pub fn key(out: &mut Out<'_>, env: &Env, words: &[&str]) -> Result<(), Stop> {
     let jti = text_if_any(env, word(words, 2))?;
     let input = bytes(env, word(words, 3))?;
     match SpiffeId::parse(env.alloc, &sub) {
-        Ok(id) => say_digits(out, &token_key(&id, jti.as_deref(), &input)),
+        Ok(id) => Ok(say_digits(out, &token_key(&id, jti.as_deref(), &input))),
         Err(fault) => id_refused(out, fault),
     }
 }

@@ -22,7 +22,7 @@ pub fn say_candidates(
     let alg = alg(word(words, 3))?;
     let kid = text_if_any(env, word(words, 4))?;
     for key in bundles.candidates(domain.as_str(), alg, kid.as_deref()) {
-        say_key(out, key)?;
+        say_key(out, key);
     }
     Ok(())
 }

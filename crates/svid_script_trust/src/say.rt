@@ -1,4 +1,3 @@
-use std::io::Write;
 use svid_check::Accepted;
 use svid_keys::JwtKey;
 use svid_script_base::out::Out;
@@ -15,37 +14,37 @@ pub fn token_refused(out: &mut Out<'_>, refusal: Refusal) -> Result<(), Stop> {
 pub fn say_checked(out: &mut Out<'_>, answer: Result<Accepted, Refusal>) -> Result<(), Stop> {
     match answer {
         Ok(accepted) => {
-            say_text(out, accepted.id.as_str())?;
-            say_use(out, &accepted.used)
+            say_text(out, accepted.id.as_str());
+            Ok(say_use(out, &accepted.used))
         }
         Err(refusal) => token_refused(out, refusal),
     }
 }
 
 /// Prints a key.
-pub fn say_key(out: &mut Out<'_>, key: &JwtKey) -> Result<(), Stop> {
+pub fn say_key(out: &mut Out<'_>, key: &JwtKey) {
     let domain = key.domain();
     let kty = key.kty();
     let kid = key.kid();
-    writeln!(out, "= {domain} {kty:?} {kid:?}")?;
+    out.line(format_args!("= {domain} {kty:?} {kid:?}"));
     say_text(out, key.text())
 }
 
 /// Prints a header.
-pub fn say_header(out: &mut Out<'_>, header: &Header) -> Result<(), Stop> {
+pub fn say_header(out: &mut Out<'_>, header: &Header) {
     let kid = header.kid.as_deref();
     let alg = header.alg.name();
-    Ok(writeln!(out, "= {alg} {kid:?}")?)
+    out.line(format_args!("= {alg} {kid:?}"))
 }
 
 /// Prints claims.
-pub fn say_claims(out: &mut Out<'_>, claims: &Claims) -> Result<(), Stop> {
-    say_text(out, claims.sub.as_str())?;
+pub fn say_claims(out: &mut Out<'_>, claims: &Claims) {
+    say_text(out, claims.sub.as_str());
     for audience in &claims.aud {
-        say_text(out, audience.as_str())?;
+        say_text(out, audience.as_str());
     }
     let exp = claims.exp;
     let nbf = claims.nbf;
     let jti = claims.jti.as_deref();
-    Ok(writeln!(out, "= {exp} {nbf:?} {jti:?}")?)
+    out.line(format_args!("= {exp} {nbf:?} {jti:?}"))
 }
