@@ -16,17 +16,16 @@ import (
 // may gather is one number of the process. So this test runs beside no other one.)
 func TestGarbageOfAStartIsCollectedEarly(t *testing.T) {
 	defer debug.SetGCPercent(debug.SetGCPercent(100))
-	ballast := make([]byte, spareHeap)
+	ballast := make([]byte, 4*spareHeap) // Beside it, what other tests have left does not count.
 	defer runtime.KeepAlive(ballast)
 	runtime.GC()
-	isEarly := func() bool {
+	next := func() uint64 {
 		var now runtime.MemStats
 		runtime.ReadMemStats(&now)
-		return now.NextGC < spareHeap*3/2
+		return now.NextGC
 	}
-	if isEarly() {
-		t.Fatal("garbage is collected early before the start")
-	}
+	usual := next()
+	isEarly := func() bool { return next() < usual*3/4 }
 	file, err := bundles.Parse("example.org=" + bundleFile(t, example))
 	if err != nil {
 		t.Fatal(err)
