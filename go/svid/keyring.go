@@ -325,7 +325,8 @@ func (k *Keyring) Verify(token string) ([]Question, error) {
 }
 
 // VerifyToken is Verify, and leaves in t what the library has read of the token, for
-// Validator.CheckToken.
+// Validator.CheckToken. It leaves nothing of a token of more than 4,096 bytes, whose
+// keys it lists without their questions: later calls read that again.
 func (k *Keyring) VerifyToken(t *Token) ([]Question, error) {
 	r := trials.Get().(*trial)
 	defer r.end()

@@ -90,22 +90,23 @@ func (v *Validator) renew(b *C.svid_bundles, text []byte) error {
 const largeBundles = 4096
 
 // answered is yes, or nothing if none of these questions is of a key that is tried for the token (MaxCandidates). That is
-// so if the bundles were replaced since: the check would hash the token for each of its candidates, to find none. The
-// caller holds the lock.
-func (v *Validator) answered(token string, yes []Question) []Question {
+// so if the bundles were replaced since: the check would hash the token for each of its candidates, to find none. read is the
+// token where it was read, else nil. The caller holds the lock. The error is ErrNoMemory: without it a good token would be
+// refused.
+func (v *Validator) answered(token string, read *Token, yes []Question) ([]Question, error) {
 	if len(yes) == 0 || !v.large {
-		return yes
+		return yes, nil
 	}
-	var status C.uint32_t
-	for {
-		status = C.first(&v.handle, token, start(v.rows), C.size_t(len(v.rows)), &v.told)
-		if status != C.SVID_TOO_SHORT {
-			break
-		}
+	status := v.listFirst(token, read)
+	for status == C.SVID_TOO_SHORT {
 		v.rows = make([]byte, v.told.len)
+		status = v.listFirst(token, read)
+	}
+	if status == C.SVID_NO_MEMORY {
+		return nil, ErrNoMemory
 	}
 	if status != C.SVID_OK {
-		return nil
+		return nil, nil
 	}
 	for rows := v.rows[:v.told.len]; len(rows) > 0; {
 		var asked Question
@@ -114,11 +115,19 @@ func (v *Validator) answered(token string, yes []Question) []Question {
 		_, rows = field(rows)
 		for _, one := range yes {
 			if one == asked {
-				return yes
+				return yes, nil
 			}
 		}
 	}
-	return nil
+	return nil, nil
+}
+
+// listFirst lists the keys that are tried for the token.
+func (v *Validator) listFirst(token string, read *Token) C.uint32_t {
+	if read != nil {
+		return C.svid_validator_ask_token(&v.handle, &read.handle, C.SVID_MOST_CANDIDATES, start(v.rows), C.size_t(len(v.rows)), &v.told)
+	}
+	return C.first(&v.handle, token, start(v.rows), C.size_t(len(v.rows)), &v.told)
 }
 
 // mostAskedBytes is how many bytes of bundles the handles of a keyring read together, if they are more than one. A handle

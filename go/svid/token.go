@@ -14,8 +14,9 @@ import "C"
 
 // A Token is a token that the library reads once, for Keyring.VerifyToken and
 // then Validator.CheckToken or JudgeToken. (Keyring.Verify and Validator.Check
-// each read their token.) Give it to one goroutine at a time, do not copy it once
-// it was given to a call, and Close it.
+// each read their token, and each call reads one of more than 4,096 bytes.) Give it
+// to one goroutine at a time, do not copy it once it was given to a call, and Close
+// it.
 type Token struct {
 	text   string
 	handle C.svid_token
@@ -61,7 +62,10 @@ func (v *Validator) CheckToken(now uint64, t *Token, yes []Question) (Accepted, 
 	}
 	v.mu.Lock()
 	defer v.mu.Unlock()
-	yes = v.answered(t.text, yes)
+	yes, err := v.answered(t.text, t, yes)
+	if err != nil {
+		return Accepted{}, err
+	}
 	status := C.svid_validator_check_token(&v.handle, C.uint64_t(now), questions(yes), C.size_t(len(yes)), &t.handle,
 		start(v.id[:]), C.size_t(len(v.id)), &v.used, &v.told)
 	return v.accepted(status)
@@ -75,7 +79,10 @@ func (v *Validator) JudgeToken(now uint64, t *Token, yes []Question) (Accepted, 
 	}
 	v.mu.Lock()
 	defer v.mu.Unlock()
-	yes = v.answered(t.text, yes)
+	yes, err := v.answered(t.text, t, yes)
+	if err != nil {
+		return Accepted{}, err
+	}
 	status := C.svid_validator_judge_token(&v.handle, C.uint64_t(now), questions(yes), C.size_t(len(yes)), &t.handle,
 		start(v.id[:]), C.size_t(len(v.id)), &v.used, &v.told)
 	return v.accepted(status)

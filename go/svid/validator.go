@@ -154,7 +154,10 @@ func (v *Validator) Close() {
 func (v *Validator) Check(now uint64, token string, yes []Question) (Accepted, error) {
 	v.mu.Lock()
 	defer v.mu.Unlock()
-	yes = v.answered(token, yes)
+	yes, err := v.answered(token, nil, yes)
+	if err != nil {
+		return Accepted{}, err
+	}
 	status := C.check(&v.handle, C.uint64_t(now), questions(yes), C.size_t(len(yes)), token,
 		start(v.id[:]), C.size_t(len(v.id)), &v.used, &v.told)
 	return v.accepted(status)
@@ -163,8 +166,8 @@ func (v *Validator) Check(now uint64, token string, yes []Question) (Accepted, e
 // Accept verifies the token's signature by the keyring, which has the same bundles,
 // and checks the token: all that a service does for a request. A token that the
 // keyring refuses is checked all the same, so the Refusal is the first that holds,
-// in the order of Refusals. Other errors are those of Keyring.Verify and Check. The
-// token is read once.
+// in the order of Refusals. Other errors are those of Keyring.Verify and Check. A
+// token of at most 4,096 bytes is read once.
 func (v *Validator) Accept(k *Keyring, now uint64, token string) (Accepted, error) {
 	t := NewToken(token)
 	defer t.Close()
@@ -185,7 +188,10 @@ func (v *Validator) Judge(now uint64, token string, yes []Question) (Accepted, e
 }
 
 func (v *Validator) judge(now uint64, token string, yes []Question) (Accepted, error) {
-	yes = v.answered(token, yes)
+	yes, err := v.answered(token, nil, yes)
+	if err != nil {
+		return Accepted{}, err
+	}
 	status := C.judge(&v.handle, C.uint64_t(now), questions(yes), C.size_t(len(yes)), token,
 		start(v.id[:]), C.size_t(len(v.id)), &v.used, &v.told)
 	return v.accepted(status)

@@ -16,11 +16,13 @@ const (
 	heartbeat   = 2 * time.Second // of the broker where it has no value
 	silenceWait = 5 * time.Second // in which two heartbeats are missing
 
-	// mostGathered is how many bytes wait for the reader. The broker sends fewer before it waits for an answer (32 MB, with what
-	// it sends around each value), so only who else sends something here is held up.
+	// mostGathered is how many bytes wait for the reader, by the room that they have. The broker sends fewer before it waits for an
+	// answer (32 MB, with what it sends around each value).
 	mostGathered = 32 << 20
-	// ofControl is how many of them a message counts that is no value.
+	// ofControl is how many of them a message counts that is no value, beside its texts.
 	ofControl = 1 << 10
+	// ofArrived is how many of them a value counts, beside its bytes and its subject.
+	ofArrived = 24
 )
 
 // silence is how long the broker may say nothing. Tests alone change it.
@@ -56,7 +58,7 @@ type feed struct {
 
 	mu    sync.Mutex
 	all   []*gathered // what came, in its order; guarded by mu
-	bytes int         // that these have; guarded by mu
+	bytes int         // that these count; guarded by mu
 	usual room        // for the next ones; guarded by mu
 
 	// Of the reader:
@@ -69,8 +71,15 @@ type gathered struct {
 	values   []arrived
 	data     []byte // of the values
 	subjects []byte // of the values
-	control  *nats.Msg
+	control  *control
 	err      error
+}
+
+// A control is what counts of a message that is no value. The message is not kept: who lets the broker answer a question here, as it
+// answers one wherever that asks it to, sends as many bytes as a value has.
+type control struct {
+	asks [2]string // where the broker wants an answer; "" for nowhere
+	sent string    // the number of the last value that it has sent; "" where it does not say so
 }
 
 // A room says how much one that is gathered has room for.
@@ -145,7 +154,8 @@ func (f *feed) arrive(m *nats.Msg) {
 		return
 	}
 	if !strings.HasPrefix(m.Reply, acknowledge) {
-		f.gather(ofControl, func(g *gathered) { g.control = m })
+		c := &control{[2]string{m.Reply, m.Header.Get("Nats-Consumer-Stalled")}, m.Header.Get("Nats-Last-Consumer")}
+		f.gather(func(g *gathered) { g.control = c })
 		return
 	}
 	about, own, err := f.about(m)
@@ -157,17 +167,21 @@ func (f *feed) arrive(m *nats.Msg) {
 	}
 	if err != nil {
 		f.isOver = true
-		f.gather(0, func(g *gathered) { g.err = err })
+		f.gather(func(g *gathered) { g.err = err })
 		return
 	}
-	f.gather(len(m.Data)+len(m.Subject), func(g *gathered) {
+	f.gather(func(g *gathered) {
+		if g.values == nil {
+			u := f.usual
+			g.values, g.data, g.subjects = make([]arrived, 0, u.values), make([]byte, 0, u.data), make([]byte, 0, u.subjects)
+		}
 		g.data, g.subjects = append(g.data, m.Data...), append(g.subjects, m.Subject...)
 		g.values = append(g.values, arrived{about.position, about.stamp, uint32(len(g.data)), uint32(len(g.subjects))})
 	})
 }
 
 // gather lets something be added to what came last, and waits while too much is there.
-func (f *feed) gather(bytes int, add func(g *gathered)) {
+func (f *feed) gather(add func(g *gathered)) {
 	f.mu.Lock()
 	for f.bytes > mostGathered {
 		f.mu.Unlock()
@@ -183,12 +197,12 @@ func (f *feed) gather(bytes int, add func(g *gathered)) {
 		g = f.all[n-1]
 	}
 	if g == nil || g.isFull() {
-		u := f.usual
-		g = &gathered{values: make([]arrived, 0, u.values), data: make([]byte, 0, u.data), subjects: make([]byte, 0, u.subjects)}
+		g = new(gathered)
 		f.all = append(f.all, g)
 	}
+	before := g.size()
 	add(g)
-	f.bytes += bytes
+	f.bytes += g.size() - before
 	f.mu.Unlock()
 	select {
 	case f.came <- struct{}{}:
@@ -203,9 +217,9 @@ func (g *gathered) isFull() bool {
 
 // size is how many bytes it counts as.
 func (g *gathered) size() int {
-	size := len(g.data) + len(g.subjects)
-	if g.control != nil {
-		size += ofControl
+	size := cap(g.data) + cap(g.subjects) + ofArrived*cap(g.values)
+	if c := g.control; c != nil {
+		size += ofControl + len(c.asks[0]) + len(c.asks[1]) + len(c.sent)
 	}
 	return size
 }
@@ -299,15 +313,15 @@ func (f *feed) pop() *gathered {
 }
 
 // control answers the broker, which asks whether all was read that it has sent, and compares how much that was.
-func (f *feed) control(m *nats.Msg) error {
-	for _, asks := range []string{m.Reply, m.Header.Get("Nats-Consumer-Stalled")} {
+func (f *feed) control(c *control) error {
+	for _, asks := range c.asks {
 		if strings.HasPrefix(asks, "$JS.FC."+f.group.stream+".") {
 			if err := f.group.conn.Publish(asks, nil); err != nil {
 				return err
 			}
 		}
 	}
-	if sent := m.Header.Get("Nats-Last-Consumer"); sent != "" && sent != strconv.FormatUint(f.given, 10) {
+	if c.sent != "" && c.sent != strconv.FormatUint(f.given, 10) {
 		return errSkipped
 	}
 	return nil

@@ -3,6 +3,7 @@ package jetstream
 import (
 	"context"
 	"fmt"
+	"runtime"
 	"strings"
 	"testing"
 	"time"
@@ -96,7 +97,7 @@ func TestAFeedGathersNoMoreThanItMay(t *testing.T) {
 		for end := time.Now().Add(patience.Long); held() <= mostGathered && time.Now().Before(end); time.Sleep(time.Millisecond) {
 		}
 		time.Sleep(20 * time.Millisecond)
-		if n := held(); n <= mostGathered || n > mostGathered+len(large) {
+		if n := held(); n <= mostGathered || n > mostGathered+mostBytesAtOnce {
 			t.Errorf("%s: %d bytes wait", what, n)
 		}
 		values := 0
@@ -125,6 +126,98 @@ func TestAFeedGathersNoMoreThanItMay(t *testing.T) {
 		case <-time.After(patience.Long):
 			t.Errorf("%s: it waits behind the end", what)
 		}
+	}
+}
+
+// What waits counts by the room that it has, whatever was gathered before: a large value lets the room of the next ones be large, and those may be
+// small, and each of them have another message behind it.
+func TestTheRoomOfWhatIsGatheredCounts(t *testing.T) {
+	t.Parallel()
+	value := func(n int, data []byte) *nats.Msg {
+		return &nats.Msg{Sub: &nats.Subscription{}, Data: data, Reply: fmt.Sprintf("$JS.ACK.KV_test.c.1.%d.%d.1700000000000000000.0", n, n)}
+	}
+	for what, small := range map[string]func(f *feed, n int){
+		"other messages": func(f *feed, n int) { f.arrive(&nats.Msg{}) },
+		"small values":   func(f *feed, n int) { f.arrive(value(n, []byte("a"))); f.arrive(&nats.Msg{}) },
+	} {
+		f := newFeed(&Group{stream: "KV_test", life: context.Background()})
+		f.name("c")
+		f.arrive(value(1, make([]byte, mostBytesAtOnce)))
+		if _, err := f.next(patience.Long); err != nil {
+			t.Fatal(err)
+		}
+		const many = 3 * mostGathered / mostBytesAtOnce
+		came, end := make(chan struct{}), time.Now().Add(patience.Long)
+		go func() {
+			defer close(came)
+			for n := 2; n < 2+many; n++ {
+				small(f, n)
+			}
+		}()
+		for isOver := false; !isOver && time.Now().Before(end); time.Sleep(time.Millisecond) {
+			select {
+			case <-came:
+				isOver = true
+			default:
+				f.mu.Lock()
+				isOver = f.bytes > mostGathered
+				f.mu.Unlock()
+			}
+		}
+		room := 0
+		f.mu.Lock()
+		for _, g := range f.all {
+			room += cap(g.data) + cap(g.subjects)
+		}
+		f.mu.Unlock()
+		if room > mostGathered+2*mostBytesAtOnce {
+			t.Errorf("%s: %d bytes of room", what, room)
+		}
+		close(f.done)
+		<-came
+	}
+}
+
+// Of a message that is no value nothing is kept but what the broker asks and says: it may be of any length, and the broker answers a question
+// wherever its asker wants that.
+func TestAFeedKeepsNoOtherMessage(t *testing.T) {
+	t.Parallel()
+	f := newFeed(&Group{stream: "KV_test", life: context.Background()})
+	f.name("c")
+	gone := make(chan struct{})
+	func() {
+		m := &nats.Msg{Data: make([]byte, mostBytesAtOnce), Header: nats.Header{"Nats-Last-Consumer": {"1"}}}
+		runtime.SetFinalizer(m, func(*nats.Msg) { close(gone) })
+		f.arrive(m)
+	}()
+	for end := time.Now().Add(patience.Long); ; {
+		runtime.GC()
+		select {
+		case <-gone:
+		case <-time.After(10 * time.Millisecond):
+			if time.Now().Before(end) {
+				continue
+			}
+			t.Error("it is kept")
+		}
+		break
+	}
+	// What it says of the values counts, and how long that is.
+	f.arrive(&nats.Msg{Reply: strings.Repeat("a", mostGathered)})
+	if f.bytes <= mostGathered {
+		t.Errorf("%d bytes wait", f.bytes)
+	}
+	for range [2]int{} {
+		these, err := f.next(patience.Long)
+		if err != nil || these.control == nil {
+			t.Fatal(these, err)
+		}
+		if err := f.control(these.control); (err == errSkipped) != (f.bytes > 0) {
+			t.Errorf("%v, and %d bytes wait", err, f.bytes)
+		}
+	}
+	if f.bytes != 0 {
+		t.Errorf("%d bytes wait", f.bytes)
 	}
 }
 

@@ -13,6 +13,7 @@ import (
 	"fmt"
 	"io"
 	"os"
+	"regexp"
 	"runtime"
 	"sort"
 
@@ -83,6 +84,12 @@ func fail(std stdio, err error) int {
 	if errors.Is(err, flag.ErrHelp) {
 		return exitYes
 	}
-	fmt.Fprintf(std.err, "svidd: %v\n", err)
+	fmt.Fprintf(std.err, "svidd: %s\n", hideTokens(err.Error()))
 	return exitFailed
 }
+
+// tokenText is a token (RFC 7515, section 3.1), whose header is a JSON object, as base64url: 20 bytes of it, and the rest.
+var tokenText = regexp.MustCompile(`(e[wy][A-Za-z0-9_-]{18})[A-Za-z0-9_-]*\.[A-Za-z0-9_-]*\.[A-Za-z0-9_-]*`)
+
+// hideTokens leaves 20 bytes of each token: one may stand where none is due, and who calls may keep what is printed.
+func hideTokens(text string) string { return tokenText.ReplaceAllString(text, "$1..") }

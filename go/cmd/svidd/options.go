@@ -230,7 +230,7 @@ func (p *problems) wrong(is bool, text string, values ...any) {
 // tell prints them, each on a line.
 func (p problems) tell(std stdio) int {
 	for _, sentence := range p {
-		fmt.Fprintf(std.err, "svidd: %s\n", sentence)
+		fmt.Fprintf(std.err, "svidd: %s\n", hideTokens(sentence))
 	}
 	return exitFailed
 }

@@ -27,6 +27,25 @@ func here(stdin string, args ...string) (status int, out, err string) {
 	return status, o.String(), e.String()
 }
 
+// A token that stands where none is due is not printed whole: who calls may keep what is printed.
+func TestMistakesHideTokens(t *testing.T) {
+	t.Parallel()
+	token := token(t, "hidden", lasting)
+	for _, args := range [][]string{
+		{token}, {"--" + token}, {"help", token},
+		{"verify", token}, {"verify", "--" + token}, {"verify", "--longest", token}, {"verify", "--config=" + token},
+		{"verify", "--audience=ledger", "--bundle", token}, {"verify", "--audience=ledger", "--bundle=example.org=" + token},
+		{"serve", token}, {"serve", "--" + token}, {"serve", "--longest=Bearer " + token}, {"serve", "--replay=" + token},
+		{"withdraw", "--exp", token}, {"withdraw", "--admin=/nowhere", "--key", token, "--exp=5"}, {"withdraw", "--admin=" + token, "--key=00", "--exp=5"},
+		{"report", token}, {"resume", "--admin", token}, {"ready", token}, {"check-state", token}, {"schema", token}, {"version", token},
+	} {
+		_, out, said := here("", args...)
+		if printed := out + said; strings.Contains(printed, token[21:]) || strings.Contains(printed, token[len(token)-20:]) || strings.Contains(printed, token[:21]) {
+			t.Errorf("%.40q: %s", args, printed)
+		}
+	}
+}
+
 // The commands and their options are those of lists/svidd.toml, which has what --help says of each, and its default.
 func TestOptionsAreThoseOfTheList(t *testing.T) {
 	t.Parallel()

@@ -67,7 +67,7 @@ func serve(args []string, std stdio) int {
 		faults = append(o.folderProblems(), faults...)
 		warnings = append(warnings, o.serverWarnings()...)
 		for _, sentence := range warnings {
-			fmt.Fprintf(std.err, "svidd: warning: %s\n", sentence)
+			fmt.Fprintf(std.err, "svidd: warning: %s\n", hideTokens(sentence))
 		}
 		if len(faults) > 0 {
 			return faults.tell(std)

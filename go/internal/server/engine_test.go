@@ -256,10 +256,16 @@ func resident(t *testing.T) int {
 // What waits for a clock that is right again has a bound, and a message that has room comes behind one that has none.
 func TestLateMessagesHaveABound(t *testing.T) {
 	var l late
-	half := make([]byte, mostLate/2)
-	l.add([][]byte{half, half[:mostLate/2-10], half, half[:9], half[:2], half[:1]})
+	half := make([]byte, mostLate/2-2*ofLate)
+	l.add([][]byte{half, half[:len(half)-10], half, half[:9], half[:2], half[:1]})
 	if len(l.messages) != 4 || l.bytes != mostLate {
 		t.Errorf("%d messages of %d bytes wait, want 4 of %d", len(l.messages), l.bytes, mostLate)
+	}
+	// One that has no bytes takes room too.
+	l = late{}
+	l.add(make([][]byte, mostLate/16))
+	if len(l.messages) > mostLate/24 {
+		t.Errorf("%d messages without bytes wait", len(l.messages))
 	}
 }
 

@@ -24,6 +24,8 @@ const (
 	tickEvery = time.Second
 	// mostLate is how many bytes of messages wait for a clock that is too far ahead.
 	mostLate = 64 << 20
+	// ofLate is how many of these each counts beside its own: its place in the list, and what its memory is rounded up by.
+	ofLate = 32
 	// jumpPatience is how long a clock may be too far ahead before it seems to be right.
 	jumpPatience = time.Minute
 )
@@ -166,8 +168,8 @@ type late struct {
 // add keeps messages, as far as there is room. The group's summaries bring back the others.
 func (l *late) add(messages [][]byte) {
 	for _, one := range messages {
-		if l.bytes+len(one) <= mostLate {
-			l.messages, l.bytes = append(l.messages, one), l.bytes+len(one)
+		if size := ofLate + len(one); l.bytes+size <= mostLate {
+			l.messages, l.bytes = append(l.messages, one), l.bytes+size
 		}
 	}
 }
