@@ -241,8 +241,9 @@ typedef struct {
                         4 of svid_check, and 1 of any other call. SVID_TOO_MUCH also: 1 for bundles, 2 for a table of questions */
     size_t message;  /* which of its messages, counted from 1 */
     size_t offset;
-    size_t more;     /* of svid_validator_ask and svid_bundles_ask: 1 if more keys may have signed the token than it lists; of
-                        svid_validator_mark: 1 if the validator accepts claims; of svid_validator_differs: 1 if the bucket differs */
+    size_t more;     /* of svid_validator_ask, svid_validator_ask_token and svid_bundles_ask: 1 if more keys may have signed the token
+                        than it lists; of svid_validator_mark: 1 if the validator accepts claims; of svid_validator_differs: 1 if the
+                        bucket differs */
 } svid_told;
 
 /* What a check is told, beside its inputs. */
