@@ -10,7 +10,7 @@ static size_t take_each(svid_validator *v, uint64_t now, const uint8_t *values, 
     for (size_t i = 0; i < lens_len; i++) {
         *status = svid_validator_take(v, now, values, lens[i], told);
         if (*status != SVID_OK) return i;
-        values += lens[i];
+        if (lens[i] > 0) values += lens[i]; // (there may be none at all)
     }
     return lens_len;
 }
@@ -23,7 +23,7 @@ static size_t read_each(svid_validator *v, uint64_t now, uint64_t position, cons
     do {
         *status = svid_validator_read(v, now, position + i, values, lens[i], out, out_len, &readings[i], told);
         if (*status != SVID_OK || readings[i].order != SVID_ORDER_NEXT) return i + 1;
-        values += lens[i];
+        if (lens[i] > 0) values += lens[i]; // (there may be none at all)
         out += readings[i].count;
         out_len -= readings[i].count;
         i++;
