@@ -45,22 +45,13 @@ def output(*words, **more):
 
 @pytest.fixture(scope="session")
 def releases(request, session):
-    """Two releases: of this checkout, and of a copy elsewhere, which is built beside the tests of the first one, and which the last test awaits. The
-    first one stays where SVID_RELEASE names a folder for it, from which packaging/test takes the package."""
+    """Two releases: of this checkout, and of a copy elsewhere without .git, under another umask, time zone and language. The first one stays where
+    SVID_RELEASE names a folder for it, from which packaging/test takes the package. The other one is built beside the tests of the first one, and the
+    last test awaits it."""
     for command in NEEDED.split():
         needs(command)
     if os.getuid():
         pytest.skip("dpkg and mounts want root")
-    one = Path(os.environ.get("SVID_RELEASE") or session / "one")
-    # (one after the other: side by side each would compile what the other one does)
-    output(TOP / "packaging/release", one, umask=0o022, timeout=3600)
-    with ThreadPoolExecutor(1) as pool:
-        wanted = any(it.name == "test_the_same_bytes_from_another_folder" for it in request.session.items)
-        yield one, pool.submit(released_elsewhere, session) if wanted else None
-
-
-def released_elsewhere(session):
-    """A release of a copy without .git, under another umask, time zone and language."""
     copy = session / "elsewhere" / "checkout"
     copy.mkdir(parents=True)
     left = ["--exclude=./.git", "--exclude=./out", "--exclude=./crates/*/out"]
@@ -70,9 +61,18 @@ def released_elsewhere(session):
     (session / "tmp").mkdir()
     epoch = os.environ.get("SOURCE_DATE_EPOCH") or output("git", "-C", TOP, "log", "-1", "--format=%ct").strip()
     other = {"SOURCE_DATE_EPOCH": epoch, "TZ": "Asia/Tokyo", "LC_ALL": "C", "TMPDIR": str(session / "tmp")}
-    output(copy / "packaging/release", session / "two", env=os.environ | other, umask=0o077, timeout=3600)
-    shutil.rmtree(copy)
-    return session / "two"
+    one = Path(os.environ.get("SVID_RELEASE") or session / "one")
+
+    def release_elsewhere():
+        output(copy / "packaging/release", session / "two", env=os.environ | other, umask=0o077, timeout=3600)
+        shutil.rmtree(copy)
+        return session / "two"
+
+    # (one after the other: side by side each would compile what the other one does)
+    output(TOP / "packaging/release", one, umask=0o022, timeout=3600)
+    with ThreadPoolExecutor(1) as pool:
+        wanted = any(it.name == "test_the_same_bytes_from_another_folder" for it in request.session.items)
+        yield one, pool.submit(release_elsewhere) if wanted else None
 
 
 @pytest.fixture(scope="session")
