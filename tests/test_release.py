@@ -11,6 +11,7 @@ import re
 import shutil
 import subprocess
 import sys
+from concurrent.futures import ThreadPoolExecutor
 from pathlib import Path
 
 import pytest
@@ -43,9 +44,10 @@ def output(*words, **more):
 
 
 @pytest.fixture(scope="session")
-def releases(session):
-    """Two releases: of this checkout, and of a copy elsewhere without .git, under another umask, time zone and language. The first one stays
-    where SVID_RELEASE names a folder for it, from which packaging/test takes the package."""
+def releases(request, session):
+    """Two releases: of this checkout, and of a copy elsewhere without .git, under another umask, time zone and language. The first one stays where
+    SVID_RELEASE names a folder for it, from which packaging/test takes the package. The other one is built beside the tests of the first one, and the
+    last test awaits it."""
     for command in NEEDED.split():
         needs(command)
     if os.getuid():
@@ -60,11 +62,17 @@ def releases(session):
     epoch = os.environ.get("SOURCE_DATE_EPOCH") or output("git", "-C", TOP, "log", "-1", "--format=%ct").strip()
     other = {"SOURCE_DATE_EPOCH": epoch, "TZ": "Asia/Tokyo", "LC_ALL": "C", "TMPDIR": str(session / "tmp")}
     one = Path(os.environ.get("SVID_RELEASE") or session / "one")
+
+    def release_elsewhere():
+        output(copy / "packaging/release", session / "two", env=os.environ | other, umask=0o077, timeout=3600)
+        shutil.rmtree(copy)
+        return session / "two"
+
     # (one after the other: side by side each would compile what the other one does)
-    for top, to, more, mask in ((TOP, one, {}, 0o022), (copy, session / "two", other, 0o077)):
-        output(top / "packaging/release", to, env=os.environ | more, umask=mask, timeout=3600)
-    shutil.rmtree(copy)
-    return one, session / "two"
+    output(TOP / "packaging/release", one, umask=0o022, timeout=3600)
+    with ThreadPoolExecutor(1) as pool:
+        wanted = any(it.name == "test_the_same_bytes_from_another_folder" for it in request.session.items)
+        yield one, pool.submit(release_elsewhere) if wanted else None
 
 
 @pytest.fixture(scope="session")
@@ -129,13 +137,6 @@ def says_who(line):
 
 
 # The whole
-
-
-def test_the_same_bytes_from_another_folder(releases):
-    one, two = releases
-    names = sorted(it.relative_to(one) for it in one.rglob("*") if it.is_file())
-    assert names == sorted(it.relative_to(two) for it in two.rglob("*") if it.is_file())
-    assert [it for it in names if (one / it).read_bytes() != (two / it).read_bytes()] == []
 
 
 def test_what_is_there(release):
@@ -682,3 +683,13 @@ if JAR:
         (room.folder / "Service.java").write_text(JAVA_SERVICE)
         room.run("javac", "-cp", path, "Service.java")
         assert room.run("java", "-cp", f"{path}:.", f"-Djava.io.tmpdir={room.folder}/tmp", "Service") == ACCEPTED
+
+
+# The whole once more (the last, since the other release is built until then)
+
+
+def test_the_same_bytes_from_another_folder(releases):
+    one, two = releases[0], releases[1].result()
+    names = sorted(it.relative_to(one) for it in one.rglob("*") if it.is_file())
+    assert names == sorted(it.relative_to(two) for it in two.rglob("*") if it.is_file())
+    assert [it for it in names if (one / it).read_bytes() != (two / it).read_bytes()] == []

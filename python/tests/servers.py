@@ -165,9 +165,9 @@ class PostgresServer(Server):
         atexit.register(shutil.rmtree, room, ignore_errors=True)
         os.chown(room, self.user.get("user", -1), self.user.get("group", -1))
         words = [self.command("initdb"), "-D", "data", "-U", "svid", "-A", "trust", "--no-sync"]
-        made = subprocess.run(
-            [*words, "--locale=C", "-E", "UTF8"], cwd=room, capture_output=True, **self.user
-        )
+        # (a log has files of 1 MB, and not of 16, which each copy would have)
+        words += ["--locale=C", "-E", "UTF8", "--wal-segsize=1"]
+        made = subprocess.run(words, cwd=room, capture_output=True, **self.user)
         assert made.returncode == 0, made.stderr.decode()
         return f"{room}/data"
 

@@ -363,7 +363,7 @@ def test_a_server_that_hangs(server):
         assert [value for _, value in tried(all_of, log)][-1] == b"3"
 
 
-@pytest.mark.parametrize("kind, limit", [(RedisServer, 2**21), (PostgresServer, 17 * 2**20)])
+@pytest.mark.parametrize("kind, limit", [(RedisServer, 2**21), (PostgresServer, 2**21)])
 def test_a_full_disk(kind, limit):
     """A value that has no room raises, and those that were told to be there stay."""
     told = []

@@ -26,6 +26,29 @@ type recipe struct {
 	heard    chan heard
 	folder   string
 	replaced *strings.Replacer // the addresses and places of the files, by those of the test
+	begin    func()            // writes the files and starts the proxy
+	stop     func()            // ends the proxy
+	limited  bool              // whether the proxy gives up as early as its files say
+}
+
+// limits are the texts of deploy/ by which a proxy gives up, by the seconds in which it must not on a busy machine.
+var limits = map[string]func(seconds int) map[string]string{
+	"Caddyfile": func(s int) map[string]string {
+		return map[string]string{"dial_timeout 1s": fmt.Sprintf("dial_timeout %ds", s), "response_header_timeout 5s": fmt.Sprintf("response_header_timeout %ds", s)}
+	},
+	"apache-svidd.lua": func(s int) map[string]string {
+		return map[string]string{"http.TIMEOUT = 5": fmt.Sprintf("http.TIMEOUT = %d", s)}
+	},
+	"haproxy-svidd.lua": func(s int) map[string]string {
+		return map[string]string{"local longest = 10000": fmt.Sprintf("local longest = %d", 2000*s)}
+	},
+	"haproxy.cfg": func(s int) map[string]string {
+		return map[string]string{"timeout connect 1s": fmt.Sprintf("timeout connect %ds", s), "timeout server 5s": fmt.Sprintf("timeout server %ds", s),
+			"timeout client 60s": fmt.Sprintf("timeout client %ds", 3*s), "timeout server 60s": fmt.Sprintf("timeout server %ds", s)}
+	},
+	"nginx-site.conf": func(s int) map[string]string {
+		return map[string]string{"proxy_connect_timeout 1s": fmt.Sprintf("proxy_connect_timeout %ds", s), "proxy_read_timeout 5s": fmt.Sprintf("proxy_read_timeout %ds", s)}
+	},
 }
 
 // heard is a request as the service gets it.
@@ -49,21 +72,32 @@ func newRecipe(t *testing.T, paths ...string) *recipe {
 		_, _ = io.WriteString(w, "served")
 	}))
 	t.Cleanup(service.Close)
-	r.process = start(t, bundleOption(bundleFile(t, example)), "--state", filepath.Join(t.TempDir(), "state"), "--allow", "spiffe://example.org/web")
+	r.process = start(t, bundleOption(bundleFile(t, example)), "--state", filepath.Join(t.TempDir(), "state"), "--allow", "spiffe://example.org/web",
+		"--wait", patience.Long.String())
 	r.replaced = strings.NewReplacer(append(paths, "127.0.0.1:9901", r.address, "127.0.0.1:8081", service.Listener.Addr().String(),
 		"127.0.0.1:8080", r.front)...)
 	return r
 }
 
-// file writes a file of deploy/ with the addresses of the test, and something in front of it.
+// file writes a file of deploy/ with the addresses of the test, and something in front of it. Until the recipe is limited, nothing gives up before
+// the test does: on a busy machine, each second of a file may pass while a process waits for a processor.
 func (r *recipe) file(name, front string) string {
 	r.t.Helper()
 	text, err := os.ReadFile(filepath.Join("../../deploy", name))
 	if err != nil {
 		r.t.Fatal(err)
 	}
+	patient := string(text)
+	if limits := limits[name]; limits != nil && !r.limited {
+		for old, other := range limits(int(patience.Long.Seconds())) {
+			if strings.Count(patient, old+"\n")+strings.Count(patient, old+";\n")+strings.Count(patient, old+" --") != 1 {
+				r.t.Fatalf("%s: there is not one limit %q", name, old)
+			}
+			patient = strings.Replace(patient, old, other, 1)
+		}
+	}
 	to := filepath.Join(r.folder, name)
-	if err := os.WriteFile(to, []byte(front+r.replaced.Replace(string(text))), 0o644); err != nil {
+	if err := os.WriteFile(to, []byte(front+r.replaced.Replace(patient)), 0o644); err != nil {
 		r.t.Fatal(err)
 	}
 	return to
@@ -78,9 +112,17 @@ func (r *recipe) runs(environment []string, words ...string) {
 	if err := c.Start(); err != nil {
 		r.t.Fatalf("%v: install Debian's package of it", err)
 	}
+	ended := false
+	r.stop = func() {
+		if !ended {
+			ended = true
+			killAll(c.Process.Pid)
+			_ = c.Wait()
+		}
+	}
+	stop := r.stop
 	r.t.Cleanup(func() {
-		killAll(c.Process.Pid)
-		_ = c.Wait()
+		stop()
 		if r.t.Failed() {
 			r.t.Logf("%s says: %s", words[0], r.said)
 		}
@@ -241,7 +283,7 @@ func (r *recipe) holds() {
 	if got := r.served(); answer.StatusCode != 200 || got == nil || got.Body != body {
 		t.Errorf("a long body: %d", answer.StatusCode)
 	}
-	// Without its sidecar nothing is let through, and nor is it if that does not answer.
+	// Without its sidecar nothing is let through, and nor is it if that does not answer in time.
 	r.end()
 	unavailable := func(what string) {
 		t.Helper()
@@ -251,6 +293,9 @@ func (r *recipe) holds() {
 		}
 	}
 	unavailable("without its sidecar")
+	r.stop()
+	r.limited = true
+	r.begin()
 	deaf, err := net.Listen("tcp", r.address)
 	if err != nil {
 		t.Fatal(err)
@@ -293,15 +338,23 @@ func TestCaddyRecipe(t *testing.T) {
 	_, port, _ := net.SplitHostPort(r.front)
 	r.replaced = strings.NewReplacer(":8080 {", ":"+port+" {", "127.0.0.1:9901", r.address, "127.0.0.1:8081", r.replaced.Replace("127.0.0.1:8081"))
 	home := []string{"HOME=" + r.folder, "XDG_DATA_HOME=" + r.folder, "XDG_CONFIG_HOME=" + r.folder}
-	file := r.file("Caddyfile", "{\n\tadmin off\n\tauto_https off\n}\n")
-	r.runs(home, "caddy", "run", "--config", file, "--adapter", "caddyfile")
+	r.begin = func() {
+		file := r.file("Caddyfile", "{\n\tadmin off\n\tauto_https off\n}\n")
+		r.runs(home, "caddy", "run", "--config", file, "--adapter", "caddyfile")
+	}
+	r.begin()
 	r.holds()
 }
 
 func TestHAProxyRecipe(t *testing.T) {
 	t.Parallel()
 	r := newRecipe(t)
-	r.runsHAProxy("", "")
+	given := r.replaced
+	r.begin = func() {
+		r.replaced = given
+		r.runsHAProxy("", "")
+	}
+	r.begin()
 	r.holds()
 }
 
@@ -346,8 +399,9 @@ func (r *recipe) runsHAProxy(old, other string) {
 func TestApacheRecipe(t *testing.T) {
 	t.Parallel()
 	r := newRecipe(t)
-	lua := r.file("apache-svidd.lua", "")
-	r.replaced = strings.NewReplacer("/etc/apache2/apache-svidd.lua", lua, "127.0.0.1:8081", r.replaced.Replace("127.0.0.1:8081"), "127.0.0.1:8080", r.front)
+	given := r.replaced
+	lua := filepath.Join(r.folder, "apache-svidd.lua")
+	site := strings.NewReplacer("/etc/apache2/apache-svidd.lua", lua, "127.0.0.1:8081", given.Replace("127.0.0.1:8081"), "127.0.0.1:8080", r.front)
 	front := fmt.Sprintf("ServerRoot %[1]s\nServerName ledger.example.org\nPidFile %[1]s/pid\nErrorLog %[1]s/error.log\nMutex file:%[1]s\n", r.folder)
 	if os.Getuid() == 0 {
 		front += "User nobody\nGroup nogroup\n"
@@ -355,7 +409,13 @@ func TestApacheRecipe(t *testing.T) {
 	for _, module := range []string{"mpm_event", "authz_core", "headers", "lua", "proxy", "proxy_http", "unique_id"} {
 		front += fmt.Sprintf("LoadModule %s_module /usr/lib/apache2/modules/mod_%[1]s.so\n", module)
 	}
-	r.runs(nil, "/usr/sbin/apache2", "-D", "FOREGROUND", "-f", r.file("apache-site.conf", front))
+	r.begin = func() {
+		r.replaced = given
+		r.file("apache-svidd.lua", "")
+		r.replaced = site
+		r.runs(nil, "/usr/sbin/apache2", "-D", "FOREGROUND", "-f", r.file("apache-site.conf", front))
+	}
+	r.begin()
 	t.Cleanup(func() {
 		if text, err := os.ReadFile(filepath.Join(r.folder, "error.log")); t.Failed() {
 			t.Logf("the log of Apache: %s %v", text, err)
@@ -373,14 +433,17 @@ http {
   access_log off;
   client_body_temp_path %[1]s/1; proxy_temp_path %[1]s/2; fastcgi_temp_path %[1]s/3; uwsgi_temp_path %[1]s/4; scgi_temp_path %[1]s/5;
 `, r.folder)
-	file := r.file("nginx-site.conf", front)
-	text, err := os.ReadFile(file)
-	if err != nil {
-		t.Fatal(err)
+	r.begin = func() {
+		file := r.file("nginx-site.conf", front)
+		text, err := os.ReadFile(file)
+		if err != nil {
+			t.Fatal(err)
+		}
+		if err := os.WriteFile(file, append(text, "}\n"...), 0o600); err != nil {
+			t.Fatal(err)
+		}
+		r.runs(nil, "nginx", "-c", file, "-e", filepath.Join(r.folder, "error.log"))
 	}
-	if err := os.WriteFile(file, append(text, "}\n"...), 0o600); err != nil {
-		t.Fatal(err)
-	}
-	r.runs(nil, "nginx", "-c", file, "-e", filepath.Join(r.folder, "error.log"))
+	r.begin()
 	r.holds()
 }
