@@ -111,6 +111,7 @@ type commit struct {
 	marks    bool          // a caller wants the mark, whatever the last one\'s age is
 	room     bool          // someone asks for room for the next one
 	done     chan struct{} // closed when err and full are set
+	kept     []func(error) // these hear err then
 	err      error
 	full     error // what Room answers
 }
@@ -327,6 +328,13 @@ func (j *Journal) AppendUses(ctx context.Context, uses ...svid.Use) error {
 	return j.append(ctx, &commit{uses: uses})
 }
 
+// KeepUses is AppendUses for who does not wait: kept hears later what became of the uses, and nothing from a disk that hangs. Those of a
+// write hear it one after the other, so it is to be short. Where KeepUses returns an error, kept hears nothing.
+func (j *Journal) KeepUses(kept func(error), uses ...svid.Use) error {
+	_, err := j.join(&commit{uses: uses, kept: []func(error){kept}})
+	return err
+}
+
 // Append is as AppendUses, for whole messages.
 func (j *Journal) Append(ctx context.Context, messages []byte) error {
 	return j.append(ctx, &commit{messages: messages})
@@ -339,9 +347,6 @@ func (j *Journal) AppendMark(ctx context.Context) error {
 }
 
 func (j *Journal) append(ctx context.Context, more *commit) error {
-	if more.size() > mostMessages {
-		return fmt.Errorf("journal: append: %w", svid.ErrPayload)
-	}
 	c, err := j.join(more)
 	if err != nil {
 		return err
@@ -356,6 +361,9 @@ func (j *Journal) append(ctx context.Context, more *commit) error {
 
 // join adds to what the next write takes. The first one there lets that write begin.
 func (j *Journal) join(more *commit) (*commit, error) {
+	if more.size() > mostMessages {
+		return nil, fmt.Errorf("journal: append: %w", svid.ErrPayload)
+	}
 	j.gather.Lock()
 	defer j.gather.Unlock()
 	if j.gathering == nil {
@@ -369,11 +377,20 @@ func (j *Journal) join(more *commit) (*commit, error) {
 	j.gathering.uses = append(j.gathering.uses, more.uses...)
 	j.gathering.marks = j.gathering.marks || more.marks
 	j.gathering.room = j.gathering.room || more.room
+	j.gathering.kept = append(j.gathering.kept, more.kept...)
 	return j.gathering, nil
 }
 
-// writeNext takes a commit to the disk, once the write before it is through.
+// writeNext takes a commit to the disk, once the write before it is through, and says so.
 func (j *Journal) writeNext(c *commit) {
+	j.writeAlone(c)
+	close(c.done)
+	for _, kept := range c.kept {
+		kept(c.err)
+	}
+}
+
+func (j *Journal) writeAlone(c *commit) {
 	j.write.Lock()
 	defer j.write.Unlock()
 	j.seal()
@@ -381,7 +398,6 @@ func (j *Journal) writeNext(c *commit) {
 	if c.room {
 		c.full = j.makeRoom()
 	}
-	close(c.done)
 }
 
 // commitAll takes a commit to the disk, with the mark if it is due. The caller holds write.

@@ -797,6 +797,56 @@ func TestWhoGaveUpHoldsNobodyUp(t *testing.T) {
 	}
 }
 
+// Who does not wait hears of its uses once the disk has them, or why it has them not; of a disk that hangs nothing.
+func TestWhoDoesNotWaitHearsOfItsUses(t *testing.T) {
+	j, begun, let := hang(t, t.TempDir())
+	heard := make(chan error, 4)
+	keep := func(n uint64) {
+		if err := j.KeepUses(func(err error) { heard <- err }, useOf(n)); err != nil {
+			t.Fatal(err)
+		}
+	}
+	keep(1)
+	<-begun
+	keep(2)
+	keep(3)
+	select {
+	case err := <-heard:
+		let()
+		t.Fatalf("the disk hangs, and it hears: %v", err)
+	default:
+		let()
+	}
+	for n := 1; n <= 3; n++ {
+		if err := <-heard; err != nil {
+			t.Error(err)
+		}
+	}
+	mustClose(t, j)
+	uses, err := svid.Uses(mustOpen(t, j.dir).messages)
+	if err != nil || len(uses) != 4 {
+		t.Errorf("%d uses are read (%v)", len(uses), err)
+	}
+
+	fails := false
+	full := mustWatch(t, t.TempDir(), func(call, _ string) error {
+		if call == "write" && fails {
+			return syscall.ENOSPC
+		}
+		return nil
+	})
+	fails = true
+	if err := full.KeepUses(func(err error) { heard <- err }, useOf(1)); err != nil {
+		t.Fatal(err)
+	}
+	if err := <-heard; !errors.Is(err, syscall.ENOSPC) {
+		t.Errorf("no room: %v", err)
+	}
+	if err := full.KeepUses(func(error) { t.Error("it hears of what is too much") }, make([]svid.Use, mostMessages/mostOfUse+1)...); !errors.Is(err, svid.ErrPayload) {
+		t.Errorf("too much: %v", err)
+	}
+}
+
 func TestValidatorIDIsMadeOnce(t *testing.T) {
 	dir := t.TempDir()
 	j := mustOpen(t, dir)

@@ -323,7 +323,7 @@ func TestCallsThatAreTakenBackCount(t *testing.T) {
 	if err != nil {
 		t.Fatal(err)
 	}
-	go func() { _ = s.Serve(bounded{l}) }()
+	go func() { _ = s.Serve(bounded{Listener: l}) }()
 	c, err := net.Dial("tcp", l.Addr().String())
 	if err != nil {
 		t.Fatal(err)

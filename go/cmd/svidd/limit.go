@@ -3,7 +3,10 @@ package main
 import (
 	"errors"
 	"net"
+	"os"
+	"sync"
 	"sync/atomic"
+	"time"
 
 	"svid.example/go/v2/svidhttp"
 )
@@ -16,33 +19,65 @@ const mostUnanswered = 4 * svidhttp.MaxHeader
 var errUnanswered = errors.New("the client sends more than a request may have")
 
 // A bounded listener accepts connections that end where a client sends too much before it is answered.
-type bounded struct{ net.Listener }
+type bounded struct {
+	net.Listener
+	unwatched bool // of its connections
+}
 
 func (l bounded) Accept() (net.Conn, error) {
 	c, err := l.Listener.Accept()
 	if err != nil {
 		return nil, err
 	}
-	return &boundedConn{Conn: c}, nil
+	return &boundedConn{Conn: c, unwatched: l.unwatched, reads: deadline{set: c.SetReadDeadline}, writes: deadline{set: c.SetWriteDeadline}}, nil
 }
 
 type boundedConn struct {
 	net.Conn
-	unanswered atomic.Int64 // bytes that were read since the last Write
+	unanswered    atomic.Int64 // bytes that were read since the last Write
+	unwatched     bool         // nobody wants to know that the client leaves while it waits for an answer
+	reads, writes deadline
 }
 
+// Read reads what the client sends. While a handler runs, the HTTP server waits for one byte without a deadline, in a goroutine of its own,
+// to see whether the client leaves. All its other reads have a deadline. Where the connection is unwatched, nothing happens in this one, and
+// a request costs a read and its wake-up less.
 func (c *boundedConn) Read(b []byte) (int, error) {
-	if c.unanswered.Load() > mostUnanswered {
-		return 0, errUnanswered
+	if c.unwatched && len(b) == 1 && c.reads.isNever() {
+		return 0, nil
 	}
-	n, err := c.Conn.Read(b)
-	c.unanswered.Add(int64(n))
-	return n, err
+	for {
+		if c.unanswered.Load() > mostUnanswered {
+			return 0, errUnanswered
+		}
+		n, err := c.Conn.Read(b)
+		c.unanswered.Add(int64(n))
+		if err == nil || !errors.Is(err, os.ErrDeadlineExceeded) || c.reads.isOver() {
+			return n, err
+		}
+	}
 }
 
-func (c *boundedConn) Write(b []byte) (int, error) {
+func (c *boundedConn) Write(b []byte) (written int, err error) {
 	c.unanswered.Store(0)
-	return c.Conn.Write(b)
+	for {
+		n, err := c.Conn.Write(b[written:])
+		written += n
+		if err == nil || !errors.Is(err, os.ErrDeadlineExceeded) || c.writes.isOver() {
+			return written, err
+		}
+	}
+}
+
+func (c *boundedConn) SetReadDeadline(t time.Time) error  { return c.reads.setTo(t) }
+func (c *boundedConn) SetWriteDeadline(t time.Time) error { return c.writes.setTo(t) }
+
+func (c *boundedConn) SetDeadline(t time.Time) error {
+	err := c.reads.setTo(t)
+	if other := c.writes.setTo(t); err == nil {
+		err = other
+	}
+	return err
 }
 
 // CloseWrite ends the direction to the client, as the HTTP server wants to.
@@ -51,4 +86,49 @@ func (c *boundedConn) CloseWrite() error {
 		return it.CloseWrite()
 	}
 	return nil
+}
+
+// A deadline of a connection is set several times a request, mostly to a later time than before, and each time the connection would set a
+// timer. So it keeps the earliest one, and looks at the one that is due once that is over.
+type deadline struct {
+	set func(time.Time) error // of the connection
+
+	mu   sync.Mutex
+	due  time.Time // zero for never
+	kept time.Time // the connection's: not after due; zero for never
+}
+
+func (d *deadline) setTo(t time.Time) error {
+	d.mu.Lock()
+	defer d.mu.Unlock()
+	d.due = t
+	if !d.kept.IsZero() && (t.IsZero() || !t.Before(d.kept)) {
+		return nil
+	}
+	return d.keep()
+}
+
+// keep gives the connection the one that is due. The caller holds mu.
+func (d *deadline) keep() error {
+	err := d.set(d.due)
+	if err == nil {
+		d.kept = d.due
+	}
+	return err
+}
+
+// isOver says whether the one that is due is over, as the connection's is. If not, the connection gets it.
+func (d *deadline) isOver() bool {
+	d.mu.Lock()
+	defer d.mu.Unlock()
+	if !d.due.IsZero() && !time.Now().Before(d.due) {
+		return true
+	}
+	return d.keep() != nil
+}
+
+func (d *deadline) isNever() bool {
+	d.mu.Lock()
+	defer d.mu.Unlock()
+	return d.due.IsZero()
 }

@@ -3,15 +3,19 @@ package main
 import (
 	"bufio"
 	"bytes"
+	"errors"
 	"fmt"
 	"io"
 	"net"
 	"net/http"
+	"os"
 	"path/filepath"
 	"strings"
+	"syscall"
 	"testing"
 	"time"
 
+	"svid.example/go/v2/internal/natstest"
 	"svid.example/go/v2/internal/patience"
 )
 
@@ -150,3 +154,160 @@ func TestALongBodyOfTheAdminSocket(t *testing.T) {
 		}
 	}
 }
+
+// A client that leaves takes back a claim that has no outcome yet.
+func TestAClientThatLeavesItsClaim(t *testing.T) {
+	t.Parallel()
+	broker := natstest.Start(t)
+	p := start(t, bundleOption(bundleFile(t, example)), "--replay", "strict", "--nats", broker.URL, "--wait", "1h")
+	if err := syscall.Kill(broker.Pid(), syscall.SIGSTOP); err != nil {
+		t.Fatal(err)
+	}
+	defer func() { _ = syscall.Kill(broker.Pid(), syscall.SIGCONT) }()
+	p.await("the broker to stop", func() bool { return isStopped(broker.Pid()) })
+	p.dial("tcp", p.address, "GET /check HTTP/1.1\r\nHost: a\r\nAuthorization: Bearer "+token(t, "left", lasting)+"\r\n\r\n").Close()
+	p.await("the end of its claim", func() bool { return p.metric(`svidd_claims_total{outcome="failed"}`) == "1" })
+}
+
+// A request comes in any two parts, also where one byte is left in the HTTP server's buffer behind the first.
+func TestARequestInTwoParts(t *testing.T) {
+	t.Parallel()
+	p := start(t, bundleOption(bundleFile(t, example)), "--replay", "reuse")
+	request := "GET /check HTTP/1.1\r\nHost: a\r\nX-Pad: " + strings.Repeat("a", 5000) + "\r\nAuthorization: Bearer " + token(t, "parts", lasting) + "\r\n\r\n"
+	for _, first := range []int{1, 4094, 4095, 4096, len(request) - 1} {
+		c := p.dial("tcp", p.address, request[:first])
+		time.Sleep(50 * time.Millisecond)
+		if _, err := io.WriteString(c, request[first:]); err != nil {
+			t.Fatal(err)
+		}
+		if got := p.answer(bufio.NewReader(c)); got.StatusCode != 200 {
+			t.Errorf("%d bytes first: %d", first, got.StatusCode)
+		}
+	}
+}
+
+// Only the reads of one byte without a deadline are passed over, and only where nobody wants to know whether the client leaves.
+func TestAnUnwatchedConnection(t *testing.T) {
+	for _, unwatched := range []bool{false, true} {
+		here, there := net.Pipe()
+		defer there.Close()
+		c := boundedConnOf(here, unwatched)
+		defer c.Close()
+		go func() { _, _ = there.Write([]byte("abc")) }()
+		if unwatched {
+			if n, err := c.Read(make([]byte, 1)); n != 0 || err != nil {
+				t.Errorf("without a deadline: %d %v", n, err)
+			}
+		}
+		got := make([]byte, 2)
+		if n, err := c.Read(got); n != 2 || err != nil || string(got) != "ab" {
+			t.Errorf("unwatched %v, two bytes: %q %d %v", unwatched, got, n, err)
+		}
+		if err := c.SetReadDeadline(time.Now().Add(patience.Long)); err != nil {
+			t.Fatal(err)
+		}
+		if n, err := c.Read(got[:1]); n != 1 || err != nil || got[0] != 'c' {
+			t.Errorf("unwatched %v, with a deadline: %q %d %v", unwatched, got, n, err)
+		}
+	}
+}
+
+// The deadline counts that was set last, whichever the connection itself has.
+func TestDeadlines(t *testing.T) {
+	soon, late := 30*time.Millisecond, patience.Long
+	for _, row := range []struct {
+		sets []time.Duration // 0 for never
+		over bool
+	}{
+		{[]time.Duration{soon}, true}, {[]time.Duration{late, soon}, true}, {[]time.Duration{0, soon}, true}, {[]time.Duration{late, -late}, true},
+		{[]time.Duration{soon, late, soon}, true}, {[]time.Duration{late, 0, soon}, true},
+		{[]time.Duration{soon, late}, false}, {[]time.Duration{soon, 0}, false}, {[]time.Duration{-late, 0}, false}, {[]time.Duration{-late, late}, false},
+	} {
+		for _, name := range []string{"read", "write"} {
+			here, there := net.Pipe()
+			c := boundedConnOf(here, true)
+			set := map[string]func(time.Time) error{"read": c.SetReadDeadline, "write": c.SetWriteDeadline}[name]
+			for _, after := range row.sets {
+				at := time.Time{}
+				if after != 0 {
+					at = time.Now().Add(after)
+				}
+				if err := set(at); err != nil {
+					t.Fatal(err)
+				}
+			}
+			// The other end takes or sends one half, and the second one once the first deadline is over; or never, where none is left then.
+			halves, other := 2, make(chan error, 1)
+			if row.over {
+				halves = 1
+			}
+			go func() {
+				room := make([]byte, 2)
+				for i := 0; i < halves; i++ {
+					var err error
+					if name == "read" {
+						_, err = there.Write([]byte("ab"))
+					} else if _, err = io.ReadFull(there, room); string(room) != "abcd"[2*i:2*i+2] && err == nil {
+						err = fmt.Errorf("%q", room)
+					}
+					if err != nil {
+						other <- err
+						return
+					}
+					time.Sleep(3 * soon)
+				}
+				other <- nil
+			}()
+			from := time.Now()
+			var err error
+			if name == "read" {
+				_, err = io.ReadFull(c, make([]byte, 4))
+			} else {
+				_, err = c.Write([]byte("abcd"))
+			}
+			if errors.Is(err, os.ErrDeadlineExceeded) != row.over || !row.over && err != nil || time.Since(from) > late/2 {
+				t.Fatalf("%s, %v: %v after %v", name, row.sets, err, time.Since(from))
+			}
+			c.Close()
+			if err := <-other; err != nil && !row.over {
+				t.Errorf("%s, %v: %v", name, row.sets, err)
+			}
+			there.Close()
+		}
+	}
+}
+
+// A read that waits is ended by a deadline that is set meanwhile.
+func TestADeadlineEndsARead(t *testing.T) {
+	here, there := net.Pipe()
+	defer there.Close()
+	c := boundedConnOf(here, false)
+	defer c.Close()
+	if err := c.SetDeadline(time.Now().Add(patience.Long)); err != nil {
+		t.Fatal(err)
+	}
+	ended, from := make(chan error), time.Now()
+	go func() { _, err := c.Read(make([]byte, 1)); ended <- err }()
+	time.Sleep(10 * time.Millisecond)
+	if err := c.SetReadDeadline(time.Unix(1, 0)); err != nil {
+		t.Fatal(err)
+	}
+	if err, took := <-ended, time.Since(from); !errors.Is(err, os.ErrDeadlineExceeded) || took > patience.Long/2 {
+		t.Errorf("%v after %v", err, took)
+	}
+}
+
+// boundedConnOf is the connection that a bounded listener makes of this one.
+func boundedConnOf(c net.Conn, unwatched bool) net.Conn {
+	accepted, err := bounded{oneConn{c}, unwatched}.Accept()
+	if err != nil {
+		panic(err)
+	}
+	return accepted
+}
+
+// oneConn is a listener of one connection.
+type oneConn struct{ net.Conn }
+
+func (l oneConn) Accept() (net.Conn, error) { return l.Conn, nil }
+func (l oneConn) Addr() net.Addr            { return l.LocalAddr() }

@@ -12,6 +12,7 @@ import (
 	"syscall"
 	"time"
 
+	"svid.example/go/v2/internal/server"
 	"svid.example/go/v2/svidhttp"
 )
 
@@ -46,7 +47,7 @@ func (s *sidecar) listen() ([]served, error) {
 			}
 			return nil, err
 		}
-		servers = append(servers, served{each.name, each.server, bounded{l}})
+		servers = append(servers, served{each.name, each.server, bounded{l, each.unwatched}})
 	}
 	for _, each := range servers {
 		go func(it served) {
@@ -64,6 +65,8 @@ type answering struct {
 	address string
 	umask   int
 	server  answerer
+	// unwatched: while a request is answered, it makes no difference whether its client leaves.
+	unwatched bool
 }
 
 // addresses are those to answer on, in the order in which they end. So who asks for metrics or on the admin socket hears that
@@ -73,15 +76,16 @@ func (s *sidecar) addresses() []answering {
 	if s.metrics != "" {
 		checks = s.guard.WithoutMetrics()
 	}
-	all := []answering{{"listen", s.options.listen, public, s.server(checks)}}
+	// (In mode strict a claim that was not sent is taken back.)
+	all := []answering{{"listen", s.options.listen, public, s.server(checks), s.replay != string(server.Strict)}}
 	if s.envoy != "" {
-		all = append(all, answering{"envoy", s.envoy, public, newGRPC(s.guard.Envoy(), s.log.Standard("envoy"))})
+		all = append(all, answering{"envoy", s.envoy, public, newGRPC(s.guard.Envoy(), s.log.Standard("envoy")), false})
 	}
 	if s.metrics != "" {
-		all = append(all, answering{"metrics", s.metrics, public, s.server(s.guard.Watched())})
+		all = append(all, answering{"metrics", s.metrics, public, s.server(s.guard.Watched()), false})
 	}
 	if s.admin != "" {
-		all = append(all, answering{"admin", "unix:" + s.admin, private, s.server(s.guard.Admin(s.reload))})
+		all = append(all, answering{"admin", "unix:" + s.admin, private, s.server(s.guard.Admin(s.reload)), false})
 	}
 	return all
 }

@@ -12,6 +12,7 @@ import (
 	"testing"
 	"time"
 
+	"svid.example/go/v2/internal/patience"
 	"svid.example/go/v2/journal"
 	"svid.example/go/v2/svid"
 )
@@ -56,6 +57,16 @@ func TestADiskThatHangs(t *testing.T) {
 	}
 	if w := request(h, "GET", "/check", "Bearer "+token("a")); w.Code != http.StatusUnauthorized {
 		t.Errorf("a token that was given up: %d %s", w.Code, w.Body)
+	}
+}
+
+// Where too much waits for the disk already, a request hears so at once.
+func TestTooMuchWaitsForTheDisk(t *testing.T) {
+	d := &disk{full: errors.New("too much waits for the disk")}
+	e := ready(t, engine(t, Options{Mode: Once, Journal: d, Wait: patience.Long}))
+	from := time.Now()
+	if _, err := e.Check(context.Background(), token("full")); !errors.Is(err, d.full) || time.Since(from) > patience.Long/2 {
+		t.Errorf("%v after %v", err, time.Since(from))
 	}
 }
 

@@ -36,6 +36,8 @@ const (
 type Journal interface {
 	// AppendUses returns after the uses are on the disk, or once ctx ends: the disk may have them then, now or later.
 	AppendUses(ctx context.Context, uses ...svid.Use) error
+	// KeepUses does not wait: kept hears that in its place, soon after, unless an error is returned.
+	KeepUses(kept func(error), uses ...svid.Use) error
 	// AppendMark does the same for what Engine.Mark returns. Each append and each snapshot has that.
 	AppendMark(ctx context.Context) error
 	// Size is how many bytes were appended since the last snapshot. It waits for no disk.
@@ -218,7 +220,7 @@ func (e *Engine) do(own *Request, effect Effect) {
 		e.stepFor(own, Verified(effect))
 	case Append:
 		if own != nil && effect.Write == &own.write {
-			e.append(waiting{own}, effect.Write)
+			e.keep(effect.Write)
 		} else {
 			go e.appendInTime(effect.Write)
 		}
@@ -235,15 +237,27 @@ func (e *Engine) do(own *Request, effect Effect) {
 	}
 }
 
+// keep brings the uses of a request to the disk. Nobody waits here for the disk: the machine answers the request, at the latest when its
+// time is over.
+func (e *Engine) keep(w *Write) {
+	if err := e.Journal.KeepUses(func(err error) { e.kept(w, err) }, w.Uses...); err != nil {
+		e.kept(w, err)
+	}
+}
+
+// kept lets the machine hear what became of a write.
+func (e *Engine) kept(w *Write, err error) {
+	w.Err, w.Size = err, e.Journal.Size()
+	e.step(Kept{w})
+}
+
 // append brings uses to the disk, or a mark, and waits for that until ctx ends.
 func (e *Engine) append(ctx context.Context, w *Write) {
 	if len(w.Uses) == 0 {
-		w.Err = e.Journal.AppendMark(ctx)
+		e.kept(w, e.Journal.AppendMark(ctx))
 	} else {
-		w.Err = e.Journal.AppendUses(ctx, w.Uses...)
+		e.kept(w, e.Journal.AppendUses(ctx, w.Uses...))
 	}
-	w.Size = e.Journal.Size()
-	e.step(Kept{w})
 }
 
 // appendInTime does so for no longer than anybody waits for it: a disk that hangs gathers no goroutines.
@@ -251,21 +265,6 @@ func (e *Engine) appendInTime(w *Write) {
 	ctx, cancel := context.WithTimeout(e.life, w.Within)
 	defer cancel()
 	e.append(ctx, w)
-}
-
-// waiting is a context that ends once its request is answered.
-type waiting struct{ *Request }
-
-func (w waiting) Deadline() (time.Time, bool) { return time.Time{}, false }
-func (w waiting) Value(any) any               { return nil }
-func (w waiting) Done() <-chan struct{}       { return w.done }
-func (w waiting) Err() error {
-	select {
-	case <-w.done:
-		return context.DeadlineExceeded
-	default:
-		return nil
-	}
 }
 
 // send puts a value into the group's log, and tries for as long as it is worth it.

@@ -36,10 +36,19 @@ type disk struct {
 	fault  error
 	before func()        // called as an append begins
 	hangs  chan struct{} // where it is not nil, an append waits for it
+	full   error         // of KeepUses, at once
 }
 
 func (d *disk) AppendUses(ctx context.Context, uses ...svid.Use) error {
 	return d.append(ctx, func() { d.kept = append(d.kept, batchesOf(uses)...) })
+}
+
+func (d *disk) KeepUses(kept func(error), uses ...svid.Use) error {
+	if d.full != nil {
+		return d.full
+	}
+	go func() { kept(d.AppendUses(context.Background(), uses...)) }()
+	return nil
 }
 
 func (d *disk) AppendMark(ctx context.Context) error { return d.append(ctx, func() { d.marks++ }) }
