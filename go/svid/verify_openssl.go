@@ -11,11 +11,11 @@ package svid
 #define OPENSSL_LINE 0
 #include <openssl/bn.h>
 #include <openssl/core_names.h>
+#include <openssl/ecdsa.h>
 #include <openssl/err.h>
 #include <openssl/evp.h>
 #include <openssl/params.h>
 #include <openssl/rsa.h>
-#include <string.h>
 #cgo LDFLAGS: -lcrypto
 
 enum { NO, YES, NO_MEMORY };
@@ -94,28 +94,17 @@ static int open_seat(seat *s, EVP_PKEY *key, const char *hash, int padding) {
     return good;
 }
 
-// Writes a number as DER has it (X.690, 8.3), from len bytes, the highest first. Returns where it ends.
-static unsigned char *der_number(unsigned char *to, const unsigned char *bytes, int len) {
-    while (len > 1 && *bytes == 0) bytes++, len--;
-    int zero = *bytes >> 7; // (or the number would be negative)
-    *to++ = 2, *to++ = (unsigned char)(zero + len);
-    if (zero) *to++ = 0;
-    memcpy(to, bytes, (size_t)len);
-    return to + len;
-}
-
-// Room for a signature of P-521: its r and s have 66 bytes each.
-enum { DER_ROOM = 3 + 2 * (3 + 66) };
-
-// Writes a signature of ECDSA as OpenSSL reads it (RFC 3279, section 2.2.3), from r and s. Returns its length.
-static size_t der_of(unsigned char *out, const unsigned char *signature, int half) {
-    unsigned char numbers[DER_ROOM], *end = der_number(der_number(numbers, signature, half), signature + half, half), *to = out;
-    size_t len = (size_t)(end - numbers);
-    *to++ = 0x30;
-    if (len > 127) *to++ = 0x81;
-    *to++ = (unsigned char)len;
-    memcpy(to, numbers, len);
-    return (size_t)(to - out) + len;
+// A signature of ECDSA as OpenSSL reads it, from r and s. NULL for want of memory.
+static unsigned char *der_of(const unsigned char *signature, int half, int *len) {
+    unsigned char *der = NULL;
+    ECDSA_SIG *both = ECDSA_SIG_new();
+    BIGNUM *r = BN_bin2bn(signature, half, NULL), *s = BN_bin2bn(signature + half, half, NULL);
+    if (both != NULL && r != NULL && s != NULL && ECDSA_SIG_set0(both, r, s) == 1) {
+        r = s = NULL; // both owns them
+        *len = i2d_ECDSA_SIG(both, &der);
+    }
+    BN_free(r), BN_free(s), ECDSA_SIG_free(both);
+    return der;
 }
 
 // Whether this thread has a queue of errors, in which alone want of memory differs from a signature that is bad.
@@ -148,7 +137,8 @@ static int why(void) {
 // Whether the key made the signature. half is the length of r and of s, and 0 for RSA. of is the text's digest, or none.
 static verdict verify(seat *s, _GoString_ text, digest of, const unsigned char *signature, size_t len, int half) {
     verdict said = { NO_MEMORY, of };
-    unsigned char der[DER_ROOM];
+    unsigned char *der = NULL;
+    int der_len = 0;
     if (!has_queue()) return said;
     if (said.of.len == 0 &&
         !(EVP_DigestInit_ex2(s->digest, s->md, NULL) == 1 && EVP_DigestUpdate(s->digest, _GoStringPtr(text), _GoStringLen(text)) == 1 &&
@@ -157,8 +147,16 @@ static verdict verify(seat *s, _GoString_ text, digest of, const unsigned char *
         ERR_clear_error();
         return said;
     }
-    if (half != 0) len = der_of(der, signature, half), signature = der;
+    if (half != 0) {
+        der = der_of(signature, half, &der_len);
+        if (der == NULL || der_len <= 0) {
+            ERR_clear_error();
+            return said;
+        }
+        signature = der, len = (size_t)der_len;
+    }
     int good = EVP_PKEY_verify(s->key, signature, len, said.of.bytes, said.of.len) == 1;
+    OPENSSL_free(der);
     said.is = good ? YES : why();
     return said;
 }

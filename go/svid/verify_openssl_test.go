@@ -142,35 +142,3 @@ func TestNoThreadsPileUp(t *testing.T) {
 		t.Errorf("%d goroutines that verify made %d threads more", crowd, more)
 	}
 }
-
-// r and s of a signature have any first bytes: zeros, and those of which the highest bit would be a sign.
-func TestSignaturesOfAnyNumbers(t *testing.T) {
-	one, err := issuer.New("example.org")
-	if err != nil {
-		t.Fatal(err)
-	}
-	keyring, err := NewKeyring(one.Bundles())
-	if err != nil {
-		t.Fatal(err)
-	}
-	defer keyring.Close()
-	kinds := map[string]func(number []byte) bool{
-		"a zero": func(number []byte) bool { return number[0] == 0 }, "no zero, and no sign": func(number []byte) bool { return number[0] > 0 && number[0] < 0x80 },
-		"a sign": func(number []byte) bool { return number[0] >= 0x80 }, "a zero, and a sign": func(number []byte) bool { return number[0] == 0 && number[1] >= 0x80 },
-	}
-	seen := map[string]bool{}
-	for jti := 0; len(seen) < 2*len(kinds); jti++ {
-		token := one.Token("ES256", map[string]any{"sub": "spiffe://example.org/web", "aud": "ledger", "exp": 2_000_000_000, "jti": fmt.Sprint(jti)})
-		signature := signingOf(t, token).signature
-		for kind, is := range kinds {
-			for half, number := range map[string][]byte{"r": signature[:32], "s": signature[32:]} {
-				if is(number) {
-					seen[half+" has "+kind] = true
-				}
-			}
-		}
-		if yes, err := keyring.Verify(token); err != nil || len(yes) != 1 {
-			t.Fatalf("%x: %v %v", signature, yes, err)
-		}
-	}
-}
