@@ -11,6 +11,7 @@ import (
 	"strings"
 	"testing"
 	"time"
+	"unsafe"
 
 	"svid.example/go/v2/internal/patience"
 	"svid.example/go/v2/journal"
@@ -83,6 +84,30 @@ func TestADiskThatHangsGathersNothing(t *testing.T) {
 		again(t, e)
 	}
 	await(t, "the end of all tries", func() bool { return runtime.NumGoroutine() <= before })
+}
+
+// What waits for a disk that hangs is a use, and nothing of the request that brought it.
+func TestADiskThatHangsKeepsNoRequest(t *testing.T) {
+	d := &disk{hangs: make(chan struct{})}
+	e := ready(t, engine(t, Options{Mode: Once, Journal: d, Wait: time.Millisecond}))
+	defer close(d.hangs)
+	freed := make(chan struct{})
+	func() {
+		text := []byte(token("a"))
+		runtime.SetFinalizer(&text[0], func(*byte) { close(freed) })
+		if err := check(e, *(*string)(unsafe.Pointer(&text))); err == nil {
+			t.Fatal("it is accepted")
+		}
+	}()
+	await(t, "its token to be freed", func() bool {
+		runtime.GC()
+		select {
+		case <-freed:
+			return true
+		default:
+			return false
+		}
+	})
 }
 
 // A snapshot that is being written holds no request up, and what comes meanwhile outlives a restart. The real journal here.

@@ -219,7 +219,7 @@ func (e *Engine) do(own *Request, effect Effect) {
 		effect.Yes, effect.Fault = e.keyring.VerifyToken(&effect.read)
 		e.stepFor(own, Verified(effect))
 	case Append:
-		if own != nil && effect.Write == &own.write {
+		if own != nil && effect.Write == own.write {
 			e.keep(effect.Write)
 		} else {
 			go e.appendInTime(effect.Write)

@@ -34,6 +34,17 @@ type Write struct {
 	late timer
 }
 
+// writeOf is a write of one use. A disk that hangs may keep it for long, so nothing but the use belongs to it.
+func writeOf(use svid.Use) *Write {
+	w := new(struct {
+		Write
+		use [1]svid.Use
+	})
+	w.use[0] = use
+	w.Uses = w.use[:]
+	return &w.Write
+}
+
 // A writer waits for a Write.
 type writer interface{ written(m *Machine, err error) }
 

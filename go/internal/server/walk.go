@@ -41,10 +41,10 @@ type Request struct {
 	name  tokenName // of the token
 	epoch uint64    // of the bundles when it came
 
-	write Write       // of mode once. In mode strict its timer is that of the wait for another request's claim
-	use   [1]svid.Use // that it writes
+	write *Write // of mode once
 
 	// Of mode strict.
+	late   timer      // of the wait for another request's claim
 	open   bool       // its claim has no outcome yet
 	value  *value     // that its claim went out in, nil before
 	behind []*Request // these wait for that outcome; nil where one has left
@@ -126,7 +126,7 @@ func (m *Machine) answerCheck(r *Request, err error) {
 	if m.Mode == Strict {
 		m.claims.requests--
 	}
-	m.timers.stop(&r.write.late)
+	m.timers.stop(&r.late)
 	m.answer(&r.Call, err)
 }
 
@@ -155,9 +155,8 @@ func (m *Machine) once(r *Request) {
 		return
 	}
 	r.Accepted = accepted
-	r.use[0] = accepted.Use
-	r.write.Uses = r.use[:]
-	m.keep(&r.write, r)
+	r.write = writeOf(accepted.Use)
+	m.keep(r.write, r)
 }
 
 // written is step 2 of mode once.
@@ -240,8 +239,8 @@ func (m *Machine) claim(r *Request) {
 	if other := m.claims.open[judged.Use.Key]; other != nil {
 		r.ahead, r.index = other, len(other.behind)
 		other.behind = append(other.behind, r)
-		if r.write.late.what == nil { // Where a request goes on alone, the time of its value is enough.
-			m.timers.set(&r.write.late, m.now.Up+m.Wait, r)
+		if r.late.what == nil { // Where a request goes on alone, the time of its value is enough.
+			m.timers.set(&r.late, m.now.Up+m.Wait, r)
 		}
 		return
 	}
