@@ -97,6 +97,9 @@ type Engine struct {
 	toHave    atomic.Pointer[[]string] // trust domains that are to have a bundle; nil while Options.Domains counts
 	isReal    bool                     // Options.Now was not given
 
+	hearing sync.Mutex // guards heard
+	heard   []*Write   // of these it is known what became, and the machine is to hear that
+
 	mu      sync.Mutex // held over a step of the machine; guards the fields below
 	machine *Machine
 	alarm   *time.Timer   // ticks
@@ -240,8 +243,48 @@ func (e *Engine) do(own *Request, effect Effect) {
 // keep brings the uses of a request to the disk. Nobody waits here for the disk: the machine answers the request, at the latest when its
 // time is over.
 func (e *Engine) keep(w *Write) {
-	if err := e.Journal.KeepUses(func(err error) { e.kept(w, err) }, w.Uses...); err != nil {
+	if err := e.Journal.KeepUses(func(err error) { e.keptSoon(w, err) }, w.Uses...); err != nil {
 		e.kept(w, err)
+	}
+}
+
+// keptSoon is kept for one of many requests that share a write: the machine hears of them together, since each time takes its lock.
+func (e *Engine) keptSoon(w *Write, err error) {
+	w.Err, w.Size = err, e.Journal.Size()
+	e.hearing.Lock()
+	e.heard = append(e.heard, w)
+	first := len(e.heard) == 1
+	e.hearing.Unlock()
+	if first {
+		go e.hear()
+	}
+}
+
+// mostHeard is of how many writes the machine hears while nobody else has its lock.
+const mostHeard = 32
+
+func (e *Engine) hear() {
+	e.hearing.Lock()
+	all := e.heard
+	e.heard = nil
+	e.hearing.Unlock()
+	var room [mostHeard]Effect
+	for len(all) > 0 {
+		now, these := e.time(), all
+		if len(these) > mostHeard {
+			these = these[:mostHeard]
+		}
+		all = all[len(these):]
+		e.mu.Lock()
+		for _, w := range these {
+			e.machine.Step(now, Kept{w})
+		}
+		effects := e.machine.Effects(room[:0])
+		e.arm()
+		e.mu.Unlock()
+		for _, effect := range effects {
+			e.do(nil, effect)
+		}
 	}
 }
 

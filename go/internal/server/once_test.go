@@ -4,9 +4,11 @@ import (
 	"bytes"
 	"context"
 	"errors"
+	"fmt"
 	"strings"
 	"testing"
 
+	"svid.example/go/v2/internal/patience"
 	"svid.example/go/v2/svid"
 )
 
@@ -78,5 +80,28 @@ func TestWhatIsNotToldIsCounted(t *testing.T) {
 	e.step(doing(func(m *Machine) { m.tale.untold = make([]svid.Use, mostUntold) }))
 	if err := check(e, token("b")); err != nil || e.Metrics.Untold.Load() != 2 {
 		t.Errorf("%v, untold %d", err, e.Metrics.Untold.Load())
+	}
+}
+
+// Of many requests that share a write, each is answered.
+func TestManyRequestsShareAWrite(t *testing.T) {
+	e := ready(t, engine(t, Options{Mode: Once, Journal: &disk{}, Wait: patience.Long}))
+	const many = 3*mostHeard + 1
+	e.heard = []*Write{nil} // (so nobody begins before all are there)
+	answers := make(chan error, many)
+	for i := 0; i < many; i++ {
+		go func(i int) { _, err := e.Check(context.Background(), token(fmt.Sprint("shares", i))); answers <- err }(i)
+	}
+	await(t, "all of them", func() bool {
+		e.hearing.Lock()
+		defer e.hearing.Unlock()
+		return len(e.heard) == 1+many
+	})
+	e.heard = e.heard[1:]
+	e.hear()
+	for i := 0; i < many; i++ {
+		if err := <-answers; err != nil {
+			t.Error(err)
+		}
 	}
 }
