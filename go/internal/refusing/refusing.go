@@ -8,6 +8,10 @@ package refusing
 #include <stdlib.h>
 #cgo LDFLAGS: -lcrypto
 
+// The path of its folder gives this package another key in Go's cache for each checkout. go vet -trimpath takes from there a text that names a file
+// of the checkout that made it, and fails where that is gone.
+#cgo CFLAGS: -I${SRCDIR}
+
 // How many allocations of this thread go well before one is refused, or, with all, each one. -1 refuses none.
 static _Thread_local long left = -1;
 static _Thread_local int all;

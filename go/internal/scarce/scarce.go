@@ -8,6 +8,10 @@ package scarce
 #include <stdatomic.h>
 #include <stddef.h>
 
+// The path of its folder gives this package another key in Go's cache for each checkout. go vet -trimpath takes from there a text that names a file
+// of the checkout that made it, and fails where that is gone.
+#cgo CFLAGS: -I${SRCDIR}
+
 extern void *__libc_malloc(size_t size);
 extern void *__libc_calloc(size_t count, size_t size);
 extern void *__libc_realloc(void *old, size_t size);
