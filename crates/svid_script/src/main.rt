@@ -2,7 +2,9 @@
 //! prints what each call answers. docs/CASES.md is the language of the scripts.
 #![tactic(auto)]
 
+mod engines;
 mod faults;
+mod kept_sink;
 mod script;
 
 use crate::script::Script;

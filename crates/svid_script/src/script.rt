@@ -1,3 +1,4 @@
+use crate::engines;
 use crate::faults::no_memory;
 use std::alloc::Global;
 use svid_script_base::byte_words::bytes;
@@ -150,16 +151,19 @@ fn check_call(out: &mut Out<'_>, values: &mut Values, words: &[&str]) -> Result<
     }
 }
 
-// The calls on engines over lines, and on documents.
+// The calls on engines over lines.
 fn engine_call(
     out: &mut Out<'_>,
     env: &mut Env,
     trust: &Trust,
     words: &[&str],
 ) -> Result<(), Stop> {
-    match svid_script_engines::call(out, env, trust, words) {
-        Err(Stop::NoCall) => svid_script_documents::call(out, env, words),
-        answer => answer,
+    match word(words, 0) {
+        "token_lines" => engines::lines(out, env, trust, words),
+        "run_id" => engines::id(out, env, words),
+        "run_candidates" => engines::candidates(out, env, words),
+        "run_check" => engines::check(out, env, words),
+        _ => Err(Stop::NoCall),
     }
 }
 

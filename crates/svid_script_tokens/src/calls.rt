@@ -1,11 +1,11 @@
-use crate::{bearer, ids, keys, patterns, tokens};
+use crate::{bearer, documents, ids, keys, patterns, tokens};
 use svid_script_base::env::Env;
 use svid_script_base::out::Out;
 use svid_script_base::stop::Stop;
-use svid_script_base::words::word;
+use svid_script_base::words::{from, word};
 use svid_script_trust::Trust;
 
-// The calls on keys and bundles.
+// The calls on keys, bundles and documents of them.
 fn key_call(out: &mut Out<'_>, env: &Env, trust: &mut Trust, words: &[&str]) -> Result<(), Stop> {
     match word(words, 0) {
         "bundles" => keys::bundles(out, env, trust, words),
@@ -16,6 +16,8 @@ fn key_call(out: &mut Out<'_>, env: &Env, trust: &mut Trust, words: &[&str]) -> 
         "verify" => keys::verify(out, env, trust, words),
         "lines" => keys::lines(out, env, words),
         "key_spki" => keys::spki(out, env, words),
+        "documents" => documents::documents(out, env, from(words, 1)),
+        "key_text" => documents::entry(out, env, word(words, 1)),
         _ => Err(Stop::NoCall),
     }
 }

@@ -1,8 +1,9 @@
-//! The test driver's calls on SPIFFE IDs and patterns of them, bearer tokens, tokens, keys and trust bundles.
+//! The test driver's calls on SPIFFE IDs and patterns of them, bearer tokens, tokens, keys, trust bundles and documents that have these.
 #![tactic(auto)]
 
 mod bearer;
 mod calls;
+mod documents;
 mod ids;
 mod keys;
 mod patterns;

@@ -4,16 +4,7 @@ use svid_script_base::env::Env;
 use svid_script_base::out::Out;
 use svid_script_base::say::{say_fault, say_lines};
 use svid_script_base::stop::Stop;
-use svid_script_base::words::{from, word};
-
-/// Makes the call that a line names.
-pub fn call(out: &mut Out<'_>, env: &Env, words: &[&str]) -> Result<(), Stop> {
-    match word(words, 0) {
-        "documents" => documents(out, env, from(words, 1)),
-        "key_text" => entry(out, env, word(words, 1)),
-        _ => Err(Stop::NoCall),
-    }
-}
+use svid_script_base::words::word;
 
 // The document of the words `many - BYTES`, `one DOMAIN BYTES` or `keys DOMAIN BYTES`.
 fn document<'a>(words: &[&'a str], text: &'a [u8]) -> Result<Document<'a>, Stop> {
@@ -35,8 +26,8 @@ fn texts(env: &Env, words: &[&str]) -> Result<Vec<Vec<u8>>, Stop> {
     Ok(texts)
 }
 
-// `documents [many - BYTES] [one DOMAIN BYTES] [keys DOMAIN BYTES] ..`
-fn documents(out: &mut Out<'_>, env: &Env, words: &[&str]) -> Result<(), Stop> {
+/// `documents [many - BYTES] [one DOMAIN BYTES] [keys DOMAIN BYTES] ..`
+pub fn documents(out: &mut Out<'_>, env: &Env, words: &[&str]) -> Result<(), Stop> {
     let texts = texts(env, words)?;
     let mut documents = Vec::new(env.alloc);
     for (three, text) in words.chunks(3).zip(texts.iter()) {
@@ -51,8 +42,8 @@ fn documents(out: &mut Out<'_>, env: &Env, words: &[&str]) -> Result<(), Stop> {
     }
 }
 
-// `key_text BYTES`
-fn entry(out: &mut Out<'_>, env: &Env, text: &str) -> Result<(), Stop> {
+/// `key_text BYTES`
+pub fn entry(out: &mut Out<'_>, env: &Env, text: &str) -> Result<(), Stop> {
     match key_text(env.alloc, &bytes(env, text)?) {
         Ok(text) => say_lines(out, text.as_bytes()),
         Err(fault) => {
