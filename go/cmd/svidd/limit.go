@@ -52,7 +52,7 @@ func (c *boundedConn) Read(b []byte) (int, error) {
 		}
 		n, err := c.Conn.Read(b)
 		c.unanswered.Add(int64(n))
-		if err == nil || !errors.Is(err, os.ErrDeadlineExceeded) || c.reads.isOver() {
+		if n > 0 || err == nil || !errors.Is(err, os.ErrDeadlineExceeded) || c.reads.isOver() {
 			return n, err
 		}
 	}
