@@ -1,12 +1,12 @@
 -- Lemmas about specs/Read.antt: one answer is due, and what is written is read.
-use Rattle.std.proofs.Common.{◌≡◌, ℕ, ◌+◌, ◌<◌, ◌≤◌, Bool, true, false, not, ◌==◌, ◌||◌, List, [], ◌∷◌, ◌++◌, length, codes, get_or, Result, Ok, Err, refl, sym, ◌∙◌, arith, ap, subst}
+use Rattle.std.proofs.Common.{◌≡◌, ℕ, ◌≤◌, true, List, [], ◌++◌, length, codes, get_or, Result, Ok, Err, refl, sym, arith, ap, subst}
 use Rattle.std.specs.List.{AllPass, list_all}
 use Rattle.std.proofs.lemmas.Bool.Decides.{nat_tests}
 use Rattle.std.proofs.lemmas.List.{append-nil}
 use Rattle.std.proofs.lemmas.List.Folds.{list_all-append}
 use Rattle.std.proofs.lemmas.List.Sums.{AllPass-from_list_all, list_all-from_AllPass}
 use Rattle.svid_bearer.specs.Read.{Found, IsAnswer}
-use Rattle.svid_bearer.specs.Value.{Carries, IsBearer, IsToken, is_blank, is_equals, is_no_separator, is_space, is_token_byte, scheme_of}
+use Rattle.svid_bearer.specs.Value.{Carries, IsBearer, IsToken, is_equals, is_no_separator, is_space, is_token_byte, scheme_of}
 use Rattle.svid_bearer.specs.declared.no_bearer.NoBearer.{NoBearer}
 use Rattle.svid_bearer.specs.declared.no_bearer.NoBearer.TheVariants.{Absent, Several, Scheme, Spelling, TooLong}
 use Rattle.svid_bearer.proofs.ScanLemmas.{Carries-unique, Scans-Carries}

@@ -1,14 +1,14 @@
 -- Lemmas about specs/Scan.antt: the scan finds exactly the pieces that a value is spelled from.
-use Rattle.std.proofs.Common.{◌≡◌, ℕ, ◌+◌, ◌-◌, ◌<◌, ◌≤◌, Bool, true, false, not, ◌==◌, ◌&&◌, List, [], ◌∷◌, ◌++◌, length, map, take, drop, codes, get_or, refl, sym, ◌∙◌, arith, ap, subst, take-add}
+use Rattle.std.proofs.Common.{◌≡◌, ℕ, ◌+◌, ◌-◌, ◌<◌, Bool, true, false, List, [], ◌∷◌, ◌++◌, length, map, take, drop, get_or, refl, sym, ◌∙◌, arith, subst, take-add}
 use Rattle.std.specs.Char.{to_ascii_lowercase}
-use Rattle.std.specs.List.{AllPass, before_first, list_all, prefix_len}
+use Rattle.std.specs.List.{AllPass, list_all, prefix_len}
 use Rattle.std.proofs.Math.Seq.{drop-append_seam, take-append_seam}
 use Rattle.std.proofs.lemmas.Bool.Decides.{nat_tests}
 use Rattle.std.proofs.lemmas.List.{length-append, length-drop, length-map, length-take-le, get_or-take, take-append-drop, append_assoc}
-use Rattle.std.proofs.lemmas.List.Folds.{list_all-map, prefix_len-append, length-prefix_len}
+use Rattle.std.proofs.lemmas.List.Folds.{list_all-map, prefix_len-append}
 use Rattle.std.proofs.lemmas.List.Sums.{AllPass-from_list_all, list_all-from_AllPass, prefix_len-le-length, prefix_len_is, prefix_len_passes}
 use Rattle.svid_bearer.specs.Scan.{behind_word, has_token, offset_of, rest_of, token_len, token_of, unblank, unspace}
-use Rattle.svid_bearer.specs.Value.{Carries, IsBearer, IsToken, is_blank, is_equals, is_space, is_token_byte, is_word_byte, scheme_of}
+use Rattle.svid_bearer.specs.Value.{Carries, IsBearer, is_blank, is_equals, is_space, is_token_byte, is_word_byte, scheme_of}
 
 pub ruleset runs_fit = (prefix_len-le-length)
 

@@ -1,5 +1,5 @@
 -- A field value taken apart from the left, as the code does; public contracts speak of Value.Carries.
-use Rattle.std.specs.Prelude.{ℕ, ◌+◌, ◌-◌, Bool, ◌&&◌, ◌==◌, not, if◌then◌else◌, List, length, map, take, drop, codes, Option, Some, None, bytes_eq}
+use Rattle.std.specs.Prelude.{ℕ, ◌+◌, ◌-◌, Bool, ◌&&◌, ◌==◌, not, List, length, take, drop}
 use Rattle.std.specs.List.{list_all, prefix_len}
 use Rattle.svid_bearer.specs.Value.{is_blank, is_equals, is_space, is_token_byte, is_word_byte}
 

@@ -10,10 +10,14 @@ fn is_blank(byte: u8) -> bool
     byte == b' ' || byte == b'\t'
 }
 
+// The bytes of a token below 64, and those from 64 to 127: a bit each. (Nobody guesses which letter of a token is next, so a branch for each range
+// would cost more.)
+const TOKEN_BYTES: [u64; 2] = [0x03ff_e800_0000_0000, 0x47ff_fffe_87ff_fffe];
+
 fn is_token_byte(byte: u8) -> bool
     ensures { result ≡ is_token_byte byte }
 {
-    matches!(byte, b'a'..=b'z' | b'A'..=b'Z' | b'0'..=b'9' | b'-' | b'.' | b'_' | b'~' | b'+' | b'/')
+    byte < 128 && (TOKEN_BYTES[(byte / 64) as usize] >> (byte % 64)) & 1 == 1
 }
 
 // How many blanks are in front.

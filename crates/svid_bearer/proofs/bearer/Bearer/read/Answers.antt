@@ -1,6 +1,4 @@
-use Rattle.std.proofs.Common.{rules, ◌≡◌, List, length, refl, arith}
-use Rattle.svid_bearer.specs.Value.{scheme_of}
-use Rattle.svid_bearer.specs.Scan.{rest_of}
+use Rattle.std.proofs.Common.{refl, arith}
 use Rattle.svid_bearer.proofs.ScanLemmas.{cut-steps, found-Carries, none-Carries}
 use Rattle.svid_bearer.proofs.bearer.Bearer.read.Goals as goal
 
