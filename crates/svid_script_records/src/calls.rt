@@ -1,5 +1,6 @@
 use crate::{
-    batched, batches, buckets, feeds, messages, records, stores, summaries, tried_streams, uses,
+    batched, batches, buckets, feeds, messages, records, stores, stream_calls, summaries,
+    tried_streams, uses,
 };
 use svid_script_base::env::Env;
 use svid_script_base::out::Out;
@@ -80,7 +81,7 @@ fn message_call(out: &mut Out<'_>, env: &mut Env, words: &[&str]) -> Result<(), 
         "mem.put" => tried_streams::mem_put(out, env, words),
         "counted.get" => tried_streams::counted_get(out, env, words),
         "counted.put" => tried_streams::counted_put(out, env, words),
-        _ => Err(Stop::NoCall),
+        _ => stream_calls::call(out, env, words),
     }
 }
 

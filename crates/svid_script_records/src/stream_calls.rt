@@ -5,7 +5,7 @@ use svid_script_base::stop::Stop;
 use svid_script_base::words::word;
 
 /// Makes the call of a line that reads or writes messages by streams, if it is one.
-pub fn call(out: &mut Out<'_>, env: &mut Env, words: &[&str]) -> Result<(), Stop> {
+pub(crate) fn call(out: &mut Out<'_>, env: &mut Env, words: &[&str]) -> Result<(), Stop> {
     match word(words, 0) {
         "put_all" => writing::put_bytes(out, env, words),
         "put_text" => writing::put_line(out, env, words),
