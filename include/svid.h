@@ -479,8 +479,8 @@ uint32_t svid_summary_of(const svid_digests *digests, uint8_t *out, size_t out_l
  *      for each of 0 to 255.
  *   3. If they differ, svid_validator_bucket with `asked.moment` writes the uses of that bucket that expire later: messages, or no bytes if there
  *      are none.
- * What step 3 writes in all tells the uses that svid_validator_answer tells. The record stays as it is. Steps 2 and 3 look at the uses of one
- * bucket alone, at each once. You may make other calls in between: what they add may be in the answer or not. */
+ * What step 3 writes in all tells the uses that svid_validator_answer tells. The record stays as it is. Each call of steps 2 and 3 looks once at
+ * each use of its bucket, and at no other use. You may make other calls in between: what they add may be in the answer or not. */
 uint32_t svid_summary_read(const uint8_t *summary, size_t summary_len, svid_digests *asked, svid_told *told);
 uint32_t svid_validator_differs(svid_validator *v, uint8_t bucket, const svid_digests *asked, svid_told *told);
 uint32_t svid_validator_bucket(svid_validator *v, uint8_t bucket, uint64_t moment, uint8_t *out, size_t out_len, svid_told *told);
