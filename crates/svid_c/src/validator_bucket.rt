@@ -42,7 +42,7 @@ fn tell_bucket(
 }
 
 /// Puts the uses of one bucket that expire after `moment`, in seconds, first into `out`, as messages: no bytes where there is none. The record stays
-/// as it is. It looks at the uses of this bucket alone, at each once.
+/// as it is. It looks once at each use of this bucket, and at no other use.
 ///
 /// To answer a summary, call it for each bucket of which `svid_validator_differs` says so, with the summary's moment. What all of them tell are the
 /// uses that `svid_validator_answer` tells.

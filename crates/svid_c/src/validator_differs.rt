@@ -26,8 +26,8 @@ fn tell_differs(live: &Live, bucket: u8, asked: &SvidDigests, told: &mut SvidTol
 }
 
 /// Tells whether one bucket differs from the one that a summary is of: whether the digest of its uses that expire after `asked.moment`, in seconds, is
-/// another than the one in its place in `asked`. `svid_summary_read` puts the digests of a summary there. The record stays as it is. It looks at the
-/// uses of this bucket alone, at each once, and takes no memory.
+/// another than the one in its place in `asked`. `svid_summary_read` puts the digests of a summary there. The record stays as it is. It looks once
+/// at each use of this bucket, and at no other use. It takes no memory.
 ///
 /// 0, and `told.more` is 1 where the digests differ, and else 0; 5 where the validator is closed.
 #[unsafe(no_mangle)]
