@@ -55,7 +55,7 @@ class Service:
             "HOME": str(room / "home"),
             "GOPATH": str(room / "gopath"),
             "GOCACHE": str(room / "cache"),
-            "GOGC": "400",  # (as in go/build)
+            "GOGC": "1200",  # (as in go/build)
             "GOPROXY": f"file://{proxy}",
             "GONOSUMDB": "*",
             "GOFLAGS": "-mod=mod",
@@ -259,7 +259,7 @@ def test_a_fresh_clone_is_built(room):
         "HOME": str(room / "home"),
         "GOPATH": str(gopath),
         "GOCACHE": str(room / "cache"),
-        "GOGC": "400",
+        "GOGC": "1200",
         "GOENV": "off",
         "GOPROXY": "off",
         "GOTOOLCHAIN": "local",
