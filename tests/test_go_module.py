@@ -55,7 +55,7 @@ class Service:
             "HOME": str(room / "home"),
             "GOPATH": str(room / "gopath"),
             "GOCACHE": str(room / "cache"),
-            "GOGC": "400",  # (as in go/build)
+            "GOGC": "1200",  # (as in go/build)
             "GOPROXY": f"file://{proxy}",
             "GONOSUMDB": "*",
             "GOFLAGS": "-mod=mod",
@@ -198,8 +198,8 @@ def test_a_service_for_aarch64(service):
     needs("aarch64-linux-gnu-gcc")
     needs("qemu-aarch64-static")
     service.write(TWICE)
-    flags = ["-trimpath", "-tags", "gocrypto", "-ldflags", "-linkmode external -extldflags -static"]
-    # (with that option Go's own library is compiled for svidd, too, and kept)
+    flags = ["-trimpath", "-tags", "gocrypto", "-gcflags=all=-dwarf=false", "-ldflags", "-w -linkmode external -extldflags -static"]
+    # (with these options packaging/svidd-arm64 compiles Go's own library, too, and it is kept)
     kept = subprocess.run(["go", "env", "GOCACHE"], capture_output=True, text=True, check=True).stdout.strip()
     ran = service.go("build", *flags, "-o", "service", GOARCH="arm64", CGO_ENABLED="1", CC="aarch64-linux-gnu-gcc", GOCACHE=kept)
     assert ran.returncode == 0, ran.stderr
@@ -259,7 +259,7 @@ def test_a_fresh_clone_is_built(room):
         "HOME": str(room / "home"),
         "GOPATH": str(gopath),
         "GOCACHE": str(room / "cache"),
-        "GOGC": "400",
+        "GOGC": "1200",
         "GOENV": "off",
         "GOPROXY": "off",
         "GOTOOLCHAIN": "local",

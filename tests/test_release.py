@@ -661,13 +661,13 @@ if MODULE:
     def test_the_go_module(room):
         shutil.copytree(room.release / "go", room.folder / "proxy")
         (room.folder / "main.go").write_text(GO_SERVICE)
-        # (Go's own library was compiled with that option before)
+        # (Go's own library was compiled with these options before)
         go = {
             "GOPROXY": f"file://{room.folder}/proxy",
             "GOPATH": str(room.folder / "gopath"),
             "GOCACHE": output("go", "env", "GOCACHE").strip(),
             "GONOSUMDB": "*",
-            "GOFLAGS": "-mod=mod -trimpath -modcacherw",
+            "GOFLAGS": "-mod=mod -trimpath -modcacherw -gcflags=all=-dwarf=false -ldflags=-w",
             "GOTOOLCHAIN": "local",
         }
         room.run("go", "mod", "init", "service", **go)

@@ -1,3 +1,5 @@
+//go:build !svid_checkout
+
 package svid
 
 // The C library and its header. (In the module they are beside this file: `go/build module`.)

@@ -39,6 +39,9 @@ var library = []struct{ outside, flag, within string }{
 const (
 	folder = "svid/"
 	link   = folder + "link.go" // has these flags
+
+	// checkout has others, for the scripts of the checkout.
+	checkout = folder + "link_checkout.go"
 )
 
 func main() {
@@ -115,7 +118,7 @@ func read(from, top string) (map[string][]byte, error) {
 		switch {
 		case entry.IsDir() && left.MatchString(path):
 			return fs.SkipDir
-		case !entry.Type().IsRegular() || !taken.MatchString(path) || strings.HasSuffix(path, "_test.go"):
+		case !entry.Type().IsRegular() || !taken.MatchString(path) || strings.HasSuffix(path, "_test.go") || path == checkout:
 			return nil
 		}
 		files[path], err = os.ReadFile(name)

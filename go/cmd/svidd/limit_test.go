@@ -3,6 +3,7 @@ package main
 import (
 	"bufio"
 	"bytes"
+	"encoding/binary"
 	"errors"
 	"fmt"
 	"io"
@@ -18,6 +19,34 @@ import (
 	"svid.example/go/v2/internal/natstest"
 	"svid.example/go/v2/internal/patience"
 )
+
+// hasRead says whether svidd has read all that a connection over IPv4 has sent: neither end has a byte that waits (proc(5), /proc/net/tcp).
+func (p *process) hasRead(c net.Conn) bool {
+	p.t.Helper()
+	here, there := inProc(c.LocalAddr()), inProc(c.RemoteAddr())
+	all, err := os.ReadFile("/proc/net/tcp")
+	if err != nil {
+		p.t.Fatal(err)
+	}
+	ends := 0
+	for _, line := range strings.Split(string(all), "\n") {
+		row := strings.Fields(line)
+		if len(row) < 5 || !(row[1] == here && row[2] == there || row[1] == there && row[2] == here) {
+			continue
+		}
+		if row[4] != "00000000:00000000" {
+			return false
+		}
+		ends++
+	}
+	return ends == 2
+}
+
+// inProc is an address as /proc/net/tcp has it: the bytes of the IP as a number of this machine, and the port.
+func inProc(a net.Addr) string {
+	of := a.(*net.TCPAddr)
+	return fmt.Sprintf("%08X:%04X", binary.LittleEndian.Uint32(of.IP.To4()), of.Port)
+}
 
 // dial connects to svidd, and sends the beginning of a request.
 func (p *process) dial(network, address, text string) net.Conn {
@@ -176,7 +205,7 @@ func TestARequestInTwoParts(t *testing.T) {
 	request := "GET /check HTTP/1.1\r\nHost: a\r\nX-Pad: " + strings.Repeat("a", 5000) + "\r\nAuthorization: Bearer " + token(t, "parts", lasting) + "\r\n\r\n"
 	for _, first := range []int{1, 4094, 4095, 4096, len(request) - 1} {
 		c := p.dial("tcp", p.address, request[:first])
-		time.Sleep(50 * time.Millisecond)
+		p.await("the first part is read", func() bool { return p.hasRead(c) })
 		if _, err := io.WriteString(c, request[first:]); err != nil {
 			t.Fatal(err)
 		}

@@ -1,0 +1,25 @@
+package svid
+
+import (
+	"bytes"
+	"crypto/sha256"
+	"encoding/hex"
+	"os"
+	"testing"
+)
+
+// The header of this folder says the sum of the one that it includes. Else Go would not compile this package anew for a header that has changed.
+func TestTheHeaderSaysTheSumOfTheOneThatItIncludes(t *testing.T) {
+	included, err := os.ReadFile("../../include/svid.h")
+	if err != nil {
+		t.Fatal(err)
+	}
+	header, err := os.ReadFile("svid.h")
+	if err != nil {
+		t.Fatal(err)
+	}
+	sum := sha256.Sum256(included)
+	if due := hex.EncodeToString(sum[:]); !bytes.Contains(header, []byte(due+" */\n#include \"../../include/svid.h\"\n")) {
+		t.Errorf("write the sum of include/svid.h into go/svid/svid.h: %s", due)
+	}
+}
