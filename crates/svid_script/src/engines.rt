@@ -12,8 +12,9 @@ use svid_script_base::streams::{
     put_sink, put_source, put_sources, take_sink, take_source, take_sources,
 };
 use svid_script_base::words::{from, id16, number, number_if_any, texts, word};
-use svid_script_checks::{Trust, token_refused};
 use svid_script_records::tool_refused;
+use svid_script_trust::Trust;
+use svid_script_trust::say::token_refused;
 use svid_share::ToolFault;
 
 // Prints yes or no, or the fault.

@@ -9,8 +9,9 @@ use svid_script_base::say::{say_bytes, say_lines};
 use svid_script_base::stop::Stop;
 use svid_script_base::streams;
 use svid_script_base::words::{number, word, words_of};
-use svid_script_checks::{Logs, Trust, Validators};
 use svid_script_journal::Folders;
+use svid_script_log::Logs;
+use svid_script_trust::{Trust, Validators};
 
 // All values that a script has named.
 #[derive(Drop)]
@@ -112,7 +113,7 @@ fn script_call(out: &mut Out<'_>, values: &mut Values, words: &[&str]) -> Result
         Err(Stop::NoCall) => {}
         answer => return answer,
     }
-    match svid_script_checks::token_call(out, &values.env, &mut values.trust, words) {
+    match svid_script_tokens::call(out, &values.env, &mut values.trust, words) {
         Err(Stop::NoCall) => check_call(out, values, words),
         answer => answer,
     }
@@ -136,11 +137,11 @@ fn check_call(out: &mut Out<'_>, values: &mut Values, words: &[&str]) -> Result<
         logs,
         ..
     } = values;
-    match svid_script_checks::check_call(out, env, trust, validators, words) {
+    match svid_script_checks::call(out, env, trust, validators, words) {
         Err(Stop::NoCall) => {}
         answer => return answer,
     }
-    match svid_script_checks::log_call(out, env, validators, logs, words) {
+    match svid_script_log::call(out, env, validators, logs, words) {
         Err(Stop::NoCall) => engine_call(out, env, trust, words),
         answer => answer,
     }

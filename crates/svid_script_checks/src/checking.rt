@@ -1,5 +1,3 @@
-use crate::say::say_checked;
-use crate::{AnyValidator, AnyVerifier, Validators};
 use std::alloc::{AllocError, Global};
 use svid_check::{Accepted, Answer, Event, TakeFault, Validator, WithdrawFault};
 use svid_replay::{Batch, Summary, Use, UseStore};
@@ -10,6 +8,8 @@ use svid_script_base::over_any;
 use svid_script_base::say::{done, say_batches, say_fault, say_ok, say_text, say_use};
 use svid_script_base::stop::Stop;
 use svid_script_base::words::{from, key, number, word};
+use svid_script_trust::say::say_checked;
+use svid_script_trust::{AnyValidator, AnyVerifier, Validators};
 use svid_token::Refusal;
 
 /// Prints that a record or a batch was taken, or why not.

@@ -1,8 +1,4 @@
-use crate::asked::{Asked, asked_in};
-use crate::candidates::say_candidates;
 use crate::checking::say_taken;
-use crate::say::{say_checked, token_refused};
-use crate::{AnyValidator, AnyVerifier, Trust, Validators};
 use std::alloc::AllocError;
 use svid_check::{Accepted, Reading, TakeFault, Validator};
 use svid_keys::Bundles;
@@ -15,6 +11,10 @@ use svid_script_base::say::{refused, say_batch, say_ok};
 use svid_script_base::stop::Stop;
 use svid_script_base::use_words::use_if_any;
 use svid_script_base::words::{key, number, word};
+use svid_script_trust::asked::{Asked, asked_in};
+use svid_script_trust::keys::say_candidates;
+use svid_script_trust::say::{say_checked, token_refused};
+use svid_script_trust::{AnyValidator, AnyVerifier, Trust, Validators};
 use svid_token::Refusal;
 
 fn check_in<S: UseStore>(

@@ -1,5 +1,3 @@
-use crate::Trust;
-use crate::say::{say_claims, say_header, say_key, token_refused};
 use svid_check::Reading;
 use svid_keys::Bundles;
 use svid_script_base::byte_words::bytes;
@@ -8,6 +6,8 @@ use svid_script_base::out::Out;
 use svid_script_base::say::{say_bytes, say_digits};
 use svid_script_base::stop::Stop;
 use svid_script_base::words::word;
+use svid_script_trust::Trust;
+use svid_script_trust::say::{say_claims, say_header, say_key, token_refused};
 
 fn say_reading(out: &mut Out<'_>, reading: &Reading) {
     say_header(out, &reading.header);

@@ -1,5 +1,3 @@
-use crate::asked::verifier_if_any;
-use crate::{AnyValidator, AnyVerifier, Trust, Validators};
 use std::alloc::Global;
 use svid_check::Validator;
 use svid_keys::Bundles;
@@ -12,6 +10,8 @@ use svid_script_base::reports::{parts, report};
 use svid_script_base::say::{say_number, say_uses};
 use svid_script_base::stop::Stop;
 use svid_script_base::words::{from, id16, number, number_if_any, texts, word};
+use svid_script_trust::asked::verifier_if_any;
+use svid_script_trust::{AnyValidator, AnyVerifier, Trust, Validators};
 
 // What a validator is given, but for its record.
 #[derive(Drop)]

@@ -4,8 +4,8 @@ use Rattle.std.specs.String.{string_bytes}
 use Rattle.svid_keys.specs.Key.{KeyData}
 use Rattle.svid_keys.specs.Table.{table_says}
 use Rattle.svid_token.specs.declared.alg.Alg.{Alg}
-use Rattle.svid_script_checks.specs.declared.verifier.AnyVerifier.{AnyVerifier}
-use Rattle.svid_script_checks.specs.declared.verifier.AnyVerifier.TheVariants.{Yes, Sig, Kid, Table}
+use Rattle.svid_script_trust.specs.declared.verifier.AnyVerifier.{AnyVerifier}
+use Rattle.svid_script_trust.specs.declared.verifier.AnyVerifier.TheVariants.{Yes, Sig, Kid, Table}
 
 abbrev pub says : AnyVerifier → KeyData → Alg → List ℕ → List ℕ → Bool
 says Yes key alg input signature = true

@@ -1,5 +1,5 @@
-use crate::fates::say_fates;
 use crate::logs::Logs;
+use crate::say::say_fates;
 use crate::values::uses_at;
 use std::alloc::AllocError;
 use svid_log::{Claims, Fate};

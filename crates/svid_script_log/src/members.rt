@@ -1,6 +1,5 @@
 use crate::logs::{Logs, Reader};
 use crate::values::uses_at;
-use crate::{AnyValidator, AnyVerifier, Validators};
 use std::alloc::{AllocError, Global};
 use svid_check::Validator;
 use svid_log::{Mark, Member};
@@ -11,6 +10,7 @@ use svid_script_base::over_any;
 use svid_script_base::say::{say_batches, say_bool};
 use svid_script_base::stop::Stop;
 use svid_script_base::words::{id16, key, number, word};
+use svid_script_trust::{AnyValidator, AnyVerifier, Validators};
 
 // How long a use lives in the log, and what earlier lives may have read: `LASTS READY`.
 #[derive(Clone, Copy)]

@@ -1,8 +1,9 @@
-use crate::{Trust, Validators, checking, lending, readings, validators};
+use crate::{checking, lending, readings, validators};
 use svid_script_base::env::Env;
 use svid_script_base::out::Out;
 use svid_script_base::stop::Stop;
 use svid_script_base::words::word;
+use svid_script_trust::{Trust, Validators};
 
 fn validator_call(
     out: &mut Out<'_>,

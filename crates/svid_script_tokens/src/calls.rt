@@ -1,8 +1,9 @@
-use crate::{Trust, bearer, documents, ids, keys, patterns, tokens};
+use crate::{bearer, documents, ids, keys, patterns, tokens};
 use svid_script_base::env::Env;
 use svid_script_base::out::Out;
 use svid_script_base::stop::Stop;
 use svid_script_base::words::{from, word};
+use svid_script_trust::Trust;
 
 // The calls on keys, bundles and documents of them.
 fn key_call(out: &mut Out<'_>, env: &Env, trust: &mut Trust, words: &[&str]) -> Result<(), Stop> {

@@ -1,5 +1,3 @@
-use crate::Trust;
-use crate::candidates::{alg, say_candidates};
 use crate::refusing::{bundles_refused, key_refused, table_refused};
 use svid_keys::{Bundles, JwtKey, Lines, TableVerifier, Verifier, question};
 use svid_script_base::byte_words::bytes;
@@ -8,6 +6,8 @@ use svid_script_base::out::Out;
 use svid_script_base::say::{say_bool, say_bytes, say_digits};
 use svid_script_base::stop::Stop;
 use svid_script_base::words::{number, text, text_if_any, word};
+use svid_script_trust::Trust;
+use svid_script_trust::keys::{alg, say_candidates};
 use svid_spki::key_spki;
 use svid_token::Alg;
 

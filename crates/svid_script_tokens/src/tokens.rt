@@ -1,5 +1,4 @@
 use crate::refusing::{id_refused, part_refused};
-use crate::say::{say_claims, say_header, token_refused};
 use svid_id::SpiffeId;
 use svid_script_base::byte_words::bytes;
 use svid_script_base::env::Env;
@@ -7,6 +6,7 @@ use svid_script_base::out::Out;
 use svid_script_base::say::{say_bytes, say_digits, say_none, say_text};
 use svid_script_base::stop::Stop;
 use svid_script_base::words::{text, text_if_any, word};
+use svid_script_trust::say::{say_claims, say_header, token_refused};
 use svid_token::{
     Alg, Compact, Header, Payload, decode_part, read_json, read_signature, token_key,
 };

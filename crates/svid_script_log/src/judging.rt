@@ -1,7 +1,4 @@
-use crate::asked::{Asked, asked_in};
 use crate::logs::Logs;
-use crate::say::{say_checked, token_refused};
-use crate::{AnyValidator, AnyVerifier, Validators};
 use svid_check::{Accepted, Reading, Validator};
 use svid_log::Member;
 use svid_replay::{RunUses, UseStore};
@@ -11,6 +8,9 @@ use svid_script_base::over_any;
 use svid_script_base::say::say_ok;
 use svid_script_base::stop::Stop;
 use svid_script_base::words::{from, key, number, word};
+use svid_script_trust::asked::{Asked, asked_in};
+use svid_script_trust::say::{say_checked, token_refused};
+use svid_script_trust::{AnyValidator, AnyVerifier, Validators};
 use svid_token::Refusal;
 
 fn judge_in<S: UseStore>(

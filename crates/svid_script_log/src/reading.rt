@@ -1,7 +1,6 @@
-use crate::fates::{say_fates, say_reading};
 use crate::logs::{Logs, Reader};
+use crate::say::{say_fates, say_reading};
 use crate::values::uses_at;
-use crate::{AnyValidator, AnyVerifier, Validators};
 use std::alloc::Global;
 use svid_check::Validator;
 use svid_log::{Fate, Reading, Rest};
@@ -12,6 +11,7 @@ use svid_script_base::out::Out;
 use svid_script_base::over_any;
 use svid_script_base::stop::Stop;
 use svid_script_base::words::{from, number, word};
+use svid_script_trust::{AnyValidator, AnyVerifier, Validators};
 
 // A value that is read, with room for fates.
 #[derive(Drop)]

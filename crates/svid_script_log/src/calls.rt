@@ -1,9 +1,10 @@
 use crate::logs::Logs;
-use crate::{Validators, claims, fates, judging, log_reads, members, values};
+use crate::{claims, judging, members, reading, say, values};
 use svid_script_base::env::Env;
 use svid_script_base::out::Out;
 use svid_script_base::stop::Stop;
 use svid_script_base::words::word;
+use svid_script_trust::Validators;
 
 fn claims_call(
     out: &mut Out<'_>,
@@ -12,7 +13,7 @@ fn claims_call(
     words: &[&str],
 ) -> Result<(), Stop> {
     match word(words, 0) {
-        "fates" => fates::fates(out),
+        "fates" => say::fates(out),
         "value" => values::value(out, env, logs, words),
         "beside" => claims::claims(env, logs, words),
         "beside.restore" => claims::restore(env, logs, words),
@@ -36,7 +37,7 @@ fn member_call(
         "member.mark" => members::mark(out, logs, words),
         "member.go_on" => members::go_on(logs, words),
         "member.has" => members::has(out, logs, words),
-        "member.read" => log_reads::member(out, env, logs, words),
+        "member.read" => reading::member(out, env, logs, words),
         _ => Err(Stop::NoCall),
     }
 }
@@ -51,7 +52,7 @@ pub fn call(
 ) -> Result<(), Stop> {
     match word(words, 0) {
         "validator.member" => members::of_validator(env, logs, validators, words),
-        "read_log" => log_reads::validator(out, env.alloc, logs, validators, words),
+        "read_log" => reading::validator(out, env.alloc, logs, validators, words),
         "judge_claim" => judging::judge(out, env, logs, validators, words),
         "judge_claim_read" => judging::judge_read(out, env, logs, validators, words),
         "judge_claim_again" => judging::judge_again(out, logs, validators, words),

@@ -15,7 +15,7 @@ pub enum AnyVerifier {
 }
 
 impl Verifier for AnyVerifier {
-    ghost use Rattle.svid_script_checks.specs.Verifier.{says};
+    ghost use Rattle.svid_script_trust.specs.Verifier.{says};
 
     ghost says = { says };
 

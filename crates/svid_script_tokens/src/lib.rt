@@ -1,0 +1,13 @@
+//! The test driver's calls on SPIFFE IDs and patterns of them, bearer tokens, tokens, keys, trust bundles and documents that have these.
+#![tactic(auto)]
+
+mod bearer;
+mod calls;
+mod documents;
+mod ids;
+mod keys;
+mod patterns;
+mod refusing;
+mod tokens;
+
+pub use calls::call;
