@@ -2,6 +2,7 @@ package main
 
 import (
 	"bufio"
+	"errors"
 	"fmt"
 	"io"
 	"net"
@@ -12,6 +13,7 @@ import (
 	"path/filepath"
 	"strings"
 	"sync/atomic"
+	"syscall"
 	"testing"
 	"time"
 
@@ -207,6 +209,20 @@ func (h *heard) identity() map[string][]string {
 	return all
 }
 
+// listens listens in the place of the sidecar. Another test may just start a program: until that runs, it has what was open here when it was made, so
+// also a listener that was closed since.
+func (r *recipe) listens() (it net.Listener) {
+	r.t.Helper()
+	r.await("nobody else listens on "+r.address, func() bool {
+		var err error
+		if it, err = net.Listen("tcp", r.address); err != nil && !errors.Is(err, syscall.EADDRINUSE) {
+			r.t.Fatal(err)
+		}
+		return err == nil
+	})
+	return it
+}
+
 // holds wants the recipe to keep what each must.
 func (r *recipe) holds() {
 	t := r.t
@@ -296,10 +312,7 @@ func (r *recipe) holds() {
 	r.stop()
 	r.limited = true
 	r.begin()
-	deaf, err := net.Listen("tcp", r.address)
-	if err != nil {
-		t.Fatal(err)
-	}
+	deaf := r.listens()
 	var asked atomic.Int64
 	go func() {
 		for {
@@ -318,10 +331,7 @@ func (r *recipe) holds() {
 	}
 	// Nor by an answer that is none of the sidecar's.
 	for _, status := range []int{204, 302, 403, 500, 503} {
-		other, err := net.Listen("tcp", r.address)
-		if err != nil {
-			t.Fatal(err)
-		}
+		other := r.listens()
 		it := &http.Server{Handler: http.HandlerFunc(func(w http.ResponseWriter, _ *http.Request) { w.WriteHeader(status) })}
 		go func() { _ = it.Serve(other) }()
 		answer, _ := r.send("GET", "/", "", append(forged, "Authorization: Bearer "+token(t, "other", lasting))...)
