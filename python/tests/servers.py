@@ -169,7 +169,7 @@ class PostgresServer(Server):
         words += ["--locale=C", "-E", "UTF8", "--wal-segsize=1"]
         made = subprocess.run(words, cwd=room, capture_output=True, **self.user)
         assert made.returncode == 0, made.stderr.decode()
-        # (the templates of further databases, of which no test makes any, are half of the data)
+        # (no test makes a database, and the templates for that are half of the data)
         words = [self.command("postgres"), "--single", "-F", "-D", "data", "postgres"]
         lines = "UPDATE pg_database SET datistemplate = false\n"
         lines += "DROP DATABASE template0\nDROP DATABASE template1\n"
