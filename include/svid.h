@@ -388,7 +388,7 @@ uint32_t svid_token_open(svid_token *t, const uint8_t *token, size_t token_len, 
 void svid_token_close(svid_token *t);
 
 /* As svid_validator_ask, for a token that was read: so it never answers SVID_TOO_LONG to SVID_JTI. SVID_CLOSED if the validator is closed, or the
- * token. */
+ * token. The handle keeps the last key that it lists, and its question, so that a check with this key need not hash them again. */
 uint32_t svid_validator_ask_token(svid_validator *v, svid_token *t, size_t most, uint8_t *out, size_t out_len, svid_told *told);
 
 /* As svid_validator_check, for a token that was read: so it never answers SVID_TOO_LONG to SVID_JTI. SVID_CLOSED if the validator is closed, or
@@ -467,8 +467,8 @@ typedef struct {
 /* The summary of a large record, bucket by bucket, so that no call keeps the lock for long. svid_validator_digest puts the digest of one bucket
  * at `digests->moment` into its place, and `told->len` is how many uses it is of. It looks at the uses of this bucket alone. Call it for each
  * of 0 to 255, and then svid_summary_of, which writes their summary: SVID_SUMMARY_LEN bytes. It is the summary that the record has once it is
- * advanced to that moment. You may make other calls in between: what they add may be in the summary or not, which makes an answer longer,
- * and never wrong. A moment before that of the record summarizes what the record still has. */
+ * advanced to that moment. Other calls may run in between. The summary has what they add or lacks it, and what it lacks makes an answer
+ * longer, and never wrong. A moment before that of the record summarizes what the record still has. */
 uint32_t svid_validator_digest(svid_validator *v, uint8_t bucket, svid_digests *digests, svid_told *told);
 uint32_t svid_summary_of(const svid_digests *digests, uint8_t *out, size_t out_len, svid_told *told);
 
@@ -480,7 +480,7 @@ uint32_t svid_summary_of(const svid_digests *digests, uint8_t *out, size_t out_l
  *   3. If they differ, svid_validator_bucket with `asked.moment` writes the uses of that bucket that expire later: messages, or no bytes if there
  *      are none.
  * What step 3 writes in all tells the uses that svid_validator_answer tells. The record stays as it is. Each call of steps 2 and 3 looks once at
- * each use of its bucket, and at no other use. You may make other calls in between: what they add may be in the answer or not. */
+ * each use of its bucket, and at no other use. Other calls may run in between. The answer has what they add or lacks it. */
 uint32_t svid_summary_read(const uint8_t *summary, size_t summary_len, svid_digests *asked, svid_told *told);
 uint32_t svid_validator_differs(svid_validator *v, uint8_t bucket, const svid_digests *asked, svid_told *told);
 uint32_t svid_validator_bucket(svid_validator *v, uint8_t bucket, uint64_t moment, uint8_t *out, size_t out_len, svid_told *told);

@@ -1,4 +1,4 @@
 /* Includes the header of the C library for the package beside this file. Go compares what is in this folder alone, so here is what shows it a change:
    include/svid.h has the SHA-256
-   851700ff3bed899874e2b8226e0268e071faf363f577f53c4ca2aa15a252f949 */
+   39d69a8fc26c1400514b1e696b59002b638f29b4c3e74293c10b4dba6703875f */
 #include "../../include/svid.h"

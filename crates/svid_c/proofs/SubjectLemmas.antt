@@ -1,13 +1,11 @@
 -- What a check is about.
-use Rattle.std.proofs.Common.{◌≡◌, ℕ, Option, Some, ap}
+use Rattle.std.proofs.Common.{◌≡◌, ℕ, Option, Some}
 use Rattle.std.specs.Prelude.{Err}
 use Rattle.svid_token.specs.declared.refusal.Refusal.{Refusal}
-use Rattle.svid_check.specs.Said.{Said, said_in}
+use Rattle.svid_check.specs.Said.{Said}
 use Rattle.svid_c.specs.Subject.{KeepsForm, RefusesAbout, Subject, given_token, read_token}
-use Rattle.svid_c.specs.Token.{said_held}
 use Rattle.svid_c.specs.Trust.{ReadsHeld, reads}
 use Rattle.svid_c.specs.declared.told.SvidTold.{SvidTold}
-use Rattle.svid_c.specs.declared.token_read.TokenRead.{TokenRead}
 use Rattle.svid_c.proofs.LiveLemmas.{as_form}
 
 -- what refuses a token for its form refuses it as just that
@@ -16,6 +14,6 @@ as_subject A (given_token token) why form = as_form token why form
 as_subject A (read_token t) why form = tt
 
 -- what a call does with what was taken out of a handle of a token, it does with what the handle holds
-pub held_token : (B : Type 0) (D : Said → Type 0) (status : ℕ) (told : SvidTold) (old : Option TokenRead) (a : TokenRead)
-    → old ≡ Some a → D (said_in a.reading) → ReadsHeld B D status told (said_held old)
-held_token B D status told old a was does = reads (said_in a.reading) (ap said_held was) does
+pub held_token : (B : Type 0) (D : Said → Type 0) (status : ℕ) (told : SvidTold) (old : Option Said) (t : Said)
+    → old ≡ Some t → D t → ReadsHeld B D status told old
+held_token B D status told old t was does = reads t was does

@@ -3,7 +3,7 @@ use Rattle.std.specs.Prelude.{ℕ, List, Option, Result}
 use Rattle.svid_token.specs.declared.refusal.Refusal.{Refusal}
 use Rattle.svid_replay.specs.Uses.{Uses}
 use Rattle.svid_check.specs.declared.accepted.Accepted.{Accepted}
-use Rattle.svid_check.specs.Said.{RefusesForm, Said, said_in}
+use Rattle.svid_check.specs.Said.{RefusesForm, Said}
 use Rattle.svid_check.specs.Setting.{Setting}
 use Rattle.svid_check.specs.Verdict.{verdict, verdict_on}
 use Rattle.svid_c.specs.Checked.{RefusesAs}
@@ -18,7 +18,7 @@ pub data Subject : Type 0 where
 -- what a call is asked about
 abbrev pub subject_of : Asked → Subject
 subject_of (asked.Token token) = given_token token.now
-subject_of (asked.Read reading) = read_token (said_in reading.now)
+subject_of (asked.Read read) = read_token read.now
 
 -- the verdict on it
 abbrev pub verdict_about : Setting → ℕ → Uses → Subject → Result (Option Accepted) Refusal

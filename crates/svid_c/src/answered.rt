@@ -1,7 +1,10 @@
-ghost use Rattle.std.specs.Prelude.{◌≡◌, Bool, List, ℕ, false, true, take, drop, bytes_eq};
+ghost use Rattle.std.specs.Prelude.{◌≡◌, ◌≤◌, Bool, List, ℕ, false, true, take, drop, bytes_eq, length};
 ghost use Rattle.std.specs.List.{list_any};
+ghost use Rattle.svid_token.specs.Compact.{most_token_bytes};
+ghost use Rattle.svid_keys.specs.Question.{question_of};
 ghost use Rattle.svid_keys.specs.Table.{is_among};
 
+use crate::token_read::TokenRead;
 use std::marker::Model;
 use svid_keys::{JwtKey, Verifier, question};
 use svid_token::Alg;
@@ -10,6 +13,8 @@ use svid_token::Alg;
 #[derive(Drop)]
 pub(crate) struct Answered<'a> {
     pub(crate) yes: &'a [[u8; 32]],
+    // The token that is checked, if it was read before: it may keep its question.
+    pub(crate) read: Option<&'a TokenRead>,
 }
 
 // Whether a question is one of these.
@@ -17,6 +22,20 @@ fn is_among(question: &[u8; 32], yes: &[[u8; 32]]) -> bool
     ensures { result ≡ is_among question.now yes.now }
 {
     yes.iter().any(|one| question == one)
+}
+
+impl<'a> Answered<'a> {
+    // A question.
+    fn question(&self, key: &JwtKey, alg: Alg, input: &[u8], signature: &[u8]) -> [u8; 32]
+        requires input_len { length input.now ≤ most_token_bytes }
+        requires signature_len { length signature.now ≤ most_token_bytes }
+        ensures { result ≡ question_of key.now alg input.now signature.now }
+    {
+        match self.read {
+            Some(read) => read.question(key, alg, input, signature),
+            None => question(key, alg, input, signature),
+        }
+    }
 }
 
 impl<'a> Verifier for Answered<'a> {
@@ -29,6 +48,6 @@ impl<'a> Verifier for Answered<'a> {
         if self.yes.is_empty() {
             return false;
         }
-        is_among(&question(key, alg, input, signature), self.yes)
+        is_among(&self.question(key, alg, input, signature), self.yes)
     }
 }

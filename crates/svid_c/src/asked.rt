@@ -1,4 +1,4 @@
-use svid_check::Reading;
+use crate::token_read::TokenRead;
 
 /// What a check is about.
 #[derive(Clone, Copy)]
@@ -6,5 +6,5 @@ pub(crate) enum Asked<'a> {
     /// A token.
     Token(&'a [u8]),
     /// What a token says that was read before.
-    Read(&'a Reading),
+    Read(&'a TokenRead),
 }

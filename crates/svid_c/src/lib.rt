@@ -38,6 +38,7 @@ mod journal_put;
 mod journal_read;
 mod journal_synced;
 mod journal_unwritten;
+mod kept_question;
 mod key_spki;
 mod key_text;
 mod lent;

@@ -1,6 +1,6 @@
 // What C holds of a token that was read: a pointer to what it says on the heap, or none.
 ghost use Rattle.std.specs.Prelude.{◌≡◌, Option, IsSome, None, Some};
-ghost use Rattle.svid_c.specs.declared.token_read.TokenRead.{TokenRead};
+ghost use Rattle.svid_check.specs.Said.{Said};
 ghost use Rattle.svid_c.specs.TokenHandle.{read_coded, read_owns};
 
 use crate::handle::parts::Parts;
@@ -14,7 +14,7 @@ pub struct TokenHandle {
     // (No pointer to a type with cells crosses to C, so the type stands in the ghost value alone.)
     ptr: *mut (),
     alloc: Global,
-    pub ghost read: { Option TokenRead } by { read_coded },
+    pub ghost read: { Option Said } by { read_coded },
 }
 
 impl Model for TokenHandle {

@@ -1,6 +1,6 @@
 ghost use Rattle.std.specs.Prelude.{◌≡◌, IfOk, IfErr, None, Ok, Some};
 ghost use Rattle.svid_token.specs.Rows.{Refuses};
-ghost use Rattle.svid_check.specs.Said.{reading_of, said_in};
+ghost use Rattle.svid_check.specs.Said.{reading_of};
 ghost use Rattle.svid_c.specs.Checked.{RefusesAs};
 ghost use Rattle.svid_c.specs.Token.{OpensToken};
 
@@ -15,7 +15,7 @@ use svid_token::Refusal;
 
 // What a token says, on the heap.
 fn read_of(alloc: Global, token: &[u8]) -> Result<Box<TokenRead>, Refusal>
-    ensures ok { IfOk result (λ read. reading_of token.now ≡ Ok (Some (said_in read.value.reading))) }
+    ensures ok { IfOk result (λ read. reading_of token.now ≡ Ok (Some read.value)) }
     ensures fault { IfErr result (λ why. Refuses why (reading_of token.now)) }
     ensures form { IfErr result (RefusesAs token.now) }
 {
@@ -23,7 +23,7 @@ fn read_of(alloc: Global, token: &[u8]) -> Result<Box<TokenRead>, Refusal>
         Ok(reading) => reading,
         Err(refusal) => return Err(refusal),
     };
-    match Box::new(alloc, TokenRead { reading }) {
+    match Box::new(alloc, TokenRead::of(reading)) {
         Ok(read) => Ok(read),
         Err(_) => Err(Refusal::OutOfMemory),
     }

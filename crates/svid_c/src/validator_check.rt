@@ -1,7 +1,7 @@
 ghost use Rattle.std.specs.Prelude.{◌≡◌, IfOk, IfErr, None, Some};
 ghost use Rattle.svid_token.specs.Rows.{Answers};
 ghost use Rattle.svid_replay.specs.Buckets.{raised_to};
-ghost use Rattle.svid_check.specs.Said.{RefusesForm, said_in};
+ghost use Rattle.svid_check.specs.Said.{RefusesForm};
 ghost use Rattle.svid_c.specs.Live.{Checks, ChecksAlone, HandleCallsAt, IsLeft, adds, adds_nothing, gained_by, verdict_at};
 ghost use Rattle.svid_c.specs.Subject.{KeepsForm, given_token, read_token, subject_of};
 ghost use Rattle.svid_c.specs.Token.{ReadsToken};
@@ -13,10 +13,11 @@ use crate::check::{SvidUse, accept_whole};
 use crate::live::Live;
 use crate::refusal::refusal_number;
 use crate::token::SvidToken;
+use crate::token_read::TokenRead;
 use crate::told::{SvidTold, told_length};
 use crate::validator::{SvidValidator, only};
 use std::alloc::Global;
-use svid_check::{Accepted, Reading};
+use svid_check::Accepted;
 use svid_token::Refusal;
 
 /// What the record gains of a token that a call accepts.
@@ -42,7 +43,8 @@ fn checked_token(
     ensures gained { IfOk result (λ accepted. IsLeft now (adds (raised_to live.old.validator.state now) accepted.used) live.old live.new) }
     ensures raised { IfErr result (λ _. IsLeft now (raised_to live.old.validator.state now) live.old live.new) }
 {
-    live.validator.check_by(now, token, &Answered { yes })
+    live.validator
+        .check_by(now, token, &Answered { yes, read: None })
 }
 
 // The same of a token that was read.
@@ -51,14 +53,18 @@ fn checked_read(
     live: &mut Live,
     now: u64,
     yes: &[[u8; 32]],
-    reading: &Reading,
+    read: &TokenRead,
 ) -> Result<Accepted, Refusal>
     requires { live.old.member ≡ None }
-    ensures answer { Answers Some result (verdict_at live.old yes.now now (read_token (said_in reading.now))) }
+    ensures answer { Answers Some result (verdict_at live.old yes.now now (read_token read.now)) }
     ensures gained { IfOk result (λ accepted. IsLeft now (adds (raised_to live.old.validator.state now) accepted.used) live.old live.new) }
     ensures raised { IfErr result (λ _. IsLeft now (raised_to live.old.validator.state now) live.old live.new) }
 {
-    live.validator.check_read(now, reading, &Answered { yes })
+    let answered = Answered {
+        yes,
+        read: Some(read),
+    };
+    live.validator.check_read(now, read.reading(), &answered)
 }
 
 // The same of either.
@@ -76,7 +82,7 @@ fn checked(
 {
     match asked {
         Asked::Token(token) => checked_token(live, now, yes, token),
-        Asked::Read(reading) => checked_read(live, now, yes, reading),
+        Asked::Read(read) => checked_read(live, now, yes, read),
     }
 }
 
@@ -91,7 +97,7 @@ fn judged_token(
     ensures early { RefusesForm token.now result }
     ensures left { IsLeft now (raised_to live.old.validator.state now) live.old live.new }
 {
-    let answered = Answered { yes };
+    let answered = Answered { yes, read: None };
     match &mut live.member {
         Some(member) => live.validator.judge_claim(member, now, token, &answered),
         None => live.validator.judge_by(now, token, &answered),
@@ -103,17 +109,20 @@ fn judged_read(
     live: &mut Live,
     now: u64,
     yes: &[[u8; 32]],
-    reading: &Reading,
+    read: &TokenRead,
 ) -> Result<Accepted, Refusal>
-    ensures answer { Answers Some result (verdict_at live.old yes.now now (read_token (said_in reading.now))) }
+    ensures answer { Answers Some result (verdict_at live.old yes.now now (read_token read.now)) }
     ensures left { IsLeft now (raised_to live.old.validator.state now) live.old live.new }
 {
-    let answered = Answered { yes };
+    let answered = Answered {
+        yes,
+        read: Some(read),
+    };
     match &mut live.member {
         Some(member) => live
             .validator
-            .judge_claim_read(member, now, reading, &answered),
-        None => live.validator.judge_read(now, reading, &answered),
+            .judge_claim_read(member, now, read.reading(), &answered),
+        None => live.validator.judge_read(now, read.reading(), &answered),
     }
 }
 
@@ -130,7 +139,7 @@ fn judged(
 {
     match asked {
         Asked::Token(token) => judged_token(live, now, yes, token),
-        Asked::Read(reading) => judged_read(live, now, yes, reading),
+        Asked::Read(read) => judged_read(live, now, yes, read),
     }
 }
 
@@ -312,7 +321,7 @@ pub extern "C" fn svid_validator_check_token(
     let Some(read) = t.take(alloc) else {
         return only(5, told);
     };
-    let asked = Asked::Read(&read.reading);
+    let asked = Asked::Read(&read);
     let status = check_held(alloc, v, now, yes, asked, out, used, told);
     t.put(read);
     status
@@ -339,7 +348,7 @@ pub extern "C" fn svid_validator_judge_token(
     let Some(read) = t.take(alloc) else {
         return only(5, told);
     };
-    let asked = Asked::Read(&read.reading);
+    let asked = Asked::Read(&read);
     let status = judge_held(alloc, v, now, yes, asked, out, used, told);
     t.put(read);
     status
