@@ -80,10 +80,10 @@ RUNS = {
     # a token that is read once
     "tokens": {
         "wrapped": "refused",
-        "bare": "answers guarded nulls stack",
+        "bare": "answers guarded nulls renewed stack",
         "musl": "stack",
-        "sanitized": "answers refused guarded nulls",
-        "valgrind": "refused nulls",
+        "sanitized": "answers refused guarded nulls renewed",
+        "valgrind": "refused nulls renewed",
     },
     # the entries of messages
     "entries": {

@@ -4,6 +4,7 @@
  *   tokens guarded    all that a call is lent between pages that can't be touched, right before the one and right behind the other
  *   tokens nulls      NULL for each input of no bytes, and for a room of none: the answer is that of another pointer
  *   tokens answers    what is read once is answered as what each call reads, good or not, and a closed handle does nothing
+ *   tokens renewed    a token that was asked about for one key, and is judged with another key of that name
  *   tokens stack      each call on a painted stack, which tells how much of it the call needs */
 #include "harness.h"
 
@@ -256,6 +257,49 @@ static void answers(void) {
     printf("%zu tokens, read once and each time", COUNT(rows) + 3);
 }
 
+/* Two validators, whose keys of one name differ. Each is asked about the token first, and then the other one asks and judges. */
+static void renewed(void) {
+    static answer got, due;
+    static uint8_t others[FILE_MOST];
+    static const svid_validator closed = SVID_VALIDATOR_CLOSED;
+    memcpy(others, bundles, bundles_len);
+    uint8_t *curve = memmem(others, bundles_len, "P-256", 5);
+    holds(curve != NULL, "the bundles have no curve");
+    curve[4] = '7';
+    for (int first = 0; first < 2; first++) {
+        svid_token t;
+        svid_validator v[2] = { closed, closed };
+        svid_told told;
+        begin(ASK, &t, &v[0]);
+        answered = svid_validator_open(&v[1], &TERMS, (const uint8_t *)"ledger", 6, others, bundles_len, &told);
+        holds(answered == SVID_OK, "a validator does not open");
+        for (int turn = 0; turn < 4; turn++) {
+            svid_validator *one = &v[(first + turn) % 2], *other = &v[(first + turn + 1) % 2];
+            for (int which = ASK; which <= JUDGE; which++) {
+                at = NAMES[which];
+                clear(&got);
+                call(ASK, &t, one, &got);
+                clear(&got);
+                clear(&due);
+                call(which, &t, other, &got);
+                loan l = lent(&t, other, &due);
+                due.status = call_by_text(which, &l);
+                holds(!memcmp(&got, &due, sizeof got), "the answer differs");
+                holds(which == ASK || got.status == (other == &v[0] ? SVID_OK : SVID_BAD_SIGNATURE), "the keys are not those of the validator");
+            }
+        }
+        clear(&got);
+        call(CHECK, &t, &v[1], &got);
+        holds(got.status == SVID_BAD_SIGNATURE, "it is accepted by another key");
+        clear(&got);
+        call(CHECK, &t, &v[0], &got);
+        holds(got.status == SVID_OK, "it is refused by its own key");
+        svid_validator_close(&v[1]);
+        end(&t, &v[0]);
+    }
+    printf("a token at validators whose keys differ");
+}
+
 typedef struct { int which; svid_token *t; svid_validator *v; answer *a; } job;
 static void *run_job(void *given) {
     job *j = given;
@@ -289,7 +333,7 @@ static void stack(void) {
 }
 
 int main(int count, char **words) {
-    static const part parts[] = { { "refused", refused }, { "guarded", guarded }, { "nulls", nulls }, { "answers", answers }, { "stack", stack } };
+    static const part parts[] = { { "refused", refused }, { "guarded", guarded }, { "nulls", nulls }, { "answers", answers }, { "renewed", renewed }, { "stack", stack } };
     read_examples();
     return run_part(count, words, parts, COUNT(parts));
 }

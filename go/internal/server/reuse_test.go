@@ -27,6 +27,7 @@ func TestAReusedTokenIsVerifiedOnce(t *testing.T) {
 			t.Fatal("nothing is kept")
 		}
 	}
+	kept, epoch := func() (svid.Question, uint64) { q, epoch, _ := e.machine.verified.get(nameOf(one)); return q, epoch }()
 	for what, bad := range map[string]string{"another signature": one[:len(one)-8] + "AAAAAAAA", "none": one[:strings.LastIndexByte(one, '.')+1], "a byte more": one + "A"} {
 		if err := check(e, bad); err == nil {
 			t.Errorf("%s is accepted", what)
@@ -34,6 +35,22 @@ func TestAReusedTokenIsVerifiedOnce(t *testing.T) {
 	}
 	if len(e.machine.verified.young) != 1 {
 		t.Errorf("%d are kept; only accepted tokens are", len(e.machine.verified.young))
+	}
+	// A token that has the name of another one is judged by itself.
+	bad, two := one[:len(one)-8]+"AAAAAAAA", token("b")
+	for _, other := range []string{bad, two} {
+		e.machine.verified.put(epoch, nameOf(other), kept)
+	}
+	if err := check(e, bad); err != svid.BadSignature {
+		t.Errorf("a bad signature, of a token with the name of a good one: %v", err)
+	}
+	for i := 0; i < 2; i++ {
+		if err := check(e, two); err != nil {
+			t.Errorf("a good token with the name of another one: %v", err)
+		}
+	}
+	if q, _, ok := e.machine.verified.get(nameOf(two)); !ok || q == kept {
+		t.Errorf("%v is kept, and for the other one %v", q, kept)
 	}
 	// The same keys, written otherwise, have other questions.
 	var set struct {
@@ -49,7 +66,6 @@ func TestAReusedTokenIsVerifiedOnce(t *testing.T) {
 	if err != nil {
 		t.Fatal(err)
 	}
-	kept, epoch := func() (svid.Question, uint64) { q, epoch, _ := e.machine.verified.get(nameOf(one)); return q, epoch }()
 	if err := e.SetBundles(map[string]json.RawMessage{"example.org": renewed}); err != nil {
 		t.Fatal(err)
 	}

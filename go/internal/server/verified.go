@@ -1,12 +1,8 @@
 package server
 
-import (
-	"crypto/sha256"
+import "svid.example/go/v2/svid"
 
-	"svid.example/go/v2/svid"
-)
-
-// mostVerified is how many tokens a generation of verified has: some 4 MB.
+// mostVerified is how many tokens a generation of verified has: some 3 MB.
 const mostVerified = 1 << 15
 
 // verified keeps which question the signature of a token answers, for mode reuse, where a token comes again and again: it
@@ -16,14 +12,6 @@ const mostVerified = 1 << 15
 type verified struct {
 	epoch      uint64 // counts the bundles that there were
 	young, old map[tokenName]svid.Question
-}
-
-// A tokenName is the digest of a whole token.
-type tokenName [sha256.Size]byte
-
-func nameOf(token string) tokenName {
-	var room [1 << 10]byte // A token of a usual length asks for no memory.
-	return sha256.Sum256(append(room[:0], token...))
 }
 
 // get finds the answered question of a token. epoch is for put.
@@ -45,8 +33,14 @@ func (v *verified) put(epoch uint64, name tokenName, question svid.Question) {
 }
 
 func (v *verified) add(name tokenName, question svid.Question) {
-	if v.young == nil || len(v.young) == mostVerified {
-		v.young, v.old = make(map[tokenName]svid.Question), v.young
+	if v.young == nil {
+		v.young, v.old = make(map[tokenName]svid.Question), make(map[tokenName]svid.Question)
+	}
+	if len(v.young) == mostVerified {
+		for name := range v.old { // (a loop that Go compiles to one call; a new map would be garbage soon)
+			delete(v.old, name)
+		}
+		v.young, v.old = v.old, v.young
 	}
 	v.young[name] = question
 }
