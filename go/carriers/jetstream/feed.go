@@ -312,17 +312,15 @@ func (f *feed) pop() *gathered {
 	return g
 }
 
-// control answers the broker, which asks whether all was read that it has sent, and compares how much that was.
-func (f *feed) control(c *control) error {
+// control answers the broker, which asks whether all was read that it has sent. isOther says that it has sent another number of values than
+// were read: it lost some on their way, or someone lets it send the heartbeats of another feed here.
+func (f *feed) control(c *control) (isOther bool, err error) {
 	for _, asks := range c.asks {
 		if strings.HasPrefix(asks, "$JS.FC."+f.group.stream+".") {
 			if err := f.group.conn.Publish(asks, nil); err != nil {
-				return err
+				return false, err
 			}
 		}
 	}
-	if c.sent != "" && c.sent != strconv.FormatUint(f.given, 10) {
-		return errSkipped
-	}
-	return nil
+	return c.sent != "" && c.sent != strconv.FormatUint(f.given, 10), nil
 }

@@ -212,8 +212,8 @@ func TestAFeedKeepsNoOtherMessage(t *testing.T) {
 		if err != nil || these.control == nil {
 			t.Fatal(these, err)
 		}
-		if err := f.control(these.control); (err == errSkipped) != (f.bytes > 0) {
-			t.Errorf("%v, and %d bytes wait", err, f.bytes)
+		if isOther, err := f.control(these.control); err != nil || isOther != (f.bytes > 0) {
+			t.Errorf("%v %v, and %d bytes wait", isOther, err, f.bytes)
 		}
 	}
 	if f.bytes != 0 {

@@ -1072,24 +1072,55 @@ func delivered(n int, position, number uint64) *nats.Msg {
 // Values that came before one that is missing on its way are given to the sink, and reading begins anew behind them.
 func TestValuesBeforeALossAreTaken(t *testing.T) {
 	t.Parallel()
-	for name, lost := range map[string]*nats.Msg{
-		"a value":     delivered(4, 4, 4),
-		"a heartbeat": {Header: nats.Header{"Status": {"100"}, "Description": {"Idle Heartbeat"}, "Nats-Last-Consumer": {"3"}}},
+	s := &sink{}
+	g := &Group{stream: "KV_test", sink: s, ready: make(chan struct{}), life: context.Background()}
+	f := newFeed(g)
+	f.name("c")
+	f.arrive(delivered(1, 1, 1))
+	f.arrive(delivered(2, 2, 2))
+	f.arrive(delivered(4, 4, 4))
+	r := reader{group: g}
+	these, err := f.next(time.Second)
+	if err == nil {
+		err = r.values(f, these)
+	}
+	if err != errSkipped || len(s.order) != 2 || r.seen != 2 || len(s.begun) != 0 {
+		t.Errorf("%v, %d values, seen %d, began %v", err, len(s.order), r.seen, s.begun)
+	}
+}
+
+// A heartbeat that counts other values than were read ends the feed if the bucket has more, and none has come for a while. The bucket is
+// asked about once in that while.
+func TestAHeartbeatOfOtherValues(t *testing.T) {
+	t.Parallel()
+	a := join(t, options(1, natstest.Start(t).URL))
+	awaitHeld(t, a, tell(t, a, 1))
+	for name, row := range map[string]struct {
+		sent string
+		seen uint64
+		last time.Duration // ago
+		want error
+	}{
+		"a value is missing":      {"3", 0, doubtPause, errSkipped},
+		"fewer values":            {"1", 0, doubtPause, errSkipped},
+		"as many values":          {"2", 0, doubtPause, nil},
+		"all is read":             {"3", 1, doubtPause, nil},
+		"a value has just come":   {"3", 0, 0, nil},
+		"it does not say so much": {"", 0, doubtPause, nil},
 	} {
-		s := &sink{}
-		g := &Group{stream: "KV_test", sink: s, ready: make(chan struct{}), life: context.Background()}
-		f := newFeed(g)
+		f := newFeed(a.Group)
 		f.name("c")
-		f.arrive(delivered(1, 1, 1))
-		f.arrive(delivered(2, 2, 2))
-		f.arrive(lost)
-		r := reader{group: g}
-		these, err := f.next(time.Second)
-		if err == nil {
-			err = r.values(f, these)
-		}
-		if err != errSkipped || len(s.order) != 2 || r.seen != 2 || len(s.begun) != 0 {
-			t.Errorf("%s: %v, %d values, seen %d, began %v", name, err, len(s.order), r.seen, s.begun)
+		f.given = 2
+		r := reader{group: a.Group, seen: row.seen, last: time.Now().Add(-row.last)}
+		for _, want := range []error{row.want, nil} {
+			f.arrive(&nats.Msg{Header: nats.Header{"Status": {"100"}, "Description": {"Idle Heartbeat"}, "Nats-Last-Consumer": {row.sent}}})
+			these, err := f.next(patience.Long)
+			if err != nil {
+				t.Fatal(err)
+			}
+			if err := r.values(f, these); err != want {
+				t.Errorf("%s: %v, and not %v", name, err, want)
+			}
 		}
 	}
 }

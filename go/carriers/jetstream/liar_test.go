@@ -267,6 +267,49 @@ func TestValuesOfAnotherFeed(t *testing.T) {
 	wantValues(t, a, want...)
 }
 
+// Who lets the broker send heartbeats of other feeds to where a member listens does not end the member's own feed.
+func TestHeartbeatsOfAnotherFeed(t *testing.T) {
+	t.Parallel()
+	s := natstest.Start(t)
+	l := newLiar(t, s.URL)
+	beats := make(chan *nats.Msg, 99)
+	if _, err := l.conn.Subscribe("_INBOX.>", func(m *nats.Msg) {
+		if m.Header.Get("Nats-Last-Consumer") != "" {
+			select {
+			case beats <- m:
+			default:
+			}
+		}
+	}); err != nil {
+		t.Fatal(err)
+	}
+	a := join(t, options(1, s.URL))
+	awaitHeld(t, a, tell(t, a, 1))
+	inbox := (<-beats).Subject
+	if _, err := l.js.AddConsumer("KV_test", &nats.ConsumerConfig{
+		DeliverSubject: inbox, DeliverPolicy: nats.DeliverNewPolicy, AckPolicy: nats.AckNonePolicy, Heartbeat: 100 * time.Millisecond,
+	}); err != nil {
+		t.Fatal(err)
+	}
+	for own, others := 0, 0; own < 2 || others < 20; {
+		m := <-beats
+		if m.Subject != inbox {
+			t.Fatalf("a heartbeat to %s, and not to %s: %s", m.Subject, inbox, a.lines)
+		}
+		if m.Header.Get("Nats-Last-Consumer") == "1" {
+			own++
+		} else {
+			others++
+		}
+	}
+	for n := 2; n < 6; n++ {
+		awaitHeld(t, a, tell(t, a, n))
+	}
+	if a.logged("another feed") {
+		t.Error(a.lines)
+	}
+}
+
 // A value that someone lets the broker deliver in the place of its answer is none.
 func TestAValueForAnAnswer(t *testing.T) {
 	t.Parallel()

@@ -20,6 +20,7 @@ const (
 	mostAnewWait    = time.Second / 4  // between two beginnings
 	lossWait        = 3 * time.Second  // for which the broker must say that values are lost, before they are
 	lossPause       = time.Second / 4  // between two questions about that
+	doubtPause      = heartbeat / 2    // behind a value, and between two questions, before a heartbeat is doubted
 	mostAtOnce      = 256              // values are given to the sink
 	mostBytesAtOnce = 1 << 20          // of these, before the last
 )
@@ -40,11 +41,12 @@ type reader struct {
 	since  time.Time // no value behind that one was stored before; zero if nothing is known
 	last   time.Time // when a value came, or reading began
 
-	look   time.Time // when idle asked for the bucket's state last
-	gone   time.Time // since when idle finds that all values behind the last one are gone; zero if it does not
-	lack   int       // how often in a row idle found an own value stored that the feed has not brought
-	pulled bool      // values were asked for, and the feed has brought nothing since
-	forget string    // what was said about settings by which the bucket may lose values
+	look    time.Time // when idle asked for the bucket's state last
+	doubted time.Time // when doubt did
+	gone    time.Time // since when idle finds that all values behind the last one are gone; zero if it does not
+	lack    int       // how often in a row idle found an own value stored that the feed has not brought
+	pulled  bool      // values were asked for, and the feed has brought nothing since
+	forget  string    // what was said about settings by which the bucket may lose values
 
 	anew bool          // the bucket is read from its first value again
 	room []Value       // for values to take at once
@@ -227,9 +229,28 @@ func (r *reader) values(f *feed, these *gathered) error {
 	case wrong != nil:
 		return wrong
 	case these.control != nil:
-		return f.control(these.control)
+		isOther, err := f.control(these.control)
+		if isOther && err == nil {
+			err = r.doubt()
+		}
+		return err
 	}
 	return these.err
+}
+
+// doubt asks the bucket, where a heartbeat counts other values than were read. If the bucket has more, the feed has skipped them. If it
+// has not, it is the heartbeat of another feed: a member that lies can let the broker send it here, and must not end this feed by it.
+// While values come, their own numbers show whether one is missing.
+func (r *reader) doubt() error {
+	if time.Since(r.last) < doubtPause || time.Since(r.doubted) < doubtPause {
+		return nil
+	}
+	r.doubted = time.Now()
+	info, err := r.group.info(r.group.life, attemptWait)
+	if err != nil || info.State.Last <= r.seen {
+		return nil // (idle finds out what an error means)
+	}
+	return errSkipped
 }
 
 // wasRead says whether a value is one that was read before. A server that is behind the others sends those, before it comes
