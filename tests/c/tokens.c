@@ -75,9 +75,11 @@ static void refused(void) {
         refused_at = 0;
         begin(which, &t, &v);
         asked = 0;
+        long before = standing;
         clear(&due);
         call(which, &t, &v, &due);
         long all = asked;
+        holds(which != ASK || standing > before, "it keeps no question");
         holds(due.status == SVID_OK, "it does not do what it is for");
         holds(all > 0, "no allocation was seen");
         end(&t, &v);

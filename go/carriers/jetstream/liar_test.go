@@ -14,6 +14,7 @@ import (
 
 	"svid.example/go/v2/internal/broker"
 	"svid.example/go/v2/internal/natstest"
+	"svid.example/go/v2/internal/patience"
 )
 
 // A liar is who may publish to the bucket, and wants others to lose or miss values.
@@ -283,16 +284,24 @@ func TestHeartbeatsOfAnotherFeed(t *testing.T) {
 	}); err != nil {
 		t.Fatal(err)
 	}
+	next := func() (m *nats.Msg) {
+		select {
+		case m = <-beats:
+		case <-time.After(patience.Long):
+			t.Fatal("no heartbeat comes")
+		}
+		return m
+	}
 	a := join(t, options(1, s.URL))
 	awaitHeld(t, a, tell(t, a, 1))
-	inbox := (<-beats).Subject
+	inbox := next().Subject
 	if _, err := l.js.AddConsumer("KV_test", &nats.ConsumerConfig{
 		DeliverSubject: inbox, DeliverPolicy: nats.DeliverNewPolicy, AckPolicy: nats.AckNonePolicy, Heartbeat: 100 * time.Millisecond,
 	}); err != nil {
 		t.Fatal(err)
 	}
 	for own, others := 0, 0; own < 2 || others < 20; {
-		m := <-beats
+		m := next()
 		if m.Subject != inbox {
 			t.Fatalf("a heartbeat to %s, and not to %s: %s", m.Subject, inbox, a.lines)
 		}
