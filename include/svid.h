@@ -368,15 +368,15 @@ uint32_t svid_validator_judge(svid_validator *v, uint64_t now, const svid_questi
                               const uint8_t *token, size_t token_len, uint8_t *out, size_t out_len,
                               svid_use *used, svid_told *told);
 
-/* A token that is read once, by svid_token_open, for the two calls that look for its keys and check it. It shares nothing with a validator, and any
- * validator may be asked about it. The rules of a validator hold for it too: it begins as SVID_TOKEN_CLOSED, only the calls write it, give it to
- * one call at a time, and do not copy it while it is open. Close it once you need it no longer.
+/* A token that is read once, by svid_token_open, for the two calls that look for its keys and check it. Neither hashes it. It shares nothing with a
+ * validator, and any validator may be asked about it. The rules of a validator hold for it too: it begins as SVID_TOKEN_CLOSED, only the calls
+ * write it, give it to one call at a time, and do not copy it while it is open. Close it once you need it no longer.
  *
  * To check a token:
  *   1. svid_token_open reads it.
- *   2. svid_validator_ask_token lists the first keys that may have signed it, each with a question.
+ *   2. svid_validator_ask_token gives its signature, and lists the first keys that may have made it.
  *   3. Your crypto library verifies the signature with each of these keys.
- *   4. svid_validator_check_token gets the questions of the keys for which the signature was good, and accepts or refuses the token. */
+ *   4. svid_validator_check_token gets the key that made the signature, and accepts or refuses the token. */
 typedef struct { uint64_t word; void *held; } svid_token;
 #define SVID_TOKEN_CLOSED { 0, NULL }
 
@@ -387,18 +387,28 @@ uint32_t svid_token_open(svid_token *t, const uint8_t *token, size_t token_len, 
 /* Closes a handle, and frees all that it holds. Does nothing to a closed one. */
 void svid_token_close(svid_token *t);
 
-/* As svid_validator_ask, for a token that was read: so it never answers SVID_TOO_LONG to SVID_JTI. SVID_CLOSED if the validator is closed, or the
- * token. The handle keeps the last key that it lists, and its question, so that a check with this key need not hash them again. */
+/* Gives all that a verifier needs of a token that was read. First comes, once:
+ *     the signed bytes      how many bytes of the token the signature is made over, from the first one, in 4 bytes, the greatest first
+ *     the signature         its length in 4 bytes, the greatest first, and then the signature, as svid_token_signature gives it
+ * and then, for each of the first `most` keys that may have signed the token, in the order of their bundle:
+ *     the algorithm's name  its length in 4 bytes, the greatest first, and then the name, as "ES256"
+ *     the key               its length in 4 bytes, the greatest first, and then the key as JSON (RFC 7517)
+ * Keep parsed keys by that JSON text, not by `kid`, which is not unique. SVID_UNKNOWN_DOMAIN and SVID_NO_KEY if the token is refused already.
+ * SVID_CLOSED if the validator is closed, or the token. `most` and `told->more` are as for svid_validator_ask. */
 uint32_t svid_validator_ask_token(svid_validator *v, svid_token *t, size_t most, uint8_t *out, size_t out_len, svid_told *told);
 
-/* As svid_validator_check, for a token that was read: so it never answers SVID_TOO_LONG to SVID_JTI. SVID_CLOSED if the validator is closed, or
- * the token. The token stays open, and another call may be asked about it. */
-uint32_t svid_validator_check_token(svid_validator *v, uint64_t now, const svid_question *yes, size_t yes_len, svid_token *t,
+/* As svid_validator_check, for a token that was read: so it never answers SVID_TOO_LONG to SVID_JTI. `key` is the key that made the signature
+ * of this token, as svid_validator_ask_token lists it; NULL and 0 if none did. If the bundles were renewed in between, and no longer have that
+ * key, the token is refused as SVID_BAD_SIGNATURE. SVID_CLOSED if the validator is closed, or the token. The token stays open, and another call
+ * may be asked about it.
+ *
+ * Unlike a question, a key says nothing of the token: give it to the check of no other token than the one that you verified. */
+uint32_t svid_validator_check_token(svid_validator *v, uint64_t now, const uint8_t *key, size_t key_len, svid_token *t,
                                     uint8_t *out, size_t out_len, svid_use *used, svid_told *told);
 
-/* As svid_validator_judge, for a token that was read: so it never answers SVID_TOO_LONG to SVID_JTI. SVID_CLOSED if the validator is closed, or
- * the token. */
-uint32_t svid_validator_judge_token(svid_validator *v, uint64_t now, const svid_question *yes, size_t yes_len, svid_token *t,
+/* As svid_validator_judge, for a token that was read, and with `key` as for svid_validator_check_token: so it never answers SVID_TOO_LONG to
+ * SVID_JTI. SVID_CLOSED if the validator is closed, or the token. */
+uint32_t svid_validator_judge_token(svid_validator *v, uint64_t now, const uint8_t *key, size_t key_len, svid_token *t,
                                     uint8_t *out, size_t out_len, svid_use *used, svid_told *told);
 
 /* Judges again a token that this validator has accepted, or judged so: `key` and `exp` are those of `used`. While the bundles stay, the
@@ -1172,15 +1182,16 @@ static inline const char *svid_strsentence(uint32_t status) {
 typedef int (*svid_verify)(void *context, const uint8_t *alg, size_t alg_len, const uint8_t *jwk, size_t jwk_len,
                            const uint8_t *token, size_t token_len);
 
-/* svid_validator_ask and svid_validator_check in one call, which reads the token once: with `verify` for each of the first
+/* Asks for the keys of a token, and checks it, in one call, which reads the token once: with `verify` for each of the first
  * SVID_MOST_CANDIDATES keys that may have signed the token, until one of them did; `context` is handed to it. `rows` is room for what
- * svid_validator_ask writes, and is overwritten: 65,536 bytes do for most bundles. SVID_TOO_SHORT, and `told->len` is how long it must be, if
+ * svid_validator_ask_token writes: 65,536 bytes do for most bundles and tokens. SVID_TOO_SHORT, and `told->len` is how long it must be, if
  * it is too short; SVID_TOO_SHORT with SVID_ID_ROOM, if `out` is. Then nothing happened. Else as svid_validator_check. Hold the lock for the
  * whole call. */
 static inline uint32_t svid_validator_verify(svid_validator *v, uint64_t now, const uint8_t *token, size_t token_len,
                                              svid_verify verify, void *context, uint8_t *rows, size_t rows_len,
                                              uint8_t *out, size_t out_len, svid_use *used, svid_told *told) {
-    size_t at = 0, end, count = 0, i;
+    const uint8_t *field[2], *key = NULL;
+    size_t at = 4, end, len[2], key_len = 0, n;
     svid_token read = SVID_TOKEN_CLOSED;
     uint32_t status = svid_token_open(&read, token, token_len, told);
     /* A token that can't be read is refused all the same by a check, which also advances the record. */
@@ -1192,21 +1203,16 @@ static inline uint32_t svid_validator_verify(svid_validator *v, uint64_t now, co
     }
     /* Where no key may have signed the token, the check answers the first refusal that holds, which may be another. */
     end = status == SVID_OK ? told->len : 0;
-    while (at < end) {
-        const uint8_t *question = rows + at, *field[2];
-        size_t len[2];
-        at += 32;
-        for (i = 0; i < 2; i++) {
-            len[i] = (size_t)rows[at] << 24 | (size_t)rows[at + 1] << 16 | (size_t)rows[at + 2] << 8 | rows[at + 3];
-            field[i] = rows + at + 4;
-            at += 4 + len[i];
-        }
-        if (verify(context, field[0], len[0], field[1], len[1], token, token_len) <= 0) continue;
-        for (i = 0; i < 32; i++) rows[i] = question[i];
-        count = 1;
-        break;
+    /* The first field is the signature. Behind it, each two are an algorithm and a key. */
+    for (n = 0; at < end && key == NULL; n++) {
+        len[n % 2] = (size_t)rows[at] << 24 | (size_t)rows[at + 1] << 16 | (size_t)rows[at + 2] << 8 | rows[at + 3];
+        field[n % 2] = rows + at + 4;
+        at += 4 + len[n % 2];
+        if (n == 0 || n % 2 == 1) continue;
+        if (verify(context, field[1], len[1], field[0], len[0], token, token_len) <= 0) continue;
+        key = field[0], key_len = len[0];
     }
-    status = svid_validator_check_token(v, now, (const svid_question *)rows, count, &read, out, out_len, used, told);
+    status = svid_validator_check_token(v, now, key, key_len, &read, out, out_len, used, told);
     svid_token_close(&read);
     return status;
 }

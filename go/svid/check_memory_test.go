@@ -26,17 +26,28 @@ func TestEachAllocationOfACheckRefused(t *testing.T) {
 		}
 		for name, call := range map[string]func(read *Token, yes []Question) (Accepted, error){
 			"Check":      func(read *Token, yes []Question) (Accepted, error) { return v.Check(now, read.text, yes) },
-			"CheckToken": func(read *Token, yes []Question) (Accepted, error) { return v.CheckToken(now, read, yes) },
+			"CheckToken": func(read *Token, _ []Question) (Accepted, error) { return v.CheckToken(now, read) },
+			"CheckToken of a closed token": func(read *Token, _ []Question) (Accepted, error) {
+				read.Close()
+				return v.CheckToken(now, read)
+			},
 			"Judge":      func(read *Token, yes []Question) (Accepted, error) { return v.Judge(now, read.text, yes) },
-			"JudgeToken": func(read *Token, yes []Question) (Accepted, error) { return v.JudgeToken(now, read, yes) },
+			"JudgeToken": func(read *Token, _ []Question) (Accepted, error) { return v.JudgeToken(now, read) },
+			"JudgeToken of a closed token": func(read *Token, _ []Question) (Accepted, error) {
+				read.Close()
+				return v.JudgeToken(now, read)
+			},
 		} {
 			for _, all := range []bool{false, true} {
 				for n, refused := 0, 1; refused > 0; n++ {
 					number++
 					read := NewToken(one.Token("ES256", map[string]any{"sub": "spiffe://example.org/web", "aud": "ledger", "exp": now + 300, "jti": fmt.Sprint(number)}))
-					yes, err := k.VerifyToken(&read)
-					if err != nil || len(yes) != 1 || !read.isRead {
-						t.Fatal(yes, err, read.isRead)
+					yes, err := k.Verify(read.text)
+					if err != nil || len(yes) != 1 {
+						t.Fatal(yes, err)
+					}
+					if key, err := k.VerifyToken(&read); err != nil || key == nil || !read.isRead {
+						t.Fatal(key, err, read.isRead)
 					}
 					var accepted Accepted
 					refused = scarce.During(n, all, func() { accepted, err = call(&read, yes) })

@@ -3,8 +3,11 @@ package svid
 /*
 #include "svid.h"
 
-static uint32_t ask_unhashed(svid_bundles *b, _GoString_ token, uint8_t *out, size_t out_len, svid_told *told) {
-    return svid_bundles_ask(b, (const uint8_t *)_GoStringPtr(token), _GoStringLen(token), SVID_MOST_CANDIDATES, out, out_len, told);
+static uint32_t ask(svid_validator *v, _GoString_ token, uint8_t *out, size_t out_len, svid_told *told) {
+    return svid_validator_ask(v, (const uint8_t *)_GoStringPtr(token), _GoStringLen(token), SVID_MOST_CANDIDATES, out, out_len, told);
+}
+static uint32_t ask_token(svid_validator *v, svid_token *t, uint8_t *out, size_t out_len, svid_told *told) {
+    return svid_validator_ask_token(v, t, SVID_MOST_CANDIDATES, out, out_len, told);
 }
 static uint32_t question(svid_bundles *b, _GoString_ token, size_t number, svid_question *asked, svid_told *told) {
     return svid_bundles_question(b, (const uint8_t *)_GoStringPtr(token), _GoStringLen(token), number, asked, told);
@@ -13,9 +16,6 @@ static uint32_t judge_alone(svid_bundles *b, const svid_setting *setting, const 
                             const svid_question *yes, size_t yes_len, _GoString_ token, uint8_t *out, size_t out_len, svid_use *used, svid_told *told) {
     return svid_bundles_judge(b, setting, own, own_len, lens, lens_len, yes, yes_len,
                               (const uint8_t *)_GoStringPtr(token), _GoStringLen(token), out, out_len, used, told);
-}
-static uint32_t signature(_GoString_ token, svid_signed *over, uint8_t *out, size_t out_len, svid_told *told) {
-    return svid_token_signature((const uint8_t *)_GoStringPtr(token), _GoStringLen(token), over, out, out_len, told);
 }
 */
 import "C"
@@ -63,13 +63,11 @@ type KeyringOptions struct {
 // An asker lists candidate keys. There is one for each processor, since a handle
 // serves one call at a time.
 type asker struct {
-	handle    C.svid_validator // It has the trust bundles, and its record stays empty: it lists keys with their questions in one reading.
-	lent      C.svid_bundles   // It has none, but between two calls of exchange.
-	told      C.svid_told
-	asked     C.svid_question
-	over      C.svid_signed
-	rows      []byte
-	signature []byte
+	handle C.svid_validator // It has the trust bundles, and its record stays empty.
+	lent   C.svid_bundles   // It has none, but between two calls of exchange.
+	told   C.svid_told
+	asked  C.svid_question
+	rows   []byte
 }
 
 // NewKeyring returns a keyring of trust bundles: a JSON object from trust domain
@@ -104,7 +102,7 @@ func (o KeyringOptions) rsaBits() (int, error) {
 func openAskers(bundles []byte) (chan *asker, error) {
 	askers := make(chan *asker, handles(bundles))
 	for len(askers) < cap(askers) {
-		a := &asker{rows: make([]byte, 4096), signature: make([]byte, 2048)}
+		a := &asker{rows: make([]byte, 4096)}
 		if err := a.open(bundles); err != nil {
 			closeAskers(askers)
 			return nil, err
@@ -189,26 +187,18 @@ func (k *Keyring) Candidates(token string) ([]Candidate, error) {
 	defer k.mu.RUnlock()
 	a := <-k.askers
 	defer func() { k.askers <- a }()
-	t := NewToken(token)
-	defer t.Close()
-	return a.candidates(nil, &t, k.keys, false)
+	return a.candidates(token, k.keys)
 }
 
-// longToken is how many bytes a token has that is hashed only for the key that made its signature: each question costs a hash of the
-// token. A shorter one is rather hashed for each key that is tried than read once more.
-const longToken = 4096
-
-// ask appends the candidates to room, those of a long token without their questions, and returns the cache of the bundles that they are of. s gets what
-// their keys are to verify.
-func (k *Keyring) ask(room []Candidate, s *signing, t *Token) (candidates []Candidate, keys *keyCache, err error) {
+// ask appends the keys that may have signed the token to room, and gives s its signature. It returns the cache of the bundles that the keys
+// are of.
+func (k *Keyring) ask(room []maker, s *signing, t *Token) (makers []maker, keys *keyCache, err error) {
 	k.mu.RLock()
 	defer k.mu.RUnlock()
 	a := <-k.askers
 	defer func() { k.askers <- a }()
-	if candidates, err = a.candidates(room, t, k.keys, len(t.text) > longToken); err != nil {
-		return nil, nil, err
-	}
-	return candidates, k.keys, a.sign(s, t.text)
+	makers, err = a.makers(room, s, t, k.keys)
+	return makers, k.keys, err
 }
 
 // has says whether the bundles are still those of keys.
@@ -231,40 +221,57 @@ func (k *Keyring) question(token string, number int, keys *keyCache) (asked Ques
 	return asked, true, err
 }
 
-// candidates appends the candidates to room, with their questions or without.
-func (a *asker) candidates(room []Candidate, t *Token, keys *keyCache, unhashed bool) ([]Candidate, error) {
-	rows, err := a.ask(t, unhashed)
+// candidates returns the candidates with their questions.
+func (a *asker) candidates(token string, keys *keyCache) (all []Candidate, err error) {
+	rows, err := a.list(func() C.uint32_t { return C.ask(&a.handle, token, start(a.rows), C.size_t(len(a.rows)), &a.told) })
 	if err != nil {
 		return nil, err
 	}
 	for len(rows) > 0 {
 		var c Candidate
-		var name, key []byte
-		if !unhashed {
-			rows = rows[copy(c.Question[:], rows):]
-		}
-		name, rows = field(rows)
-		key, rows = field(rows)
-		c.Algorithm, c.Key = algorithmName(name), keys.get(key)
-		room = append(room, c)
+		rows = rows[copy(c.Question[:], rows):]
+		c.Algorithm, c.Key, rows = keys.row(rows)
+		all = append(all, c)
+	}
+	return all, nil
+}
+
+// A maker is a key that may have made a signature, by the algorithm of this name.
+type maker struct {
+	algorithm string
+	key       *Key
+}
+
+// makers appends the keys that may have signed a token to room, and gives s its signature, and what that is made over.
+func (a *asker) makers(room []maker, s *signing, t *Token, keys *keyCache) ([]maker, error) {
+	rows, err := a.list(func() C.uint32_t {
+		return C.ask_token(&a.handle, &t.handle, start(a.rows), C.size_t(len(a.rows)), &a.told)
+	})
+	if err != nil {
+		return nil, err
+	}
+	s.text = t.text[:binary.BigEndian.Uint32(rows)]
+	signature, rows := field(rows[4:])
+	s.signature = append(s.signature[:0], signature...)
+	for len(rows) > 0 {
+		var m maker
+		m.algorithm, m.key, rows = keys.row(rows)
+		room = append(room, m)
 	}
 	return room, nil
 }
 
-// sign gives s the token's signature, and what it is made over.
-func (a *asker) sign(s *signing, token string) error {
-	for {
-		status := C.signature(token, &a.over, start(a.signature), C.size_t(len(a.signature)), &a.told)
-		if status == C.SVID_TOO_SHORT {
-			a.signature = make([]byte, a.told.len)
-			continue
-		}
-		if err := failure(status, &a.told); err != nil {
-			return err
-		}
-		s.text, s.signature = token[:a.over.len], append(s.signature[:0], a.signature[:a.told.len]...)
-		return nil
+// list returns what a call of the library writes to rows, which are made longer where they are too short. It is good until the next list.
+func (a *asker) list(call func() C.uint32_t) ([]byte, error) {
+	status := call()
+	for status == C.SVID_TOO_SHORT {
+		a.rows = make([]byte, a.told.len)
+		status = call()
 	}
+	if err := failure(status, &a.told); err != nil {
+		return nil, err
+	}
+	return a.rows[:a.told.len], nil
 }
 
 // question returns the question of the candidate with this number.
@@ -280,32 +287,6 @@ func (a *asker) question(token string, number int) (Question, error) {
 	return *(*Question)(unsafe.Pointer(&a.asked)), nil
 }
 
-// ask returns the library's rows about the token, with questions or without. They are good until the next ask.
-func (a *asker) ask(t *Token, unhashed bool) ([]byte, error) {
-	if unhashed {
-		if err := a.exchange(); err != nil {
-			return nil, err
-		}
-		defer func() { _ = a.exchange() }()
-	}
-	for {
-		var status C.uint32_t
-		if unhashed {
-			status = C.ask_unhashed(&a.lent, t.text, start(a.rows), C.size_t(len(a.rows)), &a.told)
-		} else {
-			status = a.askRead(t)
-		}
-		if status == C.SVID_TOO_SHORT {
-			a.rows = make([]byte, a.told.len)
-			continue
-		}
-		if err := failure(status, &a.told); err != nil {
-			return nil, err
-		}
-		return a.rows[:a.told.len], nil
-	}
-}
-
 // field cuts a text with its length before it from the rows.
 func field(rows []byte) (text, rest []byte) {
 	n := binary.BigEndian.Uint32(rows)
@@ -317,36 +298,53 @@ func field(rows []byte) (text, rest []byte) {
 // and no error if none of them made the signature: the validator then refuses the
 // token as BadSignature, or for what comes before that. The error is that of
 // Candidates, or ErrNoMemory.
+//
+// VerifyToken hashes no question, and so takes less time.
 func (k *Keyring) Verify(token string) ([]Question, error) {
 	r := trials.Get().(*trial)
 	defer r.end()
 	r.token.text = token
-	return k.verify(r, &r.token)
+	for {
+		made, err := k.tried(r, &r.token)
+		if err != nil || made.by == nil {
+			return nil, err
+		}
+		if asked, same, err := k.question(token, made.number, made.keys); same || err != nil {
+			return questionIf(asked, err)
+		}
+	}
 }
 
-// VerifyToken is Verify, and leaves in t what the library has read of the token, for
-// Validator.CheckToken. It leaves nothing of a token of more than 4,096 bytes, whose
-// keys it lists without their questions: later calls read that again.
-func (k *Keyring) VerifyToken(t *Token) ([]Question, error) {
+// questionIf is a question where there is no error.
+func questionIf(asked Question, err error) ([]Question, error) {
+	if err != nil {
+		return nil, err
+	}
+	return []Question{asked}, nil
+}
+
+// VerifyToken verifies the token's signature with each of its Candidates until one
+// made it, and returns that key, which the token keeps for Validator.CheckToken. It
+// returns no key and no error if none of them made the signature. The error is that
+// of Candidates, or ErrNoMemory.
+func (k *Keyring) VerifyToken(t *Token) (*Key, error) {
 	r := trials.Get().(*trial)
 	defer r.end()
-	return k.verify(r, t)
-}
-
-func (k *Keyring) verify(r *trial, t *Token) ([]Question, error) {
 	for {
-		yes, same, err := k.tried(r, t)
-		if same || err != nil {
-			return yes, err
+		made, err := k.tried(r, t)
+		if err != nil || made.by == nil || k.has(made.keys) {
+			t.by = made.by
+			return made.by, err
 		}
 	}
 }
 
 // A trial is room to try the keys of one token.
 type trial struct {
-	candidates [MaxCandidates]Candidate
-	signing    signing
-	token      Token // of Verify
+	makers  [MaxCandidates]maker
+	signing signing
+	told    C.svid_told
+	token   Token // of Verify
 }
 
 var trials = sync.Pool{New: func() any { return new(trial) }}
@@ -354,28 +352,32 @@ var trials = sync.Pool{New: func() any { return new(trial) }}
 // end lets the next token have the room. What it has of this one is not kept.
 func (r *trial) end() {
 	r.token.Close()
-	r.candidates, r.signing, r.token = [MaxCandidates]Candidate{}, signing{signature: r.signing.signature[:0]}, Token{}
+	r.makers, r.signing, r.token = [MaxCandidates]maker{}, signing{signature: r.signing.signature[:0]}, Token{}
 	trials.Put(r)
 }
 
+// made is what became of a trial: which key made the signature, nil for none, its number among the candidates, and the cache of the bundles that
+// it is of.
+type made struct {
+	by     *Key
+	number int
+	keys   *keyCache
+}
+
 // tried verifies the signature with each candidate. It is to be called again if the bundles were replaced meanwhile.
-func (k *Keyring) tried(r *trial, t *Token) (yes []Question, same bool, err error) {
-	candidates, keys, err := k.ask(r.candidates[:0], &r.signing, t)
+func (k *Keyring) tried(r *trial, t *Token) (made, error) {
+	if err := t.read(&r.told); err != nil {
+		return made{}, err
+	}
+	makers, keys, err := k.ask(r.makers[:0], &r.signing, t)
 	if err != nil {
-		return nil, true, err
+		return made{}, err
 	}
-	i, err := findMaker(candidates, &r.signing)
-	if err != nil || i < 0 {
-		return nil, true, err
+	number, err := findMaker(makers, &r.signing)
+	if err != nil || number < 0 {
+		return made{}, err
 	}
-	if len(t.text) <= longToken {
-		return []Question{candidates[i].Question}, k.has(keys), nil
-	}
-	asked, same, err := k.question(t.text, i, keys)
-	if !same || err != nil {
-		return nil, same, err
-	}
-	return []Question{asked}, true, nil
+	return made{makers[number].key, number, keys}, nil
 }
 
 // exchange lends the bundles to lent, or takes them back. It reads nothing, and takes no memory.
@@ -422,11 +424,11 @@ func (k *Keyring) Judge(by Judgment, now uint64, token string, yes []Question) (
 	return Accepted{ID: string(id[:a.told.len]), Use: useOf(&used, false)}, nil
 }
 
-// findMaker is the index of the first candidate that made the signature, or -1. ErrNoMemory: no candidate is known to have
+// findMaker is the index of the first key that made the signature, or -1. ErrNoMemory: no key is known to have
 // made it, and one may have.
-func findMaker(candidates []Candidate, s *signing) (index int, err error) {
-	for i, c := range candidates {
-		switch verdict := c.Key.verify(c.Algorithm, s); {
+func findMaker(makers []maker, s *signing) (index int, err error) {
+	for i, m := range makers {
+		switch verdict := m.key.verify(m.algorithm, s); {
 		case verdict == nil:
 			return i, nil
 		case errors.Is(verdict, ErrNoMemory):
@@ -446,6 +448,13 @@ type keyCache struct {
 
 func newKeyCache(rsaBits int) *keyCache {
 	return &keyCache{rsaBits: rsaBits, keys: make(map[string]*Key)}
+}
+
+// row reads an algorithm and a key, and returns the rows behind them.
+func (c *keyCache) row(rows []byte) (algorithm string, key *Key, rest []byte) {
+	name, rows := field(rows)
+	text, rest := field(rows)
+	return algorithmName(name), c.get(text), rest
 }
 
 func (c *keyCache) get(text []byte) *Key {

@@ -131,13 +131,13 @@ func TestEachCallOfAValidatorHoldsItsLock(t *testing.T) {
 		"Answer":       func() { _, _ = v.Answer(now, summary) },
 		"Check":        func() { _, _ = v.Check(now, token, yes) },
 		"CheckClaimed": func() { _, _ = v.CheckClaimed(now, token, yes, batchOf(judged.Use)) },
-		"CheckToken":   func() { _, _ = v.CheckToken(now, &read[0], yes) },
+		"CheckToken":   func() { _, _ = v.CheckToken(now, &read[0]) },
 		"Close":        v.Close,
 		"Edition":      func() { _ = v.Edition() },
 		"GoOn":         func() { _ = v.GoOn() },
 		"Judge":        func() { _, _ = v.Judge(now, token, yes) },
 		"JudgeAgain":   func() { _ = v.JudgeAgain(now, judged) },
-		"JudgeToken":   func() { _, _ = v.JudgeToken(now, &read[1], yes) },
+		"JudgeToken":   func() { _, _ = v.JudgeToken(now, &read[1]) },
 		"LogBeside":    func() { _, _ = v.LogBeside() },
 		"LogMark":      func() { _, _, _ = v.LogMark() },
 		"OpenLog":      func() { _ = v.OpenLog(Log{}) },
@@ -279,11 +279,14 @@ func TestTheKeysOfBundlesHaveALock(t *testing.T) {
 	k := openKeyring(t, string(one.Bundles()))
 	token := NewToken(one.Token("ES256", map[string]any{"sub": "spiffe://example.org/web", "aud": "ledger", "exp": 2_000_000_000}))
 	defer token.Close()
-	candidates, keys, err := k.ask(nil, new(signing), &token)
+	if err := token.read(&new(trial).told); err != nil {
+		t.Fatal(err)
+	}
+	makers, keys, err := k.ask(nil, new(signing), &token)
 	if err != nil {
 		t.Fatal(err)
 	}
-	text := []byte(candidates[0].Key.JSON())
+	text := []byte(makers[0].key.JSON())
 	all := map[string]func(){"a known key": func() { keys.get(text) }, "a new key": func() { keys.get([]byte("{}")) }}
 	keys.mu.Lock()
 	wantWait(t, "another call changes the keys", keys.mu.Unlock, all)
@@ -310,14 +313,18 @@ func TestOldBundlesAreFreed(t *testing.T) {
 			t.Errorf("%d: %d handles of %d", i, len(old), cap(old))
 		}
 		for n := len(old); n > 0; n-- {
-			for _, text := range []string{"a.b.c", one.Token("ES256", map[string]any{"sub": "spiffe://example.org/web", "aud": "ledger", "exp": 2_000_000_000})} {
-				token, a := NewToken(text), <-old
-				if _, err := a.ask(&token, false); !errors.Is(err, ErrClosed) {
-					t.Errorf("%d: a handle is still open: %v", i, err)
-				}
-				token.Close()
-				old <- a
+			token, a := NewToken(one.Token("ES256", map[string]any{"sub": "spiffe://example.org/web", "aud": "ledger", "exp": 2_000_000_000})), <-old
+			if err := token.read(&new(trial).told); err != nil {
+				t.Fatal(err)
 			}
+			if _, err := a.makers(nil, new(signing), &token, k.keys); !errors.Is(err, ErrClosed) {
+				t.Errorf("%d: a handle is still open: %v", i, err)
+			}
+			if _, err := a.candidates(token.text, k.keys); !errors.Is(err, ErrClosed) {
+				t.Errorf("%d: a handle is still open: %v", i, err)
+			}
+			token.Close()
+			old <- a
 			<-old
 		}
 	}

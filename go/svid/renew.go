@@ -90,17 +90,16 @@ func (v *Validator) renew(b *C.svid_bundles, text []byte) error {
 const largeBundles = 4096
 
 // answered is yes, or nothing if none of these questions is of a key that is tried for the token (MaxCandidates). That is
-// so if the bundles were replaced since: the check would hash the token for each of its candidates, to find none. read is the
-// token where it was read, else nil. The caller holds the lock. The error is ErrNoMemory: without it a good token would be
-// refused.
-func (v *Validator) answered(token string, read *Token, yes []Question) ([]Question, error) {
+// so if the bundles were replaced since: the check would hash the token for each of its candidates, to find none. The caller
+// holds the lock. The error is ErrNoMemory: without it a good token would be refused.
+func (v *Validator) answered(token string, yes []Question) ([]Question, error) {
 	if len(yes) == 0 || !v.large {
 		return yes, nil
 	}
-	status := v.listFirst(token, read)
+	status := v.listFirst(token)
 	for status == C.SVID_TOO_SHORT {
 		v.rows = make([]byte, v.told.len)
-		status = v.listFirst(token, read)
+		status = v.listFirst(token)
 	}
 	if status == C.SVID_NO_MEMORY {
 		return nil, ErrNoMemory
@@ -123,10 +122,7 @@ func (v *Validator) answered(token string, read *Token, yes []Question) ([]Quest
 }
 
 // listFirst lists the keys that are tried for the token.
-func (v *Validator) listFirst(token string, read *Token) C.uint32_t {
-	if read != nil {
-		return C.svid_validator_ask_token(&v.handle, &read.handle, C.SVID_MOST_CANDIDATES, start(v.rows), C.size_t(len(v.rows)), &v.told)
-	}
+func (v *Validator) listFirst(token string) C.uint32_t {
 	return C.first(&v.handle, token, start(v.rows), C.size_t(len(v.rows)), &v.told)
 }
 

@@ -6,19 +6,24 @@ package svid
 static uint32_t read_token(svid_token *t, _GoString_ token, svid_told *told) {
     return svid_token_open(t, (const uint8_t *)_GoStringPtr(token), _GoStringLen(token), told);
 }
-static uint32_t ask(svid_validator *v, _GoString_ token, uint8_t *out, size_t out_len, svid_told *told) {
-    return svid_validator_ask(v, (const uint8_t *)_GoStringPtr(token), _GoStringLen(token), SVID_MOST_CANDIDATES, out, out_len, told);
+static uint32_t check_token(svid_validator *v, uint64_t now, _GoString_ key, svid_token *t, uint8_t *out, size_t out_len, svid_use *used, svid_told *told) {
+    return svid_validator_check_token(v, now, (const uint8_t *)_GoStringPtr(key), _GoStringLen(key), t, out, out_len, used, told);
+}
+static uint32_t judge_token(svid_validator *v, uint64_t now, _GoString_ key, svid_token *t, uint8_t *out, size_t out_len, svid_use *used, svid_told *told) {
+    return svid_validator_judge_token(v, now, (const uint8_t *)_GoStringPtr(key), _GoStringLen(key), t, out, out_len, used, told);
 }
 */
 import "C"
 
+import "errors"
+
 // A Token is a token that the library reads once, for Keyring.VerifyToken and
 // then Validator.CheckToken or JudgeToken. (Keyring.Verify and Validator.Check
-// each read their token, and each call reads one of more than 4,096 bytes.) Give it
-// to one goroutine at a time, do not copy it once it was given to a call, and Close
-// it.
+// each read their token.) Give it to one goroutine at a time, do not copy it once
+// it was given to a call, and Close it.
 type Token struct {
 	text   string
+	by     *Key // that made the signature, where one is known to have
 	handle C.svid_token
 	isRead bool // The handle is open.
 }
@@ -29,7 +34,12 @@ func NewToken(text string) Token { return Token{text: text} }
 // Text returns the token as it came.
 func (t *Token) Text() string { return t.text }
 
-// Close frees what the library has read of the token. Later calls go by its text.
+// VerifiedBy says that this key made the token's signature, as Keyring.VerifyToken
+// found for the same text before. The validator accepts the token only if it has
+// that key at the moment. nil says that no key is known to have made it.
+func (t *Token) VerifiedBy(key *Key) { t.by = key }
+
+// Close frees what the library has read of the token. A later call reads it again.
 func (t *Token) Close() {
 	if t.isRead {
 		C.svid_token_close(&t.handle)
@@ -37,53 +47,61 @@ func (t *Token) Close() {
 	}
 }
 
-// read reads the token, unless that was done before, and says whether it could.
-func (t *Token) read(told *C.svid_told) bool {
-	if !t.isRead {
-		t.isRead = C.read_token(&t.handle, t.text, told) == C.SVID_OK
+// read reads the token, unless that was done before. The error is a Refusal, TooLong to Jti, or ErrNoMemory.
+func (t *Token) read(told *C.svid_told) error {
+	if t.isRead {
+		return nil
 	}
-	return t.isRead
+	err := failure(C.read_token(&t.handle, t.text, told), told)
+	t.isRead = err == nil
+	return err
 }
 
-// askRead lists the token's keys with their questions, and reads the token only if it was not read before. One that can't be read is asked
-// about by its text, for why.
-func (a *asker) askRead(t *Token) C.uint32_t {
-	if !t.read(&a.told) {
-		return C.ask(&a.handle, t.text, start(a.rows), C.size_t(len(a.rows)), &a.told)
+// key is the JSON of the key that made the signature, and empty where none is known to have.
+func (t *Token) key() string {
+	if t.by == nil {
+		return ""
 	}
-	return C.svid_validator_ask_token(&a.handle, &t.handle, C.SVID_MOST_CANDIDATES, start(a.rows), C.size_t(len(a.rows)), &a.told)
+	return t.by.text
 }
 
-// CheckToken is Check, and does not read a token again that Keyring.VerifyToken has
-// read.
-func (v *Validator) CheckToken(now uint64, t *Token, yes []Question) (Accepted, error) {
-	if !t.isRead {
-		return v.Check(now, t.text, yes)
+// isRefused says whether the token is refused by itself. Else it is read, or the error is ErrNoMemory.
+func (t *Token) isRefused() (bool, error) {
+	if t.isRead {
+		return false, nil
+	}
+	var refusal Refusal
+	err := t.read(new(C.svid_told))
+	if errors.As(err, &refusal) {
+		return true, nil
+	}
+	return false, err
+}
+
+// CheckToken is Check of a token by the key that Keyring.VerifyToken has found. It
+// does not read the token again, and hashes it for no key.
+func (v *Validator) CheckToken(now uint64, t *Token) (Accepted, error) {
+	if refused, err := t.isRefused(); refused { // (The record advances all the same.)
+		return v.Check(now, t.text, nil)
+	} else if err != nil {
+		return Accepted{}, err
 	}
 	v.mu.Lock()
 	defer v.mu.Unlock()
-	yes, err := v.answered(t.text, t, yes)
-	if err != nil {
-		return Accepted{}, err
-	}
-	status := C.svid_validator_check_token(&v.handle, C.uint64_t(now), questions(yes), C.size_t(len(yes)), &t.handle,
-		start(v.id[:]), C.size_t(len(v.id)), &v.used, &v.told)
+	status := C.check_token(&v.handle, C.uint64_t(now), t.key(), &t.handle, start(v.id[:]), C.size_t(len(v.id)), &v.used, &v.told)
 	return v.accepted(status)
 }
 
-// JudgeToken is Judge, and does not read a token again that Keyring.VerifyToken has
-// read.
-func (v *Validator) JudgeToken(now uint64, t *Token, yes []Question) (Accepted, error) {
-	if !t.isRead {
-		return v.Judge(now, t.text, yes)
+// JudgeToken is Judge of a token by the key that Keyring.VerifyToken has found. It
+// does not read the token again, and hashes it for no key.
+func (v *Validator) JudgeToken(now uint64, t *Token) (Accepted, error) {
+	if refused, err := t.isRefused(); refused {
+		return v.Judge(now, t.text, nil)
+	} else if err != nil {
+		return Accepted{}, err
 	}
 	v.mu.Lock()
 	defer v.mu.Unlock()
-	yes, err := v.answered(t.text, t, yes)
-	if err != nil {
-		return Accepted{}, err
-	}
-	status := C.svid_validator_judge_token(&v.handle, C.uint64_t(now), questions(yes), C.size_t(len(yes)), &t.handle,
-		start(v.id[:]), C.size_t(len(v.id)), &v.used, &v.told)
+	status := C.judge_token(&v.handle, C.uint64_t(now), t.key(), &t.handle, start(v.id[:]), C.size_t(len(v.id)), &v.used, &v.told)
 	return v.accepted(status)
 }

@@ -21,10 +21,10 @@ func TestTokensLeaveNothing(t *testing.T) {
 			"Verify":     func() { _, _ = k.Verify(text) },
 			"VerifyToken": func() {
 				one := svid.NewToken(text)
-				yes, _ := k.VerifyToken(&one)
 				_, _ = k.VerifyToken(&one)
-				_, _ = v.JudgeToken(moment, &one, yes)
-				_, _ = v.CheckToken(moment, &one, yes)
+				_, _ = k.VerifyToken(&one)
+				_, _ = v.JudgeToken(moment, &one)
+				_, _ = v.CheckToken(moment, &one)
 				one.Close()
 			},
 		} {

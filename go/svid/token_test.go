@@ -2,7 +2,6 @@ package svid_test
 
 import (
 	"errors"
-	"fmt"
 	"strings"
 	"testing"
 
@@ -22,24 +21,15 @@ func TestATokenThatIsReadOnceIsAnsweredAlike(t *testing.T) {
 	long["jti"] = strings.Repeat("a", 6000)
 	good := example.Token("ES256", claims("good"))
 	k := keyring(t, example.Bundles())
-	type call func(v *svid.Validator, one *svid.Token, yes []svid.Question) (svid.Accepted, error)
-	check := func(v *svid.Validator, one *svid.Token, yes []svid.Question) (svid.Accepted, error) {
-		return v.CheckToken(moment, one, yes)
-	}
-	judge := func(v *svid.Validator, one *svid.Token, yes []svid.Question) (svid.Accepted, error) {
-		return v.JudgeToken(moment, one, yes)
-	}
-	byText := func(of func(v *svid.Validator) func(uint64, string, []svid.Question) (svid.Accepted, error)) call {
-		return func(v *svid.Validator, one *svid.Token, yes []svid.Question) (svid.Accepted, error) {
-			return of(v)(moment, one.Text(), yes)
-		}
-	}
+	type byToken func(now uint64, one *svid.Token) (svid.Accepted, error)
+	type byText func(now uint64, token string, yes []svid.Question) (svid.Accepted, error)
 	for _, calls := range []struct {
-		name       string
-		read, text call
+		name string
+		read func(v *svid.Validator) byToken
+		text func(v *svid.Validator) byText
 	}{
-		{"judge", judge, byText(func(v *svid.Validator) func(uint64, string, []svid.Question) (svid.Accepted, error) { return v.Judge })},
-		{"check", check, byText(func(v *svid.Validator) func(uint64, string, []svid.Question) (svid.Accepted, error) { return v.Check })},
+		{"judge", func(v *svid.Validator) byToken { return v.JudgeToken }, func(v *svid.Validator) byText { return v.Judge }},
+		{"check", func(v *svid.Validator) byToken { return v.CheckToken }, func(v *svid.Validator) byText { return v.Check }},
 	} {
 		one, other := open(t, 1), open(t, 1)
 		for i, text := range []string{
@@ -47,23 +37,20 @@ func TestATokenThatIsReadOnceIsAnsweredAlike(t *testing.T) {
 			example.Token("RS256", claims("rsa")), example.Token("ES256", expired), example.Token("ES256", long), "a.b", "", strings.Repeat("a", 70_000),
 		} {
 			read := svid.NewToken(text)
-			yes, err := k.VerifyToken(&read)
-			for _, verify := range []func() ([]svid.Question, error){
-				func() ([]svid.Question, error) { return k.Verify(text) },
-				func() ([]svid.Question, error) { return k.VerifyToken(&read) },
-			} {
-				if again, againErr := verify(); fmt.Sprint(yes, err) != fmt.Sprint(again, againErr) {
-					t.Errorf("%s %d: %v %v, and then %v %v", calls.name, i, yes, err, again, againErr)
+			yes, err := k.Verify(text)
+			for turn := 0; turn < 2; turn++ {
+				if key, byKey := k.VerifyToken(&read); byKey != err || (key != nil) != (len(yes) == 1) {
+					t.Errorf("%s %d: %v %v, and by its text %v %v", calls.name, i, key, byKey, yes, err)
 				}
 			}
-			got, err := calls.read(one, &read, yes)
-			want, wantErr := calls.text(other, &read, yes)
+			got, err := calls.read(one)(moment, &read)
+			want, wantErr := calls.text(other)(moment, text, yes)
 			if got.ID != want.ID || got.Use != want.Use || err != wantErr {
 				t.Errorf("%s %d: %v %v, and by its text %v %v", calls.name, i, got, err, want, wantErr)
 			}
 			read.Close()
-			_, err = calls.read(one, &read, yes)
-			_, wantErr = calls.text(other, &read, yes)
+			_, err = calls.read(one)(moment, &read)
+			_, wantErr = calls.text(other)(moment, text, yes)
 			if err != wantErr || calls.name == "check" && err == nil {
 				t.Errorf("%s %d once more: %v, and by its text %v", calls.name, i, err, wantErr)
 			}
@@ -77,16 +64,53 @@ func TestAReadTokenAtAClosedValidator(t *testing.T) {
 	k := keyring(t, example.Bundles())
 	read := svid.NewToken(example.Token("ES256", claims("a")))
 	defer read.Close()
-	yes, err := k.VerifyToken(&read)
-	if err != nil {
+	if _, err := k.VerifyToken(&read); err != nil {
 		t.Fatal(err)
 	}
 	v := open(t, 1)
 	v.Close()
-	if _, err := v.CheckToken(moment, &read, yes); !errors.Is(err, svid.ErrClosed) {
+	if _, err := v.CheckToken(moment, &read); !errors.Is(err, svid.ErrClosed) {
 		t.Error(err)
 	}
-	if _, err := v.JudgeToken(moment, &read, yes); !errors.Is(err, svid.ErrClosed) {
+	if _, err := v.JudgeToken(moment, &read); !errors.Is(err, svid.ErrClosed) {
 		t.Error(err)
 	}
+}
+
+// A token is accepted by the key that is told of it, and only while the validator has that key. Verifying it finds the key anew.
+func TestATokenIsCheckedByTheKeyThatIsTold(t *testing.T) {
+	text := example.Token("ES256", claims("told"))
+	k, v := keyring(t, example.Bundles()), open(t, 1)
+	good, bad := svid.NewToken(text), svid.NewToken(text[:len(text)-8]+"AAAAAAAA")
+	defer good.Close()
+	defer bad.Close()
+	judged := func(what string, token *svid.Token, want error) {
+		t.Helper()
+		if _, err := v.JudgeToken(moment, token); err != want {
+			t.Errorf("%s: %v, want %v", what, err, want)
+		}
+	}
+	judged("no key is told", &good, svid.BadSignature)
+	key, err := k.VerifyToken(&good)
+	if err != nil || key == nil {
+		t.Fatal(key, err)
+	}
+	judged("its key is found", &good, nil)
+	good.VerifiedBy(nil)
+	judged("no key is told any more", &good, svid.BadSignature)
+	good.VerifiedBy(key)
+	judged("its key is told", &good, nil)
+	bad.VerifiedBy(key)
+	if none, err := k.VerifyToken(&bad); none != nil || err != nil {
+		t.Errorf("a bad signature: %v %v", none, err)
+	}
+	judged("a bad signature, behind its verification", &bad, svid.BadSignature)
+	other, err := issuer.New("example.org")
+	if err != nil {
+		t.Fatal(err)
+	}
+	if err := v.SetBundles(other.Bundles()); err != nil {
+		t.Fatal(err)
+	}
+	judged("its key is gone", &good, svid.BadSignature)
 }

@@ -154,7 +154,7 @@ func (v *Validator) Close() {
 func (v *Validator) Check(now uint64, token string, yes []Question) (Accepted, error) {
 	v.mu.Lock()
 	defer v.mu.Unlock()
-	yes, err := v.answered(token, nil, yes)
+	yes, err := v.answered(token, yes)
 	if err != nil {
 		return Accepted{}, err
 	}
@@ -166,17 +166,16 @@ func (v *Validator) Check(now uint64, token string, yes []Question) (Accepted, e
 // Accept verifies the token's signature by the keyring, which has the same bundles,
 // and checks the token: all that a service does for a request. A token that the
 // keyring refuses is checked all the same, so the Refusal is the first that holds,
-// in the order of Refusals. Other errors are those of Keyring.Verify and Check. A
-// token of at most 4,096 bytes is read once.
+// in the order of Refusals. Other errors are those of Keyring.VerifyToken and Check.
+// The token is read once, and hashed for no key.
 func (v *Validator) Accept(k *Keyring, now uint64, token string) (Accepted, error) {
 	t := NewToken(token)
 	defer t.Close()
-	yes, err := k.VerifyToken(&t)
 	var refusal Refusal
-	if err != nil && !errors.As(err, &refusal) {
+	if _, err := k.VerifyToken(&t); err != nil && !errors.As(err, &refusal) {
 		return Accepted{}, err
 	}
-	return v.CheckToken(now, &t, yes)
+	return v.CheckToken(now, &t)
 }
 
 // Judge answers what Check would answer, and adds nothing to the record: a later
@@ -188,7 +187,7 @@ func (v *Validator) Judge(now uint64, token string, yes []Question) (Accepted, e
 }
 
 func (v *Validator) judge(now uint64, token string, yes []Question) (Accepted, error) {
-	yes, err := v.answered(token, nil, yes)
+	yes, err := v.answered(token, yes)
 	if err != nil {
 		return Accepted{}, err
 	}

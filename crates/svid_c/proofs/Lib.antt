@@ -9,7 +9,6 @@ pub mod EntriesLemmas
 pub mod InputsLemmas
 pub mod JoinedLemmas
 mod JournalLemmas
-pub mod KeptLemmas
 pub mod LiveLemmas
 pub mod LogLemmas
 pub mod NamesLemmas

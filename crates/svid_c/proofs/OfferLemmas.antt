@@ -15,10 +15,10 @@ take_one (suc n) x xs some =
 lt_one : {X : Type 0} (n : ℕ) (x : X) (xs : List X) → n ≢ 0 → nat_lt n (length (x ∷ xs)) ≡ nat_lt (n - 1) (length xs)
 lt_one n x xs some = grind (arith, nat_tests, some)
 
--- one more row: of a list this many are due, and of what is left this many
-pub one_row : {X : Type 0} (row : X → List ℕ) (all left rest : List X) (x : X) (most n : ℕ) (old new : List ℕ) → n ≢ 0 → left ≡ x ∷ rest
-    → flat_map row (take most all) ≡ old ++ flat_map row (take n left) → new ≡ old ++ row x → flat_map row (take most all) ≡ new ++ flat_map row (take (n - 1) rest)
-one_row row all left rest x most n old new some begins rows added =
+-- one more row of what is due: of what is left this many
+pub one_row : {X : Type 0} (row : X → List ℕ) (due : List ℕ) (left rest : List X) (x : X) (n : ℕ) (old new : List ℕ) → n ≢ 0 → left ≡ x ∷ rest
+    → due ≡ old ++ flat_map row (take n left) → new ≡ old ++ row x → due ≡ new ++ flat_map row (take (n - 1) rest)
+one_row row due left rest x n old new some begins rows added =
     rows ∙ ap (λ l. old ++ flat_map row (take n l)) begins ∙ ap (λ l. old ++ flat_map row l) (take_one n x rest some)
     ∙ sym (append_assoc old (row x) (flat_map row (take (n - 1) rest))) ∙ ap (λ o. o ++ flat_map row (take (n - 1) rest)) (sym added)
 

@@ -10,7 +10,6 @@ pub mod Handle
 pub mod Inputs
 pub mod Joined
 pub mod Journal
-pub mod Kept
 pub mod KeyText
 pub mod Payloads
 pub mod Live

@@ -15,11 +15,10 @@ use Rattle.svid_wire.specs.declared.message.Message.TheVariants.{Summary}
 use Rattle.svid_log.specs.Members.{MemberState}
 use Rattle.svid_check.specs.Changes.{gains, horizon, withdrawal}
 use Rattle.svid_check.specs.Claiming.{IsLooked, is_claimed, or_claimed, unless_claimed}
-use Rattle.svid_check.specs.Setting.{Held, setting_by, with_bundles, with_state}
+use Rattle.svid_check.specs.Setting.{Held, Says, setting_by, with_bundles, with_state}
 use Rattle.svid_check.specs.Verdict.{again_rows}
 use Rattle.svid_check.specs.declared.accepted.Accepted.{Accepted}
 use Rattle.svid_share.specs.declared.tool_fault.ToolFault.{ToolFault}
-use Rattle.svid_c.specs.Answered.{says_yes}
 use Rattle.svid_c.specs.Checked.{refusal_number, use_seen}
 use Rattle.svid_c.specs.Inputs.{AreBundles, AreMessages, AreNoBundles, IsRefused, Tells}
 use Rattle.svid_c.specs.Joined.{IsSummaryRefused}
@@ -106,12 +105,12 @@ abbrev pub claimed_by : Option MemberState → ℕ → List ℕ → Bool
 claimed_by None moment key = false
 claimed_by (Some m) moment key = is_claimed m moment key
 
--- the verdict of a validator on a token, or on what one says, at a moment, where the answer to just these questions is yes; one that reads a
--- log refuses a token that is claimed there
-abbrev pub verdict_at : Live → List (List ℕ) → ℕ → Subject → Result (Option Accepted) Refusal
-verdict_at live given now about =
+-- the verdict of a validator on a token, or on what one says, at a moment, by what a verifier says; one that reads a log refuses a token
+-- that is claimed there
+abbrev pub verdict_at : Live → Says → ℕ → Subject → Result (Option Accepted) Refusal
+verdict_at live says now about =
     let x = raised_to live.validator.state now in
-    unless_claimed (claimed_by live.member x.moment) (verdict_about (setting_by (says_yes given) live.validator) x.moment x.uses about)
+    unless_claimed (claimed_by live.member x.moment) (verdict_about (setting_by says live.validator) x.moment x.uses about)
 
 -- after a look at the claims beside the record, where there is a log
 abbrev pub IsLookedBy : ℕ → Option MemberState → Option MemberState → Type 0
@@ -135,18 +134,18 @@ adds_nothing r used = r
 -- What a check does: there is too little room for an ID, and nothing happens; or the record is raised, and the token is refused or
 -- accepted, as is its verdict at the raised record. The text of an accepted token's ID is put, its use is told, and the record gains
 -- this of it.
-pub data Checks (gained : State → Use → State) (now : ℕ) (given : List (List ℕ)) (about : Subject) (status : ℕ) (told : SvidTold) (old_out new_out : List ℕ) (old_use new_use : SvidUse) (old new : Live) : Type 0 where
-  no_room : length old_out < 2048 → status ≡ 1 → told ≡ told_length 2048 → new_out ≡ old_out → new_use ≡ old_use → new ≡ old → Checks gained now given about status told old_out new_out old_use new_use old new
-  refused : (why : Refusal) → 2048 ≤ length old_out → Refuses why (verdict_at old given now about) → RefusesAbout about why
-      → status ≡ refusal_number why → told ≡ told_length 0 → new_out ≡ old_out → new_use ≡ old_use → IsLeft now (raised_to old.validator.state now) old new → Checks gained now given about status told old_out new_out old_use new_use old new
-  accepted : (a : Accepted) → 2048 ≤ length old_out → verdict_at old given now about ≡ Ok (Some a)
+pub data Checks (gained : State → Use → State) (now : ℕ) (says : Says) (about : Subject) (status : ℕ) (told : SvidTold) (old_out new_out : List ℕ) (old_use new_use : SvidUse) (old new : Live) : Type 0 where
+  no_room : length old_out < 2048 → status ≡ 1 → told ≡ told_length 2048 → new_out ≡ old_out → new_use ≡ old_use → new ≡ old → Checks gained now says about status told old_out new_out old_use new_use old new
+  refused : (why : Refusal) → 2048 ≤ length old_out → Refuses why (verdict_at old says now about) → RefusesAbout about why
+      → status ≡ refusal_number why → told ≡ told_length 0 → new_out ≡ old_out → new_use ≡ old_use → IsLeft now (raised_to old.validator.state now) old new → Checks gained now says about status told old_out new_out old_use new_use old new
+  accepted : (a : Accepted) → 2048 ≤ length old_out → verdict_at old says now about ≡ Ok (Some a)
       → status ≡ 0 → told ≡ told_length (length (id_text a.id)) → HasFirst (id_text a.id) old_out new_out
-      → new_use ≡ use_seen a.used → IsLeft now (gained (raised_to old.validator.state now) a.used) old new → Checks gained now given about status told old_out new_out old_use new_use old new
+      → new_use ≡ use_seen a.used → IsLeft now (gained (raised_to old.validator.state now) a.used) old new → Checks gained now says about status told old_out new_out old_use new_use old new
 
 -- What a check by itself does: where the validator reads a log, this is told, and nothing happens; else it is a check that adds the use that it accepts.
-pub data ChecksAlone (now : ℕ) (given : List (List ℕ)) (about : Subject) (status : ℕ) (told : SvidTold) (old_out new_out : List ℕ) (old_use new_use : SvidUse) (old new : Live) : Type 0 where
-  reads_log : (m : MemberState) → old.member ≡ Some m → status ≡ 10 → told ≡ told_length 0 → new_out ≡ old_out → new_use ≡ old_use → new ≡ old → ChecksAlone now given about status told old_out new_out old_use new_use old new
-  alone : old.member ≡ None → Checks adds now given about status told old_out new_out old_use new_use old new → ChecksAlone now given about status told old_out new_out old_use new_use old new
+pub data ChecksAlone (now : ℕ) (says : Says) (about : Subject) (status : ℕ) (told : SvidTold) (old_out new_out : List ℕ) (old_use new_use : SvidUse) (old new : Live) : Type 0 where
+  reads_log : (m : MemberState) → old.member ≡ Some m → status ≡ 10 → told ≡ told_length 0 → new_out ≡ old_out → new_use ≡ old_use → new ≡ old → ChecksAlone now says about status told old_out new_out old_use new_use old new
+  alone : old.member ≡ None → Checks adds now says about status told old_out new_out old_use new_use old new → ChecksAlone now says about status told old_out new_out old_use new_use old new
 
 -- what the record gains of a token that is accepted
 abbrev pub gained_by : Gain → State → Use → State

@@ -1,5 +1,6 @@
 -- What the calls on trust bundles that C keeps do.
 use Rattle.std.specs.Prelude.{◌≡◌, ℕ, nat_lt, List, ◌++◌, length, take, Option, None, Some, Ok, Err}
+use Rattle.std.specs.Int.{to_be_bytes, w32}
 use Rattle.std.specs.List.{flat_map, slice_get}
 use Rattle.svid_token.specs.Alg.{name_of}
 use Rattle.svid_token.specs.Rows.{Refuses}
@@ -53,6 +54,18 @@ pub record Reads (IsAsBefore : Type 0) (Does : List Bundle → Type 0) (status :
 -- the row of a candidate: the algorithm's name, and the key
 abbrev pub key_row : Alg → KeyData → List ℕ
 key_row alg key = field (name_of alg) ++ field key.text
+
+-- what a verifier needs of a token beside its keys: over how many bytes the signature is made, in four bytes, and the signature
+abbrev pub signing_of : Said → List ℕ
+signing_of t = to_be_bytes w32 (length t.input) ++ field t.signature
+
+-- Of a token that says this, all that a verifier needs is put, with the rows of the first candidates, so many at the most, or has no room,
+-- and it is told whether there are more; or the token is refused for its keys; or memory was refused. Nothing happens to the validator.
+pub data Lists (t : Said) (most : ℕ) (status : ℕ) (told : SvidTold) (old_out new_out : List ℕ) (old new : Kept) : Type 0 where
+  lists : (keys : List KeyData) (text : List ℕ) → keys_due old.bundles t ≡ Ok keys → text ≡ signing_of t ++ flat_map (key_row t.alg) (take most keys)
+      → IsPut text status old_out new_out → told ≡ told_rows (length text) (nat_lt most (length keys)) → new ≡ old → Lists t most status told old_out new_out old new
+  lists_none : (why : Refusal) → keys_due old.bundles t ≡ Err why → status ≡ refusal_number why → told ≡ told_length 0 → new_out ≡ old_out → new ≡ old → Lists t most status told old_out new_out old new
+  no_memory_to_list : (keys : List KeyData) → keys_due old.bundles t ≡ Ok keys → status ≡ refusal_number OutOfMemory → told ≡ told_length 0 → new_out ≡ old_out → new ≡ old → Lists t most status told old_out new_out old new
 
 -- The rows of the first candidates of a token, so many at the most, are put, or have no room, and it is told whether there are more; or
 -- the token is refused by itself, or for its keys; or memory was refused for the rows.

@@ -22,26 +22,25 @@ fn push_key(rows: &mut Vec<u8>, key: &JwtKey, alg: Alg) -> Result<(), AllocError
     Ok(())
 }
 
-// The rows of the first candidates, so many at the most, and whether there are more.
-fn keys_of(
-    alloc: Global,
+// Adds the rows of the first candidates, so many at the most, and tells whether there are more.
+pub(crate) fn push_keys(
+    rows: &mut Vec<u8>,
     candidates: Candidates<'_>,
     most: usize,
     alg: Alg,
-) -> Result<(Vec<u8>, bool), AllocError>
-    ensures rows { IfOk result (λ given. given.0.items ≡ flat_map (key_row alg) (take most (candidates_left candidates.entry))) }
-    ensures more { IfOk result (λ given. given.1 ≡ nat_lt most (length (candidates_left candidates.entry))) }
+) -> Result<bool, AllocError>
+    ensures rows { OnOk result (rows.new.items ≡ rows.old.items ++ flat_map (key_row alg) (take most (candidates_left candidates.entry))) }
+    ensures more { IfOk result (λ more. more ≡ nat_lt most (length (candidates_left candidates.entry))) }
 {
-    let mut rows = Vec::new(alloc);
     let mut left = most;
     for key in candidates {
         if left == 0 {
-            return Ok((rows, true));
+            return Ok(true);
         }
-        push_key(&mut rows, key, alg)?;
+        push_key(rows, key, alg)?;
         left -= 1;
     }
-    Ok((rows, false))
+    Ok(false)
 }
 
 // Puts a row for each of the first candidates.
@@ -63,8 +62,9 @@ fn list(
         Ok(candidates) => candidates,
         Err(refusal) => return refuse_token(refusal, told),
     };
-    match keys_of(alloc, candidates, most, reading.header.alg) {
-        Ok((rows, more)) => put_rows(&rows, more, out, told),
+    let mut rows = Vec::new(alloc);
+    match push_keys(&mut rows, candidates, most, reading.header.alg) {
+        Ok(more) => put_rows(&rows, more, out, told),
         Err(_) => refuse_token(Refusal::OutOfMemory, told),
     }
 }

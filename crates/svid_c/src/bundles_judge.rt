@@ -53,7 +53,7 @@ fn judge_new(
         record,
         Some(setting.longest),
     );
-    let answer = validator.judge_by(setting.moment, token, &Answered { yes, read: None });
+    let answer = validator.judge_by(setting.moment, token, &Answered::Questions(yes));
     let bundles = validator.replace_bundles(spare);
     Judged { answer, bundles }
 }

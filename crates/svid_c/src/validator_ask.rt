@@ -1,21 +1,16 @@
-ghost use Rattle.std.specs.Prelude.{◌≡◌, ◌<◌, ◌^◌, ◌++◌, IfOk, IfSome, OnOk, length, nat_lt, take};
+ghost use Rattle.std.specs.Prelude.{◌≡◌, ◌<◌, ◌^◌, ◌++◌, IfOk, OnOk, length, nat_lt, take};
 ghost use Rattle.std.specs.List.{flat_map};
 ghost use Rattle.svid_keys.specs.Candidates.{candidates_left};
-ghost use Rattle.svid_keys.specs.Question.{field, question_of};
+ghost use Rattle.svid_keys.specs.Question.{field};
 ghost use Rattle.svid_check.specs.Said.{said_in};
 ghost use Rattle.svid_c.specs.Checked.{refusal_number};
-ghost use Rattle.svid_c.specs.Kept.{IsAsked};
 ghost use Rattle.svid_c.specs.Live.{Calls};
 ghost use Rattle.svid_c.specs.Offers.{Offers, OffersRead, row_of};
-ghost use Rattle.svid_c.specs.Token.{ReadsToken};
 ghost use Rattle.svid_c.specs.Status.{told_length, told_rows};
 ghost use Rattle.svid_c.specs.Written.{IsPut};
 
-use crate::kept_question::KeptQuestion;
 use crate::live::Live;
 use crate::refusal::refusal_number;
-use crate::token::SvidToken;
-use crate::token_read::TokenRead;
 use crate::told::{SvidTold, told_length, told_rows};
 use crate::validator::{SvidValidator, only};
 use crate::writing::put;
@@ -34,59 +29,37 @@ pub(crate) fn push_field(row: &mut Vec<u8>, bytes: &[u8]) -> Result<(), AllocErr
     Ok(())
 }
 
-// The rows of the first candidates of a token.
-#[derive(Drop)]
-struct Rows {
-    bytes: Vec<u8>,
-    // Whether there are more candidates.
-    more: bool,
-    // The question of the last row, if there was memory to keep it.
-    kept: Option<KeptQuestion>,
-}
-
-// Adds the row of a candidate, and tells its question.
-fn push_row(rows: &mut Vec<u8>, key: &JwtKey, reading: &Reading) -> Result<[u8; 32], AllocError>
-    ensures row { OnOk result (rows.new.items ≡ rows.old.items ++ row_of (said_in reading.now) key.now) }
-    ensures question { IfOk result (λ asked. let t = said_in reading.now in asked ≡ question_of key.now t.alg t.input t.signature) }
+// Adds the row of a candidate.
+fn push_row(rows: &mut Vec<u8>, key: &JwtKey, reading: &Reading) -> Result<(), AllocError>
+    ensures { OnOk result (rows.new.items ≡ rows.old.items ++ row_of (said_in reading.now) key.now) }
 {
     let asked = question(key, reading.header.alg, &reading.input, &reading.signature);
     rows.extend_from_slice(&asked)?;
     push_field(rows, reading.header.alg.name().as_bytes())?;
     push_field(rows, key.text().as_bytes())?;
-    Ok(asked)
+    Ok(())
 }
 
-// The rows of the first candidates, so many at the most.
+// The rows of the first candidates, so many at the most, and whether there are more.
 fn rows_of(
     alloc: Global,
     candidates: Candidates<'_>,
     most: usize,
     reading: &Reading,
-) -> Result<Rows, AllocError>
-    ensures rows { IfOk result (λ rows. rows.bytes.items ≡ flat_map (row_of (said_in reading.now)) (take most (candidates_left candidates.entry))) }
-    ensures more { IfOk result (λ rows. rows.more ≡ nat_lt most (length (candidates_left candidates.entry))) }
-    ensures kept { IfOk result (λ rows. IfSome rows.kept (IsAsked (said_in reading.now))) }
+) -> Result<(Vec<u8>, bool), AllocError>
+    ensures rows { IfOk result (λ given. given.0.items ≡ flat_map (row_of (said_in reading.now)) (take most (candidates_left candidates.entry))) }
+    ensures more { IfOk result (λ given. given.1 ≡ nat_lt most (length (candidates_left candidates.entry))) }
 {
-    let mut bytes = Vec::new(alloc);
-    let mut kept = None;
+    let mut rows = Vec::new(alloc);
     let mut left = most;
     for key in candidates {
         if left == 0 {
-            return Ok(Rows {
-                bytes,
-                more: true,
-                kept,
-            });
+            return Ok((rows, true));
         }
-        let asked = push_row(&mut bytes, key, reading)?;
-        kept = KeptQuestion::of(alloc, key, asked);
+        push_row(&mut rows, key, reading)?;
         left -= 1;
     }
-    Ok(Rows {
-        bytes,
-        more: false,
-        kept,
-    })
+    Ok((rows, false))
 }
 
 // Puts rows, and tells whether there are more.
@@ -112,25 +85,19 @@ pub(crate) fn refuse_token(refusal: Refusal, told: &mut SvidTold) -> u32
 fn offer_read(
     alloc: Global,
     live: &Live,
-    read: &mut TokenRead,
+    reading: &Reading,
     most: usize,
     out: &mut [u8],
     told: &mut SvidTold,
 ) -> u32
-    ensures offers { OffersRead read.old most result told.new out.old out.new live.now.validator live.now.validator }
-    ensures stays { read.new ≡ read.old }
+    ensures { OffersRead (said_in reading.now) most result told.new out.old out.new live.now.validator live.now.validator }
 {
-    let reading = read.reading();
     let candidates = match reading.candidates(live.validator.bundles()) {
         Ok(candidates) => candidates,
         Err(refusal) => return refuse_token(refusal, told),
     };
     match rows_of(alloc, candidates, most, reading) {
-        Ok(rows) => {
-            let Rows { bytes, more, kept } = rows;
-            read.keep(kept);
-            put_rows(&bytes, more, out, told)
-        }
+        Ok((rows, more)) => put_rows(&rows, more, out, told),
         Err(_) => refuse_token(Refusal::OutOfMemory, told),
     }
 }
@@ -147,10 +114,7 @@ fn offer(
     ensures { Offers token.now most result told.new out.old out.new live.now.validator live.now.validator }
 {
     match Reading::of(alloc, token) {
-        Ok(reading) => {
-            let mut read = TokenRead::of(reading);
-            offer_read(alloc, live, &mut read, most, out, told)
-        }
+        Ok(reading) => offer_read(alloc, live, &reading, most, out, told),
         Err(refusal) => refuse_token(refusal, told),
     }
 }
@@ -178,48 +142,5 @@ pub extern "C" fn svid_validator_ask(
     };
     let status = offer(alloc, &live, token, most, out, told);
     v.put(live);
-    status
-}
-
-// The same of the validator of a handle.
-fn ask_read(
-    alloc: Global,
-    v: &mut SvidValidator,
-    read: &mut TokenRead,
-    most: usize,
-    out: &mut [u8],
-    told: &mut SvidTold,
-) -> u32
-    ensures offers { Calls (out.new ≡ out.old) (OffersRead read.old most result told.new out.old out.new) result told.new v.old.handle.live v.new.handle.live }
-    ensures stays { read.new ≡ read.old }
-{
-    let Some(live) = v.take(alloc) else {
-        return only(5, told);
-    };
-    let status = offer_read(alloc, &live, read, most, out, told);
-    v.put(live);
-    status
-}
-
-/// As [`svid_validator_ask`], of the token of an open handle, which stays as it is. So 101 to 116 are no answers here, and 5 also says that
-/// the handle of the token is closed.
-#[unsafe(no_mangle)]
-pub extern "C" fn svid_validator_ask_token(
-    alloc: Global,
-    v: &mut SvidValidator,
-    t: &mut SvidToken,
-    most: usize,
-    out: &mut [u8],
-    told: &mut SvidTold,
-) -> u32
-    ensures { ReadsToken ((out.new ≡ out.old) × (v.new.handle.live ≡ v.old.handle.live))
-        (λ said. Calls (out.new ≡ out.old) (OffersRead said most result told.new out.old out.new) result told.new v.old.handle.live v.new.handle.live)
-        result told.new t.old.handle.read t.new.handle.read }
-{
-    let Some(mut read) = t.take(alloc) else {
-        return only(5, told);
-    };
-    let status = ask_read(alloc, v, &mut read, most, out, told);
-    t.put(read);
     status
 }

@@ -2,6 +2,7 @@ ghost use Rattle.std.specs.Prelude.{◌≡◌, IfOk, IfErr, None, Some};
 ghost use Rattle.svid_token.specs.Rows.{Answers};
 ghost use Rattle.svid_replay.specs.Buckets.{raised_to};
 ghost use Rattle.svid_check.specs.Said.{RefusesForm};
+ghost use Rattle.svid_c.specs.Answered.{says_key, says_of, says_yes};
 ghost use Rattle.svid_c.specs.Live.{Checks, ChecksAlone, HandleCallsAt, IsLeft, adds, adds_nothing, gained_by, verdict_at};
 ghost use Rattle.svid_c.specs.Subject.{KeepsForm, given_token, read_token, subject_of};
 ghost use Rattle.svid_c.specs.Token.{ReadsToken};
@@ -34,17 +35,16 @@ pub enum Gain {
 fn checked_token(
     live: &mut Live,
     now: u64,
-    yes: &[[u8; 32]],
+    yes: Answered<'_>,
     token: &[u8],
 ) -> Result<Accepted, Refusal>
     requires { live.old.member ≡ None }
-    ensures answer { Answers Some result (verdict_at live.old yes.now now (given_token token.now)) }
+    ensures answer { Answers Some result (verdict_at live.old (says_of yes.entry) now (given_token token.now)) }
     ensures early { RefusesForm token.now result }
     ensures gained { IfOk result (λ accepted. IsLeft now (adds (raised_to live.old.validator.state now) accepted.used) live.old live.new) }
     ensures raised { IfErr result (λ _. IsLeft now (raised_to live.old.validator.state now) live.old live.new) }
 {
-    live.validator
-        .check_by(now, token, &Answered { yes, read: None })
+    live.validator.check_by(now, token, &yes)
 }
 
 // The same of a token that was read.
@@ -52,30 +52,26 @@ fn checked_token(
 fn checked_read(
     live: &mut Live,
     now: u64,
-    yes: &[[u8; 32]],
+    yes: Answered<'_>,
     read: &TokenRead,
 ) -> Result<Accepted, Refusal>
     requires { live.old.member ≡ None }
-    ensures answer { Answers Some result (verdict_at live.old yes.now now (read_token read.now)) }
+    ensures answer { Answers Some result (verdict_at live.old (says_of yes.entry) now (read_token read.now)) }
     ensures gained { IfOk result (λ accepted. IsLeft now (adds (raised_to live.old.validator.state now) accepted.used) live.old live.new) }
     ensures raised { IfErr result (λ _. IsLeft now (raised_to live.old.validator.state now) live.old live.new) }
 {
-    let answered = Answered {
-        yes,
-        read: Some(read),
-    };
-    live.validator.check_read(now, read.reading(), &answered)
+    live.validator.check_read(now, read.reading(), &yes)
 }
 
 // The same of either.
 fn checked(
     live: &mut Live,
     now: u64,
-    yes: &[[u8; 32]],
+    yes: Answered<'_>,
     asked: Asked<'_>,
 ) -> Result<Accepted, Refusal>
     requires { live.old.member ≡ None }
-    ensures answer { Answers Some result (verdict_at live.old yes.now now (subject_of asked.entry)) }
+    ensures answer { Answers Some result (verdict_at live.old (says_of yes.entry) now (subject_of asked.entry)) }
     ensures early { KeepsForm (subject_of asked.entry) result }
     ensures gained { IfOk result (λ accepted. IsLeft now (adds (raised_to live.old.validator.state now) accepted.used) live.old live.new) }
     ensures raised { IfErr result (λ _. IsLeft now (raised_to live.old.validator.state now) live.old live.new) }
@@ -90,17 +86,16 @@ fn checked(
 fn judged_token(
     live: &mut Live,
     now: u64,
-    yes: &[[u8; 32]],
+    yes: Answered<'_>,
     token: &[u8],
 ) -> Result<Accepted, Refusal>
-    ensures answer { Answers Some result (verdict_at live.old yes.now now (given_token token.now)) }
+    ensures answer { Answers Some result (verdict_at live.old (says_of yes.entry) now (given_token token.now)) }
     ensures early { RefusesForm token.now result }
     ensures left { IsLeft now (raised_to live.old.validator.state now) live.old live.new }
 {
-    let answered = Answered { yes, read: None };
     match &mut live.member {
-        Some(member) => live.validator.judge_claim(member, now, token, &answered),
-        None => live.validator.judge_by(now, token, &answered),
+        Some(member) => live.validator.judge_claim(member, now, token, &yes),
+        None => live.validator.judge_by(now, token, &yes),
     }
 }
 
@@ -108,21 +103,17 @@ fn judged_token(
 fn judged_read(
     live: &mut Live,
     now: u64,
-    yes: &[[u8; 32]],
+    yes: Answered<'_>,
     read: &TokenRead,
 ) -> Result<Accepted, Refusal>
-    ensures answer { Answers Some result (verdict_at live.old yes.now now (read_token read.now)) }
+    ensures answer { Answers Some result (verdict_at live.old (says_of yes.entry) now (read_token read.now)) }
     ensures left { IsLeft now (raised_to live.old.validator.state now) live.old live.new }
 {
-    let answered = Answered {
-        yes,
-        read: Some(read),
-    };
     match &mut live.member {
         Some(member) => live
             .validator
-            .judge_claim_read(member, now, read.reading(), &answered),
-        None => live.validator.judge_read(now, read.reading(), &answered),
+            .judge_claim_read(member, now, read.reading(), &yes),
+        None => live.validator.judge_read(now, read.reading(), &yes),
     }
 }
 
@@ -130,10 +121,10 @@ fn judged_read(
 fn judged(
     live: &mut Live,
     now: u64,
-    yes: &[[u8; 32]],
+    yes: Answered<'_>,
     asked: Asked<'_>,
 ) -> Result<Accepted, Refusal>
-    ensures answer { Answers Some result (verdict_at live.old yes.now now (subject_of asked.entry)) }
+    ensures answer { Answers Some result (verdict_at live.old (says_of yes.entry) now (subject_of asked.entry)) }
     ensures early { KeepsForm (subject_of asked.entry) result }
     ensures left { IsLeft now (raised_to live.old.validator.state now) live.old live.new }
 {
@@ -147,12 +138,12 @@ fn judged(
 fn answer(
     live: &mut Live,
     now: u64,
-    yes: &[[u8; 32]],
+    yes: Answered<'_>,
     asked: Asked<'_>,
     gain: Gain,
 ) -> Result<Accepted, Refusal>
     requires { gain ≡ ItsUse → live.old.member ≡ None }
-    ensures answer { Answers Some result (verdict_at live.old yes.now now (subject_of asked.entry)) }
+    ensures answer { Answers Some result (verdict_at live.old (says_of yes.entry) now (subject_of asked.entry)) }
     ensures early { KeepsForm (subject_of asked.entry) result }
     ensures gained { IfOk result (λ accepted. IsLeft now (gained_by gain (raised_to live.old.validator.state now) accepted.used) live.old live.new) }
     ensures raised { IfErr result (λ _. IsLeft now (raised_to live.old.validator.state now) live.old live.new) }
@@ -167,7 +158,7 @@ fn answer(
 fn check(
     live: &mut Live,
     now: u64,
-    yes: &[[u8; 32]],
+    yes: Answered<'_>,
     asked: Asked<'_>,
     gain: Gain,
     out: &mut [u8],
@@ -175,7 +166,7 @@ fn check(
     told: &mut SvidTold,
 ) -> u32
     requires { gain ≡ ItsUse → live.old.member ≡ None }
-    ensures { Checks (gained_by gain) now yes.now (subject_of asked.entry) result told.new out.old out.new used.old used.new live.old live.new }
+    ensures { Checks (gained_by gain) now (says_of yes.entry) (subject_of asked.entry) result told.new out.old out.new used.old used.new live.old live.new }
 {
     if out.len() < 2048 {
         *told = told_length(2048);
@@ -194,13 +185,13 @@ fn check(
 fn check_alone(
     live: &mut Live,
     now: u64,
-    yes: &[[u8; 32]],
+    yes: Answered<'_>,
     asked: Asked<'_>,
     out: &mut [u8],
     used: &mut SvidUse,
     told: &mut SvidTold,
 ) -> u32
-    ensures { ChecksAlone now yes.now (subject_of asked.entry) result told.new out.old out.new used.old used.new live.old live.new }
+    ensures { ChecksAlone now (says_of yes.entry) (subject_of asked.entry) result told.new out.old out.new used.old used.new live.old live.new }
 {
     if live.member.is_some() {
         return only(10, told);
@@ -213,13 +204,13 @@ fn check_held(
     alloc: Global,
     v: &mut SvidValidator,
     now: u64,
-    yes: &[[u8; 32]],
+    yes: Answered<'_>,
     asked: Asked<'_>,
     out: &mut [u8],
     used: &mut SvidUse,
     told: &mut SvidTold,
 ) -> u32
-    ensures { HandleCallsAt now ((out.new ≡ out.old) × (used.new ≡ used.old)) (ChecksAlone now yes.now (subject_of asked.entry) result told.new out.old out.new used.old used.new)
+    ensures { HandleCallsAt now ((out.new ≡ out.old) × (used.new ≡ used.old)) (ChecksAlone now (says_of yes.entry) (subject_of asked.entry) result told.new out.old out.new used.old used.new)
         result told.new v.old.handle.live v.new.handle.live }
 {
     let mut live = match v.take_at(alloc, now) {
@@ -236,13 +227,13 @@ fn judge_held(
     alloc: Global,
     v: &mut SvidValidator,
     now: u64,
-    yes: &[[u8; 32]],
+    yes: Answered<'_>,
     asked: Asked<'_>,
     out: &mut [u8],
     used: &mut SvidUse,
     told: &mut SvidTold,
 ) -> u32
-    ensures { HandleCallsAt now ((out.new ≡ out.old) × (used.new ≡ used.old)) (Checks adds_nothing now yes.now (subject_of asked.entry) result told.new out.old out.new used.old used.new)
+    ensures { HandleCallsAt now ((out.new ≡ out.old) × (used.new ≡ used.old)) (Checks adds_nothing now (says_of yes.entry) (subject_of asked.entry) result told.new out.old out.new used.old used.new)
         result told.new v.old.handle.live v.new.handle.live }
 {
     let mut live = match v.take_at(alloc, now) {
@@ -275,10 +266,11 @@ pub extern "C" fn svid_validator_check(
     used: &mut SvidUse,
     told: &mut SvidTold,
 ) -> u32
-    ensures { HandleCallsAt now ((out.new ≡ out.old) × (used.new ≡ used.old)) (ChecksAlone now yes.now (given_token token.now) result told.new out.old out.new used.old used.new)
+    ensures { HandleCallsAt now ((out.new ≡ out.old) × (used.new ≡ used.old)) (ChecksAlone now (says_yes yes.now) (given_token token.now) result told.new out.old out.new used.old used.new)
         result told.new v.old.handle.live v.new.handle.live }
 {
-    check_held(alloc, v, now, yes, Asked::Token(token), out, used, told)
+    let (yes, asked) = (Answered::Questions(yes), Asked::Token(token));
+    check_held(alloc, v, now, yes, asked, out, used, told)
 }
 
 /// Answers what [`svid_validator_check`] would answer, and adds no use to the record: `used` is the use that a check would add. All else
@@ -294,61 +286,64 @@ pub extern "C" fn svid_validator_judge(
     used: &mut SvidUse,
     told: &mut SvidTold,
 ) -> u32
-    ensures { HandleCallsAt now ((out.new ≡ out.old) × (used.new ≡ used.old)) (Checks adds_nothing now yes.now (given_token token.now) result told.new out.old out.new used.old used.new)
+    ensures { HandleCallsAt now ((out.new ≡ out.old) × (used.new ≡ used.old)) (Checks adds_nothing now (says_yes yes.now) (given_token token.now) result told.new out.old out.new used.old used.new)
         result told.new v.old.handle.live v.new.handle.live }
 {
-    judge_held(alloc, v, now, yes, Asked::Token(token), out, used, told)
+    let (yes, asked) = (Answered::Questions(yes), Asked::Token(token));
+    judge_held(alloc, v, now, yes, asked, out, used, told)
 }
 
-/// As [`svid_validator_check`], of the token of an open handle, which stays as it is. So 101 to 116 are no answers here, and 5 also says
-/// that the handle of the token is closed.
+/// As [`svid_validator_check`], of the token of an open handle, which stays as it is. `key` is the key for which the caller's verifier
+/// said yes: its JSON, as [`svid_validator_ask_token`](crate::validator_ask::svid_validator_ask_token) lists it, or no bytes where there is none. It is
+/// compared with the keys that the validator has now, and nothing is hashed. So 101 to 116 are no answers here, and 5 also says that the
+/// handle of the token is closed.
 #[unsafe(no_mangle)]
 pub extern "C" fn svid_validator_check_token(
     alloc: Global,
     v: &mut SvidValidator,
     now: u64,
-    yes: &[[u8; 32]],
+    key: &[u8],
     t: &mut SvidToken,
     out: &mut [u8],
     used: &mut SvidUse,
     told: &mut SvidTold,
 ) -> u32
     ensures { ReadsToken ((out.new ≡ out.old) × ((used.new ≡ used.old) × (v.new.handle.live ≡ v.old.handle.live)))
-        (λ said. HandleCallsAt now ((out.new ≡ out.old) × (used.new ≡ used.old)) (ChecksAlone now yes.now (read_token said) result told.new out.old out.new used.old used.new)
+        (λ said. HandleCallsAt now ((out.new ≡ out.old) × (used.new ≡ used.old)) (ChecksAlone now (says_key key.now) (read_token said) result told.new out.old out.new used.old used.new)
         result told.new v.old.handle.live v.new.handle.live)
         result told.new t.old.handle.read t.new.handle.read }
 {
     let Some(read) = t.take(alloc) else {
         return only(5, told);
     };
-    let asked = Asked::Read(&read);
+    let (yes, asked) = (Answered::Key(key), Asked::Read(&read));
     let status = check_held(alloc, v, now, yes, asked, out, used, told);
     t.put(read);
     status
 }
 
-/// As [`svid_validator_judge`], of the token of an open handle, which stays as it is. So 101 to 116 are no answers here, and 5 also says
-/// that the handle of the token is closed.
+/// As [`svid_validator_judge`], of the token of an open handle, which stays as it is. `key` is as for [`svid_validator_check_token`]. So 101 to
+/// 116 are no answers here, and 5 also says that the handle of the token is closed.
 #[unsafe(no_mangle)]
 pub extern "C" fn svid_validator_judge_token(
     alloc: Global,
     v: &mut SvidValidator,
     now: u64,
-    yes: &[[u8; 32]],
+    key: &[u8],
     t: &mut SvidToken,
     out: &mut [u8],
     used: &mut SvidUse,
     told: &mut SvidTold,
 ) -> u32
     ensures { ReadsToken ((out.new ≡ out.old) × ((used.new ≡ used.old) × (v.new.handle.live ≡ v.old.handle.live)))
-        (λ said. HandleCallsAt now ((out.new ≡ out.old) × (used.new ≡ used.old)) (Checks adds_nothing now yes.now (read_token said) result told.new out.old out.new used.old used.new)
+        (λ said. HandleCallsAt now ((out.new ≡ out.old) × (used.new ≡ used.old)) (Checks adds_nothing now (says_key key.now) (read_token said) result told.new out.old out.new used.old used.new)
         result told.new v.old.handle.live v.new.handle.live)
         result told.new t.old.handle.read t.new.handle.read }
 {
     let Some(read) = t.take(alloc) else {
         return only(5, told);
     };
-    let asked = Asked::Read(&read);
+    let (yes, asked) = (Answered::Key(key), Asked::Read(&read));
     let status = judge_held(alloc, v, now, yes, asked, out, used, told);
     t.put(read);
     status

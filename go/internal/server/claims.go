@@ -216,7 +216,8 @@ func (m *Machine) endClaims(read []svid.LogUse) (ended int) {
 func (m *Machine) judgeRenewed(now, edition uint64) {
 	c := &m.claims
 	for _, r := range c.judgedBefore(edition) {
-		again, err := m.validator.Judge(now, r.Token, r.Yes)
+		again, err := m.validator.JudgeToken(now, &r.read)
+		r.read.Close()
 		if err != nil {
 			m.count(err)
 			m.outcome(r, err)

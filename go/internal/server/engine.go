@@ -219,7 +219,7 @@ func (e *Engine) do(own *Request, effect Effect) {
 			close(effect.done)
 		}
 	case Verify:
-		effect.Yes, effect.Fault = e.keyring.VerifyToken(&effect.read)
+		effect.Key, effect.Fault = e.keyring.VerifyToken(&effect.read)
 		e.stepFor(own, Verified(effect))
 	case Append:
 		if own != nil && effect.Write == own.write {

@@ -373,16 +373,16 @@ func wantClaims(t *testing.T, e *Engine, won, lost, failed uint64) {
 // claimOf is a claim of a token that is judged, and not opened.
 func claimOf(t *testing.T, e *Engine, token string) *Request {
 	t.Helper()
-	yes, err := e.verify(token)
-	if err != nil {
-		t.Fatal(err)
-	}
-	judged, err := e.validator.Judge(moment, token, yes)
-	if err != nil {
-		t.Fatal(err)
-	}
 	r := NewRequest(Strict, token)
-	r.Yes, r.Accepted, r.done = yes, judged, make(chan struct{})
+	r.done = make(chan struct{})
+	var err error
+	if r.Key, err = e.keyring.VerifyToken(&r.read); err != nil {
+		t.Fatal(err)
+	}
+	if r.Accepted, err = e.validator.JudgeToken(moment, &r.read); err != nil {
+		t.Fatal(err)
+	}
+	r.read.Close()
 	return r
 }
 

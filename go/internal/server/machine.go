@@ -69,7 +69,7 @@ type Effect interface{ isEffect() }
 
 // The effects. What each refers to belongs to who does it, until the event that it wants.
 type (
-	// Verify: find the question that the signature of the request's token answers. Set Yes or Fault, and then Verified.
+	// Verify: find the key that made the signature of the request's token. Set Key or Fault, and then Verified.
 	Verify struct{ *Request }
 	// Append: bring the uses to the disk, or where there are none, the validator's mark. Set Err and Size, and then Kept.
 	Append struct{ *Write }

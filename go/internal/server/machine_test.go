@@ -92,7 +92,7 @@ func (b *bench) count(like Effect) (n int) {
 // asks lets a request come that opens a claim, or waits for one.
 func (b *bench) asks(id string) *Request {
 	r := b.comes(id)
-	r.Yes, r.Fault = b.keyring.Verify(r.Token)
+	r.Key, r.Fault = b.keyring.VerifyToken(&r.read)
 	b.step(Verified{r})
 	return r
 }

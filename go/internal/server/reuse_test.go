@@ -18,16 +18,16 @@ func TestAReusedTokenIsVerifiedOnce(t *testing.T) {
 	now.Store(moment)
 	e := ready(t, engine(t, Options{Mode: Reuse, Now: now.Load}))
 	one := token("a")
-	question := func() (q svid.Question, ok bool) { q, _, ok = e.machine.verified.get(nameOf(one)); return }
+	key := func() (k *svid.Key, ok bool) { k, _, ok = e.machine.verified.get(nameOf(one)); return }
 	for i := 0; i < 3; i++ {
 		if err := check(e, one); err != nil {
 			t.Fatal(err)
 		}
-		if _, ok := question(); !ok {
+		if _, ok := key(); !ok {
 			t.Fatal("nothing is kept")
 		}
 	}
-	kept, epoch := func() (svid.Question, uint64) { q, epoch, _ := e.machine.verified.get(nameOf(one)); return q, epoch }()
+	kept, epoch, _ := e.machine.verified.get(nameOf(one))
 	for what, bad := range map[string]string{"another signature": one[:len(one)-8] + "AAAAAAAA", "none": one[:strings.LastIndexByte(one, '.')+1], "a byte more": one + "A"} {
 		if err := check(e, bad); err == nil {
 			t.Errorf("%s is accepted", what)
@@ -36,23 +36,7 @@ func TestAReusedTokenIsVerifiedOnce(t *testing.T) {
 	if len(e.machine.verified.young) != 1 {
 		t.Errorf("%d are kept; only accepted tokens are", len(e.machine.verified.young))
 	}
-	// A token that has the name of another one is judged by itself.
-	bad, two := one[:len(one)-8]+"AAAAAAAA", token("b")
-	for _, other := range []string{bad, two} {
-		e.machine.verified.put(epoch, nameOf(other), kept)
-	}
-	if err := check(e, bad); err != svid.BadSignature {
-		t.Errorf("a bad signature, of a token with the name of a good one: %v", err)
-	}
-	for i := 0; i < 2; i++ {
-		if err := check(e, two); err != nil {
-			t.Errorf("a good token with the name of another one: %v", err)
-		}
-	}
-	if q, _, ok := e.machine.verified.get(nameOf(two)); !ok || q == kept {
-		t.Errorf("%v is kept, and for the other one %v", q, kept)
-	}
-	// The same keys, written otherwise, have other questions.
+	// The same keys, written otherwise, are other keys.
 	var set struct {
 		Keys []map[string]any `json:"keys"`
 	}
@@ -69,26 +53,26 @@ func TestAReusedTokenIsVerifiedOnce(t *testing.T) {
 	if err := e.SetBundles(map[string]json.RawMessage{"example.org": renewed}); err != nil {
 		t.Fatal(err)
 	}
-	if _, ok := question(); ok {
+	if _, ok := key(); ok {
 		t.Error("an answer of the old bundles is kept")
 	}
 	e.machine.verified.put(epoch, nameOf(one), kept)
-	if _, ok := question(); ok {
+	if _, ok := key(); ok {
 		t.Error("an answer of the old bundles was put behind their end")
 	}
 	e.machine.verified.put(epoch+1, nameOf(one), kept) // as if it had been
 	if err := check(e, one); err != nil {
 		t.Errorf("a kept answer that is of no use any more: %v", err)
 	}
-	if q, ok := question(); !ok || q == kept {
-		t.Errorf("%v, kept %v", q, ok)
+	if k, ok := key(); !ok || k == kept {
+		t.Errorf("%v, kept %v", k, ok)
 	}
 	// Without the key.
 	other, err := issuer.New("example.org")
 	if err != nil {
 		t.Fatal(err)
 	}
-	fresh, epoch := func() (svid.Question, uint64) { q, epoch, _ := e.machine.verified.get(nameOf(one)); return q, epoch }()
+	fresh, epoch, _ := e.machine.verified.get(nameOf(one))
 	if err := e.SetBundles(map[string]json.RawMessage{"example.org": other.JWKSet()}); err != nil {
 		t.Fatal(err)
 	}
@@ -127,15 +111,21 @@ func TestAReusedTokenIsVerifiedOnce(t *testing.T) {
 func TestVerifiedTokensHaveABound(t *testing.T) {
 	var v verified
 	name := func(i int) tokenName { return nameOf(fmt.Sprint(i)) }
+	keys := [3]*svid.Key{new(svid.Key), new(svid.Key), new(svid.Key)}
 	for i := 0; i < 3*mostVerified; i++ {
 		_, epoch, _ := v.get(name(0))
-		v.put(epoch, name(i), svid.Question{byte(i)})
+		v.put(epoch, name(i), keys[i%3])
 	}
 	if n := len(v.young) + len(v.old); n > 2*mostVerified {
 		t.Errorf("%d are kept", n)
 	}
-	if q, _, ok := v.get(name(0)); !ok || q != (svid.Question{}) {
+	if k, _, ok := v.get(name(0)); !ok || k != keys[0] {
 		t.Error("a token that came all the while is not kept")
+	}
+	for i := 3*mostVerified - 3; i < 3*mostVerified; i++ {
+		if k, _, ok := v.get(name(i)); !ok || k != keys[i%3] {
+			t.Errorf("the key of token %d is another one", i)
+		}
 	}
 	if _, _, ok := v.get(name(1)); ok {
 		t.Error("one that came once long ago is kept")

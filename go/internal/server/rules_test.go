@@ -80,12 +80,8 @@ func TestRulesCountTogether(t *testing.T) {
 	if err := e.SetRules([]string{"admin"}, []string{"spiffe://example.org/job"}); err != nil {
 		t.Fatal(err)
 	}
-	yes, err := e.keyring.Verify(r.Token)
-	if err != nil {
-		t.Fatal(err)
-	}
-	if r.Yes = yes; len(yes) != 1 {
-		t.Fatal(yes)
+	if r.Key, r.Fault = e.keyring.VerifyToken(&r.read); r.Key == nil || r.Fault != nil {
+		t.Fatal(r.Key, r.Fault)
 	}
 	e.step(Verified{r})
 	if <-r.done; r.Err != errOtherRules || r.rules != e.rules.Load() {

@@ -1,40 +1,69 @@
 package server
 
-import "svid.example/go/v2/svid"
+import (
+	"crypto/sha256"
+
+	"svid.example/go/v2/svid"
+)
 
 // mostVerified is how many tokens a generation of verified has: some 3 MB.
 const mostVerified = 1 << 15
 
-// verified keeps which question the signature of a token answers, for mode reuse, where a token comes again and again: it
-// need not be verified each time. What is kept is no verdict. The validator judges the token each time, and counts an
-// answer only if its question is of a key that it has at that moment. So a kept answer can't outlive its key; and since a
-// question is a digest over the token's own signed bytes and signature, it is of no use for another token.
+// verified keeps which key made the signature of a token, for mode reuse, where a token comes again and again: it need not be
+// verified each time. What is kept is no verdict. The validator judges the token each time, and counts a key only if it has it
+// at that moment. So a kept answer can't outlive its key; and since a name is a digest of the whole token, it is of no use for
+// another token.
 type verified struct {
 	epoch      uint64 // counts the bundles that there were
-	young, old map[tokenName]svid.Question
+	keys       []*svid.Key
+	numbers    map[*svid.Key]int32
+	young, old map[tokenName]int32 // to numbers of keys (with no pointers, so that nobody looks through them for garbage)
 }
 
-// get finds the answered question of a token. epoch is for put.
-func (v *verified) get(name tokenName) (question svid.Question, epoch uint64, ok bool) {
-	if question, ok = v.young[name]; ok {
-		return question, v.epoch, true
-	}
-	if question, ok = v.old[name]; ok {
-		v.add(name, question) // It stays for another generation.
-	}
-	return question, v.epoch, ok
+// A tokenName is the digest of a whole token.
+type tokenName [sha256.Size]byte
+
+func nameOf(token string) tokenName {
+	var room [1 << 10]byte // A token of a usual length asks for no memory.
+	return sha256.Sum256(append(room[:0], token...))
 }
 
-// put keeps an answered question, unless the bundles were renewed since get.
-func (v *verified) put(epoch uint64, name tokenName, question svid.Question) {
+// get finds the key that made the signature of a token. epoch is for put.
+func (v *verified) get(name tokenName) (key *svid.Key, epoch uint64, ok bool) {
+	number, ok := v.young[name]
+	if !ok {
+		if number, ok = v.old[name]; !ok {
+			return nil, v.epoch, false
+		}
+		v.add(name, number) // It stays for another generation.
+	}
+	return v.keys[number], v.epoch, true
+}
+
+// put keeps the key that made the signature of a token, unless the bundles were renewed since get.
+func (v *verified) put(epoch uint64, name tokenName, key *svid.Key) {
 	if epoch == v.epoch {
-		v.add(name, question)
+		v.add(name, v.number(key))
 	}
 }
 
-func (v *verified) add(name tokenName, question svid.Question) {
+// number is that of a key.
+func (v *verified) number(key *svid.Key) int32 {
+	number, ok := v.numbers[key]
+	if !ok {
+		number = int32(len(v.keys))
+		v.keys = append(v.keys, key)
+		if v.numbers == nil {
+			v.numbers = make(map[*svid.Key]int32)
+		}
+		v.numbers[key] = number
+	}
+	return number
+}
+
+func (v *verified) add(name tokenName, number int32) {
 	if v.young == nil {
-		v.young, v.old = make(map[tokenName]svid.Question), make(map[tokenName]svid.Question)
+		v.young, v.old = make(map[tokenName]int32), make(map[tokenName]int32)
 	}
 	if len(v.young) == mostVerified {
 		for name := range v.old { // (a loop that Go compiles to one call; a new map would be garbage soon)
@@ -42,11 +71,8 @@ func (v *verified) add(name tokenName, question svid.Question) {
 		}
 		v.young, v.old = v.old, v.young
 	}
-	v.young[name] = question
+	v.young[name] = number
 }
 
 // clear forgets all, since the bundles are other ones.
-func (v *verified) clear() {
-	v.epoch++
-	v.young, v.old = nil, nil
-}
+func (v *verified) clear() { *v = verified{epoch: v.epoch + 1} }

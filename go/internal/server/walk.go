@@ -34,8 +34,8 @@ type Request struct {
 	rules    *Rules        // that it came by; nil for those that count
 
 	// What the effect Verify is to find.
-	Yes   []svid.Question // the question that the signature answers
-	Fault error           // why nobody could find that out
+	Key   *svid.Key // that made the signature; nil where none did
+	Fault error     // why nobody could find that out
 
 	// Of mode reuse.
 	name  tokenName // of the token
@@ -93,11 +93,12 @@ func (r *Request) happen(m *Machine) {
 	m.do(Verify{r})
 }
 
-// Its signature was verified. A token that the keyring refuses goes on without an answered question, for the validator to say
-// which refusal comes first. It can't be accepted. What was read of the token is let go here, where no other step has it: a later
+// Its signature was verified. A token that the keyring refuses goes on without a key, for the validator to say which refusal
+// comes first. It can't be accepted. What was read of the token is let go here, where no other step has it: a later
 // judgment reads it again.
 func (v Verified) happen(m *Machine) {
 	r := v.Request
+	r.read.VerifiedBy(r.Key)
 	defer r.read.Close()
 	if m.isOutdated(r) { // Its caller was admitted by the rules of before.
 		m.answerCheck(r, errOtherRules)
@@ -149,7 +150,7 @@ func (m *Machine) answerCheck(r *Request, err error) {
 //
 // A client that goes away changes nothing.
 func (m *Machine) once(r *Request) {
-	accepted, err := m.validator.CheckToken(m.now.Wall, &r.read, r.Yes)
+	accepted, err := m.validator.CheckToken(m.now.Wall, &r.read)
 	if err != nil {
 		m.answerCheck(r, err)
 		return
@@ -179,18 +180,19 @@ func (n *notKept) Error() string { return fmt.Sprintf("the %s could not be kept:
 func (n *notKept) Unwrap() error { return n.why }
 
 // Mode reuse accepts a token until it expires or is withdrawn, and adds nothing to the record. Of a token that came before, the
-// question that its signature answers is known: it is judged by that, and not verified again. reuseKept says whether that is
-// all.
+// key that made its signature is known: it is judged by that, and not verified again. reuseKept says whether that is all.
 func (m *Machine) reuseKept(r *Request) bool {
-	question, epoch, ok := m.verified.get(r.name)
+	key, epoch, ok := m.verified.get(r.name)
 	r.epoch = epoch
 	if !ok {
 		return false
 	}
-	accepted, err := m.validator.Judge(m.now.Wall, r.Token, []svid.Question{question})
+	r.read.VerifiedBy(key)
+	accepted, err := m.validator.JudgeToken(m.now.Wall, &r.read)
 	if err == svid.BadSignature {
 		return false // The key is not among the validator's any more, or is written otherwise: another one may have signed the token.
 	}
+	r.read.Close()
 	r.Accepted = accepted
 	m.answerCheck(r, err)
 	return true
@@ -198,9 +200,9 @@ func (m *Machine) reuseKept(r *Request) bool {
 
 // reuse judges a token whose signature was verified.
 func (m *Machine) reuse(r *Request) {
-	accepted, err := m.validator.JudgeToken(m.now.Wall, &r.read, r.Yes)
-	if err == nil && len(r.Yes) == 1 {
-		m.verified.put(r.epoch, r.name, r.Yes[0])
+	accepted, err := m.validator.JudgeToken(m.now.Wall, &r.read)
+	if err == nil {
+		m.verified.put(r.epoch, r.name, r.Key)
 	}
 	r.Accepted = accepted
 	m.answerCheck(r, err)
@@ -226,7 +228,7 @@ func (m *Machine) reuse(r *Request) {
 // If the value does not come back in time (the broker is away), or if values in front of it are missing, the answer is 503.
 // The token is burnt then if the value is in the bucket, now or later: who reads it takes its uses.
 func (m *Machine) claim(r *Request) {
-	judged, err := m.validator.JudgeToken(m.now.Wall, &r.read, r.Yes)
+	judged, err := m.validator.JudgeToken(m.now.Wall, &r.read)
 	if err != nil {
 		m.answerCheck(r, err)
 		return

@@ -318,7 +318,7 @@ func (l *life) do(effect server.Effect) {
 			if !l.dead {
 				a := l.asks[&effect.Call]
 				a.set, a.wall = l.set, m.wall()
-				effect.Yes, effect.Fault = w.pool.verify(l.set, a.token)
+				effect.Key, effect.Fault = w.pool.verify(l.set, a.token)
 				l.step(server.Verified(effect))
 			}
 		})

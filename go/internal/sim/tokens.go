@@ -32,7 +32,7 @@ type token struct {
 // A verdict is what the effect Verify finds.
 type verdict struct {
 	once  sync.Once
-	yes   []svid.Question
+	by    *svid.Key
 	fault error
 }
 
@@ -106,8 +106,12 @@ func (p *pool) make() error {
 }
 
 // verify is what the keyring of these bundles finds.
-func (p *pool) verify(set int, one *token) ([]svid.Question, error) {
+func (p *pool) verify(set int, one *token) (*svid.Key, error) {
 	v := &one.verified[set]
-	v.once.Do(func() { v.yes, v.fault = p.keyrings[set].Verify(one.text) })
-	return v.yes, v.fault
+	v.once.Do(func() {
+		read := svid.NewToken(one.text)
+		defer read.Close()
+		v.by, v.fault = p.keyrings[set].VerifyToken(&read)
+	})
+	return v.by, v.fault
 }

@@ -2,7 +2,6 @@ use Rattle.std.proofs.Common.{◌∙◌}
 use Rattle.svid_check.specs.Said.{said_in}
 use Rattle.svid_keys.specs.Candidates.{candidates_left}
 use Rattle.svid_c.specs.Offers.{row_of}
-use Rattle.svid_c.proofs.KeptLemmas.{if_kept_asked}
 use Rattle.svid_c.proofs.OfferLemmas.{more_left, one_row}
 use Rattle.svid_c.proofs.validator_ask.rows_of.Goals as goal
 
@@ -10,8 +9,7 @@ pub loop-key-preserved : goal.loop-key-preserved
 loop-key-preserved c = (
   tt,
   tt,
-  one_row (row_of (said_in c.args.reading.now)) (candidates_left c.args.candidates) (candidates_left c.loop-key.key-iterator) (candidates_left c.next.new.self) _ c.args.most c.loop-key.left c.loop-key.bytes.items c.push_row.new.rows.items
-      c.if-left-eq0.false c.in-Some.ensures.steps c.loop-key.invariant.2 c.in_ok-asked.ensures.row,
+  one_row (row_of (said_in c.args.reading.now)) _ (candidates_left c.loop-key.key-iterator) (candidates_left c.next.new.self) _ c.loop-key.left c.loop-key.rows.items c.push_row.new.rows.items
+      c.if-left-eq0.false c.in-Some.ensures.steps c.loop-key.invariant.2 c.in_ok-push_row.ensures,
   c.loop-key.invariant.3 ∙ more_left _ _ _ _ c.if-left-eq0.false c.in-Some.ensures.steps,
-  if_kept_asked (said_in c.args.reading.now) c.in-Some.key.now c.in_ok-asked.asked c.of-kept.result c.in_ok-asked.ensures.question c.of-kept.ensures,
 )

@@ -2,13 +2,13 @@ use Rattle.std.proofs.Common.{◌∙◌}
 use Rattle.svid_keys.specs.Candidates.{candidates_left}
 use Rattle.svid_c.specs.Trust.{key_row}
 use Rattle.svid_c.proofs.OfferLemmas.{more_left, one_row}
-use Rattle.svid_c.proofs.bundles_ask.keys_of.Goals as goal
+use Rattle.svid_c.proofs.bundles_ask.push_keys.Goals as goal
 
 pub loop-key-preserved : goal.loop-key-preserved
 loop-key-preserved c = (
   tt,
   tt,
-  one_row (key_row c.args.alg) (candidates_left c.args.candidates) (candidates_left c.loop-key.key-iterator) (candidates_left c.next.new.self) _ c.args.most c.loop-key.left c.loop-key.rows.items c.push_key.new.rows.items
+  one_row (key_row c.args.alg) _ (candidates_left c.loop-key.key-iterator) (candidates_left c.next.new.self) _ c.loop-key.left c.loop-key.rows.items c.push_key.new.rows.items
       c.if-left-eq0.false c.in-Some.ensures.steps c.loop-key.invariant.2 c.in_ok-push_key.ensures,
   c.loop-key.invariant.3 ∙ more_left _ _ _ _ c.if-left-eq0.false c.in-Some.ensures.steps,
 )

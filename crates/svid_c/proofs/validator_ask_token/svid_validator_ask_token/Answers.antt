@@ -1,0 +1,9 @@
+use Rattle.std.proofs.Common.{Some, ap, sym, ◌∙◌}
+use Rattle.svid_c.proofs.SubjectLemmas.{held_token}
+use Rattle.svid_c.proofs.validator_ask_token.svid_validator_ask_token.Goals as goal
+
+pub returns : goal.returns
+returns c = record {
+  stays = c.put.ensures ∙ c.in-Some.ensures.value;
+  does = held_token _ _ _ _ _ _ (sym c.in-Some.ensures.value ∙ ap Some (sym c.deref.ensures) ∙ ap Some (sym c.reading.ensures)) c.list_held-status.ensures;
+}
