@@ -46,6 +46,7 @@ type Candidate struct {
 type Keyring struct {
 	rsaBits int          // at most so many has an RSA key
 	mu      sync.RWMutex // held for reading while an asker of bundles is in use
+	closed  bool
 	askers  chan *asker
 	keys    *keyCache
 }
@@ -151,10 +152,13 @@ func (k *Keyring) SetBundles(bundles []byte) error {
 	if err != nil {
 		return err
 	}
+	defer func() { closeAskers(askers) }()
 	k.mu.Lock()
-	old := k.replace(askers)
-	k.mu.Unlock()
-	closeAskers(old)
+	defer k.mu.Unlock()
+	if k.closed {
+		return ErrClosed
+	}
+	askers = k.replace(askers)
 	return nil
 }
 
@@ -169,6 +173,7 @@ func (k *Keyring) Close() {
 	k.mu.Lock()
 	defer k.mu.Unlock()
 	closeAskers(k.askers)
+	k.closed = true
 }
 
 // MaxCandidates is how many keys are tried for a token. A token that names no kid,
@@ -190,13 +195,19 @@ func (k *Keyring) Candidates(token string) ([]Candidate, error) {
 	return a.candidates(token, k.keys)
 }
 
-// ask appends the keys that may have signed the token to room, and gives s its signature. It returns the cache of the bundles that the keys
-// are of.
+// ask reads the token, appends the keys that may have signed it to room, and gives s its signature. It returns the cache of the bundles that
+// the keys are of.
 func (k *Keyring) ask(room []maker, s *signing, t *Token) (makers []maker, keys *keyCache, err error) {
 	k.mu.RLock()
 	defer k.mu.RUnlock()
+	if k.closed { // (A token that is refused by itself asks no handle.)
+		return nil, nil, ErrClosed
+	}
 	a := <-k.askers
 	defer func() { k.askers <- a }()
+	if err := t.read(&a.told); err != nil {
+		return nil, nil, err
+	}
 	makers, err = a.makers(room, s, t, k.keys)
 	return makers, k.keys, err
 }
@@ -343,7 +354,6 @@ func (k *Keyring) VerifyToken(t *Token) (*Key, error) {
 type trial struct {
 	makers  [MaxCandidates]maker
 	signing signing
-	told    C.svid_told
 	token   Token // of Verify
 }
 
@@ -366,9 +376,6 @@ type made struct {
 
 // tried verifies the signature with each candidate. It is to be called again if the bundles were replaced meanwhile.
 func (k *Keyring) tried(r *trial, t *Token) (made, error) {
-	if err := t.read(&r.told); err != nil {
-		return made{}, err
-	}
 	makers, keys, err := k.ask(r.makers[:0], &r.signing, t)
 	if err != nil {
 		return made{}, err

@@ -279,9 +279,6 @@ func TestTheKeysOfBundlesHaveALock(t *testing.T) {
 	k := openKeyring(t, string(one.Bundles()))
 	token := NewToken(one.Token("ES256", map[string]any{"sub": "spiffe://example.org/web", "aud": "ledger", "exp": 2_000_000_000}))
 	defer token.Close()
-	if err := token.read(&new(trial).told); err != nil {
-		t.Fatal(err)
-	}
 	makers, keys, err := k.ask(nil, new(signing), &token)
 	if err != nil {
 		t.Fatal(err)
@@ -314,7 +311,7 @@ func TestOldBundlesAreFreed(t *testing.T) {
 		}
 		for n := len(old); n > 0; n-- {
 			token, a := NewToken(one.Token("ES256", map[string]any{"sub": "spiffe://example.org/web", "aud": "ledger", "exp": 2_000_000_000})), <-old
-			if err := token.read(&new(trial).told); err != nil {
+			if err := token.read(&a.told); err != nil {
 				t.Fatal(err)
 			}
 			if _, err := a.makers(nil, new(signing), &token, k.keys); !errors.Is(err, ErrClosed) {

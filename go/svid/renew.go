@@ -53,6 +53,9 @@ func (v *Validator) Renew(k *Keyring, bundles []byte) error {
 	defer func() { closeAskers(askers) }()
 	k.mu.Lock()
 	defer k.mu.Unlock()
+	if k.closed {
+		return ErrClosed
+	}
 	v.mu.Lock()
 	defer v.mu.Unlock()
 	if err := v.renew(&b, bundles); err != nil {

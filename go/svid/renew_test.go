@@ -139,9 +139,6 @@ func TestAQuestionIsOfItsBundles(t *testing.T) {
 	token := one.Token("ES256", map[string]any{"sub": "spiffe://example.org/web", "aud": "ledger", "exp": 2_000_000_000, "jti": "a"})
 	read := NewToken(token)
 	defer read.Close()
-	if err := read.read(&new(trial).told); err != nil {
-		t.Fatal(err)
-	}
 	makers, keys, err := k.ask(nil, new(signing), &read)
 	if err != nil || len(makers) == 0 {
 		t.Fatal(err)

@@ -710,10 +710,36 @@ func TestErrorsThatAreAboutNoToken(t *testing.T) {
 	if err := v.Save(&bytes.Buffer{}); err != svid.ErrClosed {
 		t.Errorf("closed: %v", err)
 	}
-	k := keyring(t, example.Bundles())
+}
+
+// A closed keyring says so, whatever the token is, and gets no bundles.
+func TestAClosedKeyring(t *testing.T) {
+	k, v := keyring(t, example.Bundles()), open(t, 1)
+	good := example.Token("ES256", claims("a"))
+	other, err := issuer.New("example.org")
+	if err != nil {
+		t.Fatal(err)
+	}
 	k.Close()
-	if _, err := k.Verify("a.b.c"); err != svid.ErrClosed {
-		t.Errorf("closed: %v", err)
+	k.Close()
+	for _, text := range []string{good, "a.b.c", ""} {
+		one := svid.NewToken(text)
+		defer one.Close()
+		for name, call := range map[string]func() error{
+			"Candidates":  func() error { _, err := k.Candidates(text); return err },
+			"Verify":      func() error { _, err := k.Verify(text); return err },
+			"VerifyToken": func() error { _, err := k.VerifyToken(&one); return err },
+			"Accept":      func() error { _, err := v.Accept(k, moment, text); return err },
+			"SetBundles":  func() error { return k.SetBundles(other.Bundles()) },
+			"Renew":       func() error { return v.Renew(k, other.Bundles()) },
+		} {
+			if err := call(); err != svid.ErrClosed {
+				t.Errorf("%s of %.5q: %v", name, text, err)
+			}
+		}
+	}
+	if _, err := v.Accept(keyring(t, example.Bundles()), moment, good); err != nil {
+		t.Errorf("a validator that a closed keyring renewed: %v", err)
 	}
 }
 

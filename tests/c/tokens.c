@@ -147,7 +147,7 @@ static void refused(void) {
         clear(&due);
         call(which, &t, &v, &due);
         long all = asked;
-        holds(which == OPEN || standing == before, "it keeps memory");
+        holds(which == OPEN || which == CHECK || standing == before, "it keeps memory");
         holds(due.status == SVID_OK, "it does not do what it is for");
         holds(all > 0, "no allocation was seen");
         end(&t, &v);

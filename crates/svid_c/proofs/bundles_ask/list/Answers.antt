@@ -19,7 +19,7 @@ pub returns-in-Ok-push_keys : goal.returns-in-Ok-push_keys
 returns-in-Ok-push_keys c =
     listed (said_in c.in-Ok.reading) (candidates_left c.in-Ok-candidates.candidates) c.deref.result.now c.in-Ok.ensures.value (sym c.in-Ok-candidates.ensures)
     (c.deref.ensures.value ∙ c.in-Ok-push_keys.ensures.rows
-        ∙ ap (λ (start : List ℕ). start ++ flat_map (key_row c.in-Ok.reading.header.alg) (take c.args.most (candidates_left c.in-Ok-candidates.candidates))) c.new-rows.ensures.items)
+    ∙ ap (λ (start : List ℕ). start ++ flat_map (key_row c.in-Ok.reading.header.alg) (take c.args.most (candidates_left c.in-Ok-candidates.candidates))) c.new-rows.ensures.items)
     c.put_rows.ensures.put (c.put_rows.ensures.told ∙ ap (told_rows (length c.deref.result.now)) c.in-Ok-push_keys.ensures.more)
 
 pub returns : goal.returns
