@@ -40,10 +40,10 @@ type boundedConn struct {
 }
 
 // Read reads what the client sends. While a handler runs, the HTTP server waits for one byte without a deadline, in a goroutine of its own,
-// to see whether the client leaves. All its other reads have a deadline. Where the connection is unwatched, nothing happens in this one, and
-// a request costs a read and its wake-up less.
+// to see whether the client leaves, and ends that by a deadline long ago. All its other reads have a deadline. Where the connection is
+// unwatched, nothing happens in this one, and a request costs a read and its wake-up less.
 func (c *boundedConn) Read(b []byte) (int, error) {
-	if c.unwatched && len(b) == 1 && c.reads.isNever() {
+	if c.unwatched && len(b) == 1 && c.reads.isOfWatch() {
 		return 0, nil
 	}
 	for {
@@ -69,8 +69,18 @@ func (c *boundedConn) Write(b []byte) (written int, err error) {
 	}
 }
 
-func (c *boundedConn) SetReadDeadline(t time.Time) error  { return c.reads.setTo(t) }
+func (c *boundedConn) SetReadDeadline(t time.Time) error {
+	if c.unwatched && t.Equal(longAgo) { // It ends the read in which nothing happens.
+		c.reads.isDue(t)
+		return nil
+	}
+	return c.reads.setTo(t)
+}
+
 func (c *boundedConn) SetWriteDeadline(t time.Time) error { return c.writes.setTo(t) }
+
+// longAgo is the deadline by which the HTTP server ends a read.
+var longAgo = time.Unix(1, 0)
 
 func (c *boundedConn) SetDeadline(t time.Time) error {
 	err := c.reads.setTo(t)
@@ -108,6 +118,13 @@ func (d *deadline) setTo(t time.Time) error {
 	return d.keep()
 }
 
+// isDue is setTo, and leaves the connection its deadline.
+func (d *deadline) isDue(t time.Time) {
+	d.mu.Lock()
+	defer d.mu.Unlock()
+	d.due = t
+}
+
 // keep gives the connection the one that is due. The caller holds mu.
 func (d *deadline) keep() error {
 	err := d.set(d.due)
@@ -127,8 +144,9 @@ func (d *deadline) isOver() bool {
 	return d.keep() != nil
 }
 
-func (d *deadline) isNever() bool {
+// isOfWatch says whether it is one with which the HTTP server looks whether the client leaves.
+func (d *deadline) isOfWatch() bool {
 	d.mu.Lock()
 	defer d.mu.Unlock()
-	return d.due.IsZero()
+	return d.due.IsZero() || d.due.Equal(longAgo)
 }

@@ -215,7 +215,7 @@ func TestARequestInTwoParts(t *testing.T) {
 	}
 }
 
-// Only the reads of one byte without a deadline are passed over, and only where nobody wants to know whether the client leaves.
+// Only the reads of one byte are passed over by which the HTTP server looks whether the client leaves, and only where nobody wants to know that.
 func TestAnUnwatchedConnection(t *testing.T) {
 	for _, unwatched := range []bool{false, true} {
 		here, there := net.Pipe()
@@ -224,8 +224,13 @@ func TestAnUnwatchedConnection(t *testing.T) {
 		defer c.Close()
 		go func() { _, _ = there.Write([]byte("abc")) }()
 		if unwatched {
-			if n, err := c.Read(make([]byte, 1)); n != 0 || err != nil {
-				t.Errorf("without a deadline: %d %v", n, err)
+			for _, at := range []time.Time{{}, longAgo, {}} { // (as the HTTP server sets them around an answer)
+				if err := c.SetReadDeadline(at); err != nil {
+					t.Fatal(err)
+				}
+				if n, err := c.Read(make([]byte, 1)); n != 0 || err != nil {
+					t.Errorf("with the deadline %v: %d %v", at, n, err)
+				}
 			}
 		}
 		got := make([]byte, 2)
@@ -238,6 +243,27 @@ func TestAnUnwatchedConnection(t *testing.T) {
 		if n, err := c.Read(got[:1]); n != 1 || err != nil || got[0] != 'c' {
 			t.Errorf("unwatched %v, with a deadline: %q %d %v", unwatched, got, n, err)
 		}
+	}
+}
+
+// Where somebody wants to know whether the client leaves, the HTTP server can end the read by which it looks.
+func TestAWatchedConnection(t *testing.T) {
+	here, there := net.Pipe()
+	defer there.Close()
+	c := boundedConnOf(here, false)
+	defer c.Close()
+	ended := make(chan error, 1)
+	go func() { _, err := c.Read(make([]byte, 1)); ended <- err }()
+	if err := c.SetReadDeadline(longAgo); err != nil {
+		t.Fatal(err)
+	}
+	select {
+	case err := <-ended:
+		if !errors.Is(err, os.ErrDeadlineExceeded) {
+			t.Error(err)
+		}
+	case <-time.After(patience.Long):
+		t.Error("the read goes on")
 	}
 }
 

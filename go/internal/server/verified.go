@@ -1,7 +1,7 @@
 package server
 
 import (
-	"crypto/sha256"
+	"crypto/sha512"
 
 	"svid.example/go/v2/svid"
 )
@@ -20,12 +20,12 @@ type verified struct {
 	young, old map[tokenName]int32 // to numbers of keys (with no pointers, so that nobody looks through them for garbage)
 }
 
-// A tokenName is the digest of a whole token.
-type tokenName [sha256.Size]byte
+// A tokenName is the digest of a whole token, by SHA-512/256 (FIPS 180-4), which takes three quarters of the time of SHA-256.
+type tokenName [sha512.Size256]byte
 
 func nameOf(token string) tokenName {
 	var room [1 << 10]byte // A token of a usual length asks for no memory.
-	return sha256.Sum256(append(room[:0], token...))
+	return sha512.Sum512_256(append(room[:0], token...))
 }
 
 // get finds the key that made the signature of a token. epoch is for put.
