@@ -1,13 +1,16 @@
 package main
 
 import (
+	"context"
 	"errors"
 	"net"
 	"os"
 	"sync"
 	"sync/atomic"
+	"syscall"
 	"time"
 
+	"svid.example/go/v2/internal/server"
 	"svid.example/go/v2/svidhttp"
 )
 
@@ -21,7 +24,7 @@ var errUnanswered = errors.New("the client sends more than a request may have")
 // A bounded listener accepts connections that end where a client sends too much before it is answered.
 type bounded struct {
 	net.Listener
-	unwatched bool // of its connections
+	unwatched bool // The HTTP server does not watch its connections.
 }
 
 func (l bounded) Accept() (net.Conn, error) {
@@ -35,7 +38,7 @@ func (l bounded) Accept() (net.Conn, error) {
 type boundedConn struct {
 	net.Conn
 	unanswered    atomic.Int64 // bytes that were read since the last Write
-	unwatched     bool         // nobody wants to know that the client leaves while it waits for an answer
+	unwatched     bool         // The HTTP server does not watch whether the client leaves while it waits for an answer.
 	reads, writes deadline
 }
 
@@ -88,6 +91,32 @@ func (c *boundedConn) SetDeadline(t time.Time) error {
 		err = other
 	}
 	return err
+}
+
+// hasLeft says whether the client sends nothing more, as the HTTP server would find that it leaves, or the connection is broken.
+func (c *boundedConn) hasLeft() bool {
+	conn, ok := c.Conn.(syscall.Conn)
+	if !ok {
+		return false
+	}
+	raw, err := conn.SyscallConn()
+	if err != nil {
+		return true
+	}
+	left := false
+	err = raw.Control(func(fd uintptr) {
+		n, _, err := syscall.Recvfrom(int(fd), make([]byte, 1), syscall.MSG_PEEK|syscall.MSG_DONTWAIT)
+		left = err == nil && n == 0 || err != nil && err != syscall.EAGAIN && err != syscall.EINTR
+	})
+	return left || err != nil
+}
+
+// withLeaving lets a handler ask whether the client of an unwatched connection has left.
+func withLeaving(ctx context.Context, c net.Conn) context.Context {
+	if it, ok := c.(*boundedConn); ok && it.unwatched {
+		return server.WithLeaving(ctx, it.hasLeft)
+	}
+	return ctx
 }
 
 // CloseWrite ends the direction to the client, as the HTTP server wants to.

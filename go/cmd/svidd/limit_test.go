@@ -198,6 +198,83 @@ func TestAClientThatLeavesItsClaim(t *testing.T) {
 	p.await("the end of its claim", func() bool { return p.metric(`svidd_claims_total{outcome="failed"}`) == "1" })
 }
 
+// A client has left once it sends nothing more, or is not there. One that waits for its answer has not, whether it has sent more or not.
+func TestWhetherAClientHasLeft(t *testing.T) {
+	for _, network := range []string{"tcp", "unix"} {
+		address := "127.0.0.1:0"
+		if network == "unix" {
+			address = filepath.Join(t.TempDir(), "socket")
+		}
+		l, err := net.Listen(network, address)
+		if err != nil {
+			t.Fatal(err)
+		}
+		defer l.Close()
+		ends := map[string]func(c net.Conn) error{
+			"it closes":          net.Conn.Close,
+			"it sends no more":   func(c net.Conn) error { return c.(interface{ CloseWrite() error }).CloseWrite() },
+			"it sends something": func(c net.Conn) error { _, err := io.WriteString(c, "a"); return err },
+			"it waits":           func(net.Conn) error { return nil },
+		}
+		for what, end := range ends {
+			client, err := net.Dial(network, l.Addr().String())
+			if err != nil {
+				t.Fatal(err)
+			}
+			defer client.Close()
+			accepted, err := l.Accept()
+			if err != nil {
+				t.Fatal(err)
+			}
+			defer accepted.Close()
+			c := boundedConnOf(accepted, true).(*boundedConn)
+			if c.hasLeft() {
+				t.Errorf("%s: the client has left before %s", network, what)
+			}
+			if err := end(client); err != nil {
+				t.Fatal(err)
+			}
+			switch what {
+			case "it waits":
+			case "it sends something":
+				got := make([]byte, 1)
+				natstest.Await(t, "a byte", func() bool {
+					n, _, _ := syscall.Recvfrom(fileOf(t, accepted), got, syscall.MSG_PEEK|syscall.MSG_DONTWAIT)
+					return n == 1
+				})
+			default:
+				natstest.Await(t, network+": "+what, c.hasLeft)
+				continue
+			}
+			if c.hasLeft() {
+				t.Errorf("%s: the client has left, and %s", network, what)
+			}
+			accepted.Close()
+			if !c.hasLeft() {
+				t.Errorf("%s: the connection is closed, and the client has not left", network)
+			}
+		}
+	}
+	here, there := net.Pipe()
+	defer there.Close()
+	if boundedConnOf(here, true).(*boundedConn).hasLeft() {
+		t.Error("a connection that is no socket")
+	}
+}
+
+// fileOf is the descriptor of a connection, which stays its own.
+func fileOf(t *testing.T, c net.Conn) (fd int) {
+	t.Helper()
+	raw, err := c.(syscall.Conn).SyscallConn()
+	if err != nil {
+		t.Fatal(err)
+	}
+	if err := raw.Control(func(it uintptr) { fd = int(it) }); err != nil {
+		t.Fatal(err)
+	}
+	return fd
+}
+
 // A request comes in any two parts, also where one byte is left in the HTTP server's buffer behind the first.
 func TestARequestInTwoParts(t *testing.T) {
 	t.Parallel()

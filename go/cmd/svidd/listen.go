@@ -12,7 +12,6 @@ import (
 	"syscall"
 	"time"
 
-	"svid.example/go/v2/internal/server"
 	"svid.example/go/v2/svidhttp"
 )
 
@@ -65,7 +64,7 @@ type answering struct {
 	address string
 	umask   int
 	server  answerer
-	// unwatched: while a request is answered, it makes no difference whether its client leaves.
+	// unwatched: while a request is answered, the HTTP server does not look whether its client leaves. Who wants to know asks by withLeaving.
 	unwatched bool
 }
 
@@ -76,8 +75,7 @@ func (s *sidecar) addresses() []answering {
 	if s.metrics != "" {
 		checks = s.guard.WithoutMetrics()
 	}
-	// (In mode strict a claim that was not sent is taken back.)
-	all := []answering{{"listen", s.options.listen, public, s.server(checks), s.replay != string(server.Strict)}}
+	all := []answering{{"listen", s.options.listen, public, s.server(checks), true}}
 	if s.envoy != "" {
 		all = append(all, answering{"envoy", s.envoy, public, newGRPC(s.guard.Envoy(), s.log.Standard("envoy")), false})
 	}
@@ -94,7 +92,7 @@ func (s *sidecar) addresses() []answering {
 func (s *sidecar) server(handler http.Handler) *http.Server {
 	return &http.Server{
 		Handler: http.AllowQuerySemicolons(handler), ReadHeaderTimeout: headerWait, ReadTimeout: requestWait, WriteTimeout: requestWait,
-		IdleTimeout: idleWait, MaxHeaderBytes: svidhttp.MaxHeader, ErrorLog: s.log.Standard("http"),
+		IdleTimeout: idleWait, MaxHeaderBytes: svidhttp.MaxHeader, ErrorLog: s.log.Standard("http"), ConnContext: withLeaving,
 	}
 }
 

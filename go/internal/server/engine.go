@@ -94,6 +94,7 @@ type Engine struct {
 	rules     atomic.Pointer[Rules] // by which requests come
 	start     time.Time             // when Time.Up is 0
 	outlook   outlook
+	pulse     pulse
 	toHave    atomic.Pointer[[]string] // trust domains that are to have a bundle; nil while Options.Domains counts
 	isReal    bool                     // Options.Now was not given
 
@@ -470,12 +471,7 @@ func (e *Engine) judge(ctx context.Context, rules *Rules, token string) (svid.Ac
 	e.stepFor(r, r)
 	switch e.Mode {
 	case Strict:
-		select {
-		case <-r.done:
-		case <-ctx.Done():
-			e.step(Gone{r, ctx.Err()})
-			<-r.done
-		}
+		e.awaitClaim(ctx, r)
 	case Once:
 		<-r.done
 	}

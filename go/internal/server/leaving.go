@@ -1,0 +1,69 @@
+package server
+
+import (
+	"context"
+	"sync"
+	"time"
+)
+
+// lookPause is between two looks whether the client of a request has left that waits for its claim. Most claims end before the first one.
+const lookPause = 50 * time.Millisecond
+
+// whoLeft is the key of a context's function that says whether the client has left.
+type whoLeft struct{}
+
+// WithLeaving is a context that never ends by itself as its client leaves: hasLeft says whether it has. In mode strict the engine asks that now
+// and then while a request waits, and takes its claim back if it was not sent.
+func WithLeaving(ctx context.Context, hasLeft func() bool) context.Context {
+	return context.WithValue(ctx, whoLeft{}, hasLeft)
+}
+
+// A pulse is a channel that ends every lookPause, while somebody wants it: one timer for all who wait.
+type pulse struct {
+	mu   sync.Mutex
+	next chan struct{} // nil while nobody waits for it
+}
+
+// wait returns the channel that ends next.
+func (p *pulse) wait() <-chan struct{} {
+	p.mu.Lock()
+	defer p.mu.Unlock()
+	if p.next == nil {
+		p.next = make(chan struct{})
+		time.AfterFunc(lookPause, p.beat)
+	}
+	return p.next
+}
+
+func (p *pulse) beat() {
+	p.mu.Lock()
+	defer p.mu.Unlock()
+	close(p.next)
+	p.next = nil
+}
+
+// awaitClaim waits for the answer to a request, and tells the machine if the client leaves meanwhile.
+func (e *Engine) awaitClaim(ctx context.Context, r *Request) {
+	hasLeft, ok := ctx.Value(whoLeft{}).(func() bool)
+	if !ok {
+		select {
+		case <-r.done:
+		case <-ctx.Done():
+			e.step(Gone{r, ctx.Err()})
+			<-r.done
+		}
+		return
+	}
+	for {
+		select {
+		case <-r.done:
+			return
+		case <-e.pulse.wait():
+		}
+		if hasLeft() {
+			e.step(Gone{r, context.Canceled})
+			<-r.done
+			return
+		}
+	}
+}

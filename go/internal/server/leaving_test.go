@@ -1,0 +1,84 @@
+package server
+
+import (
+	"context"
+	"errors"
+	"sync/atomic"
+	"testing"
+	"time"
+
+	"svid.example/go/v2/internal/patience"
+)
+
+// checkLooking is a check in a goroutine, by a context that says how often it was asked and whether the client has left.
+func checkLooking(e *Engine, token string) (looks *atomic.Int64, left *atomic.Bool, answer chan error) {
+	looks, left, answer = new(atomic.Int64), new(atomic.Bool), make(chan error, 1)
+	ctx := WithLeaving(context.Background(), func() bool { looks.Add(1); return left.Load() })
+	go func() {
+		_, err := e.Check(ctx, token)
+		answer <- err
+	}()
+	return looks, left, answer
+}
+
+func wantAnswer(t *testing.T, answer chan error, want error) {
+	t.Helper()
+	select {
+	case err := <-answer:
+		if !errors.Is(err, want) {
+			t.Errorf("%v, want %v", err, want)
+		}
+	case <-time.After(patience.Long):
+		t.Fatal("the request goes on")
+	}
+}
+
+// While a claim has no outcome, it is looked now and then whether its client has left. It ends soon after that.
+func TestAClientThatLeavesIsFound(t *testing.T) {
+	all, b := strict(t, 1)
+	e, m := all[0], b.members[0]
+	e.Wait = time.Minute
+	m.held = true
+	looks, left, answer := checkLooking(e, token("a"))
+	await(t, "some looks", func() bool { return looks.Load() > 2 })
+	left.Store(true)
+	wantAnswer(t, answer, context.Canceled)
+	wantClaims(t, e, 0, 0, 1)
+}
+
+// A client that waits gets its answer, however often it was looked.
+func TestAClientThatWaitsIsAnswered(t *testing.T) {
+	all, b := strict(t, 1)
+	e, m := all[0], b.members[0]
+	e.Wait = time.Minute
+	m.held = true
+	looks, _, answer := checkLooking(e, token("a"))
+	await(t, "some looks", func() bool { return looks.Load() > 2 })
+	m.hold(false)
+	wantAnswer(t, answer, nil)
+	wantClaims(t, e, 1, 0, 0)
+}
+
+// All who wait share a beat, and the next one is another. Where nobody waits, there is none.
+func TestAPulse(t *testing.T) {
+	var p pulse
+	for i := 0; i < 3; i++ {
+		one, from := p.wait(), time.Now()
+		if p.wait() != one {
+			t.Error("two wait for two beats")
+		}
+		select {
+		case <-one:
+		case <-time.After(patience.Long):
+			t.Fatal("there is no beat")
+		}
+		if took := time.Since(from); took < lookPause/2 {
+			t.Errorf("beat %d comes after %v", i, took)
+		}
+		p.mu.Lock()
+		if p.next != nil {
+			t.Error("nobody waits, and there is a beat")
+		}
+		p.mu.Unlock()
+	}
+}
