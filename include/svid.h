@@ -368,9 +368,9 @@ uint32_t svid_validator_judge(svid_validator *v, uint64_t now, const svid_questi
                               const uint8_t *token, size_t token_len, uint8_t *out, size_t out_len,
                               svid_use *used, svid_told *told);
 
-/* A token that is read once, by svid_token_open, for the two calls that look for its keys and check it. Neither hashes it. It shares nothing with a
- * validator, and any validator may be asked about it. The rules of a validator hold for it too: it begins as SVID_TOKEN_CLOSED, only the calls
- * write it, give it to one call at a time, and do not copy it while it is open. Close it once you need it no longer.
+/* A token that is read once, by svid_token_open, for the two calls that look for its keys and check it. Neither hashes it for a key. It shares
+ * nothing with a validator, and any validator may be asked about it. The rules of a validator hold for it too: it begins as SVID_TOKEN_CLOSED, only
+ * the calls write it, give it to one call at a time, and do not copy it while it is open. Close it once you need it no longer.
  *
  * To check a token:
  *   1. svid_token_open reads it.
@@ -393,8 +393,9 @@ void svid_token_close(svid_token *t);
  * and then, for each of the first `most` keys that may have signed the token, in the order of their bundle:
  *     the algorithm's name  its length in 4 bytes, the greatest first, and then the name, as "ES256"
  *     the key               its length in 4 bytes, the greatest first, and then the key as JSON (RFC 7517)
- * Keep parsed keys by that JSON text, not by `kid`, which is not unique. SVID_UNKNOWN_DOMAIN and SVID_NO_KEY if the token is refused already.
- * SVID_CLOSED if the validator is closed, or the token. `most` and `told->more` are as for svid_validator_ask. */
+ * Keep parsed keys by that JSON text, not by `kid`, which is not unique. `told->len` is the length of all that, also where it has no room in `out`
+ * (SVID_TOO_SHORT). SVID_UNKNOWN_DOMAIN and SVID_NO_KEY if the token is refused already. SVID_CLOSED if the validator is closed, or the token.
+ * `most` and `told->more` are as for svid_validator_ask. */
 uint32_t svid_validator_ask_token(svid_validator *v, svid_token *t, size_t most, uint8_t *out, size_t out_len, svid_told *told);
 
 /* As svid_validator_check, for a token that was read: so it never answers SVID_TOO_LONG to SVID_JTI. `key` is the key that made the signature

@@ -1,5 +1,5 @@
 -- A verifier of the answers that a caller brings.
-use Rattle.std.specs.Prelude.{ℕ, Bool, List, bytes_eq}
+use Rattle.std.specs.Prelude.{◌==◌, ◌&&◌, ℕ, Bool, not, List, bytes_eq, length}
 use Rattle.svid_token.specs.declared.alg.Alg.{Alg}
 use Rattle.svid_keys.specs.Key.{KeyData}
 use Rattle.svid_keys.specs.Table.{table_says}
@@ -10,9 +10,10 @@ use Rattle.svid_c.specs.declared.answered.Answered.TheVariants as answered
 abbrev pub says_yes : List (List ℕ) → KeyData → Alg → List ℕ → List ℕ → Bool
 says_yes given = table_says given
 
--- it says yes of the key of this text alone: that key made the signature of the one token that the call is about
+-- it says yes of the key of this text alone: that key made the signature of the one token that the call is about; where there is no text, it
+-- says yes of none
 abbrev pub says_key : List ℕ → KeyData → Alg → List ℕ → List ℕ → Bool
-says_key text key alg input signature = bytes_eq key.text text
+says_key text key alg input signature = not (length text == 0) && bytes_eq key.text text
 
 -- what it says, by what it was given
 abbrev pub says_of : Answered → KeyData → Alg → List ℕ → List ℕ → Bool

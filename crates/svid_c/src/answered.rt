@@ -11,7 +11,7 @@ use svid_token::Alg;
 pub(crate) enum Answered<'a> {
     /// Yes to these questions, and to no others.
     Questions(&'a [[u8; 32]]),
-    /// Yes of the key of this text, and of no other.
+    /// Yes of the key of this text, and of no other. No key has the empty text.
     Key(&'a [u8]),
 }
 
@@ -29,7 +29,7 @@ impl<'a> Verifier for Answered<'a> {
 
     fn verify(&self, key: &JwtKey, alg: Alg, input: &[u8], signature: &[u8]) -> bool {
         match *self {
-            Answered::Key(text) => key.text().as_bytes() == text,
+            Answered::Key(text) => !text.is_empty() && key.text().as_bytes() == text,
             // (Where no question is answered yes, nothing is hashed.)
             Answered::Questions(yes) if yes.is_empty() => false,
             Answered::Questions(yes) => is_among(&question(key, alg, input, signature), yes),

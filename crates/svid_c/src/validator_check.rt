@@ -295,7 +295,7 @@ pub extern "C" fn svid_validator_judge(
 
 /// As [`svid_validator_check`], of the token of an open handle, which stays as it is. `key` is the key for which the caller's verifier
 /// said yes: its JSON, as [`svid_validator_ask_token`](crate::validator_ask::svid_validator_ask_token) lists it, or no bytes where there is none. It is
-/// compared with the keys that the validator has now, and nothing is hashed. So 101 to 116 are no answers here, and 5 also says that the
+/// compared with the keys that the validator has now, and the token is hashed for none of them. So 101 to 116 are no answers here, and 5 also says that the
 /// handle of the token is closed.
 #[unsafe(no_mangle)]
 pub extern "C" fn svid_validator_check_token(

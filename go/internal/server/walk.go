@@ -273,6 +273,7 @@ func (m *Machine) goOn() {
 		}
 		if r.isNext = false; !r.answered {
 			m.claim(r)
+			r.read.Close() // (it was read once more)
 		}
 	}
 }
