@@ -13,8 +13,8 @@
 //
 //	accepted, err := validator.Accept(keyring, svid.Now(), token)
 //
-// It verifies signatures in parallel (Keyring.Verify), and then holds the
-// validator's lock for the verdict (Validator.Check).
+// It verifies signatures in parallel (Keyring.VerifyToken), and then holds the
+// validator's lock for the verdict (Validator.CheckToken).
 //
 // A group that must accept each token once shares a log: values in one order,
 // which all of its validators read. There a token is judged (Validator.Judge), its

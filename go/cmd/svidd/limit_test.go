@@ -292,7 +292,7 @@ func TestARequestInTwoParts(t *testing.T) {
 	}
 }
 
-// Only the reads of one byte are passed over by which the HTTP server looks whether the client leaves, and only where nobody wants to know that.
+// Only the reads of one byte are passed over by which the HTTP server watches whether the client leaves, and only of connections that it is not to watch.
 func TestAnUnwatchedConnection(t *testing.T) {
 	for _, unwatched := range []bool{false, true} {
 		here, there := net.Pipe()
@@ -323,7 +323,7 @@ func TestAnUnwatchedConnection(t *testing.T) {
 	}
 }
 
-// Where somebody wants to know whether the client leaves, the HTTP server can end the read by which it looks.
+// The HTTP server can end the read by which it watches a connection.
 func TestAWatchedConnection(t *testing.T) {
 	here, there := net.Pipe()
 	defer there.Close()

@@ -6,7 +6,7 @@ import (
 	"time"
 )
 
-// lookPause is between two looks whether the client of a request has left that waits for its claim. Most claims end before the first one.
+// lookPause is between two looks whether the clients have left of requests that wait for their claims. The first one may come at any time within it.
 const lookPause = 50 * time.Millisecond
 
 // whoLeft is the key of a context's function that says whether the client has left.
@@ -53,6 +53,11 @@ func (e *Engine) awaitClaim(ctx context.Context, r *Request) {
 			<-r.done
 		}
 		return
+	}
+	select {
+	case <-r.done: // A refused token waits for nothing.
+		return
+	default:
 	}
 	for {
 		select {

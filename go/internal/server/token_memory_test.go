@@ -42,3 +42,61 @@ func TestRequestsLeaveNothingOfTheirTokens(t *testing.T) {
 		}
 	}
 }
+
+// holdsNoMore wants a call to hold no memory of tokens the second time.
+func holdsNoMore(t *testing.T, what string, call func(turn int)) {
+	t.Helper()
+	const most = 100
+	call(0)
+	before := scarce.Held()
+	call(1)
+	if more := scarce.Held() - before; more > most {
+		t.Errorf("%s hold %d blocks", what, more)
+	}
+}
+
+// A token that comes again in mode reuse is read again, and let go.
+func TestReusedTokensLeaveNothing(t *testing.T) {
+	e := ready(t, engine(t, Options{Mode: Reuse}))
+	one := token("a")
+	holdsNoMore(t, "200 requests of one token", func(int) {
+		for i := 0; i < 200; i++ {
+			if err := check(e, one); err != nil {
+				t.Fatal(err)
+			}
+		}
+	})
+}
+
+// So is the token of a request that waited for the claim of another one.
+func TestRequestsThatWaitLeaveNothing(t *testing.T) {
+	const waiting = 200
+	all, b := strict(t, 1)
+	e, m := all[0], b.members[0]
+	holdsNoMore(t, "200 requests that waited", func(turn int) {
+		m.hold(true)
+		one := token(fmt.Sprint("waits ", turn))
+		first := claimed(m, one)
+		answers := make(chan error, waiting)
+		for i := 0; i < waiting; i++ {
+			go func() { answers <- check(e, one) }()
+		}
+		await(t, "all to wait", func() bool {
+			e.mu.Lock()
+			defer e.mu.Unlock()
+			for _, r := range e.machine.claims.open {
+				return len(r.behind) == waiting
+			}
+			return false
+		})
+		m.hold(false)
+		if err := <-first; err != nil {
+			t.Fatal(err)
+		}
+		for i := 0; i < waiting; i++ {
+			if err := <-answers; err != svid.Replayed {
+				t.Fatal(err)
+			}
+		}
+	})
+}
