@@ -320,18 +320,14 @@ func (k *Keyring) Verify(token string) ([]Question, error) {
 		if err != nil || made.by == nil {
 			return nil, err
 		}
-		if asked, same, err := k.question(token, made.number, made.keys); same || err != nil {
-			return questionIf(asked, err)
+		asked, same, err := k.question(token, made.number, made.keys)
+		if err != nil {
+			return nil, err
+		}
+		if same {
+			return []Question{asked}, nil
 		}
 	}
-}
-
-// questionIf is a question where there is no error.
-func questionIf(asked Question, err error) ([]Question, error) {
-	if err != nil {
-		return nil, err
-	}
-	return []Question{asked}, nil
 }
 
 // VerifyToken verifies the token's signature with each of its Candidates until one

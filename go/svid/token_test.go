@@ -77,9 +77,9 @@ func TestAReadTokenAtAClosedValidator(t *testing.T) {
 	}
 }
 
-// A token is accepted by the key that is told of it, and only while the validator has that key. Verifying it finds the key anew.
-func TestATokenIsCheckedByTheKeyThatIsTold(t *testing.T) {
-	text := example.Token("ES256", claims("told"))
+// A token is accepted by the key that VerifiedBy names, while the validator has that key. VerifyToken finds the key anew.
+func TestATokenIsCheckedByItsKey(t *testing.T) {
+	text := example.Token("ES256", claims("named"))
 	k, v := keyring(t, example.Bundles()), open(t, 1)
 	good, bad := svid.NewToken(text), svid.NewToken(text[:len(text)-8]+"AAAAAAAA")
 	defer good.Close()
@@ -90,16 +90,16 @@ func TestATokenIsCheckedByTheKeyThatIsTold(t *testing.T) {
 			t.Errorf("%s: %v, want %v", what, err, want)
 		}
 	}
-	judged("no key is told", &good, svid.BadSignature)
+	judged("without a key", &good, svid.BadSignature)
 	key, err := k.VerifyToken(&good)
 	if err != nil || key == nil {
 		t.Fatal(key, err)
 	}
-	judged("its key is found", &good, nil)
+	judged("by the key that was found", &good, nil)
 	good.VerifiedBy(nil)
-	judged("no key is told any more", &good, svid.BadSignature)
+	judged("without a key again", &good, svid.BadSignature)
 	good.VerifiedBy(key)
-	judged("its key is told", &good, nil)
+	judged("by the key that was named", &good, nil)
 	bad.VerifiedBy(key)
 	if none, err := k.VerifyToken(&bad); none != nil || err != nil {
 		t.Errorf("a bad signature: %v %v", none, err)
@@ -112,5 +112,5 @@ func TestATokenIsCheckedByTheKeyThatIsTold(t *testing.T) {
 	if err := v.SetBundles(other.Bundles()); err != nil {
 		t.Fatal(err)
 	}
-	judged("its key is gone", &good, svid.BadSignature)
+	judged("behind a renewal without its key", &good, svid.BadSignature)
 }

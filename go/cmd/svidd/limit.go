@@ -74,7 +74,7 @@ func (c *boundedConn) Write(b []byte) (written int, err error) {
 
 func (c *boundedConn) SetReadDeadline(t time.Time) error {
 	if c.unwatched && t.Equal(longAgo) { // It ends the read in which nothing happens.
-		c.reads.isDue(t)
+		c.reads.putOff(t)
 		return nil
 	}
 	return c.reads.setTo(t)
@@ -147,8 +147,8 @@ func (d *deadline) setTo(t time.Time) error {
 	return d.keep()
 }
 
-// isDue is setTo, and leaves the connection its deadline.
-func (d *deadline) isDue(t time.Time) {
+// putOff is setTo, and leaves the connection its deadline.
+func (d *deadline) putOff(t time.Time) {
 	d.mu.Lock()
 	defer d.mu.Unlock()
 	d.due = t
