@@ -6,8 +6,9 @@ package svid
 static uint32_t ask(svid_validator *v, _GoString_ token, uint8_t *out, size_t out_len, svid_told *told) {
     return svid_validator_ask(v, (const uint8_t *)_GoStringPtr(token), _GoStringLen(token), SVID_MOST_CANDIDATES, out, out_len, told);
 }
-static uint32_t ask_token(svid_validator *v, svid_token *t, uint8_t *out, size_t out_len, svid_told *told) {
-    return svid_validator_ask_token(v, t, SVID_MOST_CANDIDATES, out, out_len, told);
+// The handles come as the addresses of their first fields: so Go does not look for its pointers in them.
+static uint32_t ask_token(uint64_t *v, uint64_t *t, uint8_t *out, size_t out_len, svid_told *told) {
+    return svid_validator_ask_token((svid_validator *)v, (svid_token *)t, SVID_MOST_CANDIDATES, out, out_len, told);
 }
 static uint32_t question(svid_bundles *b, _GoString_ token, size_t number, svid_question *asked, svid_told *told) {
     return svid_bundles_question(b, (const uint8_t *)_GoStringPtr(token), _GoStringLen(token), number, asked, told);
@@ -256,7 +257,7 @@ type maker struct {
 // makers appends the keys that may have signed a token to room, and gives s its signature, and what that is made over.
 func (a *asker) makers(room []maker, s *signing, t *Token, keys *keyCache) ([]maker, error) {
 	rows, err := a.list(func() C.uint32_t {
-		return C.ask_token(&a.handle, &t.handle, start(a.rows), C.size_t(len(a.rows)), &a.told)
+		return C.ask_token(&a.handle.word, &t.handle.word, start(a.rows), C.size_t(len(a.rows)), &a.told)
 	})
 	if err != nil {
 		return nil, err

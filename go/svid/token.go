@@ -3,15 +3,17 @@ package svid
 /*
 #include "svid.h"
 
-static uint32_t read_token(svid_token *t, _GoString_ token, svid_told *told) {
-    return svid_token_open(t, (const uint8_t *)_GoStringPtr(token), _GoStringLen(token), told);
+// Handles come as the addresses of their first fields: so Go does not look for its pointers in them.
+static uint32_t read_token(uint64_t *t, _GoString_ token, svid_told *told) {
+    return svid_token_open((svid_token *)t, (const uint8_t *)_GoStringPtr(token), _GoStringLen(token), told);
 }
-static uint32_t check_token(svid_validator *v, uint64_t now, _GoString_ key, svid_token *t, uint8_t *out, size_t out_len, svid_use *used, svid_told *told) {
-    return svid_validator_check_token(v, now, (const uint8_t *)_GoStringPtr(key), _GoStringLen(key), t, out, out_len, used, told);
+static uint32_t check_token(uint64_t *v, uint64_t now, _GoString_ key, uint64_t *t, uint8_t *out, size_t out_len, svid_use *used, svid_told *told) {
+    return svid_validator_check_token((svid_validator *)v, now, (const uint8_t *)_GoStringPtr(key), _GoStringLen(key), (svid_token *)t, out, out_len, used, told);
 }
-static uint32_t judge_token(svid_validator *v, uint64_t now, _GoString_ key, svid_token *t, uint8_t *out, size_t out_len, svid_use *used, svid_told *told) {
-    return svid_validator_judge_token(v, now, (const uint8_t *)_GoStringPtr(key), _GoStringLen(key), t, out, out_len, used, told);
+static uint32_t judge_token(uint64_t *v, uint64_t now, _GoString_ key, uint64_t *t, uint8_t *out, size_t out_len, svid_use *used, svid_told *told) {
+    return svid_validator_judge_token((svid_validator *)v, now, (const uint8_t *)_GoStringPtr(key), _GoStringLen(key), (svid_token *)t, out, out_len, used, told);
 }
+static void close_token(uint64_t *t) { svid_token_close((svid_token *)t); }
 */
 import "C"
 
@@ -42,7 +44,7 @@ func (t *Token) VerifiedBy(key *Key) { t.by = key }
 // Close frees what the library has read of the token. A later call reads it again.
 func (t *Token) Close() {
 	if t.isRead {
-		C.svid_token_close(&t.handle)
+		C.close_token(&t.handle.word)
 		t.isRead = false
 	}
 }
@@ -52,7 +54,7 @@ func (t *Token) read(told *C.svid_told) error {
 	if t.isRead {
 		return nil
 	}
-	err := failure(C.read_token(&t.handle, t.text, told), told)
+	err := failure(C.read_token(&t.handle.word, t.text, told), told)
 	t.isRead = err == nil
 	return err
 }
@@ -88,7 +90,7 @@ func (v *Validator) CheckToken(now uint64, t *Token) (Accepted, error) {
 	}
 	v.mu.Lock()
 	defer v.mu.Unlock()
-	status := C.check_token(&v.handle, C.uint64_t(now), t.key(), &t.handle, start(v.id[:]), C.size_t(len(v.id)), &v.used, &v.told)
+	status := C.check_token(&v.handle.word, C.uint64_t(now), t.key(), &t.handle.word, start(v.id[:]), C.size_t(len(v.id)), &v.used, &v.told)
 	return v.accepted(status)
 }
 
@@ -102,6 +104,6 @@ func (v *Validator) JudgeToken(now uint64, t *Token) (Accepted, error) {
 	}
 	v.mu.Lock()
 	defer v.mu.Unlock()
-	status := C.judge_token(&v.handle, C.uint64_t(now), t.key(), &t.handle, start(v.id[:]), C.size_t(len(v.id)), &v.used, &v.told)
+	status := C.judge_token(&v.handle.word, C.uint64_t(now), t.key(), &t.handle.word, start(v.id[:]), C.size_t(len(v.id)), &v.used, &v.told)
 	return v.accepted(status)
 }

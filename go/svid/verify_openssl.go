@@ -20,11 +20,10 @@ package svid
 
 enum { NO, YES, NO_MEMORY };
 
-// What verifies by one key and one algorithm, for one call at a time.
+// What verifies by one key and one algorithm, for one call at a time: an EVP_PKEY_CTX, an EVP_MD_CTX and an EVP_MD. They are
+// addresses as numbers: so Go does not look for its pointers in them.
 typedef struct {
-    EVP_PKEY_CTX *key;
-    EVP_MD_CTX *digest;
-    EVP_MD *md;
+    uintptr_t key, digest, md;
 } seat;
 
 // The digest of a text, which has no bytes before it is made.
@@ -75,21 +74,22 @@ static EVP_PKEY *ec_key(char *curve, unsigned char *point, size_t point_len) {
 }
 
 static void close_seat(seat *s) {
-    EVP_PKEY_CTX_free(s->key);
-    EVP_MD_CTX_free(s->digest);
-    EVP_MD_free(s->md);
-    s->key = NULL, s->digest = NULL, s->md = NULL;
+    EVP_PKEY_CTX_free((EVP_PKEY_CTX *)s->key);
+    EVP_MD_CTX_free((EVP_MD_CTX *)s->digest);
+    EVP_MD_free((EVP_MD *)s->md);
+    *s = (seat){ 0, 0, 0 };
 }
 
 // padding is that of RSA, or 0. Whether there was memory for it.
 static int open_seat(seat *s, EVP_PKEY *key, const char *hash, int padding) {
-    s->md = EVP_MD_fetch(NULL, hash, NULL);
-    s->digest = EVP_MD_CTX_new();
-    s->key = EVP_PKEY_CTX_new(key, NULL);
-    int good = s->md != NULL && s->digest != NULL && s->key != NULL && EVP_PKEY_verify_init(s->key) == 1 &&
-        EVP_PKEY_CTX_set_signature_md(s->key, s->md) == 1 && (padding == 0 || EVP_PKEY_CTX_set_rsa_padding(s->key, padding) == 1) &&
-        (padding != RSA_PKCS1_PSS_PADDING || EVP_PKEY_CTX_set_rsa_pss_saltlen(s->key, RSA_PSS_SALTLEN_DIGEST) == 1);
+    EVP_MD *md = EVP_MD_fetch(NULL, hash, NULL);
+    EVP_MD_CTX *digest = EVP_MD_CTX_new();
+    EVP_PKEY_CTX *by = EVP_PKEY_CTX_new(key, NULL);
+    int good = md != NULL && digest != NULL && by != NULL && EVP_PKEY_verify_init(by) == 1 &&
+        EVP_PKEY_CTX_set_signature_md(by, md) == 1 && (padding == 0 || EVP_PKEY_CTX_set_rsa_padding(by, padding) == 1) &&
+        (padding != RSA_PKCS1_PSS_PADDING || EVP_PKEY_CTX_set_rsa_pss_saltlen(by, RSA_PSS_SALTLEN_DIGEST) == 1);
     ERR_clear_error();
+    *s = (seat){ (uintptr_t)by, (uintptr_t)digest, (uintptr_t)md };
     if (!good) close_seat(s);
     return good;
 }
@@ -140,9 +140,10 @@ static verdict verify(seat *s, _GoString_ text, digest of, const unsigned char *
     unsigned char *der = NULL;
     int der_len = 0;
     if (!has_queue()) return said;
+    EVP_MD_CTX *hashing = (EVP_MD_CTX *)s->digest;
     if (said.of.len == 0 &&
-        !(EVP_DigestInit_ex2(s->digest, s->md, NULL) == 1 && EVP_DigestUpdate(s->digest, _GoStringPtr(text), _GoStringLen(text)) == 1 &&
-          EVP_DigestFinal_ex(s->digest, said.of.bytes, &said.of.len) == 1)) {
+        !(EVP_DigestInit_ex2(hashing, (EVP_MD *)s->md, NULL) == 1 && EVP_DigestUpdate(hashing, _GoStringPtr(text), _GoStringLen(text)) == 1 &&
+          EVP_DigestFinal_ex(hashing, said.of.bytes, &said.of.len) == 1)) {
         said.of.len = 0;
         ERR_clear_error();
         return said;
@@ -155,7 +156,7 @@ static verdict verify(seat *s, _GoString_ text, digest of, const unsigned char *
         }
         signature = der, len = (size_t)der_len;
     }
-    int good = EVP_PKEY_verify(s->key, signature, len, said.of.bytes, said.of.len) == 1;
+    int good = EVP_PKEY_verify((EVP_PKEY_CTX *)s->key, signature, len, said.of.bytes, said.of.len) == 1;
     OPENSSL_free(der);
     said.is = good ? YES : why();
     return said;
@@ -248,7 +249,7 @@ func (k *Key) made(a *algorithm, s *signing) error {
 
 // verify is made with a slot that the caller has.
 func (h *handle) verify(slot int, a *algorithm, s *signing) C.int {
-	if seats := h.seats[slot]; seats != nil && seats[a.index].key != nil {
+	if seats := h.seats[slot]; seats != nil && seats[a.index].key != 0 {
 		return s.verifyBy(&seats[a.index], a)
 	}
 	var seat C.seat

@@ -20,7 +20,7 @@ import (
 func keptSeats(k *Key) (kept int) {
 	for _, seats := range k.handle.seats {
 		for i := range seats {
-			if seats[i].key != nil {
+			if seats[i].key != 0 {
 				kept++
 			}
 		}

@@ -11,7 +11,7 @@ import (
 // The machine has no goroutine, no lock, no clock and no chance: its files have no statement that begins or waits for another
 // goroutine, and import nothing that would.
 func TestTheMachineIsByItself(t *testing.T) {
-	mayImport := map[string]bool{"context": true, "crypto/sha512": true, "errors": true, "fmt": true, "io": true, "sort": true, "time": true,
+	mayImport := map[string]bool{"context": true, "errors": true, "fmt": true, "io": true, "sort": true, "time": true,
 		"svid.example/go/v2/carriers": true, "svid.example/go/v2/svid": true}
 	mayUse := map[string]bool{"Duration": true, "Millisecond": true, "Second": true, "Minute": true} // of package time
 	for _, name := range []string{"machine.go", "walk.go", "claims.go", "strict.go", "record.go", "keeper.go", "withdraw.go", "verified.go", "rules.go", "seldom.go", "timers.go"} {

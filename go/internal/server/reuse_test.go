@@ -18,7 +18,7 @@ func TestAReusedTokenIsVerifiedOnce(t *testing.T) {
 	now.Store(moment)
 	e := ready(t, engine(t, Options{Mode: Reuse, Now: now.Load}))
 	one := token("a")
-	key := func() (k *svid.Key, ok bool) { k, _, ok = e.machine.verified.get(nameOf(one)); return }
+	key := func() (k *svid.Key, ok bool) { k, _, ok = e.machine.verified.get(printOf(t, one)); return }
 	for i := 0; i < 3; i++ {
 		if err := check(e, one); err != nil {
 			t.Fatal(err)
@@ -27,7 +27,7 @@ func TestAReusedTokenIsVerifiedOnce(t *testing.T) {
 			t.Fatal("nothing is kept")
 		}
 	}
-	kept, epoch, _ := e.machine.verified.get(nameOf(one))
+	kept, epoch, _ := e.machine.verified.get(printOf(t, one))
 	for what, bad := range map[string]string{"another signature": one[:len(one)-8] + "AAAAAAAA", "none": one[:strings.LastIndexByte(one, '.')+1], "a byte more": one + "A"} {
 		if err := check(e, bad); err == nil {
 			t.Errorf("%s is accepted", what)
@@ -56,11 +56,11 @@ func TestAReusedTokenIsVerifiedOnce(t *testing.T) {
 	if _, ok := key(); ok {
 		t.Error("an answer of the old bundles is kept")
 	}
-	e.machine.verified.put(epoch, nameOf(one), kept)
+	e.machine.verified.put(epoch, printOf(t, one), kept)
 	if _, ok := key(); ok {
 		t.Error("an answer of the old bundles was put behind their end")
 	}
-	e.machine.verified.put(epoch+1, nameOf(one), kept) // as if it had been
+	e.machine.verified.put(epoch+1, printOf(t, one), kept) // as if it had been
 	if err := check(e, one); err != nil {
 		t.Errorf("a kept answer that is of no use any more: %v", err)
 	}
@@ -72,11 +72,11 @@ func TestAReusedTokenIsVerifiedOnce(t *testing.T) {
 	if err != nil {
 		t.Fatal(err)
 	}
-	fresh, epoch, _ := e.machine.verified.get(nameOf(one))
+	fresh, epoch, _ := e.machine.verified.get(printOf(t, one))
 	if err := e.SetBundles(map[string]json.RawMessage{"example.org": other.JWKSet()}); err != nil {
 		t.Fatal(err)
 	}
-	e.machine.verified.put(epoch+1, nameOf(one), fresh)
+	e.machine.verified.put(epoch+1, printOf(t, one), fresh)
 	if err := check(e, one); err != svid.BadSignature {
 		t.Errorf("without its key: %v", err)
 	}
@@ -110,7 +110,7 @@ func TestAReusedTokenIsVerifiedOnce(t *testing.T) {
 // What is kept of tokens has a bound, and a token that comes again and again stays.
 func TestVerifiedTokensHaveABound(t *testing.T) {
 	var v verified
-	name := func(i int) tokenName { return nameOf(fmt.Sprint(i)) }
+	name := func(i int) fingerprint { return printOf(t, fmt.Sprint(i)) }
 	keys := [3]*svid.Key{new(svid.Key), new(svid.Key), new(svid.Key)}
 	for i := 0; i < 3*mostVerified; i++ {
 		_, epoch, _ := v.get(name(0))

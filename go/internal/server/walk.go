@@ -38,8 +38,9 @@ type Request struct {
 	Fault error     // why nobody could find that out
 
 	// Of mode reuse.
-	name  tokenName // of the token
-	epoch uint64    // of the bundles when it came
+	name    fingerprint // of the token
+	isNamed bool        // it has one
+	epoch   uint64      // of the bundles when it came
 
 	write *Write // of mode once
 
@@ -53,11 +54,11 @@ type Request struct {
 	isNext bool       // that outcome is there
 }
 
-// NewRequest returns a request that asks about a token.
+// NewRequest returns a request that asks about a token. It is no step of the machine: a fingerprint has a key that was drawn.
 func NewRequest(mode Mode, token string) *Request {
 	r := &Request{Token: token, read: svid.NewToken(token)}
 	if mode == Reuse {
-		r.name = nameOf(token)
+		r.name, r.isNamed = fingerprints.of(token)
 	}
 	return r
 }
@@ -201,7 +202,7 @@ func (m *Machine) reuseKept(r *Request) bool {
 // reuse judges a token whose signature was verified.
 func (m *Machine) reuse(r *Request) {
 	accepted, err := m.validator.JudgeToken(m.now.Wall, &r.read)
-	if err == nil {
+	if err == nil && r.isNamed {
 		m.verified.put(r.epoch, r.name, r.Key)
 	}
 	r.Accepted = accepted
