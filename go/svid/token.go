@@ -4,6 +4,7 @@ package svid
 #include "svid.h"
 
 // Handles come as the addresses of their first fields: so Go does not look for its pointers in them.
+_Static_assert(offsetof(svid_token, word) == 0 && offsetof(svid_validator, word) == 0, "a handle begins with its word");
 static uint32_t read_token(uint64_t *t, _GoString_ token, svid_told *told) {
     return svid_token_open((svid_token *)t, (const uint8_t *)_GoStringPtr(token), _GoStringLen(token), told);
 }

@@ -16,6 +16,7 @@ package svid
 #include <openssl/evp.h>
 #include <openssl/params.h>
 #include <openssl/rsa.h>
+#include <stdint.h>
 #cgo LDFLAGS: -lcrypto
 
 enum { NO, YES, NO_MEMORY };

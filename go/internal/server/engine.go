@@ -95,6 +95,7 @@ type Engine struct {
 	start     time.Time             // when Time.Up is 0
 	outlook   outlook
 	pulse     pulse
+	verified  *verified                // in mode reuse
 	toHave    atomic.Pointer[[]string] // trust domains that are to have a bundle; nil while Options.Domains counts
 	isReal    bool                     // Options.Now was not given
 
@@ -141,7 +142,7 @@ func NewEngine(o Options) (*Engine, error) {
 		return nil, err
 	}
 	e := &Engine{Options: o, keyring: keyring, validator: validator, start: time.Now(), isReal: isReal, armed: never,
-		ending: make(chan struct{}), ended: make(chan struct{})}
+		verified: newVerified(), ending: make(chan struct{}), ended: make(chan struct{})}
 	e.life, e.end = context.WithCancel(context.Background())
 	e.machine = newMachine(&e.Options, &e.Metrics, validator, e.time())
 	e.rules.Store(e.machine.rules)
@@ -220,7 +221,7 @@ func (e *Engine) do(own *Request, effect Effect) {
 			close(effect.done)
 		}
 	case Verify:
-		effect.Key, effect.Fault = e.keyring.VerifyToken(&effect.read)
+		e.find(effect.Request)
 		e.stepFor(own, Verified(effect))
 	case Append:
 		if own != nil && effect.Write == own.write {
@@ -239,6 +240,17 @@ func (e *Engine) do(own *Request, effect Effect) {
 	case Ended:
 		close(e.ended)
 	}
+}
+
+// find finds the key that made the signature of a request's token. In mode reuse it may be known.
+func (e *Engine) find(r *Request) {
+	if e.Mode == Reuse {
+		if r.memory = e.verified.recall(r.Token); r.memory.key != nil {
+			r.Key = r.memory.key
+			return
+		}
+	}
+	r.Key, r.Fault = e.keyring.VerifyToken(&r.read)
 }
 
 // keep brings the uses of a request to the disk. Nobody waits here for the disk: the machine answers the request, at the latest when its
@@ -356,7 +368,9 @@ func (e *Engine) SetBundles(domains map[string]json.RawMessage) error {
 	e.renewing.Lock()
 	defer e.renewing.Unlock()
 	e.step(Renewing{Empty: len(domains) == 0})
-	err = e.validator.Renew(e.keyring, bundles)
+	if err = e.validator.Renew(e.keyring, bundles); err == nil {
+		e.verified.clear()
+	}
 	e.step(Renewed{Domains: len(domains), Err: err})
 	return err
 }
@@ -463,7 +477,7 @@ func (e *Engine) checkBy(ctx context.Context, token string) (accepted svid.Accep
 
 // judge lets the machine judge the token of an admitted caller. Where it answers errOtherRules, it returns these.
 func (e *Engine) judge(ctx context.Context, rules *Rules, token string) (svid.Accepted, *Rules, error) {
-	r := NewRequest(e.Mode, token)
+	r := NewRequest(token)
 	r.rules = rules
 	if e.Mode != Reuse { // (there the answer comes at once)
 		r.done = make(chan struct{})
@@ -474,6 +488,14 @@ func (e *Engine) judge(ctx context.Context, rules *Rules, token string) (svid.Ac
 		e.awaitClaim(ctx, r)
 	case Once:
 		<-r.done
+	case Reuse:
+		if r.Err == nil {
+			e.verified.keep(r.memory, token, r.Key)
+		} else if r.Err == svid.BadSignature && r.memory.key != nil {
+			// The key is not among the validator's any more, or is written otherwise: another one may have signed the token.
+			e.verified.forget(r.memory)
+			return e.judge(ctx, rules, token)
+		}
 	}
 	return r.Accepted, r.rules, e.ofBundles(token, r.Err)
 }

@@ -373,7 +373,7 @@ func wantClaims(t *testing.T, e *Engine, won, lost, failed uint64) {
 // claimOf is a claim of a token that is judged, and not opened.
 func claimOf(t *testing.T, e *Engine, token string) *Request {
 	t.Helper()
-	r := NewRequest(Strict, token)
+	r := NewRequest(token)
 	r.done = make(chan struct{})
 	var err error
 	if r.Key, err = e.keyring.VerifyToken(&r.read); err != nil {

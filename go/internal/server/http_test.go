@@ -169,9 +169,7 @@ func BenchmarkCheck(b *testing.B) {
 			b.ReportAllocs()
 			b.RunParallel(func(p *testing.PB) {
 				for p.Next() {
-					e.mu.Lock()
-					e.machine.verified.clear() // or the signature is not verified again
-					e.mu.Unlock()
+					e.verified.clear() // or the signature is not verified again
 					if err := check(e, one); err != nil {
 						b.Fatal(err)
 					}

@@ -33,11 +33,10 @@ type Machine struct {
 	draining   bool   // no more tokens are to be sent here
 	began      uint64 // when the machine was made
 
-	rules    *Rules     // that count
-	verified verified   // in mode reuse
-	claims   claims     // in mode strict
-	again    []*Request // these begin again with their claims
-	log      reader     // in mode strict: of the group's log
+	rules  *Rules     // that count
+	claims claims     // in mode strict
+	again  []*Request // these begin again with their claims
+	log    reader     // in mode strict: of the group's log
 
 	keeper keeper // what the disk is to have
 	tale   tale   // what the group is to be told
@@ -231,7 +230,6 @@ func (r Renewed) happen(m *Machine) {
 		return
 	}
 	m.bundled = r.Domains > 0
-	m.verified.clear()
 }
 
 func (Joined) happen(m *Machine)   { m.joined = true }

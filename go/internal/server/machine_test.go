@@ -74,7 +74,7 @@ func (b *bench) collect() {
 
 // comes lets a request come, whose signature is still being verified.
 func (b *bench) comes(id string) *Request {
-	r := NewRequest(b.machine.Mode, token(id))
+	r := NewRequest(token(id))
 	b.step(r)
 	return r
 }

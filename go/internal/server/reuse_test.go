@@ -4,6 +4,7 @@ import (
 	"encoding/json"
 	"fmt"
 	"strings"
+	"sync"
 	"sync/atomic"
 	"testing"
 
@@ -11,30 +12,31 @@ import (
 	"svid.example/go/v2/svid"
 )
 
-// A token that comes again is not verified again, and judged all the same: a key that is gone, a withdrawal, the token's
-// expiry and another signature count at once.
-func TestAReusedTokenIsVerifiedOnce(t *testing.T) {
+// A token is known from its second acceptance on: it is not verified again, and judged all the same. A key that is gone, a
+// withdrawal, the token's expiry and another signature count at once.
+func TestAReusedTokenIsKnown(t *testing.T) {
 	var now atomic.Uint64
 	now.Store(moment)
 	e := ready(t, engine(t, Options{Mode: Reuse, Now: now.Load}))
 	one := token("a")
-	key := func() (k *svid.Key, ok bool) { k, _, ok = e.machine.verified.get(printOf(t, one)); return }
-	for i := 0; i < 3; i++ {
+	for i := 0; i < 4; i++ {
+		if m := e.verified.recall(one); m.again != (i > 0) || (m.key != nil) != (i > 1) {
+			t.Errorf("accepted %d times: %+v", i, m)
+		}
 		if err := check(e, one); err != nil {
 			t.Fatal(err)
 		}
-		if _, ok := key(); !ok {
-			t.Fatal("nothing is kept")
-		}
 	}
-	kept, epoch, _ := e.machine.verified.get(printOf(t, one))
+	before := e.verified.recall(one)
 	for what, bad := range map[string]string{"another signature": one[:len(one)-8] + "AAAAAAAA", "none": one[:strings.LastIndexByte(one, '.')+1], "a byte more": one + "A"} {
-		if err := check(e, bad); err == nil {
-			t.Errorf("%s is accepted", what)
+		for i := 0; i < 3; i++ {
+			if err := check(e, bad); err == nil {
+				t.Errorf("%s is accepted", what)
+			}
 		}
-	}
-	if len(e.machine.verified.young) != 1 {
-		t.Errorf("%d are kept; only accepted tokens are", len(e.machine.verified.young))
+		if m := e.verified.recall(bad); m.again {
+			t.Errorf("%s is kept; only accepted tokens are", what)
+		}
 	}
 	// The same keys, written otherwise, are other keys.
 	var set struct {
@@ -53,81 +55,197 @@ func TestAReusedTokenIsVerifiedOnce(t *testing.T) {
 	if err := e.SetBundles(map[string]json.RawMessage{"example.org": renewed}); err != nil {
 		t.Fatal(err)
 	}
-	if _, ok := key(); ok {
-		t.Error("an answer of the old bundles is kept")
+	if e.verified.recall(one).again {
+		t.Error("a key of the old bundles is kept")
 	}
-	e.machine.verified.put(epoch, printOf(t, one), kept)
-	if _, ok := key(); ok {
-		t.Error("an answer of the old bundles was put behind their end")
+	late := before
+	late.key = nil // so it was the second acceptance
+	e.verified.keep(late, one, before.key)
+	if e.verified.recall(one).again {
+		t.Error("a key of the old bundles was kept behind their end")
 	}
-	e.machine.verified.put(epoch+1, printOf(t, one), kept) // as if it had been
-	if err := check(e, one); err != nil {
-		t.Errorf("a kept answer that is of no use any more: %v", err)
+	late.epoch++ // as if it had been
+	e.verified.keep(late, one, before.key)
+	if e.verified.recall(one).key != before.key {
+		t.Error("it is not kept")
 	}
-	if k, ok := key(); !ok || k == kept {
-		t.Errorf("%v, kept %v", k, ok)
+	for i := 0; i < 2; i++ {
+		if err := check(e, one); err != nil {
+			t.Errorf("a known key that is of no use any more: %v", err)
+		}
+	}
+	again := e.verified.recall(one)
+	if again.key == nil || again.key == before.key {
+		t.Errorf("%v is known", again.key)
 	}
 	// Without the key.
 	other, err := issuer.New("example.org")
 	if err != nil {
 		t.Fatal(err)
 	}
-	fresh, epoch, _ := e.machine.verified.get(printOf(t, one))
 	if err := e.SetBundles(map[string]json.RawMessage{"example.org": other.JWKSet()}); err != nil {
 		t.Fatal(err)
 	}
-	e.machine.verified.put(epoch+1, printOf(t, one), fresh)
-	if err := check(e, one); err != svid.BadSignature {
-		t.Errorf("without its key: %v", err)
+	late.epoch++
+	e.verified.keep(late, one, again.key)
+	for i := 0; i < 3; i++ {
+		if err := check(e, one); err != svid.BadSignature {
+			t.Errorf("without its key: %v", err)
+		}
 	}
 	if err := e.SetBundles(map[string]json.RawMessage{"example.org": example.JWKSet()}); err != nil {
 		t.Fatal(err)
 	}
-	if err := check(e, one); err != nil {
-		t.Error(err)
+	for i := 0; i < 3; i++ {
+		if err := check(e, one); err != nil {
+			t.Error(err)
+		}
 	}
 	now.Store(moment + 300)
 	if err := check(e, one); err != svid.Expired {
 		t.Errorf("expired: %v", err)
 	}
-	now.Store(moment)
-	again := ready(t, engine(t, Options{Mode: Reuse}))
-	if err := check(again, one); err != nil {
-		t.Fatal(err)
+}
+
+// The keyring verifies no known token.
+func TestAKnownTokenIsNotVerified(t *testing.T) {
+	e := ready(t, engine(t, Options{Mode: Reuse}))
+	one := token("a")
+	for i := 0; i < 2; i++ {
+		if err := check(e, one); err != nil {
+			t.Fatal(err)
+		}
 	}
-	found, err := again.Find(one)
+	e.keyring.Close()
+	if err := check(e, one); err != nil {
+		t.Error(err)
+	}
+	if err := check(e, token("b")); err != svid.ErrClosed {
+		t.Errorf("another token: %v", err)
+	}
+}
+
+// Nothing is kept of a token that is refused, whoever signed it.
+func TestRefusedTokensAreNotKept(t *testing.T) {
+	e := ready(t, engine(t, Options{Mode: Reuse}))
+	for what, claims := range map[string]map[string]any{
+		"expired":              {"sub": "spiffe://example.org/web", "aud": "ledger", "exp": 1, "jti": "a"},
+		"for another audience": {"sub": "spiffe://example.org/web", "aud": "other", "exp": moment + 300, "jti": "a"},
+	} {
+		one := example.Token("ES256", claims)
+		for i := 0; i < 3; i++ {
+			if err := check(e, one); err == nil {
+				t.Errorf("a token that is %s is accepted", what)
+			}
+		}
+		if m := e.verified.recall(one); m.again {
+			t.Errorf("a token that is %s is kept", what)
+		}
+	}
+}
+
+// A known token that is withdrawn is refused at once.
+func TestAKnownTokenIsWithdrawn(t *testing.T) {
+	e := ready(t, engine(t, Options{Mode: Reuse}))
+	one := token("a")
+	for i := 0; i < 3; i++ {
+		if err := check(e, one); err != nil {
+			t.Fatal(err)
+		}
+	}
+	found, err := e.Find(one)
 	if err != nil {
 		t.Fatal(err)
 	}
-	if _, err := again.Withdraw(found.Key, found.Expires); err != nil {
+	if _, err := e.Withdraw(found.Key, found.Expires); err != nil {
 		t.Fatal(err)
 	}
-	if err := check(again, one); err != svid.Withdrawn {
+	if err := check(e, one); err != svid.Withdrawn {
 		t.Errorf("withdrawn: %v", err)
 	}
 }
 
-// What is kept of tokens has a bound, and a token that comes again and again stays.
+// Two tokens of one hash are two tokens: the one is not taken for the other.
+func TestATokenIsKnownByAllOfIt(t *testing.T) {
+	v, key := newVerified(), new(svid.Key)
+	for _, one := range []string{"a", "b"} {
+		m := memory{again: true} // of the same hash, 0
+		v.keep(m, one, key)
+		if v.look(&m) != digestOf(one) || m.key != key {
+			t.Errorf("%q: %+v", one, m)
+		}
+	}
+	one := token("a")
+	v.keep(memory{hash: v.recall(one).hash, again: true}, one[:len(one)-1], key)
+	if m := v.recall(one); m.key != nil || !m.again {
+		t.Errorf("a token is known by another one of its hash: %+v", m)
+	}
+	for i := range one {
+		if digestOf(one) == digestOf(one[:i]+string(one[i]^1)+one[i+1:]) {
+			t.Errorf("a digest leaves out byte %d", i)
+		}
+	}
+}
+
+// What is kept of tokens has a bound, and a token that comes again and again stays, however many come once.
 func TestVerifiedTokensHaveABound(t *testing.T) {
-	var v verified
-	name := func(i int) fingerprint { return printOf(t, fmt.Sprint(i)) }
+	v := newVerified()
 	keys := [3]*svid.Key{new(svid.Key), new(svid.Key), new(svid.Key)}
-	for i := 0; i < 3*mostVerified; i++ {
-		_, epoch, _ := v.get(name(0))
-		v.put(epoch, name(i), keys[i%3])
+	accept := func(one string, by *svid.Key) { v.keep(v.recall(one), one, by) }
+	accept("stays", keys[2])
+	accept("stays", keys[2])
+	for i := 0; i < 3*mostInGeneration; i++ {
+		accept(fmt.Sprint("once ", i), keys[0])
 	}
-	if n := len(v.young) + len(v.old); n > 2*mostVerified {
-		t.Errorf("%d are kept", n)
+	if m := v.recall("stays"); m.key != keys[2] {
+		t.Errorf("a known token made room for those that come once: %+v", m)
 	}
-	if k, _, ok := v.get(name(0)); !ok || k != keys[0] {
-		t.Error("a token that came all the while is not kept")
+	for i := 0; i < 3*mostInGeneration; i++ {
+		v.recall("stays")
+		one := fmt.Sprint("twice ", i)
+		accept(one, keys[i%3])
+		accept(one, keys[i%3])
 	}
-	for i := 3*mostVerified - 3; i < 3*mostVerified; i++ {
-		if k, _, ok := v.get(name(i)); !ok || k != keys[i%3] {
+	if n := len(v.once.young) + len(v.once.old); n > 2*mostInGeneration {
+		t.Errorf("%d are kept that came once", n)
+	}
+	if n := len(v.known.young) + len(v.known.old); n > 2*mostInGeneration {
+		t.Errorf("%d are known", n)
+	}
+	if m := v.recall("stays"); m.key != keys[2] {
+		t.Errorf("a token that came all the while is not known: %+v", m)
+	}
+	for i := 3*mostInGeneration - 3; i < 3*mostInGeneration; i++ {
+		if m := v.recall(fmt.Sprint("twice ", i)); m.key != keys[i%3] {
 			t.Errorf("the key of token %d is another one", i)
 		}
 	}
-	if _, _, ok := v.get(name(1)); ok {
-		t.Error("one that came once long ago is kept")
+	for _, long := range []string{"twice 1", "once 1"} {
+		if v.recall(long).again {
+			t.Errorf("%q, which came long ago, is kept", long)
+		}
 	}
+}
+
+// Requests with known tokens and renewals of the bundles may come at once.
+func TestReusedTokensWhileBundlesAreRenewed(t *testing.T) {
+	e := ready(t, engine(t, Options{Mode: Reuse}))
+	var all sync.WaitGroup
+	for i := 0; i < 8; i++ {
+		all.Add(1)
+		go func(one string) {
+			defer all.Done()
+			for i := 0; i < 50; i++ {
+				if err := check(e, one); err != nil {
+					t.Error(err)
+				}
+			}
+		}(token(fmt.Sprint(i % 3)))
+	}
+	for i := 0; i < 20; i++ {
+		if err := e.SetBundles(map[string]json.RawMessage{"example.org": example.JWKSet()}); err != nil {
+			t.Error(err)
+		}
+	}
+	all.Wait()
 }

@@ -37,10 +37,7 @@ type Request struct {
 	Key   *svid.Key // that made the signature; nil where none did
 	Fault error     // why nobody could find that out
 
-	// Of mode reuse.
-	name    fingerprint // of the token
-	isNamed bool        // it has one
-	epoch   uint64      // of the bundles when it came
+	memory memory // of mode reuse: what the engine had of the token
 
 	write *Write // of mode once
 
@@ -54,14 +51,8 @@ type Request struct {
 	isNext bool       // that outcome is there
 }
 
-// NewRequest returns a request that asks about a token. It is no step of the machine: a fingerprint has a key that was drawn.
-func NewRequest(mode Mode, token string) *Request {
-	r := &Request{Token: token, read: svid.NewToken(token)}
-	if mode == Reuse {
-		r.name, r.isNamed = fingerprints.of(token)
-	}
-	return r
-}
+// NewRequest returns a request that asks about a token.
+func NewRequest(token string) *Request { return &Request{Token: token, read: svid.NewToken(token)} }
 
 // Verified: the effect Verify is done.
 type Verified struct{ *Request }
@@ -75,20 +66,11 @@ type Gone struct {
 
 // A request comes. No token is judged before all is read that may say it was used.
 func (r *Request) happen(m *Machine) {
-	if m.isOutdated(r) {
-		m.answer(&r.Call, errOtherRules)
-		return
-	}
 	if err := m.canJudge(); err != nil {
 		m.answer(&r.Call, fmt.Errorf("%w: %v", ErrNotReady, err))
 		return
 	}
-	switch m.Mode {
-	case Reuse:
-		if m.reuseKept(r) {
-			return
-		}
-	case Strict:
+	if m.Mode == Strict {
 		m.claims.requests++
 	}
 	m.do(Verify{r})
@@ -180,31 +162,9 @@ type notKept struct {
 func (n *notKept) Error() string { return fmt.Sprintf("the %s could not be kept: %v", n.what, n.why) }
 func (n *notKept) Unwrap() error { return n.why }
 
-// Mode reuse accepts a token until it expires or is withdrawn, and adds nothing to the record. Of a token that came before, the
-// key that made its signature is known: it is judged by that, and not verified again. reuseKept says whether that is all.
-func (m *Machine) reuseKept(r *Request) bool {
-	key, epoch, ok := m.verified.get(r.name)
-	r.epoch = epoch
-	if !ok {
-		return false
-	}
-	r.read.VerifiedBy(key)
-	accepted, err := m.validator.JudgeToken(m.now.Wall, &r.read)
-	if err == svid.BadSignature {
-		return false // The key is not among the validator's any more, or is written otherwise: another one may have signed the token.
-	}
-	r.read.Close()
-	r.Accepted = accepted
-	m.answerCheck(r, err)
-	return true
-}
-
-// reuse judges a token whose signature was verified.
+// Mode reuse accepts a token until it expires or is withdrawn, and adds nothing to the record.
 func (m *Machine) reuse(r *Request) {
 	accepted, err := m.validator.JudgeToken(m.now.Wall, &r.read)
-	if err == nil && r.isNamed {
-		m.verified.put(r.epoch, r.name, r.Key)
-	}
 	r.Accepted = accepted
 	m.answerCheck(r, err)
 }

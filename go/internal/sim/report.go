@@ -78,7 +78,7 @@ func (m *member) ask(one *token, gives time.Duration) *ask {
 	if l == nil || l.ending {
 		return nil
 	}
-	a := &ask{l: l, token: one, at: m.w.now, request: server.NewRequest(m.w.plan.mode, one.text)}
+	a := &ask{l: l, token: one, at: m.w.now, request: server.NewRequest(one.text)}
 	_, a.withdrawn = m.withdrawn[one.key]
 	if _, heard := l.heard[one.key]; heard {
 		a.withdrawn = true

@@ -1,0 +1,36 @@
+package server
+
+// mostInGeneration is how many values a generation has.
+const mostInGeneration = 1 << 15
+
+// generations keeps values by hashes. A value that nobody asks for goes with its generation, once the next one is full.
+type generations[V any] struct{ young, old map[uint64]V }
+
+// get finds the value of a hash.
+func (g *generations[V]) get(hash uint64) (value V, ok bool) {
+	if value, ok = g.young[hash]; ok {
+		return value, true
+	}
+	if value, ok = g.old[hash]; ok {
+		g.add(hash, value) // It stays for another generation.
+	}
+	return value, ok
+}
+
+func (g *generations[V]) add(hash uint64, value V) {
+	if g.young == nil {
+		g.young, g.old = make(map[uint64]V), make(map[uint64]V)
+	}
+	if len(g.young) == mostInGeneration {
+		for hash := range g.old { // (a loop that Go compiles to one call; a new map would be garbage soon)
+			delete(g.old, hash)
+		}
+		g.young, g.old = g.old, g.young
+	}
+	g.young[hash] = value
+}
+
+func (g *generations[V]) drop(hash uint64) {
+	delete(g.young, hash)
+	delete(g.old, hash)
+}
