@@ -50,7 +50,11 @@ func (t *Token) Close() {
 	}
 }
 
-// read reads the token, unless that was done before. The error is a Refusal, TooLong to Jti, or ErrNoMemory.
+// Read reads the token, unless that was done before. Else the first call that needs it does: so Read is for who will hold a lock over
+// that. The error is a Refusal, TooLong to Jti, or ErrNoMemory.
+func (t *Token) Read() error { return t.read(new(C.svid_told)) }
+
+// read is Read with room for what is told.
 func (t *Token) read(told *C.svid_told) error {
 	if t.isRead {
 		return nil

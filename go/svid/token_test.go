@@ -114,3 +114,29 @@ func TestATokenIsCheckedByItsKey(t *testing.T) {
 	}
 	judged("behind a renewal without its key", &good, svid.BadSignature)
 }
+
+// Read reads a token once, and says of one that is no JWT-SVID why: the same as its check.
+func TestATokenIsReadBeforehand(t *testing.T) {
+	k, v := keyring(t, example.Bundles()), open(t, 1)
+	for _, text := range []string{example.Token("ES256", claims("read")), "a.b.c", ""} {
+		read := svid.NewToken(text)
+		first, second := read.Read(), read.Read()
+		_, verified := k.VerifyToken(&read)
+		if first != second || first != verified {
+			t.Errorf("%.10q: %v, again %v, and by the keyring %v", text, first, second, verified)
+		}
+		if _, err := v.CheckToken(moment, &read); err != first {
+			t.Errorf("%.10q: checked: %v, and read: %v", text, err, first)
+		}
+		read.Close()
+	}
+	read := svid.NewToken(example.Token("ES256", claims("let go")))
+	if err := read.Read(); err != nil {
+		t.Error(err)
+	}
+	read.Close()
+	if err := read.Read(); err != nil {
+		t.Errorf("behind Close: %v", err)
+	}
+	read.Close()
+}

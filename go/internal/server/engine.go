@@ -221,7 +221,7 @@ func (e *Engine) do(own *Request, effect Effect) {
 			close(effect.done)
 		}
 	case Verify:
-		e.find(effect.Request)
+		e.findSigner(effect.Request)
 		e.stepFor(own, Verified(effect))
 	case Append:
 		if own != nil && effect.Write == own.write {
@@ -242,11 +242,12 @@ func (e *Engine) do(own *Request, effect Effect) {
 	}
 }
 
-// find finds the key that made the signature of a request's token. In mode reuse it may be known.
-func (e *Engine) find(r *Request) {
+// findSigner finds the key that made the signature of a request's token. In mode reuse it may be known.
+func (e *Engine) findSigner(r *Request) {
 	if e.Mode == Reuse {
-		if r.memory = e.verified.recall(r.Token); r.memory.key != nil {
-			r.Key = r.memory.key
+		if r.recalled = e.verified.recall(r.Token); r.recalled.key != nil {
+			r.Key = r.recalled.key
+			_ = r.read.Read() // Here it holds no lock. The validator says what is wrong with the token.
 			return
 		}
 	}
@@ -475,8 +476,23 @@ func (e *Engine) checkBy(ctx context.Context, token string) (accepted svid.Accep
 	}
 }
 
+// mostTries is how often a token is judged if the bundles are replaced each time, just behind its verification.
+const mostTries = 4
+
 // judge lets the machine judge the token of an admitted caller. Where it answers errOtherRules, it returns these.
 func (e *Engine) judge(ctx context.Context, rules *Rules, token string) (svid.Accepted, *Rules, error) {
+	r := e.judgeOnce(ctx, rules, token)
+	for tries := 1; tries < mostTries && r.isOfOldBundles(); tries++ {
+		e.verified.forget(r.recalled)
+		r = e.judgeOnce(ctx, rules, token)
+	}
+	if e.Mode == Reuse && r.Err == nil {
+		e.verified.keep(r.recalled, token, r.Key)
+	}
+	return r.Accepted, r.rules, e.ofBundles(token, r.Err)
+}
+
+func (e *Engine) judgeOnce(ctx context.Context, rules *Rules, token string) *Request {
 	r := NewRequest(token)
 	r.rules = rules
 	if e.Mode != Reuse { // (there the answer comes at once)
@@ -488,16 +504,8 @@ func (e *Engine) judge(ctx context.Context, rules *Rules, token string) (svid.Ac
 		e.awaitClaim(ctx, r)
 	case Once:
 		<-r.done
-	case Reuse:
-		if r.Err == nil {
-			e.verified.keep(r.memory, token, r.Key)
-		} else if r.Err == svid.BadSignature && r.memory.key != nil {
-			// The key is not among the validator's any more, or is written otherwise: another one may have signed the token.
-			e.verified.forget(r.memory)
-			return e.judge(ctx, rules, token)
-		}
 	}
-	return r.Accepted, r.rules, e.ofBundles(token, r.Err)
+	return r
 }
 
 // ErrNotAllowed: none of Options.Allow allows the token's subject. The token is good, and it is not used up.

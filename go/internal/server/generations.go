@@ -19,13 +19,10 @@ func (g *generations[V]) get(hash uint64) (value V, ok bool) {
 
 func (g *generations[V]) add(hash uint64, value V) {
 	if g.young == nil {
-		g.young, g.old = make(map[uint64]V), make(map[uint64]V)
+		g.young = make(map[uint64]V)
 	}
 	if len(g.young) == mostInGeneration {
-		for hash := range g.old { // (a loop that Go compiles to one call; a new map would be garbage soon)
-			delete(g.old, hash)
-		}
-		g.young, g.old = g.old, g.young
+		g.young, g.old = make(map[uint64]V), g.young
 	}
 	g.young[hash] = value
 }

@@ -39,29 +39,16 @@ func TestAReusedTokenIsKnown(t *testing.T) {
 		}
 	}
 	// The same keys, written otherwise, are other keys.
-	var set struct {
-		Keys []map[string]any `json:"keys"`
-	}
-	if err := json.Unmarshal(example.JWKSet(), &set); err != nil {
+	if err := e.SetBundles(map[string]json.RawMessage{"example.org": otherwise(t, example.JWKSet())}); err != nil {
 		t.Fatal(err)
 	}
-	for _, key := range set.Keys {
-		key["note"] = "renewed"
-	}
-	renewed, err := json.Marshal(set)
-	if err != nil {
-		t.Fatal(err)
-	}
-	if err := e.SetBundles(map[string]json.RawMessage{"example.org": renewed}); err != nil {
-		t.Fatal(err)
-	}
-	if e.verified.recall(one).again {
+	if e.verified.recall(one).key != nil {
 		t.Error("a key of the old bundles is kept")
 	}
 	late := before
 	late.key = nil // so it was the second acceptance
 	e.verified.keep(late, one, before.key)
-	if e.verified.recall(one).again {
+	if e.verified.recall(one).key != nil {
 		t.Error("a key of the old bundles was kept behind their end")
 	}
 	late.epoch++ // as if it had been
@@ -69,10 +56,8 @@ func TestAReusedTokenIsKnown(t *testing.T) {
 	if e.verified.recall(one).key != before.key {
 		t.Error("it is not kept")
 	}
-	for i := 0; i < 2; i++ {
-		if err := check(e, one); err != nil {
-			t.Errorf("a known key that is of no use any more: %v", err)
-		}
+	if err := check(e, one); err != nil {
+		t.Errorf("a known key that is of no use any more: %v", err)
 	}
 	again := e.verified.recall(one)
 	if again.key == nil || again.key == before.key {
@@ -169,14 +154,14 @@ func TestAKnownTokenIsWithdrawn(t *testing.T) {
 func TestATokenIsKnownByAllOfIt(t *testing.T) {
 	v, key := newVerified(), new(svid.Key)
 	for _, one := range []string{"a", "b"} {
-		m := memory{again: true} // of the same hash, 0
+		m := recalled{again: true} // of the same hash, 0
 		v.keep(m, one, key)
 		if v.look(&m) != digestOf(one) || m.key != key {
 			t.Errorf("%q: %+v", one, m)
 		}
 	}
 	one := token("a")
-	v.keep(memory{hash: v.recall(one).hash, again: true}, one[:len(one)-1], key)
+	v.keep(recalled{hash: v.recall(one).hash, again: true}, one[:len(one)-1], key)
 	if m := v.recall(one); m.key != nil || !m.again {
 		t.Errorf("a token is known by another one of its hash: %+v", m)
 	}
@@ -227,25 +212,58 @@ func TestVerifiedTokensHaveABound(t *testing.T) {
 	}
 }
 
-// Requests with known tokens and renewals of the bundles may come at once.
-func TestReusedTokensWhileBundlesAreRenewed(t *testing.T) {
-	e := ready(t, engine(t, Options{Mode: Reuse}))
-	var all sync.WaitGroup
-	for i := 0; i < 8; i++ {
-		all.Add(1)
-		go func(one string) {
-			defer all.Done()
-			for i := 0; i < 50; i++ {
-				if err := check(e, one); err != nil {
-					t.Error(err)
-				}
-			}
-		}(token(fmt.Sprint(i % 3)))
-	}
-	for i := 0; i < 20; i++ {
-		if err := e.SetBundles(map[string]json.RawMessage{"example.org": example.JWKSet()}); err != nil {
-			t.Error(err)
+// While the bundles are renewed, and their keys written otherwise each time, no good token is refused.
+func TestGoodTokensWhileBundlesAreRenewed(t *testing.T) {
+	for _, mode := range []Mode{Once, Reuse} {
+		o := Options{Mode: mode}
+		if mode == Once {
+			o.Journal = &disk{}
 		}
+		e := ready(t, engine(t, o))
+		sets := [2]json.RawMessage{example.JWKSet(), otherwise(t, example.JWKSet())}
+		var all sync.WaitGroup
+		var left atomic.Int64
+		left.Store(8)
+		for i := 0; i < 8; i++ {
+			all.Add(1)
+			go func(number int) {
+				defer all.Done()
+				defer left.Add(-1)
+				one := token(fmt.Sprint("of ", number))
+				for i := 0; i < 100; i++ {
+					if mode == Once {
+						one = token(fmt.Sprint(number, " ", i))
+					}
+					if err := check(e, one); err != nil {
+						t.Errorf("%s: %v", mode, err)
+					}
+				}
+			}(i)
+		}
+		for i := 0; left.Load() > 0; i++ {
+			if err := e.SetBundles(map[string]json.RawMessage{"example.org": sets[i%2]}); err != nil {
+				t.Error(err)
+			}
+		}
+		all.Wait()
 	}
-	all.Wait()
+}
+
+// otherwise is a JWK set with the same keys, written otherwise.
+func otherwise(t *testing.T, text []byte) json.RawMessage {
+	t.Helper()
+	var set struct {
+		Keys []map[string]any `json:"keys"`
+	}
+	if err := json.Unmarshal(text, &set); err != nil {
+		t.Fatal(err)
+	}
+	for _, key := range set.Keys {
+		key["note"] = "renewed"
+	}
+	renewed, err := json.Marshal(set)
+	if err != nil {
+		t.Fatal(err)
+	}
+	return renewed
 }

@@ -22,7 +22,7 @@ func TestRequestsLeaveNothingOfTheirTokens(t *testing.T) {
 		ask := func(times int) {
 			t.Helper()
 			for i := 0; i < times; i++ {
-				// In mode reuse a token that came before is not read by the keyring. So its signature is another one each time.
+				// In mode reuse the keyring does not read a known token. So the signature is another one each time.
 				text := one
 				if mode == Reuse {
 					text = fmt.Sprintf("%s%08d%s", one[:len(one)-10], next, one[len(one)-2:])

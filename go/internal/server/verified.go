@@ -10,7 +10,7 @@ import (
 
 // verified keeps which key made the signature of a token, for mode reuse, where a token comes again and again: it need not be
 // verified each time. What is kept is no verdict. The validator judges the token each time, and counts a key only if it has it
-// at that moment. So a kept key can't outlive its bundles; and since a token is known by a digest of all of it, its key is of no
+// at that moment. So a kept key counts no longer than its bundles. A token is known by a digest of all of it, so its key is of no
 // use for another token.
 //
 // A token is known from its second acceptance on. So one that comes once is not digested, and no known one makes room for it.
@@ -21,12 +21,12 @@ type verified struct {
 	epoch   uint64 // counts the bundles that there were
 	keys    []*svid.Key
 	numbers map[*svid.Key]int32
-	once    generations[struct{}] // tokens that were accepted once
-	known   generations[known]    // and more often
+	once    generations[struct{}]   // hashes of tokens that were accepted
+	known   generations[knownToken] // of those that were accepted again
 }
 
-// known is what is kept of a token. (It has no pointers, so that nobody looks through all of them for garbage.)
-type known struct {
+// A knownToken is one that was accepted more than once. (It has no pointers, so that nobody looks through all of them for garbage.)
+type knownToken struct {
 	digest tokenDigest
 	key    int32 // the number of the key that made the signature
 }
@@ -39,8 +39,8 @@ func digestOf(token string) tokenDigest {
 	return sha512.Sum512_256(append(room[:0], token...))
 }
 
-// A memory is what is kept of a token when it comes.
-type memory struct {
+// recalled is what is kept of a token when it comes.
+type recalled struct {
 	hash  uint64
 	epoch uint64
 	again bool      // it was accepted before, or another one of its hash
@@ -50,63 +50,62 @@ type memory struct {
 func newVerified() *verified { return &verified{seed: maphash.MakeSeed()} }
 
 // recall returns what is kept of a token.
-func (v *verified) recall(token string) memory {
-	m := memory{hash: maphash.String(v.seed, token)}
-	digest := v.look(&m)
-	if m.key != nil && digestOf(token) != digest {
-		m.key = nil
+func (v *verified) recall(token string) recalled {
+	had := recalled{hash: maphash.String(v.seed, token)}
+	digest := v.look(&had)
+	if had.key != nil && digestOf(token) != digest {
+		had.key = nil
 	}
-	return m
+	return had
 }
 
-// look finds what is kept of a hash, and returns the digest of the token that m.key is of.
-func (v *verified) look(m *memory) tokenDigest {
+// look finds what is kept of a hash, and returns the digest of the token that had.key is of.
+func (v *verified) look(had *recalled) tokenDigest {
 	v.mu.Lock()
 	defer v.mu.Unlock()
-	m.epoch = v.epoch
-	one, ok := v.known.get(m.hash)
+	had.epoch = v.epoch
+	one, ok := v.known.get(had.hash)
 	if ok {
-		m.key, m.again = v.keys[one.key], true
+		had.key, had.again = v.keys[one.key], true
 	} else {
-		_, m.again = v.once.get(m.hash)
+		_, had.again = v.once.get(had.hash)
 	}
 	return one.digest
 }
 
 // keep keeps the key that made the signature of an accepted token, unless the bundles were renewed since recall.
-func (v *verified) keep(m memory, token string, key *svid.Key) {
-	if m.key == key {
+func (v *verified) keep(had recalled, token string, key *svid.Key) {
+	if had.key == key { // It is known.
 		return
 	}
 	var digest tokenDigest
-	if m.again {
+	if had.again {
 		digest = digestOf(token)
 	}
 	v.mu.Lock()
 	defer v.mu.Unlock()
 	switch {
-	case m.epoch != v.epoch:
-	case m.again:
-		v.known.add(m.hash, known{digest, v.number(key)})
+	case had.epoch != v.epoch:
+	case had.again:
+		v.known.add(had.hash, knownToken{digest, v.number(key)})
 	default:
-		v.once.add(m.hash, struct{}{})
+		v.once.add(had.hash, struct{}{})
 	}
 }
 
 // forget forgets the key of a token.
-func (v *verified) forget(m memory) {
+func (v *verified) forget(had recalled) {
 	v.mu.Lock()
 	defer v.mu.Unlock()
-	v.known.drop(m.hash)
+	v.known.drop(had.hash)
 }
 
-// clear forgets all, since the bundles are other ones.
+// clear forgets all keys, since the bundles are other ones. A token that came before is known again from its next acceptance on.
 func (v *verified) clear() {
 	v.mu.Lock()
 	defer v.mu.Unlock()
 	v.epoch++
-	v.keys, v.numbers = nil, nil
-	v.once, v.known = generations[struct{}]{}, generations[known]{}
+	v.keys, v.numbers, v.known = nil, nil, generations[knownToken]{}
 }
 
 // number is that of a key. The caller holds mu.

@@ -37,7 +37,7 @@ type Request struct {
 	Key   *svid.Key // that made the signature; nil where none did
 	Fault error     // why nobody could find that out
 
-	memory memory // of mode reuse: what the engine had of the token
+	recalled recalled // of mode reuse: what the engine had of the token
 
 	write *Write // of mode once
 
@@ -112,6 +112,12 @@ func (m *Machine) answerCheck(r *Request, err error) {
 	}
 	m.timers.stop(&r.late)
 	m.answer(&r.Call, err)
+}
+
+// isOfOldBundles says whether the request is refused since a key made the signature that the validator does not have any more, or has
+// otherwise written: another one of the new bundles may have made it. No claim of the token is out.
+func (r *Request) isOfOldBundles() bool {
+	return r.Err == svid.BadSignature && r.Key != nil && r.value == nil
 }
 
 // Mode once accepts a token once at this sidecar. At each step:
