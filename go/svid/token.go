@@ -54,7 +54,7 @@ func (t *Token) Close() {
 // that. The error is a Refusal, TooLong to Jti, or ErrNoMemory.
 func (t *Token) Read() error { return t.read(new(C.svid_told)) }
 
-// read is Read with room for what is told.
+// read does that, and told has what the library says of a fault.
 func (t *Token) read(told *C.svid_told) error {
 	if t.isRead {
 		return nil

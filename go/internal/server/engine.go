@@ -476,8 +476,9 @@ func (e *Engine) checkBy(ctx context.Context, token string) (accepted svid.Accep
 	}
 }
 
-// mostTries is how often a token is judged if the bundles are replaced each time, just behind its verification.
-const mostTries = 4
+// mostTries is how often a token is judged if the bundles are replaced each time between its verification and its judgment. That happens
+// next to never even once, so the bound is for faults.
+const mostTries = 16
 
 // judge lets the machine judge the token of an admitted caller. Where it answers errOtherRules, it returns these.
 func (e *Engine) judge(ctx context.Context, rules *Rules, token string) (svid.Accepted, *Rules, error) {

@@ -100,7 +100,7 @@ func (v *verified) forget(had recalled) {
 	v.known.drop(had.hash)
 }
 
-// clear forgets all keys, since the bundles are other ones. A token that came before is known again from its next acceptance on.
+// clear forgets all keys, since the bundles are other ones. A token that came not long ago is known again from its next acceptance on.
 func (v *verified) clear() {
 	v.mu.Lock()
 	defer v.mu.Unlock()
