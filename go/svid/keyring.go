@@ -336,13 +336,18 @@ func (k *Keyring) Verify(token string) ([]Question, error) {
 // returns no key and no error if none of them made the signature. The error is that
 // of Candidates, or ErrNoMemory.
 func (k *Keyring) VerifyToken(t *Token) (*Key, error) {
+	made, err := k.verifyToken(t)
+	return made.by, err
+}
+
+func (k *Keyring) verifyToken(t *Token) (made, error) {
 	r := trials.Get().(*trial)
 	defer r.end()
 	for {
 		made, err := k.tried(r, t)
 		if err != nil || made.by == nil || k.has(made.keys) {
 			t.by = made.by
-			return made.by, err
+			return made, err
 		}
 	}
 }

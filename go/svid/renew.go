@@ -40,17 +40,11 @@ func (v *Validator) SetBundles(bundles []byte) error {
 // verified just then. On an error both keep the old bundles. The bundles are read
 // before any lock is taken.
 func (v *Validator) Renew(k *Keyring, bundles []byte) error {
-	var b C.svid_bundles
-	var told C.svid_told
-	if err := failure(C.svid_bundles_open(&b, start(bundles), C.size_t(len(bundles)), &told), &told); err != nil {
-		return err
-	}
-	defer freed(&b, len(bundles))
-	askers, err := openAskers(bundles)
+	r, err := openRenewal(bundles)
 	if err != nil {
 		return err
 	}
-	defer func() { closeAskers(askers) }()
+	defer r.close()
 	k.mu.Lock()
 	defer k.mu.Unlock()
 	if k.closed {
@@ -58,10 +52,41 @@ func (v *Validator) Renew(k *Keyring, bundles []byte) error {
 	}
 	v.mu.Lock()
 	defer v.mu.Unlock()
-	if err := v.renew(&b, bundles); err != nil {
+	return r.of(v, k)
+}
+
+// A renewal has bundles that were read for a validator and its keyring, and once it is done, those that these had.
+type renewal struct {
+	text    []byte
+	bundles *C.svid_bundles // the validator's
+	askers  chan *asker     // the keyring's
+}
+
+// openRenewal reads bundles. Errors: ErrBundles, a *BundleError, ErrNoMemory.
+func openRenewal(text []byte) (*renewal, error) {
+	r, told := &renewal{text: text, bundles: new(C.svid_bundles)}, new(C.svid_told)
+	if err := failure(C.svid_bundles_open(r.bundles, start(text), C.size_t(len(text)), told), told); err != nil {
+		return nil, err
+	}
+	var err error
+	if r.askers, err = openAskers(text); err != nil {
+		freed(r.bundles, len(text))
+		return nil, err
+	}
+	return r, nil
+}
+
+func (r *renewal) close() {
+	closeAskers(r.askers)
+	freed(r.bundles, len(r.text))
+}
+
+// of renews both. The caller holds their locks. On an error they keep what they had.
+func (r *renewal) of(v *Validator, k *Keyring) error {
+	if err := v.renew(r.bundles, r.text); err != nil {
 		return err
 	}
-	askers = k.replace(askers)
+	r.askers = k.replace(r.askers)
 	return nil
 }
 

@@ -216,6 +216,49 @@ func TestRenewIsOfBoth(t *testing.T) {
 	}
 }
 
+// A renewal between the verification of a token and its check refuses no good token, though the new bundles have its key written otherwise.
+func TestAcceptVerifiesOnceMoreBehindARenewal(t *testing.T) {
+	const now = 1_767_225_600
+	one := issuerOfLocks(t)
+	token := func(jti string) string {
+		return one.Token("ES256", map[string]any{"sub": "spiffe://example.org/web", "aud": "ledger", "exp": now + 300, "jti": jti})
+	}
+	v, k := openValidator(t, one.Bundles()), openKeyring(t, string(one.Bundles()))
+	r, err := openRenewal(bytes.ReplaceAll(one.Bundles(), []byte(`"kty":`), []byte(`"note":"","kty":`)))
+	if err != nil {
+		t.Fatal(err)
+	}
+	defer r.close()
+	v.mu.Lock()
+	var renewed, accepted error
+	wantWait(t, "the validator's lock is held", func() {
+		k.mu.Lock()
+		renewed = r.of(v, k)
+		k.mu.Unlock()
+		v.mu.Unlock()
+	}, map[string]func(){"Accept": func() { _, accepted = v.Accept(k, now, token("a")) }})
+	if renewed != nil || accepted != nil {
+		t.Errorf("the renewal: %v, the token: %v", renewed, accepted)
+	}
+	// A validator that lacks the keyring's key says so, and the signature is verified no more.
+	if err := v.SetBundles(newIssuer(t, "example.org").Bundles()); err != nil {
+		t.Fatal(err)
+	}
+	answer := make(chan error, 1)
+	go func() {
+		_, err := v.Accept(k, now, token("b"))
+		answer <- err
+	}()
+	select {
+	case err := <-answer:
+		if err != BadSignature {
+			t.Errorf("without the key: %v", err)
+		}
+	case <-time.After(patience.Long):
+		t.Error("without the key there is no answer")
+	}
+}
+
 // threadTime is how long this thread was on a processor: other work beside does not count.
 func threadTime(t testing.TB) time.Duration {
 	var now syscall.Timespec

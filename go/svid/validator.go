@@ -167,15 +167,22 @@ func (v *Validator) Check(now uint64, token string, yes []Question) (Accepted, e
 // and checks the token: all that a service does for a request. A token that the
 // keyring refuses is checked all the same, so the Refusal is the first that holds,
 // in the order of Refusals. Other errors are those of Keyring.VerifyToken and Check.
-// The token is read once, and hashed for no key.
+// The token is read once, and hashed for no key. If Renew replaces the bundles in
+// between, the signature is verified once more.
 func (v *Validator) Accept(k *Keyring, now uint64, token string) (Accepted, error) {
 	t := NewToken(token)
 	defer t.Close()
-	var refusal Refusal
-	if _, err := k.VerifyToken(&t); err != nil && !errors.As(err, &refusal) {
-		return Accepted{}, err
+	for {
+		made, err := k.verifyToken(&t)
+		var refusal Refusal
+		if err != nil && !errors.As(err, &refusal) {
+			return Accepted{}, err
+		}
+		accepted, err := v.CheckToken(now, &t)
+		if err != BadSignature || made.by == nil || k.has(made.keys) {
+			return accepted, err
+		}
 	}
-	return v.CheckToken(now, &t)
 }
 
 // Judge answers what Check would answer, and adds nothing to the record: a later
