@@ -122,7 +122,7 @@ def test_the_service_of_the_readme(service, tmp_path):
     service.write(SERVICE)
     ran = service.go("build", "-x", "-o", "service")
     assert ran.returncode == 0, ran.stderr
-    assert str(TOP) not in ran.stderr, "the build looks into this checkout"
+    assert f"{TOP}/" not in ran.stderr, "the build looks into this checkout"
     assert MODULE in (service.folder / "go.mod").read_text()
     linked = subprocess.run(["ldd", service.folder / "service"], capture_output=True, text=True).stdout
     assert "libcrypto" in linked and "libsvid" not in linked
