@@ -81,7 +81,7 @@ func (r *renewal) close() {
 	freed(r.bundles, len(r.text))
 }
 
-// of renews both. The caller holds their locks. On an error they keep what they had.
+// of replaces the bundles of both. The caller holds their locks. On an error they keep what they had.
 func (r *renewal) of(v *Validator, k *Keyring) error {
 	if err := v.renew(r.bundles, r.text); err != nil {
 		return err
